@@ -1,0 +1,90 @@
+//! The files of the system.
+ghost use Rattle.std.specs.Prelude.{◌≡◌, ◌≤◌, ℕ, IfOk, vec_len};
+ghost use Rattle.rx_base.specs.Files.{HasFile, IsNoted, OnFailed, UnlessFailed, untold_contents, untold_name};
+ghost use Rattle.rx_base.specs.Sink.{HasRisen};
+
+use crate::files::{Files, ReadFault};
+use std::alloc::Global;
+use std::fs::File;
+use std::io::{ErrorKind, Read};
+use std::marker::Model;
+use std::{io, rt};
+
+/// The longest file that `DiskFiles` reads, in bytes.
+pub const MAX_FILE_BYTES: u64 = 1 << 30;
+
+/// The files of the system. They tell nothing of names and bytes.
+#[derive(Drop)]
+pub struct DiskFiles<'a, R: rt::Files> {
+    rt: &'a R,
+    faults: u64,
+}
+
+// A contract sees how many reads failed.
+impl<'a, R: rt::Files> Model for DiskFiles<'a, R> {
+    ghost Value = { ℕ };
+
+    ghost view = { λ s. s.faults };
+}
+
+impl<'a, R: rt::Files> DiskFiles<'a, R> {
+    /// The files that the runtime reaches, with no fault counted yet.
+    pub fn make(rt: &'a R) -> DiskFiles<'a, R>
+        ensures empty { result ≡ 0 }
+    {
+        DiskFiles { rt, faults: 0 }
+    }
+}
+
+impl<'a, R: rt::Files> Files for DiskFiles<'a, R> {
+    ghost contents = { λ _. untold_contents };
+
+    ghost failed_last = { λ _. untold_name };
+
+    ghost faults = { λ faults. faults };
+
+    /// A file longer than `MAX_FILE_BYTES` is Failed.
+    fn read(&mut self, alloc: Global, name: &str) -> Result<Vec<u8>, ReadFault>
+        // The trait's clauses, where nothing is told of names and bytes.
+        ensures ok { IfOk result (λ bytes. HasFile untold_contents name.now bytes.items) }
+        ensures same_contents { untold_contents ≡ untold_contents }
+        ensures failed { OnFailed result (IsNoted untold_name untold_name name.now) }
+        ensures counted { OnFailed result (HasRisen self.old self.new) }
+        ensures same { UnlessFailed result (self.new ≡ self.old) }
+        ensures same_failed_last { UnlessFailed result (untold_name ≡ untold_name) }
+
+        // What these files add to the trait's clauses.
+        ensures within { IfOk result (λ bytes. vec_len bytes ≤ MAX_FILE_BYTES) }
+    {
+        // No clause can say what a file of the system has: a test reads one.
+        match read_file(self.rt, alloc, name) {
+            Ok(bytes) => Ok(bytes),
+            Err(ReadFault::OutOfMemory) => Err(ReadFault::OutOfMemory),
+            Err(ReadFault::Failed) => {
+                self.faults = self.faults.saturating_add(1);
+                Err(ReadFault::Failed)
+            }
+        }
+    }
+}
+
+fn read_file<R: rt::Files>(rt: &R, alloc: Global, name: &str) -> Result<Vec<u8>, ReadFault>
+    ensures { IfOk result (λ bytes. vec_len bytes ≤ MAX_FILE_BYTES) }
+{
+    let file = File::open(rt, name).map_err(fault_of)?;
+    let mut bytes = Vec::new(alloc);
+    file.take(MAX_FILE_BYTES + 1)
+        .read_to_end(&mut bytes)
+        .map_err(fault_of)?;
+    if bytes.len() as u64 > MAX_FILE_BYTES {
+        return Err(ReadFault::Failed);
+    }
+    Ok(bytes)
+}
+
+fn fault_of(error: io::Error) -> ReadFault {
+    match error.kind() {
+        ErrorKind::OutOfMemory => ReadFault::OutOfMemory,
+        _ => ReadFault::Failed,
+    }
+}

@@ -1,0 +1,49 @@
+//! Where files are read.
+ghost use Rattle.std.specs.Prelude.{◌≡◌, ℕ, List, Option, IfOk};
+ghost use Rattle.rx_base.specs.Sink.{HasRisen};
+ghost use Rattle.rx_base.specs.Files.{HasFile, IsNoted, OnFailed, UnlessFailed};
+ghost use Rattle.rx_base.specs.declared.files.ReadFault.TheVariants.{OutOfMemory};
+
+use std::alloc::{AllocError, Global};
+
+/// Why a read has no answer.
+#[derive(Clone, Copy, Debug, PartialEq, Eq)]
+pub enum ReadFault {
+    /// The file can't be read. The files have counted it.
+    Failed,
+    /// There is no memory for the answer. It isn't counted, and the read may be tried again.
+    OutOfMemory,
+}
+
+impl From<AllocError> for ReadFault {
+    ghost from_gives = { λ _ fault. fault ≡ OutOfMemory };
+
+    fn from(_error: AllocError) -> ReadFault {
+        ReadFault::OutOfMemory
+    }
+}
+
+/// Where files are read by name.
+pub trait Files {
+    /// The files by name, where they are told. Of two with one name the first counts.
+    ghost contents: { Self → Option (List (List ℕ × List ℕ)) };
+
+    /// The name whose read failed last, or none yet, where it is told.
+    ghost failed_last: { Self → Option (Option (List ℕ)) };
+
+    /// How many reads failed.
+    ghost faults: { Self → ℕ };
+
+    /// The bytes of the whole file of that name.
+    fn read(&mut self, alloc: Global, name: &str) -> Result<Vec<u8>, ReadFault>
+        ensures ok { IfOk result (λ bytes. HasFile (contents self.old) name.now bytes.items) }
+        ensures same_contents { contents self.new ≡ contents self.old }
+
+        ensures failed { OnFailed result
+            (IsNoted (failed_last self.old) (failed_last self.new) name.now) }
+        ensures counted { OnFailed result (HasRisen (faults self.old) (faults self.new)) }
+
+        ensures same { UnlessFailed result (faults self.new ≡ faults self.old) }
+        ensures same_failed_last { UnlessFailed result
+            (failed_last self.new ≡ failed_last self.old) };
+}

@@ -1,0 +1,21 @@
+//! Files to read and sinks to put bytes in, each with a count of its faults.
+//! A contract sees that count and what is told: the files by name, the bytes put, or nothing.
+//! A caller is generic over `Files` and `Sink`; programs pass the system's, tests those in memory.
+//! A count stands still at 2^64-1, and there it passes for one that rose.
+#![tactic(auto)]
+
+mod disk;
+mod files;
+mod mem_files;
+mod mem_sink;
+mod sink;
+mod std_sink;
+#[cfg(test)]
+mod tests;
+
+pub use disk::{DiskFiles, MAX_FILE_BYTES};
+pub use files::{Files, ReadFault};
+pub use mem_files::MemFiles;
+pub use mem_sink::MemSink;
+pub use sink::{Failed, Sink};
+pub use std_sink::{ErrSink, StdSink};

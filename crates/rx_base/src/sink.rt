@@ -1,0 +1,23 @@
+//! Where bytes are put.
+ghost use Rattle.std.specs.Prelude.{◌≡◌, ℕ, List, Option, OnOk, OnErr};
+ghost use Rattle.rx_base.specs.Sink.{Gained, GainedSome, HasRisen};
+
+/// A put that failed. The sink has counted it.
+#[derive(Clone, Copy, Debug, PartialEq, Eq)]
+pub struct Failed;
+
+/// Where bytes are put, as a terminal or a buffer.
+pub trait Sink {
+    /// The bytes put, where they are told.
+    ghost told: { Self → Option (List ℕ) };
+
+    /// How many puts failed.
+    ghost faults: { Self → ℕ };
+
+    /// Puts all the bytes, in order. After Failed the sink has got the first of them, or none.
+    fn put(&mut self, bytes: &[u8]) -> Result<(), Failed>
+        ensures ok { OnOk result (Gained (told self.old) (told self.new) bytes.now) }
+        ensures same { OnOk result (faults self.new ≡ faults self.old) }
+        ensures err { OnErr result (GainedSome (told self.old) (told self.new) bytes.now) }
+        ensures counted { OnErr result (HasRisen (faults self.old) (faults self.new)) };
+}

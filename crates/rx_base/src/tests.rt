@@ -1,0 +1,135 @@
+use crate::{DiskFiles, ErrSink, Failed, Files, MemFiles, MemSink, ReadFault, Sink, StdSink};
+use std::alloc::{AllocError, Global};
+use std::fmt::Display;
+use std::io::{Eprint, ErrorKind, Print};
+use std::test::Fail;
+use std::{env, fs, io, process};
+
+fn files_named(
+    alloc: Global,
+    names: &[(&str, &[u8])],
+) -> Result<Vec<(String, Vec<u8>)>, AllocError> {
+    let mut files = Vec::new(alloc);
+    for (name, bytes) in names {
+        files.push((
+            String::from_str(alloc, name)?,
+            Vec::from_slice(alloc, bytes)?,
+        ))?;
+    }
+    Ok(files)
+}
+
+#[test]
+fn memory_gives_the_first_file_of_a_name(rt: HostRuntime) -> Result<(), Fail> {
+    let alloc = rt.alloc();
+    let named: [(&str, &[u8]); 3] = [("a", &[1, 2]), ("", &[3]), ("a", &[4])];
+    let mut files = MemFiles::make(files_named(alloc, &named)?, Vec::new(alloc));
+    assert_eq!(rt; files.read(alloc, "a")?.as_slice(), [1, 2].as_slice());
+    assert_eq!(rt; files.read(alloc, "")?.as_slice(), [3].as_slice());
+    assert!(rt; matches!(files.read(alloc, "b"), Err(ReadFault::Failed)));
+    assert_eq!(rt; files.read(alloc, "a")?.as_slice(), [1, 2].as_slice());
+    Ok(())
+}
+
+#[test]
+fn memory_fails_the_reads_that_are_listed(rt: HostRuntime) -> Result<(), Fail> {
+    let alloc = rt.alloc();
+    let named: [(&str, &[u8]); 1] = [("a", &[7])];
+    let failing = Vec::from_slice(alloc, &[1, 3])?;
+    let mut files = MemFiles::make(files_named(alloc, &named)?, failing);
+    let wanted = [Err(ReadFault::Failed), Ok(1), Err(ReadFault::Failed), Ok(1)];
+    for len in wanted {
+        assert_eq!(rt; files.read(alloc, "a").map(|bytes| bytes.len()), len);
+    }
+    Ok(())
+}
+
+#[test]
+fn a_room_without_memory_is_refused(rt: HostRuntime) {
+    let alloc = rt.alloc();
+    let refused = MemSink::make(alloc, usize::MAX, Vec::new(alloc)).err();
+    assert_eq!(rt; refused.map(ReadFault::from), Some(ReadFault::OutOfMemory));
+}
+
+#[test]
+fn a_full_sink_keeps_what_fits(rt: HostRuntime) -> Result<(), Fail> {
+    let alloc = rt.alloc();
+    let mut sink = MemSink::make(alloc, 4, Vec::new(alloc))?;
+    let puts: [(&[u8], Result<(), Failed>, usize); 5] = [
+        (&[1, 2, 3], Ok(()), 3),
+        (&[], Ok(()), 3),
+        (&[4, 5], Err(Failed), 4),
+        (&[6], Err(Failed), 4),
+        (&[], Ok(()), 4),
+    ];
+    for (bytes, want, len) in puts {
+        assert_eq!(rt; sink.put(bytes), want);
+        assert_eq!(rt; sink.as_slice().len(), len);
+    }
+    assert_eq!(rt; sink.as_slice(), [1, 2, 3, 4].as_slice());
+    Ok(())
+}
+
+#[test]
+fn a_sink_fails_the_puts_that_are_listed(rt: HostRuntime) -> Result<(), Fail> {
+    let alloc = rt.alloc();
+    let mut sink = MemSink::make(alloc, 9, Vec::from_slice(alloc, &[2])?)?;
+    assert_eq!(rt; sink.put(b"ab"), Ok(()));
+    assert_eq!(rt; sink.put(b"cd"), Err(Failed));
+    assert_eq!(rt; sink.put(b"ef"), Ok(()));
+    assert_eq!(rt; sink.as_slice(), b"abef".as_slice());
+    Ok(())
+}
+
+#[test]
+fn the_disk_gives_a_file_that_is_there(rt: HostRuntime) -> Result<(), Fail> {
+    let alloc = rt.alloc();
+    let dir = env::temp_dir(&rt)?;
+    let path = dir
+        .as_path()
+        .join(alloc, "rx_base_gives_a_file_that_is_there")?;
+    fs::write(&rt, &path, b"six\n")?;
+    let mut files = DiskFiles::make(&rt);
+    let bytes = files.read(alloc, path.as_str())?;
+    fs::remove_file(&rt, &path)?;
+    assert_eq!(rt; bytes.as_slice(), b"six\n".as_slice());
+    assert!(rt; matches!(files.read(alloc, path.as_str()), Err(ReadFault::Failed)));
+    assert!(rt; matches!(files.read(alloc, dir.as_str()), Err(ReadFault::Failed)));
+    Ok(())
+}
+
+// An output that is closed.
+struct Closed;
+
+impl Print for Closed {
+    fn print<D: Display + Drop>(&self, _value: D) -> io::Result<()> {
+        Err(io::Error::from(ErrorKind::BrokenPipe))
+    }
+
+    fn println<D: Display + Drop>(&self, _value: D) -> io::Result<()> {
+        Err(io::Error::from(ErrorKind::BrokenPipe))
+    }
+
+    fn write_all(&self, _bytes: &[u8]) -> io::Result<()> {
+        Err(io::Error::from(ErrorKind::BrokenPipe))
+    }
+}
+
+impl Eprint for Closed {
+    fn eprint<D: Display + Drop>(&self, _value: D) -> io::Result<()> {
+        Err(io::Error::from(ErrorKind::BrokenPipe))
+    }
+
+    fn eprintln<D: Display + Drop>(&self, _value: D) -> io::Result<()> {
+        Err(io::Error::from(ErrorKind::BrokenPipe))
+    }
+}
+
+#[test]
+fn a_closed_output_fails(rt: HostRuntime) {
+    assert_eq!(rt; StdSink::make(&rt).put(b"out\n"), Ok(()));
+    assert_eq!(rt; StdSink::make(&Closed).put(b"out\n"), Err(Failed));
+    assert_eq!(rt; ErrSink::make(&rt).put("e\u{301}\n".as_bytes()), Ok(()));
+    assert_eq!(rt; ErrSink::make(&rt).put(&[0xff]), Err(Failed));
+    assert_eq!(rt; ErrSink::make(&Closed).put(b"err\n"), Err(Failed));
+}
