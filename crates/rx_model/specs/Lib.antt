@@ -1,0 +1,14 @@
+pub mod Body
+pub mod Message
+pub mod Reading
+pub mod Spelling
+pub mod Spells
+pub mod Names
+pub mod Streams
+pub mod Looks
+pub mod Slots
+pub mod Items
+pub mod Rules
+pub mod Accepted
+pub mod Text
+pub mod Telling

@@ -1,0 +1,25 @@
+//! The vocabulary of histories: hosts, names of calls, answers and events, and in `specs/` what a history says and allows.
+#![tactic(auto)]
+
+mod answers;
+mod bytes;
+mod event;
+mod laws;
+mod line;
+mod names;
+mod spelling_laws;
+mod text;
+mod text_laws;
+pub mod wire;
+
+pub use answers::{
+    Asked, BadMsg, CallRead, CallRefused, ConnFull, End, Full, NotOpen, ReadAns, ReadGot,
+    ServeRead, ServeRefused, Took, WroteGot,
+};
+pub use bytes::Bytes;
+pub use event::{Event, Noted};
+pub use laws::accepts_once;
+pub use line::event_line;
+pub use names::{CallName, Host, Limits};
+pub use spelling_laws::{reads_the_spelled, reads_the_written, spells_one, writes_a_spelling};
+pub use text_laws::{legal_events_are_told, texts_tell_histories, texts_tell_sides};

@@ -1,0 +1,88 @@
+//! The numbers of the wire, by their names in OpenAFS's `rx.h` and `rx_packet.h` without `RX_`.
+
+/// The type of a packet that carries data.
+pub const DATA: u8 = 1;
+
+/// The type of an acknowledgement.
+pub const ACK: u8 = 2;
+
+/// The type of a refusal for want of room.
+pub const BUSY: u8 = 3;
+
+/// The type of an abort, which carries a code.
+pub const ABORT: u8 = 4;
+
+/// The type of an acknowledgement of all packets.
+pub const ACKALL: u8 = 5;
+
+/// The type of a security challenge.
+pub const CHALLENGE: u8 = 6;
+
+/// The type of the response to a challenge.
+pub const RESPONSE: u8 = 7;
+
+/// The flag of a datagram that the client of its connection sent.
+pub const CLIENT_INITIATED: u8 = 1;
+
+/// The flag that asks for an acknowledgement.
+pub const REQUEST_ACK: u8 = 2;
+
+/// The flag of the last packet of a stream.
+pub const LAST_PACKET: u8 = 4;
+
+/// The flag of a DATA datagram with several packets.
+pub const JUMBO: u8 = 0x20;
+
+/// Why an ACK is sent: it was asked for.
+pub const ACK_REQUESTED: u8 = 1;
+
+/// A packet came again.
+pub const ACK_DUPLICATE: u8 = 2;
+
+/// A packet came before one that is missing.
+pub const ACK_OUT_OF_SEQUENCE: u8 = 3;
+
+/// A packet came that lies past the window.
+pub const ACK_EXCEEDS_WINDOW: u8 = 4;
+
+/// A packet came that there was no slot for.
+pub const ACK_NOSPACE: u8 = 5;
+
+/// The sender wants to know whether the receiver is there.
+pub const ACK_PING: u8 = 6;
+
+/// The answer to a ping.
+pub const ACK_PING_RESPONSE: u8 = 7;
+
+/// Nothing asked for it: a delayed acknowledgement.
+pub const ACK_DELAY: u8 = 8;
+
+/// Bytes of the header of a message.
+pub const HEADER_BYTES: usize = 28;
+
+/// Bytes of a payload at most, on reading.
+pub const PAYLOAD_BYTES: usize = 1444;
+
+/// Bytes of a datagram at most.
+pub const DATAGRAM_BYTES: usize = 1472;
+
+/// Bytes of a full piece of a stream, as this node sends it.
+pub const PIECE_BYTES: usize = 1412;
+
+/// Packets of a window at most.
+pub const WINDOW_PACKETS: u32 = 32;
+
+/// Milliseconds after which a delayed acknowledgement is due.
+pub const ACK_DELAY_MS: u64 = 100;
+
+/// Milliseconds after which a packet is first sent again.
+pub const FIRST_RTO_MS: u64 = 1000;
+
+/// The most connections that a node keeps, by default.
+pub const DEFAULT_CONNS: u32 = 1024;
+
+/// The most calls that live at a node, by default.
+pub const DEFAULT_CALLS: u32 = 64;
+
+/// The packet slots of a node, by default.
+pub const DEFAULT_SLOTS: u32 = 2048;
