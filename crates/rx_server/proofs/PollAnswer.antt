@@ -1,0 +1,100 @@
+-- The item that is next is given: the answer, and what stands for the longer history.
+use Rattle.std.proofs.Common.{◌≡◌, ◌^◌, ◌<◌, map, slice_get, ℕ, List, ◌∷◌, Option}
+use Rattle.std.proofs.Common.{Some, ap, sym, subst, ◌∙◌}
+use Rattle.rx_model.specs.declared.event.Event.{Event}
+use Rattle.rx_model.specs.declared.event.Event.TheVariants as events
+use Rattle.rx_model.specs.declared.names.CallName.{CallName}
+use Rattle.rx_model.specs.declared.names.Host.{Host}
+use Rattle.rx_model.specs.Items.{Item, message_for, next_item, poll_answer, datagram_for}
+use Rattle.rx_model.specs.Looks.{Looks, Named, Setup, looks, named}
+use Rattle.rx_model.specs.Names.{Connection, Channel, channel_of, connection_of}
+use Rattle.rx_model.specs.Reading.{reading_of}
+use Rattle.rx_model.specs.Rules.{Allowed, Legal}
+use Rattle.rx_model.specs.Spelling.{made}
+use Rattle.rx_model.proofs.Given.{given_named}
+use Rattle.rx_model.proofs.NameLaws.{channel_is}
+use Rattle.rx_server.specs.declared.due.Due.{Due}
+use Rattle.rx_server.specs.Dues.{Writes}
+use Rattle.rx_server.specs.Dues.{message_with}
+use Rattle.rx_server.specs.Node.{ConnEntry, Entry, Node}
+use Rattle.rx_server.specs.Stands.{Stands, conn_of, entry_of}
+use Rattle.rx_server.proofs.DueItems.{CallAt}
+use Rattle.rx_server.proofs.Lists.{get-map}
+use Rattle.rx_server.proofs.PollKept.{Kept, given_after, message_is, named_for}
+use Rattle.rx_server.proofs.Standing.{Standing}
+
+-- the datagram of an item, on the connection as it is kept
+pub record Datagram (s : Setup) (l : Looks) (i : Item) (host : Host) (bytes : List ℕ) : Type 0 where
+  pub x : Connection
+  pub on : connection_of i.name ≡ x
+  pub for : host ≡ i.name.host
+  pub spells : bytes ≡ made (message_with s.service (conn_of l x) i)
+
+-- the item that is next was given
+pub poll_given : (node new : Node) (h : List Event) (i : Item) (host : Host) (bytes : List ℕ) → Standing node h
+    → next_item (looks h) ≡ Some i
+    → Datagram node.setup (looks h) i host bytes → new.setup ≡ node.setup
+    → Kept (looks h) (given_after (looks h) (Some (named_for node.setup (looks h) i))) new.conns new.calls
+    → Allowed node.setup (looks h) (events.Polled (Some (host, bytes)))
+    × Stands new (events.Polled (Some (host, bytes)) ∷ h)
+poll_given node new h i host bytes s next d setup kept =
+    let l : Looks = looks h in
+    let text : bytes ≡ made (message_for node.setup l i) = d.spells ∙ ap made (message_is node.setup l d.x i d.on) in
+    let to = d.for in
+    let answer : Some (host, bytes) ≡ poll_answer node.setup l = (λ k. Some (to k, text k))
+    ∙ sym (ap (datagram_for node.setup l) next) in
+    let named_is : named host (reading_of bytes) ≡ Some (named_for node.setup l i) =
+    (λ k. named (to k) (reading_of (text k))) ∙ given_named node.setup l i s.stands.service s.lives next in (
+      answer,
+      record {
+        legal = subst (λ (t : Setup). Legal t (events.Polled (Some (host, bytes)) ∷ h)) (sym setup)
+            (answer, s.stands.legal);
+        service = subst (λ (t : Setup). t.service < 2 ^ 16) (sym setup) s.stands.service;
+        limits = ap (λ (t : Setup). t.limits) setup ∙ s.stands.limits;
+        conns = kept.conns_are ∙ ap (λ (o : Option Named). map (conn_of (given_after l o)) l.known) (sym named_is);
+        calls = kept.calls_are ∙ ap (λ (o : Option Named). map (entry_of (given_after l o)) l.started) (sym named_is);
+      },
+    )
+
+-- a connection at a place, as the history has it
+pub conn_there : (node : Node) (h : List Event) (at : ℕ) (e : ConnEntry) (x : Connection) → Standing node h
+    → slice_get node.conns at ≡ Some e
+    → slice_get (looks h).known at ≡ Some x → e ≡ conn_of (looks h) x
+conn_there node h at e x s there here =
+    let same : Some e ≡ Some (conn_of (looks h) x) = sym there
+    ∙ ap (λ (es : List ConnEntry). slice_get es at) s.stands.conns
+    ∙ get-map (conn_of (looks h)) (looks h).known at x here in
+    cc (same)
+
+-- a call at a place, as the history has it
+pub call_there : (node : Node) (h : List Event) (place : ℕ) (e : Entry) (c : CallName) → Standing node h
+    → slice_get node.calls place ≡ Some e
+    → slice_get (looks h).started place ≡ Some c → e ≡ entry_of (looks h) c
+call_there node h place e c s there here =
+    let same : Some e ≡ Some (entry_of (looks h) c) = sym there
+    ∙ ap (λ (es : List Entry). slice_get es place) s.stands.calls
+    ∙ get-map (entry_of (looks h)) (looks h).started place c here in
+    cc (same)
+
+-- the connection of a call at a place
+on_connection : (l : Looks) (conn place : ℕ) (c : CallName) (at : CallAt l conn place c) → connection_of c ≡ at.x
+on_connection l conn place c at =
+    ap (λ (ch : Channel). ch.connection)
+    (channel_is (channel_of c) (record { connection = at.x; chan = at.chan }) at.on)
+
+-- which is at its place
+pub call_here : (l : Looks) (conn place : ℕ) (c : CallName) → CallAt l conn place c
+    → slice_get l.known conn ≡ Some (connection_of c)
+call_here l conn place c at = at.here ∙ ap (λ (y : Connection). Some y) (sym (on_connection l conn place c at))
+
+-- what was written is the datagram of the item
+pub datagram_of : (node : Node) (l : Looks) (d : Due) (x : Connection) (i : Item) (host : Host) (bytes : List ℕ)
+    → (w : Writes node d host bytes) → w.x ≡ conn_of l x → w.i ≡ i → connection_of i.name ≡ x
+    → Datagram node.setup l i host bytes
+datagram_of node l d x i host bytes w written item on =
+    record {
+      x = x;
+      on = on;
+      for = w.for ∙ ap (λ (j : Item). j.name.host) item;
+      spells = w.spells ∙ (λ k. made (message_with node.setup.service (written k) (item k)));
+    }

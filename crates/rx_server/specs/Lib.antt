@@ -1,0 +1,4 @@
+pub mod Node
+pub mod Dues
+pub mod Seen
+pub mod Stands

@@ -1,0 +1,20 @@
+//! A server of calls: it takes datagrams, its handlers accept, read, write and finish calls, and it gives what is due.
+//!
+//! A contract sees it as a `Node`, and says by `Answered` of `specs/Stands.antt` that each answer is the one that the
+//! rules give for every history for which the server stood. A caller imports those two. No call after `make` takes
+//! memory.
+#![tactic(auto)]
+
+mod buffer;
+mod call;
+mod conn;
+mod due;
+mod item;
+mod judge;
+mod owed;
+mod search;
+mod server;
+#[cfg(test)]
+mod tests;
+
+pub use server::Server;
