@@ -1,0 +1,12 @@
+pub mod Pieces
+pub mod Numbers
+pub mod Words
+pub mod Lines
+pub mod Plans
+pub mod Counts
+pub mod Reading
+pub mod Causes
+pub mod Follows
+pub mod Steps
+pub mod Runs
+pub mod Tops
