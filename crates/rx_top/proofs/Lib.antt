@@ -8,4 +8,5 @@ pub mod SaidLaw
 pub mod WellLines
 pub mod OfferedLaw
 pub mod RunSteps
+pub mod RunEnds
 pub mod SimEnds

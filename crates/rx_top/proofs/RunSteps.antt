@@ -1,10 +1,10 @@
 -- The run of a plan, line by line.
-use Rattle.std.proofs.Common.{◌≡◌, ◌+◌, ◌++◌, ◌<◌, ◌≤◌, cond, not, true, false, List, [], ◌∷◌, length, reverse, slice_get, take, Option, Some, None, Err, refl, ap, sym, subst, ◌∙◌, ℕ, zero, suc, arith, get_or, map, take_all}
+use Rattle.std.proofs.Common.{◌≡◌, ◌+◌, ◌++◌, ◌<◌, ◌≤◌, cond, not, true, false, List, [], ◌∷◌, length, reverse, slice_get, take, Option, Some, None, refl, ap, sym, subst, ◌∙◌, ℕ, zero, suc, arith, get_or, map}
 use Rattle.std.proofs.lemmas.List.{reverse-append, take_more}
 use Rattle.std.proofs.lemmas.Option.{get_or_from_slice_get, slice_get-get_or, slice_get_within}
 use Rattle.std.specs.List.{find}
 use Rattle.rx_base.specs.Sink.{Gained}
-use Rattle.rx_base.proofs.SinkLemmas.{gained_none, gained_more, gained_all, gained_some_more}
+use Rattle.rx_base.proofs.SinkLemmas.{gained_none, gained_more}
 use Rattle.rx_model.specs.declared.event.Event.{Event}
 use Rattle.rx_model.specs.declared.names.CallName.{CallName}
 use Rattle.rx_model.specs.declared.names.Host.{Host}
@@ -18,9 +18,6 @@ use Rattle.rx_model.proofs.NameLaws.{name_is, or_true}
 use Rattle.rx_model.proofs.OnceLaw.{once}
 use Rattle.rx_server.specs.Node.{Entry, Node, reply_in, reply_of}
 use Rattle.rx_server.specs.Stands.{Stands, default_limits, entry_of}
-use Rattle.rx_top.specs.declared.outcome.Outcome.{Outcome}
-use Rattle.rx_top.specs.declared.outcome.Outcome.TheVariants as outcomes
-use Rattle.rx_top.specs.declared.outcome.PlanWhy.{PlanWhy}
 use Rattle.rx_top.specs.declared.outcome.PlanWhy.TheVariants as causes
 use Rattle.rx_top.specs.declared.plan.Numbered.{Numbered}
 use Rattle.rx_top.specs.declared.plan.PlanLine.{PlanLine}
@@ -28,13 +25,14 @@ use Rattle.rx_top.specs.declared.plan.PlanLine.TheVariants as lines
 use Rattle.rx_top.specs.declared.plan.TheConstants.{DEFAULT_SERVICE}
 use Rattle.rx_top.specs.Follows.{Follows, FollowsBack, IsOf, call_refusal, has_server, is_server, name_at, refusal_of, server_refusal}
 use Rattle.rx_top.specs.Plans.{is_later, offered_to}
-use Rattle.rx_top.specs.Runs.{IsServed, Ran, RanSome, RanTo, RunIs, plan_setup, trace_of}
-use Rattle.rx_top.specs.Steps.{AreWell, Broke, IsReady, IsWell, LineIs, Made, event_trace, line_refusal}
+use Rattle.rx_top.specs.Runs.{IsServed, plan_setup, trace_of}
+use Rattle.rx_top.specs.Steps.{AreWell, IsReady, IsWell, Made, event_trace, line_refusal}
 use Rattle.rx_top.proofs.BuiltLemmas.{finish_is_zero, forge_is_request, write_fits}
 use Rattle.rx_top.proofs.OfferedLaw.{Offered, offered_more}
 
 -- the server and the names behind these lines, the first of which is the server's
-pub record Running (node : Node) (names : List CallName) (ls : List Numbered) (before put : Option (List ℕ)) (h : List Event) : Type 0 where
+pub record Running (node : Node) (names : List CallName) (ls : List Numbered) (before put : Option (List ℕ))
+    (h : List Event) : Type 0 where
   pub stands : Stands node h
   pub setup : node.setup ≡ plan_setup
   pub named : names ≡ accepted_names h
@@ -49,17 +47,21 @@ reply_among : (l : Looks) (c : CallName) (names : List CallName)
     → length (reply_in (find (λ (e : Entry). same_name e.name c) (map (entry_of l) names))) ≤ length (l.said c)
 reply_among l c [] = omega arith
 reply_among l c (n ∷ names) =
-    (elim (same_name n c) as (λ b. same_name n c ≡ b → length (reply_in (cond b (Some (entry_of l n)) (find (λ (e : Entry). same_name e.name c) (map (entry_of l) names)))) ≤ length (l.said c)) [
+    (elim (same_name n c) as (λ b. same_name n c ≡ b
+    → length (reply_in (cond b (Some (entry_of l n))
+    (find (λ (e : Entry). same_name e.name c) (map (entry_of l) names)))) ≤ length (l.said c)) [
       | true ↦ λ same. (let is : n ≡ c = name_is n c same in rw is (omega arith))
       | false ↦ λ same. reply_among l c names
     ]) refl
 
 -- what is kept of a reply was written
-reply_within : (node : Node) (h : List Event) (c : CallName) → Stands node h → length (reply_of node c) ≤ length ((looks h).said c)
+reply_within : (node : Node) (h : List Event) (c : CallName) → Stands node h
+    → length (reply_of node c) ≤ length ((looks h).said c)
 reply_within node h c stands = rw (stands.calls) (reply_among (looks h) c (looks h).started)
 
 -- a line of a plan that was read finds it
-pub ready : (node : Node) (names : List CallName) (ls : List Numbered) (before told : Option (List ℕ)) (h : List Event) (what : PlanLine)
+pub ready : (node : Node) (names : List CallName) (ls : List Numbered) (before told : Option (List ℕ)) (h : List Event)
+    (what : PlanLine)
     → Running node names ls before told h → IsWell what → is_later ls what ≡ false → IsReady node names what
 ready node names ls before told h (lines.Server host service limits) r well built = tt
 ready node names ls before told h (lines.Forge to host bytes) r well built =
@@ -69,7 +71,8 @@ ready node names ls before told h lines.Accept r well built = tt
 ready node names ls before told h (lines.HandlerRead call max) r well built = well
 ready node names ls before told h (lines.HandlerWrite call bytes) r well built = λ c at.
     (let fits : offered_to call ls + length bytes ≤ PIECE_BYTES = write_fits ls call bytes built in
-    let said : length ((looks h).said c) ≤ offered_to call ls = r.offered call c (subst (λ (ns : List CallName). name_at ns call ≡ Some c) r.named at) in
+    let said : length ((looks h).said c) ≤ offered_to call ls =
+    r.offered call c (subst (λ (ns : List CallName). name_at ns call ≡ Some c) r.named at) in
     let kept : length (reply_of node c) ≤ length ((looks h).said c) = reply_within node h c r.stands in
     omega (arith, fits, said, kept))
 ready node names ls before told h (lines.Finish call code) r well built = finish_is_zero ls call code built
@@ -77,13 +80,14 @@ ready node names ls before told h (lines.Poll n) r well built = tt
 
 -- ---- the lines so far
 
-served : (node : Node) (h : List Event) → Stands node h → node.setup ≡ plan_setup → IsServed h
+pub served : (node : Node) (h : List Event) → Stands node h → node.setup ≡ plan_setup → IsServed h
 served node h stands setup =
     let legal : Legal plan_setup h = subst (λ (s : Setup). Legal s h) setup stands.legal in
     record { legal = legal; once = once plan_setup h legal }
 
 -- the server's line
-pub starts : (node : Node) (first : Numbered) (told : Option (List ℕ)) → Stands node [] → node.setup ≡ plan_setup → is_server first.what ≡ true
+pub starts : (node : Node) (first : Numbered) (told : Option (List ℕ)) → Stands node [] → node.setup ≡ plan_setup
+    → is_server first.what ≡ true
     → Running node [] (first ∷ []) told told []
 starts node first told stands setup server =
     record {
@@ -118,14 +122,18 @@ late : (back : List Numbered) → has_server back ≡ true → server_refusal ba
 late [] has = absurd cc
 late (l ∷ back) has = refl
 
-refused_there : (back : List Numbered) (names : List CallName) (what : PlanLine) → has_server back ≡ true → refusal_of back names what ≡ line_refusal names what
+pub refused_there : (back : List Numbered) (names : List CallName) (what : PlanLine) → has_server back ≡ true
+    → refusal_of back names what ≡ line_refusal names what
 refused_there back names what has =
-    (elim (is_server what) as (λ b. cond b (server_refusal back) (cond (not (has_server back)) (Some causes.NoNode) (call_refusal names what)) ≡ cond b (Some causes.Late) (call_refusal names what)) [
+    (elim (is_server what) as (λ b. cond b (server_refusal back)
+    (cond (not (has_server back)) (Some causes.NoNode) (call_refusal names what))
+    ≡ cond b (Some causes.Late) (call_refusal names what)) [
       | true ↦ late back has
       | false ↦ rw has refl
     ])
 
-follows_more : (ls : List Numbered) (l : Numbered) (h : List Event) (e : Event) → has_server (reverse ls) ≡ true → Follows ls h → IsOf (accepted_names h) l.what e
+pub follows_more : (ls : List Numbered) (l : Numbered) (h : List Event) (e : Event) → has_server (reverse ls) ≡ true
+    → Follows ls h → IsOf (accepted_names h) l.what e
     → call_refusal (accepted_names h) l.what ≡ None → Follows (ls ++ l ∷ []) (e ∷ h)
 follows_more ls l h e has follows of unrefused =
     let other : is_server l.what ≡ false = no_server (accepted_names h) l.what e of in
@@ -133,11 +141,15 @@ follows_more ls l h e has follows of unrefused =
     subst (λ (ms : List Numbered). FollowsBack ms (e ∷ h)) (sym (reverse_push ls l)) back
 
 -- one line more
-pub goes_on : (old new : Node) (names named : List CallName) (ls : List Numbered) (l : Numbered) (before told after : Option (List ℕ)) (h : List Event)
-    → Running old names ls before told h → (m : Made old new names named l.what told after) → Running new named (ls ++ l ∷ []) before after (m.event ∷ h)
+pub goes_on : (old new : Node) (names named : List CallName) (ls : List Numbered) (l : Numbered)
+    (before told after : Option (List ℕ)) (h : List Event)
+    → Running old names ls before told h → (m : Made old new names named l.what told after)
+    → Running new named (ls ++ l ∷ []) before after (m.event ∷ h)
 goes_on old new names named ls l before told after h r m =
-    let of : IsOf (accepted_names h) l.what m.event = subst (λ (ns : List CallName). IsOf ns l.what m.event) r.named m.is_of in
-    let unrefused : call_refusal (accepted_names h) l.what ≡ None = subst (λ (ns : List CallName). call_refusal ns l.what ≡ None) r.named m.unrefused in
+    let of : IsOf (accepted_names h) l.what m.event =
+    subst (λ (ns : List CallName). IsOf ns l.what m.event) r.named m.is_of in
+    let unrefused : call_refusal (accepted_names h) l.what ≡ None =
+    subst (λ (ns : List CallName). call_refusal ns l.what ≡ None) r.named m.unrefused in
     let answer : Allowed old.setup (looks h) m.event = (m.answered h r.stands).0 in
     record {
       stands = (m.answered h r.stands).1;
@@ -152,14 +164,17 @@ goes_on old new names named ls l before told after h r m =
 -- ---- the lines of a plan by their places
 
 -- behind the first one
-pub there_is : (plan rest : List Numbered) (first l : Numbered) (i : ℕ) → plan ≡ first ∷ rest → i < length rest → l ≡ get_or rest i l → slice_get plan (i + 1) ≡ Some l
+pub there_is : (plan rest : List Numbered) (first l : Numbered) (i : ℕ) → plan ≡ first ∷ rest → i < length rest
+    → l ≡ get_or rest i l → slice_get plan (i + 1) ≡ Some l
 there_is plan rest first l i whole lt at =
     let on : i + 1 ≡ suc i = omega arith in
     rw (whole, on) (slice_get-get_or rest i l lt ∙ ap (λ (m : Numbered). Some m) (sym at))
 
-one_more : (plan : List Numbered) (place : ℕ) (l : Numbered) → slice_get plan place ≡ Some l → take (place + 1) plan ≡ take place plan ++ l ∷ []
+pub one_more : (plan : List Numbered) (place : ℕ) (l : Numbered) → slice_get plan place ≡ Some l
+    → take (place + 1) plan ≡ take place plan ++ l ∷ []
 one_more plan place l there =
-    take_more plan place l (slice_get_within plan place l there) ∙ ap (λ (m : Numbered). take place plan ++ m ∷ []) (get_or_from_slice_get plan place l l there)
+    take_more plan place l (slice_get_within plan place l there)
+    ∙ ap (λ (m : Numbered). take place plan ++ m ∷ []) (get_or_from_slice_get plan place l l there)
 
 -- ---- the run of a plan's first lines
 
@@ -167,102 +182,23 @@ one_more plan place l there =
 abbrev pub SoFar : Node → List CallName → List Numbered → Option (List ℕ) → Option (List ℕ) → Type 0
 SoFar node names ls before told = (h : List Event) × Running node names ls before told h
 
-pub begins : (node : Node) (names : List CallName) (plan rest : List Numbered) (first : Numbered) (service : ℕ) (host : Host) (limits : Limits) (told : Option (List ℕ)) → plan ≡ first ∷ rest
-    → AreWell plan → first.what ≡ lines.Server host service limits → Stands node [] → node.setup ≡ record { service = service; limits = default_limits } → names ≡ [] → SoFar node names (take 1 plan) told told
+pub begins : (node : Node) (names : List CallName) (plan rest : List Numbered) (first : Numbered) (service : ℕ)
+    (host : Host) (limits : Limits) (told : Option (List ℕ)) → plan ≡ first ∷ rest
+    → AreWell plan → first.what ≡ lines.Server host service limits → Stands node []
+    → node.setup ≡ record { service = service; limits = default_limits } → names ≡ []
+    → SoFar node names (take 1 plan) told told
 begins node names plan rest first service host limits told whole well server stands setup none =
     let named : service ≡ DEFAULT_SERVICE = subst IsWell server (well 0 first (rw whole refl)) in
     let first_is : is_server first.what ≡ true = rw server refl in
     let set : node.setup ≡ plan_setup = setup ∙ ap (λ (n : ℕ). record { service = n; limits = default_limits }) named in
     ([], rw (whole, none) (starts node first told stands set first_is))
 
-pub next : (old new : Node) (names named : List CallName) (plan : List Numbered) (place : ℕ) (l : Numbered) (before told after : Option (List ℕ)) → SoFar old names (take place plan) before told
-    → slice_get plan place ≡ Some l → Made old new names named l.what told after → SoFar new named (take (place + 1) plan) before after
-next old new names named plan place l before told after (h, r) there m =
-    (m.event ∷ h, rw (one_more plan place l there) (goes_on old new names named (take place plan) l before told after h r m))
-
--- ---- how a run ends
-
--- at a first line that is no server line
-pub no_node : (plan rest : List Numbered) (first : Numbered) (told : Option (List ℕ)) → plan ≡ first ∷ rest
-    → ((host : Host) (service : ℕ) (limits : Limits) → first.what ≡ lines.Server host service limits → ⊥) → (h : List Event) × RanTo plan first.line causes.NoNode told told h
-no_node plan rest first told whole other = (
-  [],
-  record {
-    served = record { legal = tt; once = once plan_setup [] tt };
-    place = 0;
-    line = first.what;
-    there = rw whole refl;
-    follows = refl;
-    refused = rw (other_line first.what other) refl;
-    told = gained_none told;
-  },
+pub next : (old new : Node) (names named : List CallName) (plan : List Numbered) (place : ℕ) (l : Numbered)
+    (before told after : Option (List ℕ)) → SoFar old names (take place plan) before told
+    → slice_get plan place ≡ Some l → Made old new names named l.what told after
+    → SoFar new named (take (place + 1) plan) before after
+next old new names named plan place l before told after (h, r) there m = (
+  m.event ∷ h,
+  rw (one_more plan place l there)
+      (goes_on old new names named (take place plan) l before told after h r m),
 )
-  where
-    other_line : (what : PlanLine) → ((host : Host) (service : ℕ) (limits : Limits) → what ≡ lines.Server host service limits → ⊥) → is_server what ≡ false
-    other_line (lines.Server host service limits) other = absurd (other host service limits refl)
-    other_line (lines.Forge to host bytes) other = refl
-    other_line lines.Accept other = refl
-    other_line (lines.HandlerRead call max) other = refl
-    other_line (lines.HandlerWrite call bytes) other = refl
-    other_line (lines.Finish call code) other = refl
-    other_line (lines.Poll node) other = refl
-
--- before its first line
-pub unmade : (plan : List Numbered) (told : Option (List ℕ)) → (h : List Event) × RanSome plan told told h
-unmade plan told =
-    ([], record { served = record { legal = tt; once = once plan_setup [] tt }; place = 0; follows = refl; told = gained_all told told [] (gained_none told) })
-
--- behind its last line
-pub ends : (node : Node) (names : List CallName) (plan rest : List Numbered) (first : Numbered) (i : ℕ) (before told : Option (List ℕ)) → plan ≡ first ∷ rest → length rest ≤ i
-    → SoFar node names (take (i + 1) plan) before told → (h : List Event) × Ran plan before told h
-ends node names plan rest first i before told whole last (h, r) =
-    let room : length plan ≤ i + 1 = rw whole (omega (arith, last)) in
-    (h, record { served = served node h r.stands r.setup; follows = subst (λ (ls : List Numbered). Follows ls h) (take_all (i + 1) plan room) r.follows; told = r.told })
-
--- between two lines
-stops : (node : Node) (names : List CallName) (plan : List Numbered) (place : ℕ) (before told : Option (List ℕ)) → SoFar node names (take place plan) before told
-    → (h : List Event) × RanSome plan before told h
-stops node names plan place before told (h, r) =
-    (h, record { served = served node h r.stands r.setup; place = place; follows = r.follows; told = gained_all before told (trace_of h) r.told })
-
--- at a line that is refused
-refuses : (node : Node) (names : List CallName) (plan : List Numbered) (place : ℕ) (l : Numbered) (why : PlanWhy) (before told : Option (List ℕ))
-    → SoFar node names (take place plan) before told → slice_get plan place ≡ Some l → line_refusal names l.what ≡ Some why → (h : List Event) × RanTo plan l.line why before told h
-refuses node names plan place l why before told (h, r) there refusal = (
-  h,
-  record {
-    served = served node h r.stands r.setup;
-    place = place;
-    line = l.what;
-    there = there;
-    follows = r.follows;
-    refused = refused_there (reverse (take place plan)) (accepted_names h) l.what r.server ∙ subst (λ (ns : List CallName). line_refusal ns l.what ≡ Some why) r.named refusal;
-    told = r.told;
-  },
-)
-
--- where the sink fails at a line's trace
-breaks : (old new : Node) (names : List CallName) (plan : List Numbered) (place : ℕ) (l : Numbered) (before told after : Option (List ℕ))
-    → SoFar old names (take place plan) before told → slice_get plan place ≡ Some l → Broke old new names l.what told after → (h : List Event) × RanSome plan before after h
-breaks old new names plan place l before told after (h, r) there b =
-    let of : IsOf (accepted_names h) l.what b.event = subst (λ (ns : List CallName). IsOf ns l.what b.event) r.named b.is_of in
-    let unrefused : call_refusal (accepted_names h) l.what ≡ None = subst (λ (ns : List CallName). call_refusal ns l.what ≡ None) r.named b.unrefused in
-    let legal : Legal plan_setup (b.event ∷ h) = subst (λ (s : Setup). Legal s (b.event ∷ h)) r.setup ((b.answered h r.stands).0, r.stands.legal) in (
-      b.event ∷ h,
-      record {
-        served = record { legal = legal; once = once plan_setup (b.event ∷ h) legal };
-        place = place + 1;
-        follows = rw (one_more plan place l there) (follows_more (take place plan) l h b.event r.server r.follows of unrefused);
-        told = gained_some_more before told after (trace_of h) (event_trace b.event) r.told b.told;
-      },
-    )
-
--- at a line that doesn't go on
-pub stopped : (ended : Outcome) (old new : Node) (names named : List CallName) (plan : List Numbered) (place : ℕ) (l : Numbered) (before told after : Option (List ℕ))
-    → SoFar old names (take place plan) before told → slice_get plan place ≡ Some l → LineIs (Err ended) old new names named l told after → RunIs ended plan before after
-stopped (outcomes.Refused number why) old new names named plan place l before told after so there is =
-    (let there_refused : RunIs (outcomes.Refused l.line why) plan before told = refuses old names plan place l why before told so there is.1 in
-    rw (is.0, is.2) there_refused)
-stopped outcomes.SinkFault old new names named plan place l before told after so there is = breaks old new names plan place l before told after so there is
-stopped outcomes.OutOfMemory old new names named plan place l before told after so there is = rw is (stops old names plan place before told so)
-stopped outcomes.Ran old new names named plan place l before told after so there is = absurd is

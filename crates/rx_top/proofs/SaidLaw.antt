@@ -12,21 +12,24 @@ use Rattle.rx_model.specs.Rules.{HasBytes, Legal, write_answer}
 use Rattle.rx_model.proofs.NameLaws.{name_is, neither}
 
 -- a write to a call that wasn't accepted takes no byte
-unaccepted_write : (s : Setup) (l : Looks) (c : CallName) (offered : ℕ) (got : Result ℕ ServeRefused) (bytes : List ℕ) → l.accepted c ≡ false
+unaccepted_write : (s : Setup) (l : Looks) (c : CallName) (offered : ℕ) (got : Result ℕ ServeRefused) (bytes : List ℕ)
+    → l.accepted c ≡ false
     → got ≡ write_answer s l c offered → HasBytes got bytes → bytes ≡ []
 unaccepted_write s l c offered got bytes new answer has =
     let refused : write_answer s l c offered ≡ Err refusals.NotOpen = rw new refl in
     subst (λ (r : Result ℕ ServeRefused). HasBytes r bytes) (answer ∙ refused) has
 
 -- a call that no accept answered has said nothing
-pub said_needs_accept : (s : Setup) (h : List Event) (c : CallName) → Legal s h → (looks h).accepted c ≡ false → (looks h).said c ≡ []
+pub said_needs_accept : (s : Setup) (h : List Event) (c : CallName) → Legal s h → (looks h).accepted c ≡ false
+    → (looks h).said c ≡ []
 said_needs_accept s [] c legal new = refl
 said_needs_accept s (events.Wrote d offered (writers.Server got) bytes ∷ h) c legal new =
     let before = said_needs_accept s h c legal.1 new in
     (elim (same_name c d) as (λ b. same_name c d ≡ b → cond b ((looks h).said c ++ bytes) ((looks h).said c) ≡ []) [
       | true ↦ λ same. (
           let is : c ≡ d = name_is c d same in
-          let none : bytes ≡ [] = unaccepted_write s (looks h) d offered got bytes (subst (λ (n : CallName). (looks h).accepted n ≡ false) is new) legal.0.1 legal.0.3 in
+          let none : bytes ≡ [] = unaccepted_write s (looks h) d offered got bytes
+          (subst (λ (n : CallName). (looks h).accepted n ≡ false) is new) legal.0.1 legal.0.3 in
           rw (before, none) refl)
       | false ↦ λ same. before
     ]) refl

@@ -28,7 +28,8 @@ end_gives : (l : PlanLine) → IsWell l → GivesWell (end l)
 end_gives l well [] line h = (let is : l ≡ line = cc (h) in subst IsWell is well)
 end_gives l well (w ∷ ws) line h = absurd cc
 
-word_gives : {A : Type 0} (Q : A → Type 0) (read : List ℕ → Result A LineWhy) (more : A → Form) → ((w : List ℕ) (a : A) → read w ≡ Ok a → Q a)
+word_gives : {A : Type 0} (Q : A → Type 0) (read : List ℕ → Result A LineWhy) (more : A → Form)
+    → ((w : List ℕ) (a : A) → read w ≡ Ok a → Q a)
     → ((a : A) → Q a → GivesWell (more a)) → GivesWell (word read more)
 word_gives Q read more reads gives [] line h = absurd cc
 word_gives {A} Q read more reads gives (w ∷ ws) line h =
@@ -38,29 +39,36 @@ word_gives {A} Q read more reads gives (w ∷ ws) line h =
     ]) refl h
 
 -- any word will do
-any_gives : {A : Type 0} (read : List ℕ → Result A LineWhy) (more : A → Form) → ((a : A) → GivesWell (more a)) → GivesWell (word read more)
+any_gives : {A : Type 0} (read : List ℕ → Result A LineWhy) (more : A → Form) → ((a : A) → GivesWell (more a))
+    → GivesWell (word read more)
 any_gives {A} read more gives = word_gives (λ (a : A). Unit {0}) read more (λ w a is. tt) (λ a q. gives a)
 
 some_within : (word : List ℕ) (n : ℕ) → number_within 1 MAX_BYTES word ≡ Some n → 0 < n
 some_within word n h =
-    (elim (is_decimal word) as (λ d. cond (d && (nat_le 1 (digits_value 10 word) && nat_le (digits_value 10 word) MAX_BYTES)) (Some (digits_value 10 word)) None ≡ Some n → 0 < n) [
+    (elim (is_decimal word) as (λ d. cond
+    (d && (nat_le 1 (digits_value 10 word) && nat_le (digits_value 10 word) MAX_BYTES))
+    (Some (digits_value 10 word)) None ≡ Some n → 0 < n) [
       | false ↦ λ e. absurd cc
-      | true ↦ (elim (nat_le 1 (digits_value 10 word)) as (λ a. nat_le 1 (digits_value 10 word) ≡ a → cond (a && nat_le (digits_value 10 word) MAX_BYTES) (Some (digits_value 10 word)) None ≡ Some n → 0 < n) [
-        | false ↦ λ is e. absurd cc
-        | true ↦ λ is. (elim (nat_le (digits_value 10 word) MAX_BYTES) as (λ b. cond b (Some (digits_value 10 word)) None ≡ Some n → 0 < n) [
-          | false ↦ λ e. absurd cc
-          | true ↦ λ e. (
-              let same : digits_value 10 word ≡ n = cc (e) in
-              let asks : 1 ≤ digits_value 10 word = leb-true 1 (digits_value 10 word) is in
-              subst (λ (k : ℕ). 0 < k) same (omega (arith, asks)))
-        ])
-      ]) refl
+      | true ↦ (elim (nat_le 1 (digits_value 10 word)) as
+          (λ a. nat_le 1 (digits_value 10 word) ≡ a
+          → cond (a && nat_le (digits_value 10 word) MAX_BYTES) (Some (digits_value 10 word)) None ≡ Some n → 0 < n) [
+            | false ↦ λ is e. absurd cc
+            | true ↦ λ is. (elim (nat_le (digits_value 10 word) MAX_BYTES) as
+                (λ b. cond b (Some (digits_value 10 word)) None ≡ Some n → 0 < n) [
+                  | false ↦ λ e. absurd cc
+                  | true ↦ λ e. (
+                      let same : digits_value 10 word ≡ n = cc (e) in
+                      let asks : 1 ≤ digits_value 10 word = leb-true 1 (digits_value 10 word) is in
+                      subst (λ (k : ℕ). 0 < k) same (omega (arith, asks)))
+                ])
+          ]) refl
     ]) h
 
 max_asks : (w : List ℕ) (n : ℕ) → max_word w ≡ Ok n → 0 < n
 max_asks [] n h = absurd cc
 max_asks (b ∷ bs) n h =
-    (elim (number_within 1 MAX_BYTES (b ∷ bs)) as (λ (o : Option ℕ). number_within 1 MAX_BYTES (b ∷ bs) ≡ o → ok_or o Number ≡ Ok n → 0 < n) [
+    (elim (number_within 1 MAX_BYTES (b ∷ bs)) as
+    (λ (o : Option ℕ). number_within 1 MAX_BYTES (b ∷ bs) ≡ o → ok_or o Number ≡ Ok n → 0 < n) [
       | None ↦ λ is e. absurd cc
       | Some m ↦ λ is e. (let same : m ≡ n = cc (e) in subst (λ (k : ℕ). 0 < k) same (some_within (b ∷ bs) m is))
     ]) refl h
@@ -86,7 +94,8 @@ forms_give = (
     (
       end_gives lines.Accept tt,
       (
-        any_gives call_word _ (λ call. word_gives (λ (n : ℕ). 0 < n) max_word _ max_asks (λ max asks. end_gives _ asks)),
+        any_gives call_word _ (λ call. word_gives (λ (n : ℕ). 0 < n) max_word _ max_asks
+            (λ max asks. end_gives _ asks)),
         (
           any_gives call_word _ (λ call. any_gives bytes_word _ (λ bytes. end_gives _ tt)),
           (
@@ -108,31 +117,40 @@ line_gives (first ∷ words) line h = form_gives first forms forms_give words li
 abbrev EachWell : List Numbered → Type 0
 EachWell ls = Each (λ (l : Numbered). IsWell l.what) ls
 
-said_well : (n : ℕ) (before ls : List Numbered) (said : Result PlanLine LineWhy) → ((line : PlanLine) → said ≡ Ok line → IsWell line) → EachWell before
+said_well : (n : ℕ) (before ls : List Numbered) (said : Result PlanLine LineWhy)
+    → ((line : PlanLine) → said ≡ Ok line → IsWell line) → EachWell before
     → with_said n before said ≡ Ok ls → EachWell ls
 said_well n before ls (Err why) well earlier h = absurd cc
 said_well n before ls (Ok what) well earlier h =
-    (elim (is_later before what) as (λ b. cond b (Err (BadLine n Later)) (Ok (before ++ record { line = n; what = what } ∷ [])) ≡ Ok ls → EachWell ls) [
+    (elim (is_later before what) as
+    (λ b. cond b (Err (BadLine n Later)) (Ok (before ++ record { line = n; what = what } ∷ [])) ≡ Ok ls
+    → EachWell ls) [
       | true ↦ λ e. absurd cc
       | false ↦ λ e. (
           let is : before ++ record { line = n; what = what } ∷ [] ≡ ls = cc (e) in
-          subst EachWell is (each_append (λ (l : Numbered). IsWell l.what) before (record { line = n; what = what } ∷ []) earlier (well what refl, tt)))
+          subst EachWell is (each_append (λ (l : Numbered). IsWell l.what) before
+          (record { line = n; what = what } ∷ []) earlier (well what refl, tt)))
     ]) h
 
-line_well : (n : ℕ) (line : List ℕ) (before ls : List Numbered) → EachWell before → with_line n line before ≡ Ok ls → EachWell ls
+line_well : (n : ℕ) (line : List ℕ) (before ls : List Numbered) → EachWell before → with_line n line before ≡ Ok ls
+    → EachWell ls
 line_well n line before ls earlier h =
-    (elim (nat_lt MAX_LINES n) as (λ b. cond b (Err (BadLine n TooMany)) (cond (is_skipped line) (Ok before) (with_said n before (plan_line (words_of line)))) ≡ Ok ls → EachWell ls) [
+    (elim (nat_lt MAX_LINES n) as (λ b. cond b (Err (BadLine n TooMany))
+    (cond (is_skipped line) (Ok before) (with_said n before (plan_line (words_of line)))) ≡ Ok ls → EachWell ls) [
       | true ↦ λ e. absurd cc
-      | false ↦ (elim (is_skipped line) as (λ b. cond b (Ok before) (with_said n before (plan_line (words_of line))) ≡ Ok ls → EachWell ls) [
-        | true ↦ λ e. (let is : before ≡ ls = cc (e) in subst EachWell is earlier)
-        | false ↦ λ e. said_well n before ls (plan_line (words_of line)) (λ what is. line_gives (words_of line) what is) earlier e
-      ])
+      | false ↦ (elim (is_skipped line) as
+          (λ b. cond b (Ok before) (with_said n before (plan_line (words_of line))) ≡ Ok ls → EachWell ls) [
+            | true ↦ λ e. (let is : before ≡ ls = cc (e) in subst EachWell is earlier)
+            | false ↦ λ e. said_well n before ls (plan_line (words_of line))
+                (λ what is. line_gives (words_of line) what is) earlier e
+          ])
     ]) h
 
 back_well : (text : List (List ℕ)) (ls : List Numbered) → plan_back text ≡ Ok ls → EachWell ls
 back_well [] ls h = (let is : [] ≡ ls = cc (h) in subst EachWell is tt)
 back_well (line ∷ text) ls h =
-    (elim (plan_back text) as (λ (r : Result (List Numbered) LineFault). plan_back text ≡ r → after r (with_line (suc (length text)) line) ≡ Ok ls → EachWell ls) [
+    (elim (plan_back text) as (λ (r : Result (List Numbered) LineFault). plan_back text ≡ r
+    → after r (with_line (suc (length text)) line) ≡ Ok ls → EachWell ls) [
       | Err fault ↦ λ is e. absurd cc
       | Ok before ↦ λ is e. line_well (suc (length text)) line before ls (back_well text before is) e
     ]) refl h
@@ -145,7 +163,8 @@ each_at (m ∷ ls) (suc i) l each there = each_at ls i l each.1 there
 -- the lines of a plan keep to it
 pub plan_well : (text : List ℕ) (ls : List Numbered) → plan_of text ≡ Ok ls → AreWell ls
 plan_well text ls h =
-    (elim (is_utf8 text) as (λ b. cond b (plan_back (reverse (lines_of text))) (Err (BadLine 0 Word)) ≡ Ok ls → AreWell ls) [
+    (elim (is_utf8 text) as (λ b. cond b (plan_back (reverse (lines_of text))) (Err (BadLine 0 Word)) ≡ Ok ls
+    → AreWell ls) [
       | true ↦ λ e i l there. each_at ls i l (back_well (reverse (lines_of text)) ls e) there
       | false ↦ λ e. absurd cc
     ]) h

@@ -61,7 +61,8 @@ Begins part whole = (n : ℕ) × (part ≡ take n whole)
 abbrev pub IsOf : List CallName → PlanLine → Event → Type 0
 IsOf names (lines.Forge node host bytes) (events.Taken from datagram got) = (from ≡ host) × (datagram ≡ bytes)
 IsOf names lines.Accept (events.Accepted got) = Unit {0}
-IsOf names (lines.HandlerRead call max) (events.HasRead c most (readers.Server got) bytes) = (name_at names call ≡ Some c) × (most ≡ max)
+IsOf names (lines.HandlerRead call max) (events.HasRead c most (readers.Server got) bytes) =
+    (name_at names call ≡ Some c) × (most ≡ max)
 IsOf names (lines.HandlerWrite call bytes) (events.Wrote c offered (writers.Server got) accepted) =
     (name_at names call ≡ Some c) × (offered ≡ length bytes) × Begins accepted bytes
 IsOf names (lines.Finish call code) (events.Finished c with got) = (name_at names call ≡ Some c) × (with ≡ code)
@@ -71,13 +72,15 @@ IsOf names _ _ = ⊥
 -- the last event is this line's, which isn't refused, and those before it are the earlier lines'
 abbrev pub EndsWith : List Numbered → PlanLine → (List Event → Type 0) → List Event → Type 0
 EndsWith before line earlier [] = ⊥
-EndsWith before line earlier (e ∷ h) = (refusal_of before (accepted_names h) line ≡ None) × IsOf (accepted_names h) line e × earlier h
+EndsWith before line earlier (e ∷ h) = (refusal_of before (accepted_names h) line ≡ None)
+    × IsOf (accepted_names h) line e × earlier h
 
 -- the newest first on both sides; a server line has no event
 abbrev pub FollowsBack : List Numbered → List Event → Type 0
 FollowsBack [] h = h ≡ []
 FollowsBack (l ∷ before) h =
-    MatchBool (is_server l.what) ((server_refusal before ≡ None) × FollowsBack before h) (EndsWith before l.what (FollowsBack before) h)
+    MatchBool (is_server l.what) ((server_refusal before ≡ None) × FollowsBack before h)
+    (EndsWith before l.what (FollowsBack before) h)
 
 -- the events are those of the lines, in order and no others, and no line is refused
 abbrev pub Follows : List Numbered → List Event → Type 0

@@ -35,7 +35,8 @@ pub record Ran (ls : List Numbered) (before after : Option (List ℕ)) (h : List
   pub told : Gained before after (trace_of h)
 
 -- a run that a line ended: the lines before it have their events and were put
-pub record RanTo (ls : List Numbered) (number : ℕ) (why : PlanWhy) (before after : Option (List ℕ)) (h : List Event) : Type 0 where
+pub record RanTo (ls : List Numbered) (number : ℕ) (why : PlanWhy) (before after : Option (List ℕ))
+    (h : List Event) : Type 0 where
   pub served : IsServed h
   pub place : ℕ
   pub line : PlanLine
@@ -44,7 +45,8 @@ pub record RanTo (ls : List Numbered) (number : ℕ) (why : PlanWhy) (before aft
   pub refused : refusal_of (reverse (take place ls)) (accepted_names h) line ≡ Some why
   pub told : Gained before after (trace_of h)
 
--- a run that a fault of the sink or want of memory ended: the first lines have their events, and the first bytes of their
+-- a run that a fault of the sink or want of memory ended: the first lines have their events, and the first bytes of
+-- their
 -- trace were put
 pub record RanSome (ls : List Numbered) (before after : Option (List ℕ)) (h : List Event) : Type 0 where
   pub served : IsServed h

@@ -27,7 +27,8 @@ use Rattle.rx_top.specs.Follows.{Begins, IsOf, call_refusal, is_server, name_at}
 abbrev pub IsReady : Node → List CallName → PlanLine → Type 0
 IsReady node names (lines.Forge to host bytes) = is_request node.setup.service bytes ≡ true
 IsReady node names (lines.HandlerRead call max) = 0 < max
-IsReady node names (lines.HandlerWrite call bytes) = (c : CallName) → name_at names call ≡ Some c → length (reply_of node c) + length bytes ≤ PIECE_BYTES
+IsReady node names (lines.HandlerWrite call bytes) = (c : CallName) → name_at names call ≡ Some c
+    → length (reply_of node c) + length bytes ≤ PIECE_BYTES
 IsReady node names (lines.Finish call code) = code ≡ pos 0
 IsReady node names _ = Unit {0}
 
@@ -42,7 +43,8 @@ IsReadOf (events.HasRead c most (readers.Server got) bytes) name max = (c ≡ na
 IsReadOf _ name max = ⊥
 
 abbrev pub IsWriteOf : Event → CallName → List ℕ → Type 0
-IsWriteOf (events.Wrote c offered (writers.Server got) accepted) name offer = (c ≡ name) × (offered ≡ length offer) × Begins accepted offer
+IsWriteOf (events.Wrote c offered (writers.Server got) accepted) name offer = (c ≡ name) × (offered ≡ length offer)
+    × Begins accepted offer
 IsWriteOf _ name offer = ⊥
 
 abbrev pub IsPolled : Event → Type 0
@@ -60,7 +62,8 @@ abbrev pub line_refusal : List CallName → PlanLine → Option PlanWhy
 line_refusal names line = if is_server line then Some causes.Late else call_refusal names line
 
 -- the line's event was made, its name kept and its trace put
-pub record Made (old new : Node) (names named : List CallName) (line : PlanLine) (before after : Option (List ℕ)) : Type 0 where
+pub record Made (old new : Node) (names named : List CallName) (line : PlanLine)
+    (before after : Option (List ℕ)) : Type 0 where
   pub event : Event
   pub answered : Answered old new event
   pub setup : new.setup ≡ old.setup
@@ -70,7 +73,8 @@ pub record Made (old new : Node) (names named : List CallName) (line : PlanLine)
   pub told : Gained before after (event_trace event)
 
 -- the line's event was made, and the first bytes of its trace were put
-pub record Broke (old new : Node) (names : List CallName) (line : PlanLine) (before after : Option (List ℕ)) : Type 0 where
+pub record Broke (old new : Node) (names : List CallName) (line : PlanLine)
+    (before after : Option (List ℕ)) : Type 0 where
   pub event : Event
   pub answered : Answered old new event
   pub is_of : IsOf names line event
@@ -78,9 +82,11 @@ pub record Broke (old new : Node) (names : List CallName) (line : PlanLine) (bef
   pub told : GainedSome before after (event_trace event)
 
 -- what a line behind the server's leaves, by how it ended
-abbrev pub LineIs : Result (Unit {0}) Outcome → Node → Node → List CallName → List CallName → Numbered → Option (List ℕ) → Option (List ℕ) → Type 0
+abbrev pub LineIs : Result (Unit {0}) Outcome → Node → Node → List CallName → List CallName → Numbered → Option (List ℕ)
+    → Option (List ℕ) → Type 0
 LineIs (Ok made) old new names named l before after = Made old new names named l.what before after
-LineIs (Err (outcomes.Refused number why)) old new names named l before after = (number ≡ l.line) × (line_refusal names l.what ≡ Some why) × (after ≡ before)
+LineIs (Err (outcomes.Refused number why)) old new names named l before after = (number ≡ l.line)
+    × (line_refusal names l.what ≡ Some why) × (after ≡ before)
 LineIs (Err outcomes.SinkFault) old new names named l before after = Broke old new names l.what before after
 LineIs (Err outcomes.OutOfMemory) old new names named l before after = after ≡ before
 LineIs (Err outcomes.Ran) old new names named l before after = ⊥

@@ -1,9 +1,10 @@
 -- What the program leaves, by how it ended. Public clauses cite this module.
-use Rattle.std.specs.Prelude.{◌≡◌, ◌⊎◌, ◌++◌, if◌then◌else◌, ℕ, List, [], ◌∷◌, codes, decimal, Option, Some, None, Ok, Err}
+use Rattle.std.specs.Prelude.{◌≡◌, ◌⊎◌, ◌++◌, ◌==◌, ◌&&◌, not, Bool, true, if◌then◌else◌, ℕ, List, [], ◌∷◌, codes, decimal, Option, Some, None, Ok, Err}
 use Rattle.std.specs.Str.{bytes_eq}
 use Rattle.rx_base.specs.Files.{HasFile, IsNoted}
 use Rattle.rx_base.specs.Sink.{GainedSome}
 use Rattle.rx_model.specs.declared.event.Event.{Event}
+use Rattle.rx_top.specs.declared.marks.TheConstants.{MINUS}
 use Rattle.rx_top.specs.declared.plan.LineFault.TheVariants.{BadLine}
 use Rattle.rx_top.specs.declared.plan.LineWhy.{LineWhy}
 use Rattle.rx_top.specs.declared.plan.Numbered.{Numbered}
@@ -15,9 +16,14 @@ use Rattle.rx_top.specs.Plans.{plan_of}
 use Rattle.rx_top.specs.Runs.{Ran, RanSome, RanTo}
 use Rattle.rx_top.specs.Words.{why_text}
 
+-- a word that doesn't begin with `-`
+abbrev pub is_plain : List ℕ → Bool
+is_plain [] = true
+is_plain (b ∷ bs) = not (b == MINUS)
+
 -- the file that the words `sim PLAN` name
 abbrev pub plan_name : List (List ℕ) → Option (List ℕ)
-plan_name (command ∷ name ∷ []) = if bytes_eq command (codes "sim") then Some name else None
+plan_name (command ∷ name ∷ []) = if bytes_eq command (codes "sim") && is_plain name then Some name else None
 plan_name _ = None
 
 -- where in which file, and why
@@ -57,12 +63,16 @@ pub record RunRefused (name : List ℕ) (seen : Seen) (line : ℕ) (why : PlanWh
 
 -- first lines of the plan were made
 abbrev pub SomeMade : List ℕ → Seen → Type 0
-SomeMade name seen = (lines : List Numbered) × HasPlan name seen lines × (h : List Event) × RanSome lines seen.out_before seen.out h
+SomeMade name seen = (lines : List Numbered) × HasPlan name seen lines × (h : List Event)
+    × RanSome lines seen.out_before seen.out h
 
 -- what `sim` of this file leaves
 abbrev pub SimIs : Status → List ℕ → Seen → Type 0
-SimIs statuses.Ok name seen = (lines : List Numbered) × HasPlan name seen lines × (h : List Event) × Ran lines seen.out_before seen.out h
-SimIs statuses.Refused name seen = ((line : ℕ) × (why : LineWhy) × TextRefused name seen line why) ⊎ ((line : ℕ) × (why : PlanWhy) × RunRefused name seen line why)
+SimIs statuses.Ok name seen = (lines : List Numbered) × HasPlan name seen lines × (h : List Event)
+    × Ran lines seen.out_before seen.out h
+SimIs statuses.Refused name seen =
+    ((line : ℕ) × (why : LineWhy) × TextRefused name seen line why) ⊎
+    ((line : ℕ) × (why : PlanWhy) × RunRefused name seen line why)
 SimIs statuses.SinkFault name seen = SomeMade name seen
 SimIs statuses.Memory name seen = (seen.out ≡ seen.out_before) ⊎ SomeMade name seen
 SimIs statuses.FileFault name seen = IsNoted seen.failed_before seen.failed name × (seen.out ≡ seen.out_before)

@@ -61,7 +61,8 @@ pub fn step(
     ensures line { IfOk result (λ e. IsOf names.now line.now e) }
     ensures made { IfOk result (λ e. call_refusal names.now line.now ≡ None) }
     ensures refused { IfErr result
-        (λ stop. (stop ≡ Stop.OutOfMemory) ⊎ ((why : PlanWhy) × (stop ≡ Stop.Refused why) × (call_refusal names.now line.now ≡ Some why))) }
+        (λ stop. (stop ≡ Stop.OutOfMemory) ⊎ ((why : PlanWhy) × (stop ≡ Stop.Refused why)
+        × (call_refusal names.now line.now ≡ Some why))) }
     ensures setup { server.new.setup ≡ server.old.setup }
 {
     match line {

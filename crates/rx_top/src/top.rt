@@ -3,8 +3,9 @@
 ghost use Rattle.std.specs.Prelude.{◌≡◌, ◌≢◌, ◌⊎◌, map, List, ℕ, Some, None, IfSome, IfNone, Result};
 ghost use Rattle.std.specs.String.{string_bytes};
 ghost use Rattle.rx_base.specs.Sink.{GainedSome, HasRisen};
-ghost use Rattle.rx_top.specs.Tops.{SimIs, plan_name, refused_text};
+ghost use Rattle.rx_top.specs.Tops.{SimIs, is_plain, plan_name, refused_text};
 
+use crate::marks::MINUS;
 use crate::outcome::Outcome;
 use crate::plan::LineFault;
 use crate::reader::read_plan;
@@ -43,8 +44,8 @@ impl Status {
     }
 }
 
-/// Does the command that the words name: `sim PLAN` runs a plan of one server and puts its trace on `out`. A fault says its
-/// line on `err`, as far as that takes it.
+/// Does the command that the words name: `sim PLAN` runs a plan of one server and puts its trace on `out`.
+/// What isn't done whole says its line on `err`, as far as that takes it.
 pub fn rx_main<F: Files, O: Sink, E: Sink>(
     alloc: Global,
     words: &[String],
@@ -54,7 +55,15 @@ pub fn rx_main<F: Files, O: Sink, E: Sink>(
 ) -> Status
     ensures usage { result ≡ Status.Usage → plan_name (map string_bytes words.now) ≡ None }
     ensures sim { (name : List ℕ) → plan_name (map string_bytes words.now) ≡ Some name → SimIs result name
-        (record { contents = F.contents files.old; failed_before = F.failed_last files.old; failed = F.failed_last files.new; out_before = O.told out.old; out = O.told out.new; err_before = E.told err.old; err = E.told err.new }) }
+        (record {
+          contents = F.contents files.old;
+          failed_before = F.failed_last files.old;
+          failed = F.failed_last files.new;
+          out_before = O.told out.old;
+          out = O.told out.new;
+          err_before = E.told err.old;
+          err = E.told err.new;
+        }) }
     ensures no_sim { plan_name (map string_bytes words.now) ≡ None → result ≡ Status.Usage }
     ensures file_fault { result ≡ Status.FileFault → HasRisen (F.faults files.old) (F.faults files.new) }
     ensures no_file_fault { result ≢ Status.FileFault → F.faults files.new ≡ F.faults files.old }
@@ -76,11 +85,18 @@ fn plan_name(words: &[String]) -> Option<&str>
     let [command, name] = words else {
         return None;
     };
-    if command.as_str() == "sim" {
+    if command.as_str() == "sim" && is_plain(name.as_str()) {
         Some(name.as_str())
     } else {
         None
     }
+}
+
+/// Whether a word doesn't begin with `-`, as options do.
+fn is_plain(word: &str) -> bool
+    ensures { result ≡ is_plain word.now }
+{
+    !word.starts_with(MINUS)
 }
 
 /// Runs the plan of a file.
@@ -92,7 +108,15 @@ fn sim<F: Files, O: Sink, E: Sink>(
     err: &mut E,
 ) -> Status
     ensures sim { SimIs result name.now
-        (record { contents = F.contents files.old; failed_before = F.failed_last files.old; failed = F.failed_last files.new; out_before = O.told out.old; out = O.told out.new; err_before = E.told err.old; err = E.told err.new }) }
+        (record {
+          contents = F.contents files.old;
+          failed_before = F.failed_last files.old;
+          failed = F.failed_last files.new;
+          out_before = O.told out.old;
+          out = O.told out.new;
+          err_before = E.told err.old;
+          err = E.told err.new;
+        }) }
     ensures file_fault { result ≡ Status.FileFault → HasRisen (F.faults files.old) (F.faults files.new) }
     ensures no_file_fault { result ≢ Status.FileFault → F.faults files.new ≡ F.faults files.old }
     ensures sink_fault { result ≡ Status.SinkFault → HasRisen (O.faults out.old) (O.faults out.new) }
@@ -120,7 +144,8 @@ fn sim<F: Files, O: Sink, E: Sink>(
 
 /// Says which line is refused, and why.
 fn refused<E: Sink>(alloc: Global, err: &mut E, name: &str, line: u32, why: &str) -> Status
-    ensures is { (result ≡ Status.Memory) ⊎ ((result ≡ Status.Refused) × GainedSome (E.told err.old) (E.told err.new) (refused_text name.now line why.now)) }
+    ensures is { (result ≡ Status.Memory) ⊎ ((result ≡ Status.Refused)
+        × GainedSome (E.told err.old) (E.told err.new) (refused_text name.now line why.now)) }
 {
     let Ok(text) = format!(in alloc; "rx: {name}:{line}: {why}\n") else {
         return no_memory(err);

@@ -58,7 +58,8 @@ fn run_line<O: Sink>(
     out: &mut O,
 ) -> Result<(), Outcome>
     requires { IsReady server.old names.old.items numbered.now.what }
-    ensures line { LineIs result server.old server.new names.old.items names.new.items numbered.now (O.told out.old) (O.told out.new) }
+    ensures line { LineIs result server.old server.new names.old.items names.new.items numbered.now
+        (O.told out.old) (O.told out.new) }
     ensures fault { result ≡ Err Outcome.SinkFault → HasRisen (O.faults out.old) (O.faults out.new) }
     ensures no_fault { result ≢ Err Outcome.SinkFault → O.faults out.new ≡ O.faults out.old }
 {

@@ -13,7 +13,16 @@ run-requires-clause-well g c = plan_well c.as_slice.result.now c.in-Ok-read_plan
 
 pub returns-in-Refused-clause-sim : goal.returns-in-Refused-clause-sim
 returns-in-Refused-clause-sim g c =
-    let gives : plan_of c.in-Ok.text.items ≡ Ok c.in-Ok-read_plan.plan = rw c.as_slice.ensures.value at c.in-Ok-read_plan.ensures.ok in
-    let said : (c.refused-in-Refused.result ≡ statuses.Memory) ⊎ ((c.refused-in-Refused.result ≡ statuses.Refused) × GainedSome (g.E.Sink.told c.args.err.now) (g.E.Sink.told c.refused-in-Refused.new.err) (refused_text c.args.name.now c.in-Refused.line (plan_why_text c.in-Refused.why))) =
-    subst (λ (why : List ℕ). (c.refused-in-Refused.result ≡ statuses.Memory) ⊎ ((c.refused-in-Refused.result ≡ statuses.Refused) × GainedSome (g.E.Sink.told c.args.err.now) (g.E.Sink.told c.refused-in-Refused.new.err) (refused_text c.args.name.now c.in-Refused.line why))) c.as_str-in-Refused.ensures c.refused-in-Refused.ensures.is in
-    ends_refused c.refused-in-Refused.result c.args.name.now _ c.in-Ok.text.items c.in-Ok-read_plan.plan c.in-Refused.line c.in-Refused.why c.in-Ok.ensures.ok gives c.in-Refused.ensures.run said
+    let gives : plan_of c.in-Ok.text.items ≡ Ok c.in-Ok-read_plan.plan =
+    rw c.as_slice.ensures.value at c.in-Ok-read_plan.ensures.ok in
+    let said : (c.refused-in-Refused.result ≡ statuses.Memory) ⊎
+    ((c.refused-in-Refused.result ≡ statuses.Refused)
+    × GainedSome (g.E.Sink.told c.args.err.now) (g.E.Sink.told c.refused-in-Refused.new.err)
+    (refused_text c.args.name.now c.in-Refused.line (plan_why_text c.in-Refused.why))) =
+    subst (λ (why : List ℕ). (c.refused-in-Refused.result ≡ statuses.Memory) ⊎
+    ((c.refused-in-Refused.result ≡ statuses.Refused)
+    × GainedSome (g.E.Sink.told c.args.err.now) (g.E.Sink.told c.refused-in-Refused.new.err)
+    (refused_text c.args.name.now c.in-Refused.line why))) c.as_str-in-Refused.ensures
+    c.refused-in-Refused.ensures.is in
+    ends_refused c.refused-in-Refused.result c.args.name.now _ c.in-Ok.text.items c.in-Ok-read_plan.plan
+    c.in-Refused.line c.in-Refused.why c.in-Ok.ensures.ok gives c.in-Refused.ensures.run said

@@ -6,6 +6,7 @@ use Rattle.rx_top.proofs.world.run.Given as goal
 abbrev pub invariant-loop-numbered : goal.invariant-loop-numbered
 invariant-loop-numbered g l =
     record {
-      history : SoFar l.server l.names.items (take (l.numbered-index + 1) l.plan) (g.O.Sink.told l.fn.out) (g.O.Sink.told l.out);
+      history : SoFar l.server l.names.items (take (l.numbered-index + 1) l.plan) (g.O.Sink.told l.fn.out)
+          (g.O.Sink.told l.out);
       faults : g.O.Sink.faults l.out ≡ g.O.Sink.faults l.fn.out;
     }
