@@ -13,7 +13,7 @@ def clauses_of(crate):
     for path in (top / "crates" / crate / "src").rglob("*.rt"):
         for part in re.split(r"\bfn (?=\w)", path.read_text())[1:]:
             name = re.match(r"\w+", part)[0]
-            contract = re.split(r"^ *\{\}?$|;$", part, flags=re.M)[0]
+            contract = re.split(r"^ *\{\}?$", part, flags=re.M)[0]
             found.add((name, None))
             found.update((name, label) for label in re.findall(r"\bensures (\w+) \{", contract))
     return found
