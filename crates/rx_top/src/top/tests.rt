@@ -6,14 +6,14 @@ use std::test::Fail;
 
 /// A plan's text, and what the program leaves: its trace, its line on `err` and its status.
 #[derive(Drop)]
-struct Row {
-    plan: &'static str,
-    out: &'static str,
-    err: &'static str,
+struct Row<'a> {
+    plan: &'a str,
+    out: &'a str,
+    err: &'a str,
     status: u8,
 }
 
-static ONE_CALL: Row = Row {
+static ONE_CALL: Row<'static> = Row {
     plan: "server 10.0.0.1:7000\n\
         forge s 10.0.0.2:7001 0000000100000004000000010000000100000001010500000000000168690a\n\
         accept\n\
@@ -40,7 +40,7 @@ static ONE_CALL: Row = Row {
 };
 
 /// The whole traces of accepted plans.
-static TRACES: [Row; 5] = [
+static TRACES: [Row<'static>; 5] = [
     Row {
         plan: "",
         out: "",
@@ -139,7 +139,7 @@ static BAD_LINES: [(&str, &str); 28] = [
 ];
 
 /// Lines that are refused as the plan runs: the lines before them happened and were put.
-static REFUSED: [Row; 8] = [
+static REFUSED: [Row<'static>; 8] = [
     Row {
         plan: "accept\n",
         out: "",
@@ -196,7 +196,7 @@ static REFUSED: [Row; 8] = [
 ];
 
 /// Room for all that a plan here puts.
-const ROOM: usize = 4096;
+const ROOM: usize = 16_384;
 
 /// Runs `sim p` where the file `p` has these bytes.
 fn sim(
@@ -222,7 +222,7 @@ fn words_of(alloc: Global, texts: &[&str]) -> Result<Vec<String>, AllocError> {
     Ok(words)
 }
 
-fn gives(rt: &(impl AllocGlobal + Abort), row: &Row) -> Result<(), AllocError> {
+fn gives(rt: &(impl AllocGlobal + Abort), row: &Row<'_>) -> Result<(), AllocError> {
     let alloc = rt.alloc();
     let mut out = MemSink::make(alloc, ROOM, Vec::new(alloc))?;
     let mut err = MemSink::make(alloc, ROOM, Vec::new(alloc))?;
@@ -275,6 +275,103 @@ fn a_bad_line_is_said_and_nothing_put(rt: HostRuntime) -> Result<(), Fail> {
 fn a_refused_line_is_said_behind_the_trace(rt: HostRuntime) -> Result<(), Fail> {
     for row in &REFUSED {
         gives(&rt, row)?;
+    }
+    Ok(())
+}
+
+/// A text, and a line behind it so many times.
+fn with_lines(alloc: Global, text: &str, line: &str, count: usize) -> Result<String, AllocError> {
+    let mut all = String::from_str(alloc, text)?;
+    for _ in 0..count {
+        all.push_str(line)?;
+    }
+    Ok(all)
+}
+
+#[test]
+fn sixty_datagrams_are_forged_at_most(rt: HostRuntime) -> Result<(), Fail> {
+    let alloc = rt.alloc();
+    let server = "server 10.0.0.1:7000\n";
+    let forge = "forge s 10.0.0.2:7001 00000001000000040000000100000001000000010105000000000001\n";
+    let kept =
+        "s take 10.0.0.2:7001 00000001000000040000000100000001000000010105000000000001 -> kept\n";
+    let repeat =
+        "s take 10.0.0.2:7001 00000001000000040000000100000001000000010105000000000001 -> repeat\n";
+    let sixty = with_lines(alloc, server, forge, 60)?;
+    let more = with_lines(alloc, server, forge, 61)?;
+    let trace = with_lines(alloc, kept, repeat, 59)?;
+    gives(
+        &rt,
+        &Row {
+            plan: sixty.as_str(),
+            out: trace.as_str(),
+            err: "",
+            status: 0,
+        },
+    )?;
+    gives(
+        &rt,
+        &Row {
+            plan: more.as_str(),
+            out: "",
+            err: "rx: p:62: later\n",
+            status: 2,
+        },
+    )?;
+    Ok(())
+}
+
+#[test]
+fn a_reply_of_1412_bytes_is_taken_in_two_writes(rt: HostRuntime) -> Result<(), Fail> {
+    let alloc = rt.alloc();
+    let plan = "server 10.0.0.1:7000\n\
+        forge s 10.0.0.2:7001 00000001000000040000000100000001000000010105000000000001\n\
+        accept\n\
+        read @1 16\n\
+        write @1 1000*5a\n\
+        write @1 412*5a\n";
+    let first =
+        "s take 10.0.0.2:7001 00000001000000040000000100000001000000010105000000000001 -> kept\n\
+        s accept -> 10.0.0.2:7001/1/4/0/1\n\
+        s read 10.0.0.2:7001/1/4/0/1 16 -> end\n\
+        s write 10.0.0.2:7001/1/4/0/1 1000 -> 1000 ";
+    let mut trace = with_lines(alloc, first, "5a", 1000)?;
+    trace.push_str("\ns write 10.0.0.2:7001/1/4/0/1 412 -> 412 ")?;
+    for _ in 0..412 {
+        trace.push_str("5a")?;
+    }
+    trace.push_str("\n")?;
+    gives(
+        &rt,
+        &Row {
+            plan,
+            out: trace.as_str(),
+            err: "",
+            status: 0,
+        },
+    )?;
+    Ok(())
+}
+
+#[test]
+fn a_plan_has_1000000_lines_at_most(rt: HostRuntime) -> Result<(), Fail> {
+    let alloc = rt.alloc();
+    let rows = [
+        (999_999, "rx: p:1000000: nonode\n"),
+        (1_000_000, "rx: p:1000001: toomany\n"),
+    ];
+    for (empty, err) in rows {
+        let mut plan = with_lines(alloc, "", "\n", empty)?;
+        plan.push_str("accept")?;
+        gives(
+            &rt,
+            &Row {
+                plan: plan.as_str(),
+                out: "",
+                err,
+                status: 2,
+            },
+        )?;
     }
     Ok(())
 }
