@@ -1,9 +1,7 @@
 -- What holds of a line that isn't refused after the lines before it, for the run of a plan.
-use Rattle.std.proofs.Common.{◌≡◌, ℕ, ℤ, pos, negsuc, ◌+◌, ◌<◌, ◌≤◌, ◌++◌, not, true, false, List, [], ◌∷◌, length, take, get_or, Some, ap, refl, cond, zero-add, nat_le, slice_get}
+use Rattle.std.proofs.Common.{◌≡◌, ℕ, ℤ, pos, negsuc, ◌+◌, ◌<◌, ◌≤◌, ◌++◌, not, true, false, List, [], ◌∷◌, length, ap, refl, cond, zero-add, nat_le}
 use Rattle.std.proofs.lemmas.Bool.{eqb-true, false≢true, leb-false, ltb-false, not-false, or_parts}
-use Rattle.std.proofs.lemmas.List.{take_more}
 use Rattle.std.proofs.lemmas.List.Sums.{sum_by-append}
-use Rattle.std.proofs.lemmas.Option.{get_or_from_slice_get, slice_get_within}
 use Rattle.std.specs.List.{sum_by}
 use Rattle.rx_model.specs.declared.names.Host.{Host}
 use Rattle.rx_model.specs.declared.wire.TheConstants.{PIECE_BYTES}
@@ -61,11 +59,3 @@ forges_in-push ls l = sum_by_push (λ (m : Numbered). cond (is_forge m.what) 1 0
 pub offered_to-push : (call : ℕ) (ls : List Numbered) (l : Numbered)
     → offered_to call (ls ++ l ∷ []) ≡ offered_to call ls + offered_by call l.what
 offered_to-push call ls l = sum_by_push (λ (m : Numbered). offered_by call m.what) ls l
-
--- the same of the first lines of a plan
-pub offered_to-take : (call : ℕ) (ls : List Numbered) (i : ℕ) (l : Numbered) → slice_get ls i ≡ Some l
-    → offered_to call (take (i + 1) ls) ≡ offered_to call (take i ls) + offered_by call l.what
-offered_to-take call ls i l at =
-    let last : get_or ls i l ≡ l = get_or_from_slice_get ls i l l at in
-    let more : take (i + 1) ls ≡ take i ls ++ get_or ls i l ∷ [] = take_more ls i l (slice_get_within ls i l at) in
-    rw (more, last) (offered_to-push call (take i ls) l)
