@@ -1,11 +1,13 @@
 -- What holds of the look-ups of a legal history: the statements. `Lives` proves them.
-use Rattle.std.proofs.Common.{◌≡◌, ◌⊎◌, ◌+◌, ◌%◌, ◌<◌, ◌≤◌, ◌^◌, cond, filter, length, true, false, Bool, List, [], ◌∷◌, Option, Some, None, ℕ, nat_le}
-use Rattle.std.specs.List.{list_any}
+use Rattle.std.proofs.Common.{◌≡◌, ◌⊎◌, ◌+◌, ◌%◌, ◌<◌, ◌≤◌, ◌^◌, cond, filter, length, true, false, Bool, List, [], ◌∷◌}
+use Rattle.std.proofs.Common.{Option, Some, None, ℕ, nat_le}
+use Rattle.std.specs.List.{All, list_any}
 use Rattle.rx_model.specs.declared.names.CallName.{CallName}
 use Rattle.rx_model.specs.declared.wire.TheConstants.{PIECE_BYTES, PAYLOAD_BYTES, ACK_DELAY}
 use Rattle.rx_model.specs.Items.{Item, channel_items}
 use Rattle.rx_model.specs.Looks.{Looks, Owed}
 use Rattle.rx_model.specs.Names.{Connection, Channel, FitsName, connection_of, channel_of, same_connection, same_name}
+use Rattle.rx_model.specs.declared.stray.Stray.{Stray}
 use Rattle.rx_model.specs.Streams.{Packet}
 
 abbrev pub is_among : CallName → List CallName → Bool
@@ -70,6 +72,13 @@ pub record IsOwed (o : Owed) : Type 0 where
   pub reason_low : 1 ≤ o.reason
   pub reason_high : o.reason ≤ ACK_DELAY
 
+-- a stray abort that is owed fits its fields
+pub record IsStray (x : Stray) : Type 0 where
+  pub epoch : x.epoch < 2 ^ 32
+  pub cid : x.cid < 2 ^ 32
+  pub index : x.index < 256
+  pub service : x.service < 2 ^ 16
+
 -- what holds after each legal history
 pub record Lives (l : Looks) : Type 0 where
   pub now : l.now ≡ 0
@@ -86,6 +95,7 @@ pub record Lives (l : Looks) : Type 0 where
   pub fresh : (x : Connection) → is_known x l.known ≡ false → IsFresh l x
   pub busy : (ch : Channel) (number : ℕ) → l.owed_busy ch ≡ Some number → number ≡ 1
   pub owed : (c : CallName) (o : Owed) → l.owed_ack c ≡ Some o → IsOwed o
+  pub strays : All IsStray l.strays
 
 -- ---- the next item where the moment is 0
 

@@ -21,10 +21,12 @@ pub mod Given
 pub mod Steady
 pub mod LivesRead
 pub mod LivesWrote
+pub mod StrayLaws
 pub mod LivesPolled
 pub mod LivesKnown
 pub mod LivesStarted
 pub mod LivesRefused
+pub mod FrontRows
 pub mod LivesTaken
 pub mod Lives
 pub mod HexText

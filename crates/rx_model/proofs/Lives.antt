@@ -1,5 +1,6 @@
 -- What holds after each legal history.
 use Rattle.std.proofs.Common.{◌<◌, ◌^◌, List, [], ◌∷◌, refl, inl, arith}
+use Rattle.std.proofs.lemmas.List.Elements.{All-nil}
 use Rattle.rx_model.specs.declared.answers.ReadGot.TheVariants as readers
 use Rattle.rx_model.specs.declared.answers.WroteGot.TheVariants as writers
 use Rattle.rx_model.specs.declared.event.Event.{Event}
@@ -7,7 +8,7 @@ use Rattle.rx_model.specs.declared.event.Event.TheVariants as events
 use Rattle.rx_model.specs.declared.names.CallName.{CallName}
 use Rattle.rx_model.specs.Looks.{Setup, Looks, at_start, looks, after}
 use Rattle.rx_model.specs.Rules.{Legal, Allowed}
-use Rattle.rx_model.proofs.Facts.{Lives, Quiet}
+use Rattle.rx_model.proofs.Facts.{Lives, Quiet, IsStray}
 use Rattle.rx_model.proofs.LivesPolled.{lives_polled}
 use Rattle.rx_model.proofs.LivesRead.{lives_accepted, lives_read}
 use Rattle.rx_model.proofs.LivesTaken.{lives_taken}
@@ -45,6 +46,7 @@ lives_at_start =
       fresh = λ x unknown. record { given_on = refl; busy = λ chan. refl };
       busy = λ ch number owes. absurd cc;
       owed = λ c o owes. absurd cc;
+      strays = All-nil IsStray;
     }
 
 -- an event that the rules allow leaves what holds

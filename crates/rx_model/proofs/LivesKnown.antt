@@ -77,6 +77,7 @@ lives_known_too l x lives is unknown =
       fresh = λ y unknown. fresh_known l x y lives unknown;
       busy = lives.busy;
       owed = lives.owed;
+      strays = lives.strays;
     }
 
 -- once a connection is known

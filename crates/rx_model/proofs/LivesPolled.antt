@@ -1,34 +1,31 @@
 -- A poll leaves what holds of a legal history.
-use Rattle.std.proofs.Common.{◌≡◌, ◌<◌, ◌^◌, ◌⊎◌, inl, inr, cond, Bool, true, false, List, [], ◌∷◌, Option, Some, None}
+use Rattle.std.proofs.Common.{◌≡◌, ◌<◌, ◌^◌, ◌⊎◌, inl, inr, cond, Bool, true, false, List, [], ◌∷◌, drop, Option, Some}
+use Rattle.std.proofs.Common.{None}
 use Rattle.std.proofs.Common.{refl, ap, sym, subst, ◌∙◌, ℕ}
+use Rattle.std.specs.List.{All}
+use Rattle.std.proofs.lemmas.List.Elements.{All-head, All-drop}
 use Rattle.rx_model.specs.declared.event.Event.TheVariants as events
 use Rattle.rx_model.specs.declared.names.CallName.{CallName}
 use Rattle.rx_model.specs.declared.names.Host.{Host}
 use Rattle.rx_model.specs.Body.{Body}
 use Rattle.rx_model.specs.Body as bodies
-use Rattle.rx_model.specs.Items.{Item, message_for, datagram_for, next_item, poll_answer}
-use Rattle.rx_model.specs.Looks.{Looks, Setup, Named, Owed, Giving, after, named, with_given_on, with_giving}
-use Rattle.rx_model.specs.Looks.{unless_busy, unless_given, unless_ack_given, unless_acked}
+use Rattle.rx_model.specs.Items.{Item, message_for, datagram_for, next_item, poll_answer, poll_with}
+use Rattle.rx_model.specs.Looks.{Looks, Setup, Named, Owed, Giving, after, named, with_giving}
+use Rattle.rx_model.specs.Looks.{unless_given, unless_acked}
 use Rattle.rx_model.specs.Names.{Connection, connection_of, channel_of, same_connection, same_channel, same_name}
 use Rattle.rx_model.specs.Reading.{reading_of}
+use Rattle.rx_model.specs.Message.{Message}
 use Rattle.rx_model.specs.Spelling.{made}
+use Rattle.rx_model.specs.declared.stray.Stray.{Stray}
+use Rattle.rx_model.specs.Strays.{stray_message, is_stray}
 use Rattle.rx_model.proofs.DueKinds.{DueBusy, DuePiece, DueAck, DueKind}
 use Rattle.rx_model.proofs.GivenKind.{given_kind}
-use Rattle.rx_model.proofs.Facts.{Lives, Quiet, IsFresh, is_among, is_known}
+use Rattle.rx_model.proofs.Facts.{Lives, Quiet, IsFresh, IsStray, is_among, is_known}
 use Rattle.rx_model.proofs.Given.{given_named}
 use Rattle.rx_model.proofs.NameLaws.{name_is}
 use Rattle.rx_model.proofs.NameLists.{apart_connections}
 use Rattle.rx_model.proofs.Steady.{OwedFits, steady}
-
--- the look-ups after a poll that gave this
-abbrev polled_after : Option Named → Looks → Looks
-polled_after o l =
-    record l {
-      given_on = λ x. with_given_on o x (l.given_on x);
-      owed_busy = λ ch. unless_busy o ch (l.owed_busy ch);
-      givings = λ c. with_giving o c l.now (l.givings c);
-      owed_ack = λ c. unless_ack_given o c (l.owed_ack c);
-    }
+use Rattle.rx_model.proofs.StrayLaws.{polled_after, given_is_item, given_is_stray, lives_strays}
 
 -- that piece 1 was given, at the moment 0
 abbrev first_giving : List Giving
@@ -124,12 +121,13 @@ lives_gave l n lives gave =
       busy = λ ch k owes.
           lives.busy ch k (still_owed n.message.body (same_channel ch (channel_of n.name)) (l.owed_busy ch) k owes);
       owed = λ c. acked_fits n.message.body (same_name c n.name) (l.owed_ack c) (lives.owed c);
+      strays = lives.strays;
     })
 
 -- ---- each kind of item
 
 -- the message for an item, of the item's call
-abbrev named_for : Setup → Looks → Item → Named
+abbrev pub named_for : Setup → Looks → Item → Named
 named_for s l i = record { name = i.name; message = message_for s l i }
 
 either_way : {X : Type 0} (b : Bool) (x : X) → cond b x x ≡ x
@@ -182,17 +180,48 @@ datagram_named s l i to bytes small lives next a =
     let pair : (to, bytes) ≡ (i.name.host, made (message_for s l i)) = cc (a) in
     ap (λ (p : Host × List ℕ). named p.0 (reading_of p.1)) pair ∙ given_named s l i small lives next
 
+-- no item's body is an ABORT
+no_stray : (l : Looks) (i : Item) (m : Message) → DueKind l i → is_stray m i.body ≡ false
+no_stray l i m (inl busy) = ap (λ (j : Item). is_stray m j.body) busy.item
+no_stray l i m (inr (inl piece)) = ap (λ (j : Item). is_stray m j.body) piece.item
+no_stray l i m (inr (inr ack)) = ap (λ (j : Item). is_stray m j.body) ack.item
+
+-- what a poll that gives an item leaves
+pub given_item : (s : Setup) (l : Looks) (i : Item) (to : Host) (bytes : List ℕ) → s.service < 2 ^ 16 → Lives l
+    → next_item l ≡ Some i
+    → Some (to, bytes) ≡ datagram_for s l (Some i)
+    → after (events.Polled (Some (to, bytes))) l ≡ polled_after (Some (named_for s l i)) l
+given_item s l i to bytes small lives next a =
+    given_is_item l to bytes (named_for s l i) (datagram_named s l i to bytes small lives next a)
+    (no_stray l i (message_for s l i) (given_kind l i lives next))
+
 polled : (s : Setup) (l : Looks) (o : Option Item) (to : Host) (bytes : List ℕ) → s.service < 2 ^ 16 → Lives l
     → next_item l ≡ o
     → Some (to, bytes) ≡ datagram_for s l o → Lives (after (events.Polled (Some (to, bytes))) l)
 polled s l None to bytes small lives next a = absurd cc
 polled s l (Some i) to bytes small lives next a =
-    subst (λ (o : Option Named). Lives (polled_after o l)) (sym (datagram_named s l i to bytes small lives next a))
+    subst Lives (sym (given_item s l i to bytes small lives next a))
     (lives_gave l (named_for s l i) lives (gave_kind s l i lives (given_kind l i lives next)))
+
+-- after a poll that gave a stray abort, the oldest
+polled_stray : (l : Looks) (x : Stray) (xs : List Stray) (to : Host) (bytes : List ℕ) → Lives l → l.strays ≡ x ∷ xs
+    → ◌≡◌ {A = Option (Host × List ℕ)} (Some (to, bytes)) (Some (x.host, made (stray_message x)))
+    → Lives (after (events.Polled (Some (to, bytes))) l)
+polled_stray l x xs to bytes lives owes a =
+    let is : IsStray x = All-head IsStray x xs (subst (All IsStray) owes lives.strays) in
+    subst (λ (got : Option (Host × List ℕ)). Lives (after (events.Polled got) l)) (sym a)
+    (subst Lives (sym (given_is_stray l x is))
+        (lives_strays l (drop 1 l.strays) lives (All-drop IsStray 1 l.strays lives.strays)))
+
+polled_with : (s : Setup) (l : Looks) (xs : List Stray) (to : Host) (bytes : List ℕ) → s.service < 2 ^ 16 → Lives l
+    → l.strays ≡ xs
+    → Some (to, bytes) ≡ poll_with s l xs → Lives (after (events.Polled (Some (to, bytes))) l)
+polled_with s l [] to bytes small lives owes a = polled s l (next_item l) to bytes small lives refl a
+polled_with s l (x ∷ xs) to bytes small lives owes a = polled_stray l x xs to bytes lives owes a
 
 -- after a poll
 pub lives_polled : (s : Setup) (l : Looks) (got : Option (Host × List ℕ)) → s.service < 2 ^ 16 → Lives l
     → got ≡ poll_answer s l
     → Lives (after (events.Polled got) l)
 lives_polled s l None small lives a = lives
-lives_polled s l (Some (to, bytes)) small lives a = polled s l (next_item l) to bytes small lives refl a
+lives_polled s l (Some (to, bytes)) small lives a = polled_with s l l.strays to bytes small lives refl a

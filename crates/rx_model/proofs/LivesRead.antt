@@ -59,6 +59,7 @@ lives_accepted l got lives a =
       fresh = λ x unknown. fresh_again l m refl refl x (lives.fresh x unknown);
       busy = lives.busy;
       owed = lives.owed;
+      strays = lives.strays;
     })
 
 -- ---- a read
@@ -152,4 +153,5 @@ lives_read l d max got bytes lives a =
       fresh = λ x unknown. fresh_again l m refl refl x (lives.fresh x unknown);
       busy = lives.busy;
       owed = λ c. read_fits _ (same_name c d) l.now (l.owed_ack c) (lives.owed c);
+      strays = lives.strays;
     })

@@ -7,7 +7,8 @@ use Rattle.rx_model.specs.declared.event.Event.TheVariants as events
 use Rattle.rx_model.specs.declared.names.CallName.{CallName}
 use Rattle.rx_model.specs.declared.names.Host.{Host}
 use Rattle.rx_model.specs.declared.wire.TheConstants.{ACK_DUPLICATE}
-use Rattle.rx_model.specs.Looks.{Looks, Named, Owed, after, named, with_busy, with_previous, at_once, owed_for}
+use Rattle.rx_model.specs.Looks.{Looks, Named, Owed, after, named, with_busy, with_previous, with_stray, at_once}
+use Rattle.rx_model.specs.Looks.{owed_for}
 use Rattle.rx_model.specs.Looks.{owed_for_named}
 use Rattle.rx_model.specs.Message.{Message}
 use Rattle.rx_model.specs.Names.{Connection, connection_of, channel_of, same_connection, same_channel, same_name}
@@ -81,6 +82,7 @@ lives_repeated l n lives asked among =
       fresh = λ x unknown. fresh_again l m refl refl x (lives.fresh x unknown);
       busy = lives.busy;
       owed = λ c. repeat_fits (same_name c n.name) n.message.serial (l.owed_ack c) asked.serial (lives.owed c);
+      strays = lives.strays;
     })
 
 -- ---- no room
@@ -96,13 +98,42 @@ unaffected got (Some n) c front now owed idle =
       | false ↦ refl
     ]
 
--- as many connections are known as may be: nothing changes
-pub full_same : (l : Looks) (from : Host) (bytes : List ℕ) → after (events.Taken from bytes tooks.Full) l ≡ l
-full_same l from bytes =
+-- an answer that makes no acknowledgement owed leaves what is owed
+owed_same : (l : Looks) (from : Host) (bytes : List ℕ) (got : Took)
+    → ((m : Message) (front now : ℕ) (owed : Option Owed) → owed_for got m front now owed ≡ owed)
+    → record l {
+      owed_ack = λ c. owed_for_named got (named from (reading_of bytes)) c (front_of (l.kept c)) l.now (l.owed_ack c);
+    } ≡ l
+owed_same l from bytes got idle =
     λ i. record l {
-      owed_ack = λ c. unaffected tooks.Full (named from (reading_of bytes)) c (front_of (l.kept c)) l.now
-          (l.owed_ack c) (λ m. refl) i;
+      owed_ack = λ c. unaffected got (named from (reading_of bytes)) c (front_of (l.kept c)) l.now (l.owed_ack c)
+          (λ m. idle m (front_of (l.kept c)) l.now (l.owed_ack c)) i;
     }
+
+-- an answer that changes nothing: no room for a connection, and the rows before a connection is looked for
+abbrev pub IsIdle : Took → Type 0
+IsIdle tooks.Full = Unit {0}
+IsIdle (tooks.Bad bad) = Unit {0}
+IsIdle tooks.Foreign = Unit {0}
+IsIdle tooks.Strange = Unit {0}
+IsIdle _ = ⊥
+
+-- DATA of a service that the server hasn't owes a stray abort, and nothing else changes
+pub unserved_same : (l : Looks) (from : Host) (bytes : List ℕ)
+    → after (events.Taken from bytes tooks.Unserved) l
+    ≡ record l { strays = with_stray (named from (reading_of bytes)) l.strays }
+unserved_same l from bytes =
+    owed_same (record l { strays = with_stray (named from (reading_of bytes)) l.strays }) from bytes tooks.Unserved
+    (λ m front now owed. refl)
+
+-- such a taking leaves all as it was
+pub idle_same : (l : Looks) (from : Host) (bytes : List ℕ) (got : Took) → IsIdle got
+    → after (events.Taken from bytes got) l ≡ l
+idle_same l from bytes tooks.Full idle = owed_same l from bytes tooks.Full (λ m front now owed. refl)
+idle_same l from bytes (tooks.Bad bad) idle = owed_same l from bytes (tooks.Bad bad) (λ m front now owed. refl)
+idle_same l from bytes tooks.Foreign idle = owed_same l from bytes tooks.Foreign (λ m front now owed. refl)
+idle_same l from bytes tooks.Strange idle = owed_same l from bytes tooks.Strange (λ m front now owed. refl)
+idle_same l from bytes _ idle = absurd idle
 
 -- the look-ups after a call of a known connection found no room
 abbrev pub crowded_after : Option Named → Looks → Looks
@@ -158,4 +189,5 @@ lives_crowded l n lives asked known =
       owed =
           λ c. subst OwedFits (sym (unaffected tooks.NoRoom (Some n) c (front_of (l.kept c)) l.now (l.owed_ack c)
           (λ m. refl))) (lives.owed c);
+      strays = lives.strays;
     })

@@ -176,4 +176,5 @@ lives_started l n lives asked absent known =
       fresh = λ x unknown. fresh_after l n x (lives.fresh x unknown);
       busy = λ ch k owes. lives.busy ch k (still_busy (same_channel ch (channel_of d)) (l.owed_busy ch) k owes);
       owed = λ c. owed_after l n c asked (lives.owed c);
+      strays = lives.strays;
     }

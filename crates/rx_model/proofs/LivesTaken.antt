@@ -1,5 +1,6 @@
--- A taking leaves what holds of a legal history: by its four possible answers.
-use Rattle.std.proofs.Common.{◌≡◌, ◌&&◌, not, cond, Bool, true, false, List, Option, Some, refl, ap, sym, subst, ◌∙◌, ℕ}
+-- A taking leaves what holds of a legal history: by its possible answers.
+use Rattle.std.proofs.Common.{◌≡◌, inl, inr, ◌&&◌, not, cond, Bool, true, false, List, Option, Some, refl, ap, sym}
+use Rattle.std.proofs.Common.{subst, ◌∙◌, ℕ}
 use Rattle.rx_model.specs.declared.answers.Took.{Took}
 use Rattle.rx_model.specs.declared.answers.Took.TheVariants as tooks
 use Rattle.rx_model.specs.declared.event.Event.TheVariants as events
@@ -8,11 +9,14 @@ use Rattle.rx_model.specs.declared.names.Host.{Host}
 use Rattle.rx_model.specs.Looks.{Looks, Setup, Named, after, named, started_by, with_known}
 use Rattle.rx_model.specs.Message.{Message, IsBytes}
 use Rattle.rx_model.specs.Names.{connection_of, channel_of, name_of}
-use Rattle.rx_model.specs.Rules.{Request, request_of, request_row, is_request, took_of, took_reading}
+use Rattle.rx_model.specs.Reading.{reading_of}
+use Rattle.rx_model.specs.Rules.{Request, request_of, request_row, is_request, is_taken, took_of, took_served}
+use Rattle.rx_model.specs.Rules.{else_row}
+use Rattle.rx_model.proofs.FrontRows.{IsFront, IsServed, taken_is, front_rows, lives_front}
 use Rattle.rx_model.proofs.Requests.{Asks, IsAsked, asks_is, asked_is}
 use Rattle.rx_model.proofs.Facts.{Lives, is_among}
 use Rattle.rx_model.proofs.LivesKnown.{knowing, lives_known, known_now}
-use Rattle.rx_model.proofs.LivesRefused.{repeated_after, lives_repeated, full_same, crowded_after, lives_crowded}
+use Rattle.rx_model.proofs.LivesRefused.{repeated_after, lives_repeated, idle_same, crowded_after, lives_crowded}
 use Rattle.rx_model.proofs.LivesStarted.{kept_after, lives_started}
 use Rattle.rx_model.proofs.Rows.{request_known, request_new}
 
@@ -35,7 +39,7 @@ abbrev named_of : Host → Message → Named
 named_of from m = record { name = name_of from m; message = m }
 
 full_taken : (l : Looks) (from : Host) (bytes : List ℕ) → Lives l → Lives (after (events.Taken from bytes tooks.Full) l)
-full_taken l from bytes lives = subst Lives (sym (full_same l from bytes)) lives
+full_taken l from bytes lives = subst Lives (sym (idle_same l from bytes tooks.Full tt)) lives
 
 repeat_taken : (s : Setup) (l : Looks) (from : Host) (bytes : List ℕ) → (k : Coming s l from bytes)
     → is_among (name_of from k.asks.message) l.started ≡ true
@@ -92,13 +96,36 @@ by_row s l from bytes k =
           (new_taken s l from bytes k absent (not q.is_known && q.is_full) q.is_crowded)
     ]) refl
 
--- after a taking of a request
-pub lives_taken : (s : Setup) (l : Looks) (from : Host) (bytes : List ℕ) (got : Took) → Lives l → IsBytes bytes
+-- after a request that none of the first rows answers
+served_taken : (s : Setup) (l : Looks) (from : Host) (bytes : List ℕ) (got : Took) → Lives l → IsBytes bytes
     → is_request s.service bytes ≡ true
-    → got ≡ took_of s l from bytes → Lives (after (events.Taken from bytes got) l)
-lives_taken s l from bytes got lives small passes a =
+    → got ≡ took_served s l from (reading_of bytes) → Lives (after (events.Taken from bytes got) l)
+served_taken s l from bytes got lives small passes a =
     let asks = asks_is s bytes passes in
     let k : Coming s l from bytes = record { lives = lives; asks = asks; asked = asked_is s from bytes small asks } in
     let row : got ≡ request_row (request_of s l (name_of from asks.message) asks.message) =
-    a ∙ ap (took_reading s l from) asks.reads in
+    a ∙ ap (took_served s l from) asks.reads in
     subst (λ (took : Took). Lives (after (events.Taken from bytes took) l)) (sym row) (by_row s l from bytes k)
+
+-- what becomes of a datagram that one of the first rows answers
+pub took_front : (s : Setup) (l : Looks) (from : Host) (bytes : List ℕ) (f : IsFront s.service bytes)
+    → took_of s l from bytes ≡ f.row
+took_front s l from bytes f = ap (λ (o : Option Took). else_row o (took_served s l from (reading_of bytes))) f.is
+
+-- what becomes of one that none of them does
+pub took_behind : (s : Setup) (l : Looks) (from : Host) (bytes : List ℕ) → IsServed s.service bytes
+    → took_of s l from bytes ≡ took_served s l from (reading_of bytes)
+took_behind s l from bytes f = ap (λ (o : Option Took). else_row o (took_served s l from (reading_of bytes))) f.none
+
+-- after a taking
+pub lives_taken : (s : Setup) (l : Looks) (from : Host) (bytes : List ℕ) (got : Took) → Lives l → IsBytes bytes
+    → is_taken s.service bytes ≡ true
+    → got ≡ took_of s l from bytes → Lives (after (events.Taken from bytes got) l)
+lives_taken s l from bytes got lives small taken a =
+    elim (taken_is s.service bytes taken) as (λ _. Lives (after (events.Taken from bytes got) l)) [
+      | inl f ↦
+          subst (λ (took : Took). Lives (after (events.Taken from bytes took) l))
+              (sym (a ∙ took_front s l from bytes f))
+          (lives_front l from bytes f.row lives small (front_rows s.service (reading_of bytes) f.row f.is))
+      | inr f ↦ served_taken s l from bytes got lives small f.request (a ∙ took_behind s l from bytes f)
+    ]

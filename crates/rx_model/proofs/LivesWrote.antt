@@ -94,6 +94,7 @@ lives_wrote s l d offered got bytes lives fits a has =
       fresh = λ x unknown. fresh_again l m refl refl x (lives.fresh x unknown);
       busy = lives.busy;
       owed = lives.owed;
+      strays = lives.strays;
     })
 
 -- ---- a finish
@@ -166,4 +167,5 @@ lives_finished l d code got lives a =
       fresh = λ x unknown. fresh_again l m refl refl x (lives.fresh x unknown);
       busy = lives.busy;
       owed = lives.owed;
+      strays = lives.strays;
     })

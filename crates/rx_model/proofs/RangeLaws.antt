@@ -24,6 +24,8 @@ pub record IsRead (m : Message) : Type 0 where
   pub cid : m.cid < 2 ^ 32
   pub number : m.number < 2 ^ 32
   pub serial : m.serial < 2 ^ 32
+  pub index : m.index < 256
+  pub service : m.service < 2 ^ 16
   pub payload : (payload : List ℕ) → m.body ≡ bodies.Chunk payload → length payload ≤ PAYLOAD_BYTES
 
 -- where a test that refuses is passed, it didn't hold
@@ -99,6 +101,8 @@ read_fits bytes m small reads =
       cid = number_fits 4 4 bytes small;
       number = number_fits 4 8 bytes small;
       serial = number_fits 4 16 bytes small;
+      index = small 23;
+      service = number_fits 2 26 bytes small;
       payload =
           λ payload is. payload_fits (slice_index bytes 20) (slice_index bytes 21) (drop HEADER_BYTES bytes) payload
           (read.1 ∙ ap (λ (b : Body). Ok b) is);

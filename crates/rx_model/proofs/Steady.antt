@@ -1,13 +1,14 @@
 -- What has to hold again after an event that starts no call and makes no connection known.
 use Rattle.std.proofs.Common.{◌≡◌, ◌⊎◌, ◌≤◌, cond, true, false, List, [], ◌∷◌, length, Option, Some, ap, sym, subst}
 use Rattle.std.proofs.Common.{◌∙◌, ℕ}
+use Rattle.std.specs.List.{All}
 use Rattle.rx_model.specs.declared.names.CallName.{CallName}
 use Rattle.rx_model.specs.declared.wire.TheConstants.{PIECE_BYTES}
 use Rattle.rx_model.specs.Looks.{Looks, Owed}
 use Rattle.rx_model.specs.Names.{Connection, Channel, connection_of, channel_of}
 use Rattle.rx_model.specs.Streams.{Packet}
 use Rattle.rx_model.proofs.Facts.{Lives, Begun, Quiet, IsFresh, IsOwed, Distinct, DistinctConnections, is_among}
-use Rattle.rx_model.proofs.Facts.{is_known}
+use Rattle.rx_model.proofs.Facts.{IsStray, is_known}
 
 -- the look-ups that only takings change
 pub record SameRoots (l m : Looks) : Type 0 where
@@ -32,6 +33,7 @@ pub record Rest (l m : Looks) : Type 0 where
   pub fresh : (x : Connection) → is_known x l.known ≡ false → IsFresh m x
   pub busy : (ch : Channel) (number : ℕ) → m.owed_busy ch ≡ Some number → number ≡ 1
   pub owed : (c : CallName) → OwedFits (m.owed_ack c)
+  pub strays : All IsStray m.strays
 
 begun_again : (l m : Looks) → SameRoots l m → (c : CallName) → Begun l c → Begun m c
 begun_again l m same c b =
@@ -64,6 +66,7 @@ steady l m lives same rest =
       fresh = λ x unknown. rest.fresh x (ap (is_known x) (sym same.known) ∙ unknown);
       busy = rest.busy;
       owed = rest.owed;
+      strays = rest.strays;
     }
 
 -- nothing happened to a connection that isn't known

@@ -1,5 +1,6 @@
 -- What a node owes, and the datagram that a poll gives. Public clauses cite this module.
-use Rattle.std.specs.Prelude.{◌==◌, ◌&&◌, ◌||◌, ◌+◌, ◌%◌, ◌^◌, if◌then◌else◌, nat_lt, nat_le, ℕ, suc, Bool, true, false, List, [], ◌∷◌, ◌++◌, filter, Option, Some, None}
+use Rattle.std.specs.Prelude.{◌==◌, ◌&&◌, ◌||◌, ◌+◌, ◌%◌, ◌^◌, if◌then◌else◌, nat_lt, nat_le, ℕ, suc, Bool, true, false}
+use Rattle.std.specs.Prelude.{List, [], ◌∷◌, ◌++◌, filter, Option, Some, None}
 use Rattle.std.specs.List.{find}
 use Rattle.rx_model.specs.declared.names.CallName.{CallName}
 use Rattle.rx_model.specs.declared.names.Host.{Host}
@@ -11,6 +12,8 @@ use Rattle.rx_model.specs.Message.{Message}
 use Rattle.rx_model.specs.Names.{Connection, Channel, connection_of, channel_of, channels_of, same_channel}
 use Rattle.rx_model.specs.Slots.{live}
 use Rattle.rx_model.specs.Spelling.{made}
+use Rattle.rx_model.specs.declared.stray.Stray.{Stray}
+use Rattle.rx_model.specs.Strays.{stray_message}
 use Rattle.rx_model.specs.Streams.{Sent, piece_at, counting_of, used_of, marks_of}
 
 -- what a datagram brings to a call: its name, seq, flags and body
@@ -24,11 +27,19 @@ pub record Item : Type 0 where
 -- ---- the items of one channel, in the order in which ties are broken
 
 abbrev pub busy_name : Channel → ℕ → CallName
-busy_name ch number = record { host = ch.connection.host; epoch = ch.connection.epoch; cid = ch.connection.cid; chan = ch.chan; number = number }
+busy_name ch number =
+    record {
+      host = ch.connection.host;
+      epoch = ch.connection.epoch;
+      cid = ch.connection.cid;
+      chan = ch.chan;
+      number = number;
+    }
 
 abbrev pub busy_items : Channel → Option ℕ → List Item
 busy_items ch None = []
-busy_items ch (Some number) = record { rank = 0; name = busy_name ch number; seq = 0; flags = 0; body = bodies.Busy } ∷ []
+busy_items ch (Some number) =
+    record { rank = 0; name = busy_name ch number; seq = 0; flags = 0; body = bodies.Busy } ∷ []
 
 abbrev pub flags_of : Bool → Bool → ℕ
 flags_of asks last = (if asks then REQUEST_ACK else 0) + (if last then LAST_PACKET else 0)
@@ -46,7 +57,9 @@ piece_item rank c s k again =
 
 -- the lowest piece that was never given is due at once, where it counts and the window lets it go
 abbrev pub fresh_items : CallName → Sent → List Item
-fresh_items c s = if nat_lt s.given (counting_of s) && nat_lt s.given WINDOW_PACKETS then piece_item 0 c s (suc s.given) false ∷ [] else []
+fresh_items c s =
+    if nat_lt s.given (counting_of s) && nat_lt s.given WINDOW_PACKETS then piece_item 0 c s (suc s.given) false ∷ []
+    else []
 
 -- when piece 1 was last given
 abbrev pub last_giving : List Giving → Option ℕ
@@ -66,12 +79,21 @@ ack_items l c (Some owed) =
       name = c;
       seq = 0;
       flags = 0;
-      body = bodies.Ack (record { first = used_of (received_of l c) + 1; previous = l.previous c; serial = owed.serial; reason = owed.reason; marks = marks_of (received_of l c); window = Some WINDOW_PACKETS });
+      body = bodies.Ack (record {
+        first = used_of (received_of l c) + 1;
+        previous = l.previous c;
+        serial = owed.serial;
+        reason = owed.reason;
+        marks = marks_of (received_of l c);
+        window = Some WINDOW_PACKETS;
+      });
     } ∷ []
 
 abbrev pub call_items : Looks → Option CallName → List Item
 call_items l None = []
-call_items l (Some c) = fresh_items c (sent_of l c) ++ (again_items c (sent_of l c) (last_giving (l.givings c)) ++ ack_items l c (l.owed_ack c))
+call_items l (Some c) =
+    fresh_items c (sent_of l c)
+    ++ (again_items c (sent_of l c) (last_giving (l.givings c)) ++ ack_items l c (l.owed_ack c))
 
 -- the live call of a channel
 abbrev pub call_on : Looks → Channel → Option CallName
@@ -130,5 +152,10 @@ abbrev pub datagram_for : Setup → Looks → Option Item → Option (Host × Li
 datagram_for s l None = None
 datagram_for s l (Some i) = Some (i.name.host, made (message_for s l i))
 
+-- the oldest stray abort goes before every item
+abbrev pub poll_with : Setup → Looks → List Stray → Option (Host × List ℕ)
+poll_with s l [] = datagram_for s l (next_item l)
+poll_with s l (x ∷ xs) = Some (x.host, made (stray_message x))
+
 abbrev pub poll_answer : Setup → Looks → Option (Host × List ℕ)
-poll_answer s l = datagram_for s l (next_item l)
+poll_answer s l = poll_with s l l.strays

@@ -5,6 +5,7 @@ pub mod Spelling
 pub mod Spells
 pub mod Names
 pub mod Streams
+pub mod Strays
 pub mod Looks
 pub mod Slots
 pub mod Items

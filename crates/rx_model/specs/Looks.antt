@@ -1,5 +1,7 @@
--- What a history says of the calls of a node: one fold over its events, the newest first. Public clauses cite this module.
-use Rattle.std.specs.Prelude.{◌==◌, ◌&&◌, ◌||◌, ◌+◌, not, if◌then◌else◌, nat_lt, max, is_ok, ℕ, ℤ, pos, suc, zero, Bool, true, false, List, [], ◌∷◌, ◌++◌, Option, Some, None, Result, Ok, Err}
+-- What a history says of the calls of a node: one fold over its events, the newest first. Public clauses cite this
+-- module.
+use Rattle.std.specs.Prelude.{◌==◌, ◌&&◌, ◌||◌, ◌+◌, not, if◌then◌else◌, nat_lt, max, is_ok, ℕ, ℤ, pos, suc, zero, Bool}
+use Rattle.std.specs.Prelude.{true, false, List, [], ◌∷◌, ◌++◌, drop, Option, Some, None, Result, Ok, Err}
 use Rattle.std.specs.List.{list_any}
 use Rattle.rx_model.specs.declared.answers.BadMsg.{BadMsg}
 use Rattle.rx_model.specs.declared.answers.ReadGot.{ReadGot}
@@ -13,12 +15,17 @@ use Rattle.rx_model.specs.declared.event.Event.TheVariants.{Wrote, HasRead, Acce
 use Rattle.rx_model.specs.declared.names.CallName.{CallName}
 use Rattle.rx_model.specs.declared.names.Host.{Host}
 use Rattle.rx_model.specs.declared.names.Limits.{Limits}
-use Rattle.rx_model.specs.declared.wire.TheConstants.{REQUEST_ACK, LAST_PACKET, ACK_REQUESTED, ACK_DUPLICATE, ACK_OUT_OF_SEQUENCE, ACK_EXCEEDS_WINDOW, ACK_NOSPACE, ACK_DELAY, ACK_DELAY_MS}
+use Rattle.rx_model.specs.declared.wire.TheConstants.{REQUEST_ACK, LAST_PACKET, ACK_REQUESTED, ACK_DUPLICATE}
+use Rattle.rx_model.specs.declared.wire.TheConstants.{ACK_OUT_OF_SEQUENCE, ACK_EXCEEDS_WINDOW, ACK_NOSPACE, ACK_DELAY}
+use Rattle.rx_model.specs.declared.wire.TheConstants.{ACK_DELAY_MS, STRAYS}
 use Rattle.rx_model.specs.Body.{Body}
 use Rattle.rx_model.specs.Body as bodies
 use Rattle.rx_model.specs.Message.{Message, has_flag}
-use Rattle.rx_model.specs.Names.{Connection, Channel, connection_of, channel_of, same_connection, same_channel, same_name, name_of}
+use Rattle.rx_model.specs.Names.{Connection, Channel, connection_of, channel_of, same_connection, same_channel}
+use Rattle.rx_model.specs.Names.{same_name, name_of}
 use Rattle.rx_model.specs.Reading.{reading_of}
+use Rattle.rx_model.specs.declared.stray.Stray.{Stray}
+use Rattle.rx_model.specs.Strays.{stray_of, is_stray, last_of}
 use Rattle.rx_model.specs.Streams.{Packet, Received, Sent, front_of, used_of}
 
 -- how a server is set up
@@ -73,6 +80,8 @@ pub record Looks : Type 0 where
   -- the pieces given, the newest first
   pub givings : CallName → List Giving
   pub owed_ack : CallName → Option Owed
+  -- the stray aborts that are owed, the oldest first
+  pub strays : List Stray
   -- the node's moment, in milliseconds
   pub now : ℕ
 
@@ -95,6 +104,7 @@ at_start =
       shut = λ c. false;
       givings = λ c. [];
       owed_ack = λ c. None;
+      strays = [];
       now = 0;
     }
 
@@ -116,10 +126,30 @@ abbrev pub named : Host → Result Message BadMsg → Option Named
 named host (Err b) = None
 named host (Ok m) = Some (record { name = name_of host m; message = m })
 
--- the message that a poll gave
+-- a message of a connection: a stray abort is of none
+abbrev pub unless_stray : Option Named → Option Named
+unless_stray None = None
+unless_stray (Some n) = if is_stray n.message n.message.body then None else Some n
+
+-- the message that a poll gave on a connection
 abbrev pub given_by : Event → Option Named
-given_by (Polled (Some (to, bytes))) = named to (reading_of bytes)
+given_by (Polled (Some (to, bytes))) = unless_stray (named to (reading_of bytes))
 given_by _ = None
+
+-- whether a message is a stray abort
+abbrev pub is_stray_named : Option Named → Bool
+is_stray_named None = false
+is_stray_named (Some n) = is_stray n.message n.message.body
+
+-- whether a poll gave a stray abort
+abbrev pub gives_stray : Event → Bool
+gives_stray (Polled (Some (to, bytes))) = is_stray_named (named to (reading_of bytes))
+gives_stray _ = false
+
+-- the message of a service that the server hasn't
+abbrev pub unserved_by : Event → Option Named
+unserved_by (Taken from bytes tooks.Unserved) = named from (reading_of bytes)
+unserved_by _ = None
 
 -- the message whose packet a taking kept
 abbrev pub kept_by : Event → Option Named
@@ -157,7 +187,8 @@ start_by _ = None
 
 abbrev pub with_known : Option Named → List Connection → List Connection
 with_known None xs = xs
-with_known (Some n) xs = if list_any (λ x. same_connection x (connection_of n.name)) xs then xs else xs ++ connection_of n.name ∷ []
+with_known (Some n) xs =
+    if list_any (λ x. same_connection x (connection_of n.name)) xs then xs else xs ++ connection_of n.name ∷ []
 
 abbrev pub with_given_on : Option Named → Connection → ℕ → ℕ
 with_given_on None x count = count
@@ -203,7 +234,8 @@ accepted_by (Accepted (Some d)) c = same_name c d
 accepted_by _ c = false
 
 abbrev pub packet_of : Message → Body → List Packet → List Packet
-packet_of m (bodies.Chunk payload) ps = record { seq = m.seq; piece = record { payload = payload; last = has_flag LAST_PACKET m.flags } } ∷ ps
+packet_of m (bodies.Chunk payload) ps =
+    record { seq = m.seq; piece = record { payload = payload; last = has_flag LAST_PACKET m.flags } } ∷ ps
 packet_of m _ ps = ps
 
 abbrev pub with_kept : Option Named → CallName → List Packet → List Packet
@@ -280,7 +312,8 @@ owed_for _ m front now owed = owed
 
 abbrev pub owed_for_named : Took → Option Named → CallName → ℕ → ℕ → Option Owed → Option Owed
 owed_for_named got None c front now owed = owed
-owed_for_named got (Some n) c front now owed = if same_name c n.name then owed_for got n.message front now owed else owed
+owed_for_named got (Some n) c front now owed =
+    if same_name c n.name then owed_for got n.message front now owed else owed
 
 -- an ACK that is given clears what is owed
 abbrev pub unless_acked : Body → Option Owed → Option Owed
@@ -296,12 +329,32 @@ abbrev pub owed_for_read : ℕ → ℕ → ℕ → Option Owed → Option Owed
 owed_for_read before after now owed = if nat_lt before after then delayed now 0 owed else owed
 
 abbrev pub with_owed_ack : Event → CallName → Looks → Option Owed
-with_owed_ack (Taken from bytes got) c l = owed_for_named got (named from (reading_of bytes)) c (front_of (l.kept c)) l.now (l.owed_ack c)
+with_owed_ack (Taken from bytes got) c l =
+    owed_for_named got (named from (reading_of bytes)) c (front_of (l.kept c)) l.now (l.owed_ack c)
 with_owed_ack (HasRead d max got bytes) c l =
-    if same_name c d then owed_for_read (used_of (received_of l c)) (used_of (record { kept = l.kept c; read = l.read c ++ bytes; ended = is_end got || l.ended c })) l.now (l.owed_ack c)
+    if same_name c d then
+      owed_for_read (used_of (received_of l c))
+        (used_of (record { kept = l.kept c; read = l.read c ++ bytes; ended = is_end got || l.ended c })) l.now
+        (l.owed_ack c)
     else l.owed_ack c
-with_owed_ack (Polled (Some (to, bytes))) c l = unless_ack_given (named to (reading_of bytes)) c (l.owed_ack c)
+with_owed_ack (Polled (Some (to, bytes))) c l =
+    unless_ack_given (unless_stray (named to (reading_of bytes))) c (l.owed_ack c)
 with_owed_ack _ c l = l.owed_ack c
+
+-- ---- stray aborts
+
+-- the oldest is given
+abbrev pub unless_first : Bool → List Stray → List Stray
+unless_first given strays = if given then drop 1 strays else strays
+
+-- DATA owes one; of more than so many the oldest is dropped
+abbrev pub owed_stray : Named → Body → List Stray → List Stray
+owed_stray n (bodies.Chunk payload) strays = last_of STRAYS (strays ++ stray_of n.name.host n.message ∷ [])
+owed_stray n _ strays = strays
+
+abbrev pub with_stray : Option Named → List Stray → List Stray
+with_stray None strays = strays
+with_stray (Some n) strays = owed_stray n n.message.body strays
 
 -- ---- the fold
 
@@ -312,7 +365,8 @@ after e l =
       known = with_known (known_by e) l.known;
       given_on = λ x. with_given_on (given_by e) x (l.given_on x);
       number = λ ch. with_number (started_by (start_by e) l.number) ch (l.number ch);
-      owed_busy = λ ch. with_busy (crowded_by e) ch (unless_busy (given_by e) ch (unless_started (started_by (start_by e) l.number) ch (l.owed_busy ch)));
+      owed_busy = λ ch. with_busy (crowded_by e) ch
+          (unless_busy (given_by e) ch (unless_started (started_by (start_by e) l.number) ch (l.owed_busy ch)));
       started = with_start (started_by (start_by e) l.number) l.started;
       firsts = with_first (kept_by e) l.firsts;
       accepted = λ c. accepted_by e c || l.accepted c;
@@ -325,6 +379,7 @@ after e l =
       shut = λ c. shut_by e c || l.shut c;
       givings = λ c. with_giving (given_by e) c l.now (l.givings c);
       owed_ack = λ c. with_owed_ack e c l;
+      strays = with_stray (unserved_by e) (unless_first (gives_stray e) l.strays);
       now = with_now e l.now;
     }
 

@@ -1,5 +1,7 @@
 -- Which answers a server gives after a history. Public clauses cite this module.
-use Rattle.std.specs.Prelude.{◌≡◌, ◌==◌, ◌&&◌, ◌||◌, ◌-◌, ◌≤◌, ◌+◌, ◌^◌, not, if◌then◌else◌, min, nat_le, nat_lt, is_some, ℕ, pos, Bool, true, false, List, [], ◌∷◌, length, take, Option, Some, None, Result, Ok, Err}
+use Rattle.std.specs.Prelude.{◌≡◌, ◌==◌, ◌&&◌, ◌||◌, ◌-◌, ◌≤◌, ◌+◌, ◌^◌, not, if◌then◌else◌, min, nat_le, nat_lt}
+use Rattle.std.specs.Prelude.{is_some, ℕ, pos, Bool, true, false, List, [], ◌∷◌, length, take, Option, Some, None}
+use Rattle.std.specs.Prelude.{Result, Ok, Err}
 use Rattle.std.specs.List.{find, list_any}
 use Rattle.rx_model.specs.declared.answers.BadMsg.{BadMsg}
 use Rattle.rx_model.specs.declared.answers.ReadGot.TheVariants as readers
@@ -44,6 +46,36 @@ is_request_reading service (Err b) = false
 abbrev pub is_request : ℕ → List ℕ → Bool
 is_request service bytes = is_request_reading service (reading_of bytes)
 
+-- ---- the rows before a connection is looked for
+
+-- the kinds that no server takes: BUSY is for clients, and without a security class nothing is challenged
+abbrev pub is_not_for_servers : Body → Bool
+is_not_for_servers bodies.Busy = true
+is_not_for_servers (bodies.Challenge bytes) = true
+is_not_for_servers (bodies.Response bytes) = true
+is_not_for_servers _ = false
+
+-- the first row that holds: not from a client; of such a kind; of a service or security class that the server hasn't
+abbrev pub front_row : ℕ → Message → Option Took
+front_row service m =
+    if not (has_flag CLIENT_INITIATED m.flags) then Some tooks.Foreign
+    else if is_not_for_servers m.body then Some tooks.Strange
+    else if not ((m.index == 0) && (m.service == service)) then Some tooks.Unserved
+    else None
+
+-- the same of a datagram's reading
+abbrev pub front_of_reading : ℕ → Result Message BadMsg → Option Took
+front_of_reading service (Err bad) = Some (tooks.Bad bad)
+front_of_reading service (Ok m) = front_row service m
+
+-- whether a connection is looked for
+abbrev pub passes_front : ℕ → List ℕ → Bool
+passes_front service bytes = not (is_some (front_of_reading service (reading_of bytes)))
+
+-- the datagrams that a server takes so far: those that these rows answer, and requests
+abbrev pub is_taken : ℕ → List ℕ → Bool
+is_taken service bytes = not (passes_front service bytes) || is_request service bytes
+
 -- ---- a datagram comes
 
 abbrev pub is_above : Option ℕ → ℕ → Bool
@@ -87,7 +119,8 @@ pub record Request : Type 0 where
   pub is_crowded : Bool
   pub arrival : Arrival
 
--- the first row that holds: no such connection and as many as may be are kept; a new call and as many as may live; its packet
+-- the first row that holds: no such connection and as many as may be are kept; a new call and as many as may live;
+-- its packet
 abbrev pub request_row : Request → Took
 request_row q =
     if not q.is_known && q.is_full then tooks.Full
@@ -104,13 +137,20 @@ request_of s l c m =
       arrival = arrival_of (received_of l c) m.seq (has_flag LAST_PACKET m.flags) (has_slot s l c m.seq);
     }
 
-abbrev pub took_reading : Setup → Looks → Host → Result Message BadMsg → Took
-took_reading s l from (Err bad) = tooks.Bad bad
-took_reading s l from (Ok m) = request_row (request_of s l (name_of from m) m)
+-- a row that holds, or else the one behind it
+abbrev pub else_row : Option Took → Took → Took
+else_row (Some row) other = row
+else_row None other = other
+
+-- what becomes of a message that the rows before don't answer
+abbrev pub took_served : Setup → Looks → Host → Result Message BadMsg → Took
+took_served s l from (Err bad) = tooks.Bad bad
+took_served s l from (Ok m) = request_row (request_of s l (name_of from m) m)
 
 -- what becomes of a datagram
 abbrev pub took_of : Setup → Looks → Host → List ℕ → Took
-took_of s l from bytes = took_reading s l from (reading_of bytes)
+took_of s l from bytes =
+    else_row (front_of_reading s.service (reading_of bytes)) (took_served s l from (reading_of bytes))
 
 -- ---- the handlers
 
@@ -129,7 +169,9 @@ read_open max [] false = (reads.NotYet, [])
 read_open max (x ∷ xs) whole = (reads.Got (min max (length (x ∷ xs))), take max (x ∷ xs))
 
 abbrev pub read_answer : Looks → CallName → ℕ → ServeRead × List ℕ
-read_answer l c max = if is_open l c then read_open max (unread_of (received_of l c)) (is_whole (received_of l c)) else (reads.NotOpen, [])
+read_answer l c max =
+    if is_open l c then read_open max (unread_of (received_of l c)) (is_whole (received_of l c))
+    else (reads.NotOpen, [])
 
 abbrev pub write_answer : Setup → Looks → CallName → ℕ → Result ℕ ServeRefused
 write_answer s l c offered =
@@ -150,13 +192,16 @@ finish_answer l c =
 
 -- ---- the rules
 
--- a server's event is one that the rules give: it takes whole requests in one packet, is offered replies of one piece, and its
--- handlers end with 0
+-- a server's event is one that the rules give: it takes such datagrams, is offered replies of one piece, and
+-- its handlers end with 0
 abbrev pub Allowed : Setup → Looks → Event → Type 0
-Allowed s l (events.Taken from bytes got) = IsBytes bytes × (is_request s.service bytes ≡ true) × (got ≡ took_of s l from bytes)
+Allowed s l (events.Taken from bytes got) =
+    IsBytes bytes × (is_taken s.service bytes ≡ true) × (got ≡ took_of s l from bytes)
 Allowed s l (events.Accepted got) = got ≡ next_waiting l
 Allowed s l (events.HasRead c max (readers.Server got) bytes) = (got, bytes) ≡ read_answer l c max
-Allowed s l (events.Wrote c offered (writers.Server got) bytes) = (length (l.said c) + offered ≤ PIECE_BYTES) × (got ≡ write_answer s l c offered) × IsBytes bytes × HasBytes got bytes
+Allowed s l (events.Wrote c offered (writers.Server got) bytes) =
+    (length (l.said c) + offered ≤ PIECE_BYTES) × (got ≡ write_answer s l c offered)
+    × IsBytes bytes × HasBytes got bytes
 Allowed s l (events.Finished c code got) = (code ≡ pos 0) × (got ≡ finish_answer l c)
 Allowed s l (events.Polled got) = got ≡ poll_answer s l
 Allowed s l _ = ⊥

@@ -1,5 +1,6 @@
 -- How many packet slots the live calls hold. Public clauses cite this module.
-use Rattle.std.specs.Prelude.{◌==◌, ◌&&◌, ◌||◌, ◌+◌, ◌-◌, ◌*◌, ◌^◌, not, if◌then◌else◌, min, nat_lt, ℕ, Bool, List, [], ◌∷◌, length}
+use Rattle.std.specs.Prelude.{◌==◌, ◌&&◌, ◌||◌, ◌+◌, ◌-◌, ◌*◌, ◌^◌, not, if◌then◌else◌, min, nat_lt, ℕ, Bool, List, []}
+use Rattle.std.specs.Prelude.{◌∷◌, length}
 use Rattle.rx_model.specs.declared.names.CallName.{CallName}
 use Rattle.rx_model.specs.declared.wire.TheConstants.{PIECE_BYTES, WINDOW_PACKETS}
 use Rattle.rx_model.specs.Looks.{Looks, Setup, received_of, sent_of}
@@ -34,10 +35,12 @@ spare_slots s l = s.limits.slots - s.limits.calls - common l
 
 -- the next packet of a call that holds no lead always has a slot
 abbrev pub has_slot : Setup → Looks → CallName → ℕ → Bool
-has_slot s l c seq = ((seq == front_of (l.kept c) + 1) && not (has_lead l c)) || not (common l == s.limits.slots - s.limits.calls)
+has_slot s l c seq =
+    ((seq == front_of (l.kept c) + 1) && not (has_lead l c)) || not (common l == s.limits.slots - s.limits.calls)
 
 -- how many bytes a write may accept: those left in the filling piece, and those of the pieces that may be opened
 abbrev pub room : Setup → Looks → CallName → ℕ
 room s l c =
     PIECE_BYTES * (opened (length (l.said c))
-    + min (min (WINDOW_PACKETS - pieces_of (sent_of l c)) (spare_slots s l + 1 - lead l c)) (2 ^ 32 - 2 - opened (length (l.said c)))) - length (l.said c)
+    + min (min (WINDOW_PACKETS - pieces_of (sent_of l c)) (spare_slots s l + 1 - lead l c))
+        (2 ^ 32 - 2 - opened (length (l.said c)))) - length (l.said c)

@@ -1,5 +1,7 @@
--- A stream at its two ends: the pieces that it is cut into, and the packets that were kept of it. Public clauses cite this module.
-use Rattle.std.specs.Prelude.{◌==◌, ◌&&◌, ◌+◌, ◌-◌, ◌*◌, ◌/◌, if◌then◌else◌, max, nat_lt, nat_le, is_some, ℕ, suc, zero, Bool, false, List, [], ◌∷◌, ◌++◌, length, take, drop, Option, Some, None}
+-- A stream at its two ends: the pieces that it is cut into, and the packets that were kept of it. Public clauses cite
+-- this module.
+use Rattle.std.specs.Prelude.{◌==◌, ◌&&◌, ◌+◌, ◌-◌, ◌*◌, ◌/◌, if◌then◌else◌, max, nat_lt, nat_le, is_some, ℕ, suc, zero}
+use Rattle.std.specs.Prelude.{Bool, false, List, [], ◌∷◌, ◌++◌, length, take, drop, Option, Some, None}
 use Rattle.rx_model.specs.declared.wire.TheConstants.{PIECE_BYTES}
 
 -- a part of a stream, and whether it is the last
@@ -71,7 +73,8 @@ abbrev pub is_done_by : Bool → ℕ → ℕ → Option Piece → Bool
 is_done_by ended end read None = false
 is_done_by ended end read (Some p) = if p.last then ended else nat_le end read
 
--- packet k is done with: the last one once the stream was read to its end, any other once all bytes up to its end were read
+-- packet k is done with: the last one once the stream was read to its end, any other once all bytes up to its end were
+-- read
 abbrev pub is_done : Received → ℕ → Bool
 is_done r k = is_done_by r.ended (length (bytes_to r.kept k)) (length r.read) (packet_at r.kept k)
 

@@ -86,3 +86,9 @@ pub const DEFAULT_CALLS: u32 = 64;
 
 /// The packet slots of a node, by default.
 pub const DEFAULT_SLOTS: u32 = 2048;
+
+/// The most stray aborts that a server owes; a further one drops the oldest.
+pub const STRAYS: usize = 64;
+
+/// The code of an abort: there is no such operation here.
+pub const RX_INVALID_OPERATION: i32 = -2;

@@ -1,9 +1,10 @@
 ghost use Rattle.std.specs.Prelude.{◌≡◌, ◌==◌, ◌&&◌};
 ghost use Rattle.rx_model.specs.Message.{has_flag};
-ghost use Rattle.rx_model.specs.Rules.{is_data, is_request, is_request_message};
+ghost use Rattle.rx_model.specs.Rules.{is_data, is_request, is_request_message, is_taken};
 ghost use Rattle.rx_packet.specs.Seen.{body_of, message_of};
 
 use crate::body::Body;
+use crate::front::passes_front;
 use crate::head::Head;
 use crate::read::read_msg;
 use rx_model::wire::{CLIENT_INITIATED, LAST_PACKET};
@@ -16,6 +17,13 @@ pub fn is_request(bytes: &[u8], service: u16) -> bool
         Ok((head, body)) => is_request_message(&head, &body, service),
         Err(_) => false,
     }
+}
+
+/// Whether a server takes the datagram so far: it is such a request, or the rows that look at no connection answer it.
+pub fn is_taken(bytes: &[u8], service: u16) -> bool
+    ensures { result ≡ is_taken service bytes.now }
+{
+    !passes_front(bytes, service) || is_request(bytes, service)
 }
 
 fn is_request_message(head: &Head, body: &Body<'_>, service: u16) -> bool
@@ -40,7 +48,7 @@ fn is_first(head: &Head, service: u16) -> bool
     head.number == 1 && (head.seq == 1 && (head.index == 0 && head.service == service))
 }
 
-fn has_flag(flags: u8, flag: u8) -> bool
+pub fn has_flag(flags: u8, flag: u8) -> bool
     ensures { result ≡ has_flag flag flags }
 {
     flags & flag != 0

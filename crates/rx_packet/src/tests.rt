@@ -227,3 +227,29 @@ fn a_request_is_for_its_service(rt: HostRuntime) -> Result<(), Fail> {
     assert!(&rt; !is_request(&datagram(a, 3, 5, b"hi\n")?, 1));
     Ok(())
 }
+
+#[test]
+fn a_server_takes_requests_and_what_looks_at_no_connection(rt: HostRuntime) -> Result<(), Fail> {
+    let a = rt.alloc();
+    // type, flags, service, whether a connection is looked for, whether it is taken
+    let rows = [
+        (1, 5, 1, true, true),
+        (1, 1, 1, true, false),
+        (2, 5, 1, false, true),
+        (4, 5, 1, false, true),
+        (5, 5, 1, true, false),
+        (1, 4, 1, false, true),
+        (3, 5, 1, false, true),
+        (6, 5, 1, false, true),
+        (7, 5, 1, false, true),
+        (1, 5, 2, false, true),
+        (5, 5, 2, false, true),
+        (8, 5, 1, false, true),
+    ];
+    for (kind, flags, service, passes, takes) in rows {
+        let bytes = datagram(a, kind, flags, b"hi\n")?;
+        assert!(&rt; passes_front(&bytes, service) == passes);
+        assert!(&rt; is_taken(&bytes, service) == takes);
+    }
+    Ok(())
+}

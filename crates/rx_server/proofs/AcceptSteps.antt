@@ -42,7 +42,7 @@ accept_some node h i x s found there =
     let at = kept_at node h i x s there in
     let c : CallName = at.0 in
     let answer = waiting_is node h i x c s at.1 found there in
-    let stands = one_entry_changes node h (events.Accepted (Some c)) i c s answer refl refl (λ y. refl) at.1.here
+    let stands = one_entry_changes node h (events.Accepted (Some c)) i c s answer refl refl refl (λ y. refl) at.1.here
     (accept_others (looks h) c) in
     let stood : Stands (record node { calls = set node.calls i (record (entry_of (looks h) c) { accepted = true }) })
     (events.Accepted (Some c) ∷ h) = rw (name_itself c) at stands in
@@ -60,4 +60,4 @@ accept_none node h s none =
     ∙ find-position_none is_waiting node.calls none in
     let answer : None ≡ next_waiting l =
     rw s.lives.firsts (sym (find-map_none (entry_of l) is_waiting l.started absent)) in
-    (answer, nothing_kept_changes node h (events.Accepted None) s.stands answer refl refl (λ y. refl) (λ n. refl))
+    (answer, nothing_kept_changes node h (events.Accepted None) s.stands answer refl refl refl (λ y. refl) (λ n. refl))

@@ -5,6 +5,7 @@ use Rattle.std.proofs.Math.Seq.{take-set-lt}
 use Rattle.std.proofs.lemmas.List.{get_or-take, length-take}
 use Rattle.std.proofs.lemmas.Option.{slice_get-get_or}
 use Rattle.rx_model.specs.Looks.{Owed}
+use Rattle.rx_model.specs.declared.stray.Stray.{Stray}
 use Rattle.rx_server.specs.declared.due.Due.TheVariants as dues
 use Rattle.rx_server.specs.declared.due.Due.{Due}
 use Rattle.rx_server.specs.Dues.{CallsAfter, ChangesCall, Gives, IsDue, conn_after, conn_in, given_conn}
@@ -32,39 +33,44 @@ changes_at live items place e changed below is =
     record { e = e; call = lives_at live items place e below is; is = take-set-lt live items place (changed e) lives }
 
 -- what is due on a connection is given, where no BUSY is
-given_at : (service : ℕ) (conns : List ConnEntry) (live : ℕ) (items after : List Entry) (x : ConnEntry) (d : Due)
+given_at : (service : ℕ) (strays : List Stray) (conns : List ConnEntry) (live : ℕ) (items after : List Entry)
+    (x : ConnEntry) (d : Due)
     → ((y : ConnEntry) → conn_after y d ≡ given_conn y) → conn_in d < length conns → x ≡ get_or conns (conn_in d) x
     → CallsAfter (take live items) (take live after) d
-    → Gives (node_of service conns live items) (node_of service (set conns (conn_in d) (given_conn x)) live after) d
-given_at service conns live items after x d plain below conn calls =
+    → Gives (node_of service strays conns live items)
+        (node_of service strays (set conns (conn_in d) (given_conn x)) live after) d
+given_at service strays conns live items after x d plain below conn calls =
     record {
       setup = refl;
       x = x;
       there = there_at conns (conn_in d) x below conn;
       conns = ap (λ (y : ConnEntry). set conns (conn_in d) y) (sym (plain x));
       calls = calls;
+      strays = refl;
     }
 
 -- a reply is given
-pub gives_reply : (service : ℕ) (conns : List ConnEntry) (live : ℕ) (items : List Entry) (at place : ℕ) (x : ConnEntry)
+pub gives_reply : (service : ℕ) (strays : List Stray) (conns : List ConnEntry) (live : ℕ) (items : List Entry)
+    (at place : ℕ) (x : ConnEntry)
     (e : Entry)
     → at < length conns → place < length (take live items) → x ≡ get_or conns at x → e ≡ get_or items place e
-    → Gives (node_of service conns live items)
-    (node_of service (set conns at (given_conn x)) live (set items place (record e { given = true })))
+    → Gives (node_of service strays conns live items)
+    (node_of service strays (set conns at (given_conn x)) live (set items place (record e { given = true })))
     (dues.Reply at place)
-gives_reply service conns live items at place x e conn_below call_below conn call =
-    given_at service conns live items _ x (dues.Reply at place) (λ y. refl) conn_below conn
+gives_reply service strays conns live items at place x e conn_below call_below conn call =
+    given_at service strays conns live items _ x (dues.Reply at place) (λ y. refl) conn_below conn
     (changes_at live items place e (λ e. record e { given = true }) call_below call)
 
 -- an acknowledgement is given
-pub gives_ack : (service : ℕ) (conns : List ConnEntry) (live : ℕ) (items : List Entry) (at place : ℕ) (x : ConnEntry)
+pub gives_ack : (service : ℕ) (strays : List Stray) (conns : List ConnEntry) (live : ℕ) (items : List Entry)
+    (at place : ℕ) (x : ConnEntry)
     (e : Entry) (owed : Owed)
     → at < length conns → place < length (take live items) → x ≡ get_or conns at x → e ≡ get_or items place e
-    → Gives (node_of service conns live items)
-    (node_of service (set conns at (given_conn x)) live (set items place (record e { owed = None })))
+    → Gives (node_of service strays conns live items)
+    (node_of service strays (set conns at (given_conn x)) live (set items place (record e { owed = None })))
     (dues.Ack at place owed)
-gives_ack service conns live items at place x e owed conn_below call_below conn call =
-    given_at service conns live items _ x (dues.Ack at place owed) (λ y. refl) conn_below conn
+gives_ack service strays conns live items at place x e owed conn_below call_below conn call =
+    given_at service strays conns live items _ x (dues.Ack at place owed) (λ y. refl) conn_below conn
     (changes_at live items place e (λ e. record e { owed = None }) call_below call)
 
 -- the connection of what is due is there

@@ -22,4 +22,5 @@ pub mod TakeConns
 pub mod TakeSteps
 pub mod TakeKept
 pub mod TakePlaces
+pub mod TakeFront
 pub mod NoReply

@@ -13,6 +13,7 @@ use Rattle.rx_model.specs.declared.names.CallName.{CallName}
 use Rattle.rx_model.specs.declared.wire.TheConstants.{PIECE_BYTES}
 use Rattle.rx_model.specs.Message.{IsBytes}
 use Rattle.rx_model.specs.Names.{same_name}
+use Rattle.rx_model.specs.declared.stray.Stray.{Stray}
 use Rattle.rx_server.specs.Node.{ConnEntry, Entry, Node, accepted_of, after_finish, after_read, after_write}
 use Rattle.rx_server.specs.Node.{entry_finish, entry_read, entry_write, reply_in, reply_of}
 use Rattle.rx_server.specs.Stands.{Answered, default_limits}
@@ -23,9 +24,14 @@ use Rattle.rx_server.proofs.ReadSteps.{read_event, read_some}
 use Rattle.rx_server.proofs.WriteSteps.{finish_event, finish_some, write_event, write_some}
 
 -- a server by its fields
-abbrev pub node_of : ℕ → List ConnEntry → ℕ → List Entry → Node
-node_of service conns live items =
-    record { setup = record { service = service; limits = default_limits }; conns = conns; calls = take live items }
+abbrev pub node_of : ℕ → List Stray → List ConnEntry → ℕ → List Entry → Node
+node_of service strays conns live items =
+    record {
+      setup = record { service = service; limits = default_limits };
+      conns = conns;
+      calls = take live items;
+      strays = strays;
+    }
 
 -- a call found among those that live
 pub record Found (live : ℕ) (items : List Entry) (i : ℕ) (x : Entry) : Type 0 where
@@ -56,50 +62,57 @@ found_at p live items i x found value =
     }
 
 -- the call found to wait is accepted
-pub accept_at : (service : ℕ) (conns : List ConnEntry) (live : ℕ) (items : List Entry) (i : ℕ) (x : Entry)
+pub accept_at : (service : ℕ) (strays : List Stray) (conns : List ConnEntry) (live : ℕ) (items : List Entry) (i : ℕ)
+    (x : Entry)
     → position (λ (e : Entry). not e.accepted) (take live items) ≡ Some i → x ≡ get_or items i x
-    → Answered (node_of service conns live items)
-    (node_of service conns live (set items i (record x { accepted = true }))) (events.Accepted (Some x.name))
-accept_at service conns live items i x found value h s =
+    → Answered (node_of service strays conns live items)
+    (node_of service strays conns live (set items i (record x { accepted = true }))) (events.Accepted (Some x.name))
+accept_at service strays conns live items i x found value h s =
     let at = found_at (λ (e : Entry). not e.accepted) live items i x found value in
     rw (take-set-lt live items i (record x { accepted = true }) at.lives)
-    (accept_some (node_of service conns live items) h i x (alive _ h s) found at.there)
+    (accept_some (node_of service strays conns live items) h i x (alive _ h s) found at.there)
 
 -- the call found by its name is read
-pub read_at : (service : ℕ) (conns : List ConnEntry) (live : ℕ) (items : List Entry) (i : ℕ) (x : Entry) (c : CallName)
+pub read_at : (service : ℕ) (strays : List Stray) (conns : List ConnEntry) (live : ℕ) (items : List Entry) (i : ℕ)
+    (x : Entry) (c : CallName)
     (max : ℕ) (got : ServeRead) (bytes : List ℕ)
     → position (is_named c) (take live items) ≡ Some i → x ≡ get_or items i x → (got, bytes) ≡ entry_read x max
-    → Answered (node_of service conns live items) (node_of service conns live (set items i (after_read x got)))
+    → Answered (node_of service strays conns live items)
+        (node_of service strays conns live (set items i (after_read x got)))
     (read_event c max got bytes)
-read_at service conns live items i x c max got bytes found value answer h s =
+read_at service strays conns live items i x c max got bytes found value answer h s =
     let at = found_at (is_named c) live items i x found value in
     rw (take-set-lt live items i (after_read x got) at.lives)
-    (read_some (node_of service conns live items) h i x c max got bytes (alive _ h s) found at.there answer)
+    (read_some (node_of service strays conns live items) h i x c max got bytes (alive _ h s) found at.there answer)
 
 -- the call found by its name is written to
-pub write_at : (service : ℕ) (conns : List ConnEntry) (live : ℕ) (items : List Entry) (i : ℕ) (x : Entry) (c : CallName)
+pub write_at : (service : ℕ) (strays : List Stray) (conns : List ConnEntry) (live : ℕ) (items : List Entry) (i : ℕ)
+    (x : Entry) (c : CallName)
     (offer : List ℕ) (got : Result ℕ ServeRefused) → IsBytes offer
     → position (is_named c) (take live items) ≡ Some i → x ≡ get_or items i x
     → length x.reply + length offer ≤ PIECE_BYTES
     → got ≡ entry_write x (length offer)
-    → Answered (node_of service conns live items)
-    (node_of service conns live (set items i (after_write x (accepted_of got offer))))
+    → Answered (node_of service strays conns live items)
+    (node_of service strays conns live (set items i (after_write x (accepted_of got offer))))
     (write_event c (length offer) got (accepted_of got offer))
-write_at service conns live items i x c offer got bytes found value fits answer h s =
+write_at service strays conns live items i x c offer got bytes found value fits answer h s =
     let at = found_at (is_named c) live items i x found value in
     rw (take-set-lt live items i (after_write x (accepted_of got offer)) at.lives)
-    (write_some (node_of service conns live items) h i x c offer got (alive _ h s) bytes found at.there fits answer)
+    (write_some (node_of service strays conns live items) h i x c offer got
+        (alive _ h s) bytes found at.there fits answer)
 
 -- the call found by its name is finished
-pub finish_at : (service : ℕ) (conns : List ConnEntry) (live : ℕ) (items : List Entry) (i : ℕ) (x : Entry)
+pub finish_at : (service : ℕ) (strays : List Stray) (conns : List ConnEntry) (live : ℕ) (items : List Entry) (i : ℕ)
+    (x : Entry)
     (c : CallName) (got : Result (Unit {0}) ServeRefused)
     → position (is_named c) (take live items) ≡ Some i → x ≡ get_or items i x → got ≡ entry_finish x
-    → Answered (node_of service conns live items) (node_of service conns live (set items i (after_finish x got)))
+    → Answered (node_of service strays conns live items)
+        (node_of service strays conns live (set items i (after_finish x got)))
     (finish_event c got)
-finish_at service conns live items i x c got found value answer h s =
+finish_at service strays conns live items i x c got found value answer h s =
     let at = found_at (is_named c) live items i x found value in
     rw (take-set-lt live items i (after_finish x got) at.lives)
-    (finish_some (node_of service conns live items) h i x c got (alive _ h s) found at.there answer)
+    (finish_some (node_of service strays conns live items) h i x c got (alive _ h s) found at.there answer)
 
 -- the reply of the call found by its name
 reply_at : (live : ℕ) (items : List Entry) (i : ℕ) (x : Entry) (c : CallName)
@@ -109,11 +122,12 @@ reply_at live items i x c found value =
     find-position_some (is_named c) (take live items) i found ∙ (found_at (is_named c) live items i x found value).there
 
 -- the call found by its name has room for what is offered
-pub room_at : (service : ℕ) (conns : List ConnEntry) (live : ℕ) (items : List Entry) (i : ℕ) (x : Entry) (c : CallName)
+pub room_at : (service : ℕ) (strays : List Stray) (conns : List ConnEntry) (live : ℕ) (items : List Entry) (i : ℕ)
+    (x : Entry) (c : CallName)
     (offered : ℕ)
     → position (is_named c) (take live items) ≡ Some i → x ≡ get_or items i x
-    → length (reply_of (node_of service conns live items) c) + offered ≤ PIECE_BYTES
+    → length (reply_of (node_of service strays conns live items) c) + offered ≤ PIECE_BYTES
     → length x.reply + offered ≤ PIECE_BYTES
-room_at service conns live items i x c offered found value asked =
+room_at service strays conns live items i x c offered found value asked =
     subst (λ (o : Option Entry). length (reply_in o) + offered ≤ PIECE_BYTES)
     (reply_at live items i x c found value) asked

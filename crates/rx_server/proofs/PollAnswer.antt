@@ -1,18 +1,18 @@
 -- The item that is next is given: the answer, and what stands for the longer history.
-use Rattle.std.proofs.Common.{◌≡◌, ◌^◌, ◌<◌, map, slice_get, ℕ, List, ◌∷◌, Option}
-use Rattle.std.proofs.Common.{Some, ap, sym, subst, ◌∙◌}
+use Rattle.std.proofs.Common.{◌≡◌, slice_get, ℕ, List, [], ◌∷◌}
+use Rattle.std.proofs.Common.{Some, ap, sym, ◌∙◌}
 use Rattle.rx_model.specs.declared.event.Event.{Event}
 use Rattle.rx_model.specs.declared.event.Event.TheVariants as events
 use Rattle.rx_model.specs.declared.names.CallName.{CallName}
 use Rattle.rx_model.specs.declared.names.Host.{Host}
-use Rattle.rx_model.specs.Items.{Item, message_for, next_item, poll_answer, datagram_for}
-use Rattle.rx_model.specs.Looks.{Looks, Named, Setup, looks, named}
+use Rattle.rx_model.specs.Items.{Item, message_for, next_item, poll_answer, poll_with, datagram_for}
+use Rattle.rx_model.specs.Looks.{Looks, Setup, looks}
 use Rattle.rx_model.specs.Names.{Connection, Channel, channel_of, connection_of}
-use Rattle.rx_model.specs.Reading.{reading_of}
-use Rattle.rx_model.specs.Rules.{Allowed, Legal}
+use Rattle.rx_model.specs.Rules.{Allowed}
 use Rattle.rx_model.specs.Spelling.{made}
-use Rattle.rx_model.proofs.Given.{given_named}
+use Rattle.rx_model.proofs.LivesPolled.{given_item, named_for}
 use Rattle.rx_model.proofs.NameLaws.{channel_is}
+use Rattle.rx_model.proofs.StrayLaws.{polled_after}
 use Rattle.rx_server.specs.declared.due.Due.{Due}
 use Rattle.rx_server.specs.Dues.{Writes}
 use Rattle.rx_server.specs.Dues.{message_with}
@@ -20,8 +20,13 @@ use Rattle.rx_server.specs.Node.{ConnEntry, Entry, Node}
 use Rattle.rx_server.specs.Stands.{Stands, conn_of, entry_of}
 use Rattle.rx_server.proofs.DueItems.{CallAt}
 use Rattle.rx_server.proofs.Lists.{get-map}
-use Rattle.rx_server.proofs.PollKept.{Kept, given_after, message_is, named_for}
-use Rattle.rx_server.proofs.Standing.{Standing}
+use Rattle.rx_server.proofs.PollKept.{Kept, message_is}
+use Rattle.rx_server.proofs.Standing.{Standing, stands_after}
+
+-- where no stray abort is owed a poll gives the next item
+pub no_strays : (node : Node) (h : List Event) → Stands node h → node.strays ≡ []
+    → poll_answer node.setup (looks h) ≡ datagram_for node.setup (looks h) (next_item (looks h))
+no_strays node h s none = ap (poll_with node.setup (looks h)) (sym s.strays ∙ none)
 
 -- the datagram of an item, on the connection as it is kept
 pub record Datagram (s : Setup) (l : Looks) (i : Item) (host : Host) (bytes : List ℕ) : Type 0 where
@@ -30,30 +35,25 @@ pub record Datagram (s : Setup) (l : Looks) (i : Item) (host : Host) (bytes : Li
   pub for : host ≡ i.name.host
   pub spells : bytes ≡ made (message_with s.service (conn_of l x) i)
 
--- the item that is next was given
+-- the item that is next was given, where no stray abort is owed
 pub poll_given : (node new : Node) (h : List Event) (i : Item) (host : Host) (bytes : List ℕ) → Standing node h
+    → node.strays ≡ []
     → next_item (looks h) ≡ Some i
-    → Datagram node.setup (looks h) i host bytes → new.setup ≡ node.setup
-    → Kept (looks h) (given_after (looks h) (Some (named_for node.setup (looks h) i))) new.conns new.calls
+    → Datagram node.setup (looks h) i host bytes → new.setup ≡ node.setup → new.strays ≡ node.strays
+    → Kept (looks h) (polled_after (Some (named_for node.setup (looks h) i)) (looks h)) new.conns new.calls
     → Allowed node.setup (looks h) (events.Polled (Some (host, bytes)))
     × Stands new (events.Polled (Some (host, bytes)) ∷ h)
-poll_given node new h i host bytes s next d setup kept =
+poll_given node new h i host bytes s none next d setup strays kept =
     let l : Looks = looks h in
     let text : bytes ≡ made (message_for node.setup l i) = d.spells ∙ ap made (message_is node.setup l d.x i d.on) in
     let to = d.for in
-    let answer : Some (host, bytes) ≡ poll_answer node.setup l = (λ k. Some (to k, text k))
-    ∙ sym (ap (datagram_for node.setup l) next) in
-    let named_is : named host (reading_of bytes) ≡ Some (named_for node.setup l i) =
-    (λ k. named (to k) (reading_of (text k))) ∙ given_named node.setup l i s.stands.service s.lives next in (
+    let given : Some (host, bytes) ≡ datagram_for node.setup l (Some i) = λ k. Some (to k, text k) in
+    let answer : Some (host, bytes) ≡ poll_answer node.setup l = given ∙ sym (ap (datagram_for node.setup l) next)
+    ∙ sym (no_strays node h s.stands none) in
+    let is = given_item node.setup l i host bytes s.stands.service s.lives next given in (
       answer,
-      record {
-        legal = subst (λ (t : Setup). Legal t (events.Polled (Some (host, bytes)) ∷ h)) (sym setup)
-            (answer, s.stands.legal);
-        service = subst (λ (t : Setup). t.service < 2 ^ 16) (sym setup) s.stands.service;
-        limits = ap (λ (t : Setup). t.limits) setup ∙ s.stands.limits;
-        conns = kept.conns_are ∙ ap (λ (o : Option Named). map (conn_of (given_after l o)) l.known) (sym named_is);
-        calls = kept.calls_are ∙ ap (λ (o : Option Named). map (entry_of (given_after l o)) l.started) (sym named_is);
-      },
+      stands_after node new h (events.Polled (Some (host, bytes))) (polled_after (Some (named_for node.setup l i)) l)
+          s.stands answer setup is kept.conns_are kept.calls_are (strays ∙ s.stands.strays),
     )
 
 -- a connection at a place, as the history has it

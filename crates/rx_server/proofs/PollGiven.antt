@@ -30,10 +30,10 @@ Step node new h host bytes = Allowed node.setup (looks h) (events.Polled (Some (
     × Stands new (events.Polled (Some (host, bytes)) ∷ h)
 
 busy_step : (node new : Node) (h : List Event) (at chan number : ℕ) (i : Item) (host : Host) (bytes : List ℕ)
-    → Standing node h → chan < 4 → next_item (looks h) ≡ Some i
+    → Standing node h → node.strays ≡ [] → chan < 4 → next_item (looks h) ≡ Some i
     → BusyAt (looks h) at chan number i → Writes node (dues.Busy at chan number) host bytes
     → Gives node new (dues.Busy at chan number) → Step node new h host bytes
-busy_step node new h at chan number i host bytes s low next is writes gives =
+busy_step node new h at chan number i host bytes s none low next is writes gives =
     let l : Looks = looks h in
     let x : Connection = is.x in
     let written = conn_there node h at writes.x x s writes.there is.here in
@@ -44,9 +44,9 @@ busy_step node new h at chan number i host bytes s low next is writes gives =
     let conns : new.conns ≡ set (map (conn_of l) l.known) at (with_busy_at (given_conn (conn_of l x)) chan None) =
     gives.conns ∙ (λ k. set (s.stands.conns k) at (with_busy_at (given_conn (given k)) chan None)) in
     let next_is : next_item l ≡ Some (busy_at x chan number) = next ∙ ap (λ (j : Item). Some j) is.item in
-    poll_given node new h (busy_at x chan number) host bytes s next_is
+    poll_given node new h (busy_at x chan number) host bytes s none next_is
     (datagram_of node l (dues.Busy at chan number) x (busy_at x chan number) host bytes writes written item refl)
-    gives.setup
+    gives.setup gives.strays
     (record { conns_are = conns ∙ kept.conns_are; calls_are = gives.calls ∙ s.stands.calls ∙ kept.calls_are })
 
 -- what is due is an item of the call at a place, whose giving changes what is kept of the call
@@ -58,12 +58,12 @@ record IsOfCall (d : Due) (place : ℕ) (item_of : Entry → Item) (changed : En
 -- an item of a call is given
 call_step : (node new : Node) (h : List Event) (d : Due) (place : ℕ) (item_of : Entry → Item) (changed : Entry → Entry)
     (c : CallName) (i : Item) (host : Host) (bytes : List ℕ)
-    → Standing node h → IsOfCall d place item_of changed → CallAt (looks h) (conn_in d) place c
+    → Standing node h → node.strays ≡ [] → IsOfCall d place item_of changed → CallAt (looks h) (conn_in d) place c
     → next_item (looks h) ≡ Some i
     → item_of (entry_of (looks h) c) ≡ i → i.name ≡ c
     → KeptOf node.setup (looks h) (conn_in d) place changed c i
     → Writes node d host bytes → Gives node new d → Step node new h host bytes
-call_step node new h d place item_of changed c i host bytes s its at next is for_call kept writes gives =
+call_step node new h d place item_of changed c i host bytes s none its at next is for_call kept writes gives =
     let l : Looks = looks h in
     let x : Connection = connection_of c in
     let here = call_here l (conn_in d) place c at in
@@ -78,18 +78,18 @@ call_step node new h d place item_of changed c i host bytes s its at next is for
     gives.conns ∙ (λ k. set (s.stands.conns k) (conn_in d) ((its.plain gives.x ∙ ap given_conn given) k)) in
     let calls : new.calls ≡ set (map (entry_of l) l.started) place (changed (entry_of l c)) =
     changes.is ∙ (λ k. set (s.stands.calls k) place (changed (before k))) in
-    poll_given node new h i host bytes s next
+    poll_given node new h i host bytes s none next
     (datagram_of node l d x i host bytes writes written item (ap connection_of for_call))
-    gives.setup (record { conns_are = conns ∙ kept.conns_are; calls_are = calls ∙ kept.calls_are })
+    gives.setup gives.strays (record { conns_are = conns ∙ kept.conns_are; calls_are = calls ∙ kept.calls_are })
 
 reply_step : (node new : Node) (h : List Event) (at place : ℕ) (i : Item) (host : Host) (bytes : List ℕ)
-    → Standing node h → next_item (looks h) ≡ Some i
+    → Standing node h → node.strays ≡ [] → next_item (looks h) ≡ Some i
     → ReplyAt (looks h) at place i → Writes node (dues.Reply at place) host bytes → Gives node new (dues.Reply at place)
     → Step node new h host bytes
-reply_step node new h at place i host bytes s next is =
+reply_step node new h at place i host bytes s none next is =
     let l : Looks = looks h in
     call_step node new h (dues.Reply at place) place reply_item (λ e. record e { given = true }) is.c
-    (only_piece is.c (l.said is.c)) host bytes s
+    (only_piece is.c (l.said is.c)) host bytes s none
     (record { brings = λ n x j b. b; calls = λ old now changes. changes; plain = λ x. refl })
     is.at (next ∙ ap (λ (j : Item). Some j) is.item) refl refl
     (reply_kept node.setup l at place is.c s.lives (call_here l at place is.c is.at) is.at.call)
@@ -116,24 +116,24 @@ ack_item_is e o = elim (e.ended) as
     ]
 
 ack_step : (node new : Node) (h : List Event) (at place : ℕ) (owed : Owed) (i : Item) (host : Host) (bytes : List ℕ)
-    → Standing node h → next_item (looks h) ≡ Some i
+    → Standing node h → node.strays ≡ [] → next_item (looks h) ≡ Some i
     → AckAt (looks h) at place owed i → Writes node (dues.Ack at place owed) host bytes
     → Gives node new (dues.Ack at place owed) → Step node new h host bytes
-ack_step node new h at place owed i host bytes s next is =
+ack_step node new h at place owed i host bytes s none next is =
     let l : Looks = looks h in
     call_step node new h (dues.Ack at place owed) place (λ e. ack_item e owed) (λ e. record e { owed = None }) is.c
-    (only_ack is.c (l.ended is.c) owed) host bytes s
+    (only_ack is.c (l.ended is.c) owed) host bytes s none
     (record { brings = λ n x j b. b; calls = λ old now changes. changes; plain = λ x. refl })
     is.at (next ∙ ap (λ (j : Item). Some j) is.item) (ack_item_is (entry_of l is.c) owed) refl
     (ack_kept node.setup l at place is.c owed s.lives (call_here l at place is.c is.at) is.at.call)
 
 -- what is due and its item is given
 pub step_of : (node new : Node) (h : List Event) (d : Due) (i : Item) (host : Host) (bytes : List ℕ) → Standing node h
-    → IsDue node d → next_item (looks h) ≡ Some i
+    → node.strays ≡ [] → IsDue node d → next_item (looks h) ≡ Some i
     → IsItem (looks h) d i → Writes node d host bytes → Gives node new d → Step node new h host bytes
-step_of node new h (dues.Busy at chan number) i host bytes s due next is writes gives =
-    busy_step node new h at chan number i host bytes s due.1 next is writes gives
-step_of node new h (dues.Reply at place) i host bytes s due next is writes gives =
-    reply_step node new h at place i host bytes s next is writes gives
-step_of node new h (dues.Ack at place owed) i host bytes s due next is writes gives =
-    ack_step node new h at place owed i host bytes s next is writes gives
+step_of node new h (dues.Busy at chan number) i host bytes s none due next is writes gives =
+    busy_step node new h at chan number i host bytes s none due.1 next is writes gives
+step_of node new h (dues.Reply at place) i host bytes s none due next is writes gives =
+    reply_step node new h at place i host bytes s none next is writes gives
+step_of node new h (dues.Ack at place owed) i host bytes s none due next is writes gives =
+    ack_step node new h at place owed i host bytes s none next is writes gives

@@ -1,30 +1,22 @@
 -- What the giving of a message changes, over what is kept and over the history.
-use Rattle.std.proofs.Common.{◌≡◌, ◌+◌, ◌%◌, ◌^◌, ◌<◌, map, set, slice_get, ℕ, suc, true, false, List, Option, Some}
+use Rattle.std.proofs.Common.{◌≡◌, ◌+◌, ◌%◌, ◌^◌, ◌<◌, map, set, slice_get, ℕ, suc, true, false, List, Some}
 use Rattle.std.proofs.Common.{None, refl, ap, sym, ◌∙◌, arith}
 use Rattle.rx_model.specs.declared.names.CallName.{CallName}
 use Rattle.rx_model.specs.Body as bodies
 use Rattle.rx_model.specs.Items.{Item, busy_name, message_for}
-use Rattle.rx_model.specs.Looks.{Looks, Named, Owed, Setup, unless_ack_given, unless_busy, with_given_on, with_giving}
+use Rattle.rx_model.specs.Looks.{Looks, Named, Owed, Setup, unless_busy}
 use Rattle.rx_model.specs.Names.{Connection, Channel, channels_of, connection_of, same_connection, same_name}
 use Rattle.rx_model.proofs.Facts.{Lives}
 use Rattle.rx_model.proofs.Given.{only_ack, only_piece}
+use Rattle.rx_model.proofs.LivesPolled.{named_for}
 use Rattle.rx_model.proofs.NameLaws.{connection_itself, name_itself}
+use Rattle.rx_model.proofs.StrayLaws.{polled_after}
 use Rattle.rx_server.specs.Dues.{given_conn, message_with}
 use Rattle.rx_server.specs.Node.{ConnEntry, Entry, with_busy_at}
 use Rattle.rx_server.specs.Stands.{conn_of, entry_of, is_given}
 use Rattle.rx_server.proofs.ConnLaws.{one_channel_changes, same_either}
 use Rattle.rx_server.proofs.Lists.{map_same}
 use Rattle.rx_server.proofs.Standing.{one_call_changes, one_conn_changes}
-
--- the look-ups behind a poll that gave this message
-abbrev pub given_after : Looks → Option Named → Looks
-given_after l o =
-    record l {
-      given_on = λ x. with_given_on o x (l.given_on x);
-      owed_busy = λ ch. unless_busy o ch (l.owed_busy ch);
-      givings = λ c. with_giving o c l.now (l.givings c);
-      owed_ack = λ c. unless_ack_given o c (l.owed_ack c);
-    }
 
 -- what stands for the look-ups behind it
 pub record Kept (l m : Looks) (conns : List ConnEntry) (calls : List Entry) : Type 0 where
@@ -42,10 +34,6 @@ message_is s l x i on =
     sym (ap (λ (y : Connection). suc (l.given_on y) % 2 ^ 32) on ∙ next_serial (l.given_on x)) in
     λ k. record (message_for s l i) { serial = serial k }
 
--- what is given on behalf of an item
-abbrev pub named_for : Setup → Looks → Item → Named
-named_for s l i = record { name = i.name; message = message_for s l i }
-
 -- the BUSY of a channel
 abbrev pub busy_at : Connection → ℕ → ℕ → Item
 busy_at x chan number = record {
@@ -59,12 +47,12 @@ busy_at x chan number = record {
 -- a BUSY is given: the serial of its connection rises, and it is no longer owed
 pub busy_kept : (s : Setup) (l : Looks) (at chan number : ℕ) (x : Connection) → Lives l → chan < 4
     → slice_get l.known at ≡ Some x
-    → Kept l (given_after l (Some (named_for s l (busy_at x chan number))))
+    → Kept l (polled_after (Some (named_for s l (busy_at x chan number))) l)
     (set (map (conn_of l) l.known) at (with_busy_at (given_conn (conn_of l x)) chan None))
     (map (entry_of l) l.started)
 busy_kept s l at chan number x lives low here =
     let n : Named = named_for s l (busy_at x chan number) in
-    let m : Looks = given_after l (Some n) in
+    let m : Looks = polled_after (Some n) l in
     let others : (y : Connection) → same_connection y x ≡ false
     → conn_of l y ≡ conn_of m y = λ y other. rw other refl in
     let serial : m.given_on x % 2 ^ 32 ≡ (l.given_on x % 2 ^ 32 + 1) % 2 ^ 32 =
@@ -88,10 +76,10 @@ serial_rises : (s : Setup) (l : Looks) (i : Item) (at : ℕ) → Lives l
     → slice_get l.known at ≡ Some (connection_of i.name)
     → ((ch : Channel) → unless_busy (Some (named_for s l i)) ch (l.owed_busy ch) ≡ l.owed_busy ch)
     → set (map (conn_of l) l.known) at (given_conn (conn_of l (connection_of i.name)))
-    ≡ map (conn_of (given_after l (Some (named_for s l i)))) l.known
+    ≡ map (conn_of (polled_after (Some (named_for s l i)) l)) l.known
 serial_rises s l i at lives here owes =
     let x : Connection = connection_of i.name in
-    let m : Looks = given_after l (Some (named_for s l i)) in
+    let m : Looks = polled_after (Some (named_for s l i)) l in
     let busy : (y : Connection) → map l.owed_busy (channels_of y) ≡ map m.owed_busy (channels_of y) =
     λ y. map_same l.owed_busy m.owed_busy (channels_of y) (λ ch. sym (owes ch)) in
     let given : (y : Connection) → same_connection y x ≡ false
@@ -108,7 +96,7 @@ serial_rises s l i at lives here owes =
 -- the giving of an item of a call, which changes what is kept of the call
 abbrev pub KeptOf : Setup → Looks → ℕ → ℕ → (Entry → Entry) → CallName → Item → Type 0
 KeptOf s l at place changed c i =
-    Kept l (given_after l (Some (named_for s l i)))
+    Kept l (polled_after (Some (named_for s l i)) l)
     (set (map (conn_of l) l.known) at (given_conn (conn_of l (connection_of c))))
     (set (map (entry_of l) l.started) place (changed (entry_of l c)))
 
@@ -118,7 +106,7 @@ pub reply_kept : (s : Setup) (l : Looks) (at place : ℕ) (c : CallName) → Liv
     → KeptOf s l at place (λ e. record e { given = true }) c (only_piece c (l.said c))
 reply_kept s l at place c lives here call =
     let i : Item = only_piece c (l.said c) in
-    let m : Looks = given_after l (Some (named_for s l i)) in
+    let m : Looks = polled_after (Some (named_for s l i)) l in
     let this : entry_of m c ≡ record (entry_of l c) { given = true } = rw (name_itself c) refl in
     record {
       conns_are = serial_rises s l i at lives here (λ ch. refl);
@@ -132,7 +120,7 @@ pub ack_kept : (s : Setup) (l : Looks) (at place : ℕ) (c : CallName) (owed : O
     → KeptOf s l at place (λ e. record e { owed = None }) c (only_ack c (l.ended c) owed)
 ack_kept s l at place c owed lives here call =
     let i : Item = only_ack c (l.ended c) owed in
-    let m : Looks = given_after l (Some (named_for s l i)) in
+    let m : Looks = polled_after (Some (named_for s l i)) l in
     let this : entry_of m c ≡ record (entry_of l c) { owed = None } = rw (name_itself c) refl in
     record {
       conns_are = serial_rises s l i at lives here (λ ch. refl);

@@ -104,7 +104,7 @@ read_some node h i x c max got bytes s found there given =
     let is : entry_of (after (read_event c max got bytes) l) c ≡ after_read x got =
     read_entry l c max got bytes s.lives.now kept.begun (read_count x max got bytes given)
     ∙ ap (λ (e : Entry). after_read e got) (sym kept.entry) in
-    let stands = one_entry_changes node h (read_event c max got bytes) i c s answer refl refl (λ y. refl) kept.here
+    let stands = one_entry_changes node h (read_event c max got bytes) i c s answer refl refl refl (λ y. refl) kept.here
     (read_others l c max got bytes) in
     let P : Entry → Type 0 = λ y. Stands (record node { calls = set node.calls i y })
     (read_event c max got bytes ∷ h) in
@@ -142,6 +142,6 @@ read_none node h c max s absent =
     let quiet = s.lives.quiet c (not_kept node h c s absent) in
     let answer : (reads.NotOpen, []) ≡ read_answer l c max = rw quiet.accepted refl in (
       answer,
-      nothing_kept_changes node h (read_event c max reads.NotOpen []) s.stands answer refl refl (λ y. refl)
+      nothing_kept_changes node h (read_event c max reads.NotOpen []) s.stands answer refl refl refl (λ y. refl)
           (read_nothing l c max),
     )

@@ -1,12 +1,13 @@
 -- A server that stands for a history, and what an event that changes one call leaves.
-use Rattle.std.proofs.Common.{◌≡◌, map, position, slice_get, set, true, false, List, [], ◌∷◌, Some, None, ap, sym}
+use Rattle.std.proofs.Common.{◌≡◌, ◌<◌, ◌^◌, map, position, slice_get, set, true, false, List, [], ◌∷◌, Some, None, ap}
+use Rattle.std.proofs.Common.{sym}
 use Rattle.std.proofs.Common.{subst, ◌∙◌, ℕ}
 use Rattle.std.specs.List.{list_any}
 use Rattle.rx_model.specs.declared.event.Event.{Event}
 use Rattle.rx_model.specs.declared.names.CallName.{CallName}
-use Rattle.rx_model.specs.Looks.{Looks, looks, after}
+use Rattle.rx_model.specs.Looks.{Looks, Setup, looks, after}
 use Rattle.rx_model.specs.Names.{Connection, same_connection, same_name}
-use Rattle.rx_model.specs.Rules.{Allowed}
+use Rattle.rx_model.specs.Rules.{Allowed, Legal}
 use Rattle.rx_model.proofs.Facts.{Lives, Begun, Distinct, DistinctConnections, is_among}
 use Rattle.rx_model.proofs.NameLaws.{connection_is, connection_itself, name_is, name_itself}
 use Rattle.rx_model.proofs.OnceLaw.{find_passes}
@@ -45,12 +46,28 @@ one_conn_changes l m i x distinct here others =
     map_one same_connection connection_is connection_itself (conn_of l) (conn_of m) l.known i x
     (apart_connections l.known distinct) here others
 
+-- it stands for what the look-ups behind the event are
+pub stands_after : (node new : Node) (h : List Event) (e : Event) (m : Looks) → Stands node h
+    → Allowed node.setup (looks h) e → new.setup ≡ node.setup
+    → after e (looks h) ≡ m → new.conns ≡ map (conn_of m) m.known → new.calls ≡ map (entry_of m) m.started
+    → new.strays ≡ m.strays → Stands new (e ∷ h)
+stands_after node new h e m s allowed setup is conns calls strays =
+    record {
+      legal = subst (λ (t : Setup). Legal t (e ∷ h)) (sym setup) (allowed, s.legal);
+      service = subst (λ (t : Setup). t.service < 2 ^ 16) (sym setup) s.service;
+      limits = ap (λ (t : Setup). t.limits) setup ∙ s.limits;
+      conns = conns ∙ ap (λ (n : Looks). map (conn_of n) n.known) (sym is);
+      calls = calls ∙ ap (λ (n : Looks). map (entry_of n) n.started) (sym is);
+      strays = strays ∙ ap (λ (n : Looks). n.strays) (sym is);
+    }
+
 -- an event that changes nothing that is kept
 pub nothing_kept_changes : (node : Node) (h : List Event) (e : Event) → Stands node h → Allowed node.setup (looks h) e
     → (after e (looks h)).known ≡ (looks h).known → (after e (looks h)).started ≡ (looks h).started
+    → (after e (looks h)).strays ≡ (looks h).strays
     → ((x : Connection) → conn_of (looks h) x ≡ conn_of (after e (looks h)) x)
     → ((c : CallName) → entry_of (looks h) c ≡ entry_of (after e (looks h)) c) → Stands node (e ∷ h)
-nothing_kept_changes node h e s allowed known started conns calls =
+nothing_kept_changes node h e s allowed known started strays conns calls =
     let l : Looks = looks h in
     let m : Looks = after e l in
     record {
@@ -59,17 +76,19 @@ nothing_kept_changes node h e s allowed known started conns calls =
       limits = s.limits;
       conns = s.conns ∙ map_same (conn_of l) (conn_of m) l.known conns ∙ ap (map (conn_of m)) (sym known);
       calls = s.calls ∙ map_same (entry_of l) (entry_of m) l.started calls ∙ ap (map (entry_of m)) (sym started);
+      strays = s.strays ∙ sym strays;
     }
 
 -- an event that changes one call
 pub one_entry_changes : (node : Node) (h : List Event) (e : Event) (i : ℕ) (c : CallName) → Standing node h
     → Allowed node.setup (looks h) e
     → (after e (looks h)).known ≡ (looks h).known → (after e (looks h)).started ≡ (looks h).started
+    → (after e (looks h)).strays ≡ (looks h).strays
     → ((x : Connection) → conn_of (looks h) x ≡ conn_of (after e (looks h)) x)
     → slice_get (looks h).started i ≡ Some c
     → ((n : CallName) → same_name n c ≡ false → entry_of (looks h) n ≡ entry_of (after e (looks h)) n)
     → Stands (record node { calls = set node.calls i (entry_of (after e (looks h)) c) }) (e ∷ h)
-one_entry_changes node h e i c s allowed known started conns here others =
+one_entry_changes node h e i c s allowed known started strays conns here others =
     let l : Looks = looks h in
     let m : Looks = after e l in
     record {
@@ -80,6 +99,7 @@ one_entry_changes node h e i c s allowed known started conns here others =
       calls = ap (λ (es : List Entry). set es i (entry_of m c)) s.stands.calls
           ∙ one_call_changes l m i c s.lives here others
           ∙ ap (map (entry_of m)) (sym started);
+      strays = s.stands.strays ∙ sym strays;
     }
 
 -- a call that is kept at a place, as the history has it

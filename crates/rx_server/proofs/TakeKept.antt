@@ -24,7 +24,8 @@ use Rattle.rx_server.proofs.ConnLaws.{one_channel_changes}
 use Rattle.rx_server.proofs.Lists.{map_others}
 use Rattle.rx_server.proofs.TakeConns.{conns_now, known_now}
 use Rattle.rx_server.proofs.TakeRows.{Arrives, asked_by}
-use Rattle.rx_server.proofs.TakeSteps.{new_allowed, asking, stands_after, taken}
+use Rattle.rx_server.proofs.Standing.{stands_after}
+use Rattle.rx_server.proofs.TakeSteps.{new_allowed, asking, taken}
 
 -- the look-ups behind a request that was kept
 abbrev kept_looks : Option Named → Looks → Looks
@@ -101,5 +102,6 @@ take_kept node mid new h from bytes m payload a is body owes starting =
       judged_so.1,
       stands_after node new h (taken from bytes tooks.Kept) n s.stands judged_so.1
           (ap (λ (t : Node). t.setup) starting ∙ ap (λ (t : Node). t.setup) owes.is) looks_are
-          (ap (λ (t : Node). t.conns) starting ∙ conns) calls,
+          (ap (λ (t : Node). t.conns) starting ∙ conns) calls
+          (ap (λ (t : Node). t.strays) starting ∙ ap (λ (t : Node). t.strays) owes.is ∙ s.stands.strays),
     )

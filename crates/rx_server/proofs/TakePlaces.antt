@@ -9,18 +9,19 @@ use Rattle.rx_model.specs.declared.event.Event.TheVariants as events
 use Rattle.rx_model.specs.declared.names.CallName.{CallName}
 use Rattle.rx_model.specs.declared.names.Host.{Host}
 use Rattle.rx_model.specs.Body as models
-use Rattle.rx_model.specs.Message.{IsBytes, Message}
+use Rattle.rx_model.specs.Message.{Message}
 use Rattle.rx_model.specs.Names.{connection_of, name_of, same_name}
 use Rattle.rx_model.specs.Reading.{reading_of}
 use Rattle.rx_model.specs.Rules.{is_data, is_request, is_request_reading}
 use Rattle.rx_model.proofs.Rows.{request_is}
 use Rattle.rx_packet.specs.declared.body.Body.{Body}
 use Rattle.rx_packet.specs.declared.body.Body.TheVariants as bodies
-use Rattle.rx_packet.specs.declared.head.Head.{Head}
-use Rattle.rx_packet.specs.Seen.{body_of, message_of, message_with_head}
+use Rattle.rx_packet.specs.Seen.{body_of}
+use Rattle.rx_model.specs.declared.stray.Stray.{Stray}
 use Rattle.rx_server.specs.declared.judge.Judged.TheVariants as judgements
 use Rattle.rx_server.specs.Node.{ConnEntry, Entry, Node, OwesBusy, after_repeat, fresh_entry, judged, owed_at_start}
 use Rattle.rx_server.specs.Stands.{Answered, Stands}
+use Rattle.rx_server.specs.Takes.{Asks}
 use Rattle.rx_server.proofs.Alive.{alive}
 use Rattle.rx_server.proofs.Places.{found_at, node_of}
 use Rattle.rx_server.proofs.Positions.{position_within}
@@ -28,33 +29,11 @@ use Rattle.rx_server.proofs.TakeKept.{take_kept}
 use Rattle.rx_server.proofs.TakeRows.{Arrives, repeat_place}
 use Rattle.rx_server.proofs.TakeSteps.{take_crowded, take_full, take_repeat}
 
--- a datagram that passes the test of requests, with the name of its call
-pub record Comes (service : ℕ) (from : Host) (bytes : List ℕ) (m : Message) (c : CallName) : Type 0 where
-  pub bytes_fit : IsBytes bytes
-  pub passes : is_request service bytes ≡ true
-  pub reads : reading_of bytes ≡ Ok m
-  pub name : c ≡ name_of from m
-
 -- it comes to a server that stands for a history
-arrives : (node : Node) (h : List Event) (from : Host) (bytes : List ℕ) (m : Message) (c : CallName)
-    → Comes node.setup.service from bytes m c → Stands node h → Arrives node h bytes m
-arrives node h from bytes m c comes s =
-    record { standing = alive node h s; bytes_fit = comes.bytes_fit; passes = comes.passes; reads = comes.reads }
-
--- what was read as a chunk comes as a request
-pub comes_as : (service : ℕ) (from : Host) (bytes : List ℕ) (head : Head) (body : Body) (payload : Bor (List ℕ))
-    (c : CallName)
-    → IsBytes bytes → is_request service bytes ≡ true → Ok (message_of head body) ≡ reading_of bytes
-    → body ≡ bodies.Chunk payload
-    → ((b : models.Body) → c ≡ name_of from (message_with_head head b))
-    → Comes service from bytes (message_with_head head (models.Chunk payload.now)) c
-comes_as service from bytes head body payload c bytes_fit passes read chunk name =
-    record {
-      bytes_fit = bytes_fit;
-      passes = passes;
-      reads = sym read ∙ ap (λ (b : Body). Ok (message_of head b)) chunk;
-      name = name (models.Chunk payload.now);
-    }
+arrives : (node : Node) (h : List Event) (bytes : List ℕ) (m : Message) → Asks node.setup.service bytes m
+    → Stands node h → Arrives node h bytes m
+arrives node h bytes m asks s =
+    record { standing = alive node h s; bytes_fit = asks.bytes_fit; passes = asks.passes; reads = asks.reads }
 
 -- a request carries data
 pub carries_data : (service : ℕ) (bytes : List ℕ) (m : Message) → is_request service bytes ≡ true
@@ -73,54 +52,59 @@ data_is (bodies.Challenge bytes) none carries = cc
 data_is (bodies.Response bytes) none carries = cc
 
 -- the place of a repeat is that of a call that lives
-pub repeat_lives : (service : ℕ) (conns : List ConnEntry) (live : ℕ) (items : List Entry) (c : CallName) (place : ℕ)
-    → judgements.Repeat place ≡ judged (node_of service conns live items) c → place < live
-repeat_lives service conns live items c place is =
+pub repeat_lives : (service : ℕ) (strays : List Stray) (conns : List ConnEntry) (live : ℕ) (items : List Entry)
+    (c : CallName) (place : ℕ)
+    → judgements.Repeat place ≡ judged (node_of service strays conns live items) c → place < live
+repeat_lives service strays conns live items c place is =
     let within = position_within (λ (e : Entry). same_name e.name c) (take live items) place
-    (repeat_place (node_of service conns live items) c place is) in
+    (repeat_place (node_of service strays conns live items) c place is) in
     omega (arith, within, length-take live items)
 
 -- the call at the place is asked again
-pub repeat_at : (service : ℕ) (conns : List ConnEntry) (live : ℕ) (items : List Entry) (place : ℕ) (x : Entry)
+pub repeat_at : (service : ℕ) (strays : List Stray) (conns : List ConnEntry) (live : ℕ) (items : List Entry) (place : ℕ)
+    (x : Entry)
     (from : Host) (bytes : List ℕ) (m : Message) (c : CallName)
-    → Comes service from bytes m c → judgements.Repeat place ≡ judged (node_of service conns live items) c
+    → Asks service bytes m → c ≡ name_of from m
+        → judgements.Repeat place ≡ judged (node_of service strays conns live items) c
     → x ≡ get_or items place x
-    → Answered (node_of service conns live items)
-    (node_of service conns live (set items place (after_repeat x m.serial))) (events.Taken from bytes tooks.Repeat)
-repeat_at service conns live items place x from bytes m c comes is value h s =
-    let node : Node = node_of service conns live items in
+    → Answered (node_of service strays conns live items)
+    (node_of service strays conns live (set items place (after_repeat x m.serial)))
+        (events.Taken from bytes tooks.Repeat)
+repeat_at service strays conns live items place x from bytes m c asks name is value h s =
+    let node : Node = node_of service strays conns live items in
     let at = found_at (λ (e : Entry). same_name e.name c) live items place x (repeat_place node c place is) value in
-    let named : judgements.Repeat place ≡ judged node (name_of from m) = is ∙ ap (judged node) comes.name in
+    let named : judgements.Repeat place ≡ judged node (name_of from m) = is ∙ ap (judged node) name in
     rw (take-set-lt live items place (after_repeat x m.serial) at.lives)
-    (take_repeat node h from bytes m place x (arrives node h from bytes m c comes s) named at.there)
+    (take_repeat node h from bytes m place x (arrives node h bytes m asks s) named at.there)
 
 -- there is no room for the connection of what came
 pub full_at : (node : Node) (from : Host) (bytes : List ℕ) (m : Message) (c : CallName)
-    → Comes node.setup.service from bytes m c
+    → Asks node.setup.service bytes m → c ≡ name_of from m
     → judgements.Full ≡ judged node c → Answered node node (events.Taken from bytes tooks.Full)
-full_at node from bytes m c comes is h s =
-    take_full node h from bytes m (arrives node h from bytes m c comes s) (is ∙ ap (judged node) comes.name)
+full_at node from bytes m c asks name is h s =
+    take_full node h from bytes m (arrives node h bytes m asks s) (is ∙ ap (judged node) name)
 
 -- there is no room for the call of what came
 pub crowded_at : (node new : Node) (from : Host) (bytes : List ℕ) (m : Message) (c : CallName)
-    → Comes node.setup.service from bytes m c
+    → Asks node.setup.service bytes m → c ≡ name_of from m
     → judgements.NoRoom ≡ judged node c → OwesBusy node new (connection_of c) c.chan (Some c.number)
     → Answered node new (events.Taken from bytes tooks.NoRoom)
-crowded_at node new from bytes m c comes is owes h s =
+crowded_at node new from bytes m c asks name is owes h s =
     let P : CallName → Type 0 = λ d. OwesBusy node new (connection_of d) d.chan (Some d.number) in
-    take_crowded node new h from bytes m (arrives node h from bytes m c comes s) (is ∙ ap (judged node) comes.name)
-    (subst P comes.name owes)
+    take_crowded node new h from bytes m (arrives node h bytes m asks s) (is ∙ ap (judged node) name)
+    (subst P name owes)
 
 -- the call of what came starts
 pub starts_at : (node mid new : Node) (from : Host) (bytes : List ℕ) (m : Message) (payload : List ℕ) (c : CallName)
-    → Comes node.setup.service from bytes m c → judgements.Kept ≡ judged node c → m.body ≡ models.Chunk payload
+    → Asks node.setup.service bytes m → c ≡ name_of from m → judgements.Kept ≡ judged node c
+        → m.body ≡ models.Chunk payload
     → OwesBusy node mid (connection_of c) c.chan None
     → new ≡ record mid { calls = mid.calls ++ fresh_entry c payload (owed_at_start m.flags m.serial) ∷ [] }
     → Answered node new (events.Taken from bytes tooks.Kept)
-starts_at node mid new from bytes m payload c comes is body owes starting h s =
+starts_at node mid new from bytes m payload c asks name is body owes starting h s =
     let P : CallName → Type 0 = λ d. OwesBusy node mid (connection_of d) d.chan None in
     let Q : CallName → Type 0 = λ d. new
     ≡ record mid { calls = mid.calls ++ fresh_entry d payload (owed_at_start m.flags m.serial) ∷ [] } in
-    take_kept node mid new h from bytes m payload (arrives node h from bytes m c comes s)
-    (is ∙ ap (judged node) comes.name) body
-    (subst P comes.name owes) (subst Q comes.name starting)
+    take_kept node mid new h from bytes m payload (arrives node h bytes m asks s)
+    (is ∙ ap (judged node) name) body
+    (subst P name owes) (subst Q name starting)

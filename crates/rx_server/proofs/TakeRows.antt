@@ -14,8 +14,9 @@ use Rattle.rx_model.specs.Looks.{Looks, looks}
 use Rattle.rx_model.specs.Message.{IsBytes, Message}
 use Rattle.rx_model.specs.Names.{Connection, connection_of, name_of, same_connection, same_name}
 use Rattle.rx_model.specs.Reading.{reading_of}
-use Rattle.rx_model.specs.Rules.{is_request, is_request_message, is_request_reading, request_of, took_of, took_reading}
+use Rattle.rx_model.specs.Rules.{is_request, is_request_message, is_request_reading, request_of, took_of}
 use Rattle.rx_model.proofs.Facts.{is_among}
+use Rattle.rx_model.proofs.FrontRows.{request_took}
 use Rattle.rx_model.proofs.Requests.{IsAsked, asked_is}
 use Rattle.rx_model.proofs.Rows.{new_row, request_known, request_new}
 use Rattle.rx_server.specs.declared.judge.Judged.{Judged}
@@ -83,7 +84,7 @@ pub kept_answer : (node : Node) (h : List Event) (from : Host) (bytes : List ℕ
     → is_among (name_of from m) (looks h).started ≡ true → tooks.Repeat ≡ took_of node.setup (looks h) from bytes
 kept_answer node h from bytes m a among =
     let l : Looks = looks h in
-    sym (ap (took_reading node.setup l from) a.reads
+    sym (request_took node.setup l from bytes m (message_passes node h bytes m a) a.reads
     ∙ request_known node.setup l from m a.standing.lives (message_passes node h bytes m a) among)
 
 -- the answer for one that isn't
@@ -92,7 +93,7 @@ pub new_answer : (node : Node) (h : List Event) (from : Host) (bytes : List ℕ)
     → took_judged (judged_new node (name_of from m)) ≡ took_of node.setup (looks h) from bytes
 new_answer node h from bytes m a absent =
     let l : Looks = looks h in
-    sym (ap (took_reading node.setup l from) a.reads
+    sym (request_took node.setup l from bytes m (message_passes node h bytes m a) a.reads
     ∙ request_new node.setup l from m a.standing.lives (message_passes node h bytes m a) absent
     ∙ new_judged node h (name_of from m) m a.standing)
 

@@ -1,5 +1,5 @@
 -- A request comes, over what is kept and over the history.
-use Rattle.std.proofs.Common.{◌≡◌, ◌%◌, ◌^◌, ◌<◌, map, set, slice_get, List, ◌∷◌, Option, Some, refl, ap, sym, subst}
+use Rattle.std.proofs.Common.{◌≡◌, ◌%◌, map, set, slice_get, List, ◌∷◌, Option, Some, refl, ap, sym}
 use Rattle.std.proofs.Common.{◌∙◌, ℕ, false}
 use Rattle.rx_model.specs.declared.answers.Took.{Took}
 use Rattle.rx_model.specs.declared.answers.Took.TheVariants as tooks
@@ -7,12 +7,13 @@ use Rattle.rx_model.specs.declared.event.Event.{Event}
 use Rattle.rx_model.specs.declared.event.Event.TheVariants as events
 use Rattle.rx_model.specs.declared.names.CallName.{CallName}
 use Rattle.rx_model.specs.declared.names.Host.{Host}
-use Rattle.rx_model.specs.Looks.{Looks, Named, Setup, after, looks, named, with_known}
+use Rattle.rx_model.specs.Looks.{Looks, Named, after, looks, named, with_known}
 use Rattle.rx_model.specs.Message.{Message}
 use Rattle.rx_model.specs.Names.{Connection, connection_of, name_of, same_name}
-use Rattle.rx_model.specs.Rules.{Allowed, Legal}
+use Rattle.rx_model.specs.Rules.{Allowed}
+use Rattle.rx_model.proofs.FrontRows.{request_taken}
 use Rattle.rx_model.proofs.LivesKnown.{knowing}
-use Rattle.rx_model.proofs.LivesRefused.{crowded_after, full_same, repeated_after}
+use Rattle.rx_model.proofs.LivesRefused.{crowded_after, idle_same, repeated_after}
 use Rattle.rx_model.proofs.NameLaws.{name_itself}
 use Rattle.rx_model.proofs.Facts.{is_among}
 use Rattle.rx_server.specs.declared.judge.Judged.{Judged}
@@ -21,7 +22,7 @@ use Rattle.rx_server.specs.Node.{Entry, Node, OwesBusy, after_repeat, judged, wi
 use Rattle.rx_server.specs.Stands.{Stands, conn_of, entry_of}
 use Rattle.rx_server.proofs.ConnLaws.{one_channel_changes, same_either}
 use Rattle.rx_server.proofs.Lists.{map_same}
-use Rattle.rx_server.proofs.Standing.{kept_by_name, not_kept, one_call_changes}
+use Rattle.rx_server.proofs.Standing.{kept_by_name, not_kept, one_call_changes, stands_after}
 use Rattle.rx_server.proofs.TakeConns.{conns_now}
 use Rattle.rx_server.proofs.TakeRows.{Arrives, IsNew, asked_by, kept_answer, new_answer, new_place, repeat_place}
 use Rattle.rx_server.proofs.TakeRows.{took_judged}
@@ -34,20 +35,6 @@ taken from bytes got = events.Taken from bytes got
 abbrev pub asking : Host → Message → Named
 asking from m = record { name = name_of from m; message = m }
 
--- it stands for what the look-ups behind the event are
-pub stands_after : (node new : Node) (h : List Event) (e : Event) (m : Looks) → Stands node h
-    → Allowed node.setup (looks h) e → new.setup ≡ node.setup
-    → after e (looks h) ≡ m → new.conns ≡ map (conn_of m) m.known → new.calls ≡ map (entry_of m) m.started
-    → Stands new (e ∷ h)
-stands_after node new h e m s allowed setup is conns calls =
-    record {
-      legal = subst (λ (t : Setup). Legal t (e ∷ h)) (sym setup) (allowed, s.legal);
-      service = subst (λ (t : Setup). t.service < 2 ^ 16) (sym setup) s.service;
-      limits = ap (λ (t : Setup). t.limits) setup ∙ s.limits;
-      conns = conns ∙ ap (λ (n : Looks). map (conn_of n) n.known) (sym is);
-      calls = calls ∙ ap (λ (n : Looks). map (entry_of n) n.started) (sym is);
-    }
-
 -- a request of a call that isn't kept is answered as it is judged
 pub new_allowed : (node : Node) (h : List Event) (from : Host) (bytes : List ℕ) (m : Message) (j : Judged)
     → Arrives node h bytes m → IsNew j → j ≡ judged node (name_of from m)
@@ -56,7 +43,8 @@ pub new_allowed : (node : Node) (h : List Event) (from : Host) (bytes : List ℕ
 new_allowed node h from bytes m j a is_new is =
     let new = new_place node (name_of from m) j is_new is in
     let absent = not_kept node h (name_of from m) a.standing new.0 in
-    (absent, (a.bytes_fit, a.passes, ap took_judged new.1 ∙ new_answer node h from bytes m a absent))
+    (absent, (a.bytes_fit, request_taken node.setup.service bytes a.passes, ap took_judged new.1
+        ∙ new_answer node h from bytes m a absent))
 
 -- ---- repeated
 
@@ -73,7 +61,7 @@ take_repeat node h from bytes m place x a is there =
     let c : CallName = name_of from m in
     let kept = kept_by_name node h place x c s (repeat_place node c place is) there in
     let allowed : Allowed node.setup l (taken from bytes tooks.Repeat) =
-    (a.bytes_fit, a.passes, kept_answer node h from bytes m a kept.among) in
+    (a.bytes_fit, request_taken node.setup.service bytes a.passes, kept_answer node h from bytes m a kept.among) in
     let n : Looks = repeated_after (Some (asking from m)) l in
     let looks_are : after (taken from bytes tooks.Repeat) l ≡ n =
     ap (λ (o : Option Named). repeated_after o l) (ap (named from) a.reads) in
@@ -84,7 +72,7 @@ take_repeat node h from bytes m place x a is there =
     ∙ one_call_changes l n place c s.lives kept.here (λ d other. rw other refl) in (
       allowed,
       stands_after node _ h
-          (taken from bytes tooks.Repeat) n s.stands allowed refl looks_are s.stands.conns calls,
+          (taken from bytes tooks.Repeat) n s.stands allowed refl looks_are s.stands.conns calls s.stands.strays,
     )
 
 -- ---- refused
@@ -98,8 +86,8 @@ take_full node h from bytes m a is =
     let s = a.standing in
     let judged_so = new_allowed node h from bytes m judgements.Full a tt is in (
       judged_so.1,
-      stands_after node node h (taken from bytes tooks.Full) l s.stands judged_so.1 refl (full_same l from bytes)
-          s.stands.conns s.stands.calls,
+      stands_after node node h (taken from bytes tooks.Full) l s.stands judged_so.1 refl
+          (idle_same l from bytes tooks.Full tt) s.stands.conns s.stands.calls s.stands.strays,
     )
 
 -- ---- no room
@@ -134,5 +122,6 @@ take_crowded node new h from bytes m a is owes =
     ∙ map_same (entry_of l) (entry_of n) l.started entries in (
       judged_so.1,
       stands_after node new h (taken from bytes tooks.NoRoom) n s.stands judged_so.1
-          (ap (λ (t : Node). t.setup) owes.is) looks_are conns calls,
+          (ap (λ (t : Node). t.setup) owes.is) looks_are conns calls
+          (ap (λ (t : Node). t.strays) owes.is ∙ s.stands.strays),
     )

@@ -99,7 +99,7 @@ write_some node h i x c offer got s bytes found there fits given =
     (within, answer, accepted_bytes got offer bytes, has) in
     let is : entry_of (after (write_event c (length offer) got part) l) c ≡ after_write x part =
     rw (name_itself c) (ap (λ (e : Entry). after_write e part) (sym kept.entry)) in
-    let stands = one_entry_changes node h (write_event c (length offer) got part) i c s allowed refl refl
+    let stands = one_entry_changes node h (write_event c (length offer) got part) i c s allowed refl refl refl
     (λ y. refl) kept.here (write_others l c (length offer) got part) in
     let P : Entry → Type 0 = λ y. Stands (record node { calls = set node.calls i y })
     (write_event c (length offer) got part ∷ h) in
@@ -124,7 +124,7 @@ write_none node h c offered s fits absent =
     let allowed : Allowed node.setup l (write_event c offered (Err refusals.NotOpen) []) =
     (rw quiet.said (omega arith), rw quiet.accepted refl, λ i. lit< tt, refl) in (
       allowed,
-      nothing_kept_changes node h (write_event c offered (Err refusals.NotOpen) []) s.stands allowed refl refl
+      nothing_kept_changes node h (write_event c offered (Err refusals.NotOpen) []) s.stands allowed refl refl refl
           (λ y. refl) (wrote_nothing l c),
     )
 
@@ -151,7 +151,7 @@ finish_some node h i x c got s found there given =
     let answer : got ≡ finish_answer l c = given ∙ ap entry_finish kept.entry in
     let is : entry_of (after (finish_event c got) l) c ≡ after_finish x got =
     rw (name_itself c) (ap (λ (e : Entry). after_finish e got) (sym kept.entry)) in
-    let stands = one_entry_changes node h (finish_event c got) i c s (refl, answer) refl refl (λ y. refl) kept.here
+    let stands = one_entry_changes node h (finish_event c got) i c s (refl, answer) refl refl refl (λ y. refl) kept.here
     (finish_others l c got) in
     let P : Entry → Type 0 = λ y. Stands (record node { calls = set node.calls i y }) (finish_event c got ∷ h) in
     ((refl, answer), subst P is stands)
@@ -174,6 +174,6 @@ finish_none node h c s absent =
     let allowed : Allowed node.setup (looks h) (finish_event c (Err refusals.NotOpen)) =
     (refl, rw quiet.accepted refl) in (
       allowed,
-      nothing_kept_changes node h (finish_event c (Err refusals.NotOpen)) s.stands allowed refl refl (λ y. refl)
+      nothing_kept_changes node h (finish_event c (Err refusals.NotOpen)) s.stands allowed refl refl refl (λ y. refl)
           (finished_nothing (looks h) c),
     )

@@ -183,3 +183,4 @@ pub record Gives (old new : Node) (d : Due) : Type 0 where
   pub there : slice_get old.conns (conn_in d) ≡ Some x
   pub conns : new.conns ≡ set old.conns (conn_in d) (conn_after x d)
   pub calls : CallsAfter old.calls new.calls d
+  pub strays : new.strays ≡ old.strays

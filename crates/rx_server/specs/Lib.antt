@@ -2,3 +2,4 @@ pub mod Node
 pub mod Dues
 pub mod Seen
 pub mod Stands
+pub mod Takes

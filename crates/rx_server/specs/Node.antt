@@ -10,6 +10,7 @@ use Rattle.rx_model.specs.declared.names.CallName.{CallName}
 use Rattle.rx_model.specs.declared.names.Host.{Host}
 use Rattle.rx_model.specs.declared.wire.TheConstants.{REQUEST_ACK, ACK_REQUESTED, ACK_DUPLICATE, DEFAULT_CONNS}
 use Rattle.rx_model.specs.declared.wire.TheConstants.{DEFAULT_CALLS}
+use Rattle.rx_model.specs.declared.stray.Stray.{Stray}
 use Rattle.rx_model.specs.Looks.{Setup, Owed, at_once, delayed}
 use Rattle.rx_model.specs.Message.{has_flag}
 use Rattle.rx_model.specs.Names.{Connection, connection_of, same_connection, same_name}
@@ -37,11 +38,14 @@ pub record ConnEntry : Type 0 where
   pub serial : ℕ
   pub busy : List (Option ℕ)
 
--- a server: the connections in the order in which they became known, and the calls in the order of their start
+-- a server: the connections in the order in which they became known, the calls in the order of their start, and the
+-- stray
+-- aborts that it owes, the oldest first
 pub record Node : Type 0 where
   pub setup : Setup
   pub conns : List ConnEntry
   pub calls : List Entry
+  pub strays : List Stray
 
 -- ---- datagrams
 

@@ -45,6 +45,7 @@ pub record Stands (node : Node) (h : List Event) : Type 0 where
   pub limits : node.setup.limits ≡ default_limits
   pub conns : node.conns ≡ map (conn_of (looks h)) (looks h).known
   pub calls : node.calls ≡ map (entry_of (looks h)) (looks h).started
+  pub strays : node.strays ≡ (looks h).strays
 
 -- the answer is the one that the rules give after every history for which the server stood, and it stands then for that
 -- history with the event

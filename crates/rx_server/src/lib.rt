@@ -14,6 +14,7 @@ mod judge;
 mod owed;
 mod search;
 mod server;
+mod strays;
 #[cfg(test)]
 mod tests;
 

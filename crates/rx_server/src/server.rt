@@ -2,24 +2,26 @@ ghost use Rattle.std.specs.Prelude.{◌≡◌, ◌&&◌, not, Some, ◌+◌, ◌
 ghost use Rattle.std.specs.Prelude.{take, drop, slice_get, pos, position, false, IfOk, IfSome, IsTrue};
 ghost use Rattle.rx_model.specs.Body as models;
 ghost use Rattle.rx_model.specs.Names.{connection_of, same_connection, name_of as message_name};
-ghost use Rattle.rx_packet.specs.Seen.{FitsDatagram, body_of, message_with_head};
-ghost use Rattle.rx_model.specs.Rules.{is_request};
+ghost use Rattle.rx_packet.specs.Seen.{FitsDatagram, body_of, message_of, message_with_head};
+ghost use Rattle.rx_model.specs.Rules.{is_taken};
+ghost use Rattle.rx_model.specs.Strays.{stray_of};
 ghost use Rattle.rx_model.specs.declared.event.Event.{Event};
 ghost use Rattle.rx_model.specs.declared.event.Event.TheVariants as events;
 ghost use Rattle.rx_model.specs.declared.answers.ReadGot.TheVariants as readers;
 ghost use Rattle.rx_model.specs.declared.answers.WroteGot.TheVariants as writers;
 ghost use Rattle.rx_model.specs.declared.wire.TheConstants.{DATAGRAM_BYTES, PAYLOAD_BYTES, PIECE_BYTES};
 
+mod giving;
+
 use crate::call::Call;
 use crate::conn::Conn;
-use crate::due::Due;
-use crate::item::Item;
 use crate::judge::Judged;
-use crate::owed::OwedAck;
-use crate::search::{call_place, conn_place, first_waiting, next_due};
-use rx_model::wire::{DEFAULT_CALLS, DEFAULT_CONNS};
-use rx_model::{CallName, Host, ServeRead, ServeRefused, Took};
-use rx_packet::{Body, Head, read_msg, write_msg};
+use crate::search::{call_place, conn_place, first_waiting};
+use crate::strays::{ABORT, owes_stray, stray_head, stray_of};
+use circular_buffer::HeapCircularBuffer;
+use rx_model::wire::{DEFAULT_CALLS, DEFAULT_CONNS, STRAYS};
+use rx_model::{CallName, Host, ServeRead, ServeRefused, Stray, Took};
+use rx_packet::{Body, Head, front_row, read_msg, write_msg};
 use std::alloc::{AllocError, Global};
 use std::marker::Model;
 
@@ -38,10 +40,12 @@ pub struct Server {
     conns: Vec<Conn>,
     live: usize,
     calls: Vec<Call>,
+    strays: HeapCircularBuffer<Stray>,
 }
 
 impl Model for Server {
     ghost use Rattle.std.specs.Prelude.{◌≡◌, ◌≤◌, take, vec_len, vec_capacity};
+    ghost use Rattle.rx_model.specs.declared.wire.TheConstants.{STRAYS};
     ghost use Rattle.rx_server.specs.declared.server.TheConstants.{CONNS, CALLS};
     ghost use Rattle.rx_server.specs.Node.{Node};
     ghost use Rattle.rx_server.specs.Stands.{default_limits};
@@ -52,10 +56,11 @@ impl Model for Server {
       setup = record { service = s.service; limits = default_limits };
       conns = s.conns.items;
       calls = take s.live s.calls.items;
+      strays = s.strays.items;
     } };
 
     ghost invariant = { λ s. (s.live ≤ CALLS) × (vec_len s.calls ≡ CALLS) × (vec_len s.conns ≤ CONNS)
-        × (CONNS ≤ vec_capacity s.conns) };
+        × (CONNS ≤ vec_capacity s.conns) × (s.strays.capacity ≡ STRAYS) };
 }
 
 impl Server {
@@ -65,6 +70,7 @@ impl Server {
     ghost use Rattle.rx_server.specs.Node.{fresh_entry, given_from, has_conn, judged, owed_at_start, read_into};
     ghost use Rattle.rx_server.specs.Node.{reply_of};
     ghost use Rattle.rx_server.specs.Stands.{Answered, Stands, default_limits};
+    ghost use Rattle.rx_server.specs.Takes.{Asks, owes_stray, strays_with};
 
     /// A server of a service, at the start of its life, with the default limits: 64 calls that live, 1,024 connections.
     /// Takes all the memory that it will need, and fails only for want of it.
@@ -78,18 +84,21 @@ impl Server {
         for _ in 0..CALLS {
             calls.push(Call::idle(alloc)?)?;
         }
+        let strays = HeapCircularBuffer::with_capacity(alloc, STRAYS)?;
         Ok(Server {
             service,
             conns,
             live: 0,
             calls,
+            strays,
         })
     }
 
-    /// Takes a datagram from a host, and answers what becomes of it. So far it is a request in one packet
-    /// (`rx_packet::is_request` tells). `Full` and `NoRoom` refuse a call; its client may send it again.
+    /// Takes a datagram from a host, and answers what becomes of it. So far it is a request in one packet, or one of the
+    /// rows answers it that look at no connection (`rx_packet::is_taken` tells). `Full` and `NoRoom` refuse a call; its
+    /// client may send it again. `Unserved` DATA owes a stray abort; of more than 64 the oldest is dropped.
     pub fn take(&mut self, from: Host, bytes: &[u8]) -> Took
-        requires { IsTrue (is_request self.old.setup.service bytes.now) }
+        requires { IsTrue (is_taken self.old.setup.service bytes.now) }
         ensures setup { self.new.setup ≡ self.old.setup }
         ensures answered { Answered self.old self.new (events.Taken from bytes.now result) }
     {
@@ -97,26 +106,15 @@ impl Server {
             Ok(message) => message,
             Err(bad) => return Took::Bad(bad),
         };
-        let Body::Chunk(payload) = body else {
-            return Took::Strange;
-        };
-        let name = name_of(from, &head);
-        match self.judge(&name) {
-            Judged::Repeat(place) => {
-                let call = &mut self.calls[place];
-                call.on_repeat(head.serial);
-                Took::Repeat
+        if let Some(row) = front_row(&head, &body, self.service) {
+            if owes_stray(&row, &body) {
+                self.strays.push_back(stray_of(from, &head));
             }
-            Judged::Full => Took::Full,
-            Judged::NoRoom => {
-                self.owe_busy(&name, Some(name.number));
-                Took::NoRoom
-            }
-            Judged::Kept => {
-                self.owe_busy(&name, None);
-                self.start(name, payload, head.flags, head.serial);
-                Took::Kept
-            }
+            return row;
+        }
+        match body {
+            Body::Chunk(payload) => self.take_request(from, &head, payload),
+            _ => Took::Strange,
         }
     }
 
@@ -177,18 +175,58 @@ impl Server {
         call.finish()
     }
 
-    /// Writes the next datagram that is due to the front of the buffer, and answers the host that it is for and its
-    /// length in bytes; None where nothing is due.
+    /// Writes the next datagram that is due to the front of the buffer, the oldest stray abort before all others, and
+    /// answers the host that it is for and its length in bytes; None where nothing is due.
     pub fn poll(&mut self, to: &mut [u8]) -> Option<(Host, usize)>
         requires { DATAGRAM_BYTES ≤ length to.old }
         ensures setup { self.new.setup ≡ self.old.setup }
         ensures answered { Answered self.old self.new (events.Polled (given_from result to.new)) }
         ensures rest { drop (given_count result) to.new ≡ drop (given_count result) to.old }
     {
+        if let Some(stray) = self.next_stray() {
+            let count = write_msg(&stray_head(&stray), &ABORT, to);
+            return Some((stray.host, count));
+        }
         let due = self.next_due()?;
         let (host, count) = self.write_due(&due, to);
         self.on_given(&due);
         Some((host, count))
+    }
+
+    /// Takes the message of a request, and answers what becomes of it.
+    fn take_request(&mut self, from: Host, head: &Head, payload: &[u8]) -> Took
+        requires { length payload.now ≤ PAYLOAD_BYTES }
+        ensures setup { self.new.setup ≡ self.old.setup }
+        ensures answered { (bytes : List ℕ)
+            → Asks self.old.setup.service bytes (message_with_head head.now (models.Chunk payload.now))
+            → Answered self.old self.new (events.Taken from bytes result) }
+    {
+        let name = name_of(from, head);
+        match self.judge(&name) {
+            Judged::Repeat(place) => {
+                let call = &mut self.calls[place];
+                call.on_repeat(head.serial);
+                Took::Repeat
+            }
+            Judged::Full => Took::Full,
+            Judged::NoRoom => {
+                self.owe_busy(&name, Some(name.number));
+                Took::NoRoom
+            }
+            Judged::Kept => {
+                self.owe_busy(&name, None);
+                self.start(name, payload, head.flags, head.serial);
+                Took::Kept
+            }
+        }
+    }
+
+    /// The oldest stray abort, which is no longer owed.
+    fn next_stray(&mut self) -> Option<Stray>
+        ensures first { result ≡ slice_get self.old.strays 0 }
+        ensures rest { self.new ≡ record self.old { strays = drop 1 self.old.strays } }
+    {
+        self.strays.pop_front()
     }
 
     /// What becomes of a request with this name. It changes nothing.
@@ -258,112 +296,6 @@ impl Server {
         let call = &mut self.calls[self.live];
         call.start(name, payload, flags, serial);
         self.live += 1;
-    }
-
-    /// What is to be given next; None where nothing is due. It changes nothing.
-    fn next_due(&self) -> Option<Due>
-        ensures due { result ≡ spec_next_due self.now }
-        ensures within { IfSome result (IsDue self.now) }
-    {
-        next_due(&self.conns, &self.calls[..self.live])
-    }
-
-    /// What is due, as an item. It changes nothing.
-    fn item_of(&self, due: &Due) -> Item<'_>
-        requires { IsDue self.now due.now }
-        ensures brings { (x : ConnEntry) → slice_get self.now.conns (conn_in due.now) ≡ Some x
-            → Brings self.now x due.now (item_seen result) }
-        ensures fits { result.name.cid + result.name.chan < 2 ^ 32 }
-        ensures within { FitsDatagram (body_of result.body) }
-    {
-        match due {
-            Due::Busy(at, chan, number) => self.busy_item(*at, *chan, *number),
-            Due::Reply(at, place) => self.reply_item(*at, *place),
-            Due::Ack(at, place, owed) => self.ack_item(*at, *place, owed),
-        }
-    }
-
-    fn busy_item(&self, at: usize, chan: u8, number: u32) -> Item<'_>
-        requires { IsDue self.now (Due.Busy at chan number) }
-        ensures brings { (x : ConnEntry) → slice_get self.now.conns at ≡ Some x
-            → Brings self.now x (Due.Busy at chan number) (item_seen result) }
-        ensures fits { result.name.cid + result.name.chan < 2 ^ 32 }
-        ensures within { FitsDatagram (body_of result.body) }
-    {
-        self.conns[at].busy_item(chan, number)
-    }
-
-    fn reply_item(&self, at: usize, place: usize) -> Item<'_>
-        requires { IsDue self.now (Due.Reply at place) }
-        ensures brings { (x : ConnEntry) → Brings self.now x (Due.Reply at place) (item_seen result) }
-        ensures fits { result.name.cid + result.name.chan < 2 ^ 32 }
-        ensures within { FitsDatagram (body_of result.body) }
-    {
-        self.calls[place].reply_item()
-    }
-
-    fn ack_item(&self, at: usize, place: usize, owed: &OwedAck) -> Item<'_>
-        requires { IsDue self.now (Due.Ack at place owed.now) }
-        ensures brings { (x : ConnEntry) → Brings self.now x (Due.Ack at place owed.now) (item_seen result) }
-        ensures fits { result.name.cid + result.name.chan < 2 ^ 32 }
-        ensures within { FitsDatagram (body_of result.body) }
-    {
-        self.calls[place].ack_item(owed)
-    }
-
-    /// Writes what is due, and answers the host that it is for and its length. It changes nothing.
-    fn write_due(&self, due: &Due, to: &mut [u8]) -> (Host, usize)
-        requires room { DATAGRAM_BYTES ≤ length to.old }
-        requires due { IsDue self.now due.now }
-        ensures writes { Writes self.now due.now result.0 (take result.1 to.new) }
-        ensures rest { drop result.1 to.new ≡ drop result.1 to.old }
-    {
-        let item = self.item_of(due);
-        let conn = &self.conns[due.conn()];
-        let head = item.head(conn, self.service);
-        let count = write_msg(&head, &item.body, to);
-        (item.name.host, count)
-    }
-
-    /// What was due is given.
-    fn on_given(&mut self, due: &Due)
-        requires { IsDue self.old due.now }
-        ensures { Gives self.old self.new due.now }
-    {
-        match due {
-            Due::Busy(at, chan, number) => self.on_busy_given(*at, *chan, *number),
-            Due::Reply(at, place) => self.on_reply_given(*at, *place),
-            Due::Ack(at, place, owed) => self.on_ack_given(*at, *place, owed),
-        }
-    }
-
-    fn on_busy_given(&mut self, at: usize, chan: u8, number: u32)
-        requires { IsDue self.old (Due.Busy at chan number) }
-        ensures { Gives self.old self.new (Due.Busy at chan number) }
-    {
-        let conn = &mut self.conns[at];
-        conn.on_given();
-        conn.set_busy(chan, None);
-    }
-
-    fn on_reply_given(&mut self, at: usize, place: usize)
-        requires { IsDue self.old (Due.Reply at place) }
-        ensures { Gives self.old self.new (Due.Reply at place) }
-    {
-        let conn = &mut self.conns[at];
-        conn.on_given();
-        let call = &mut self.calls[place];
-        call.on_reply_given();
-    }
-
-    fn on_ack_given(&mut self, at: usize, place: usize, owed: &OwedAck)
-        requires { IsDue self.old (Due.Ack at place owed.now) }
-        ensures { Gives self.old self.new (Due.Ack at place owed.now) }
-    {
-        let conn = &mut self.conns[at];
-        conn.on_given();
-        let call = &mut self.calls[place];
-        call.on_ack_given();
     }
 }
 

@@ -1,14 +1,15 @@
 -- What is counted of the lines so far, with one line more.
-use Rattle.std.proofs.Common.{◌≡◌, ℕ, zero, suc, ◌+◌, ◌≤◌, ◌==◌, ◌++◌, cond, false, ◌⊎◌, List, [], ◌∷◌, take, Some, refl, ap, inl, inr, arith, slice_get}
+use Rattle.std.proofs.Common.{◌≡◌, ℕ, zero, suc, ◌+◌, ◌≤◌, ◌==◌, ◌++◌, cond, false, ◌⊎◌, List, [], ◌∷◌, take, Option, Some, refl, ap, inl, inr, arith, slice_get}
 use Rattle.std.proofs.lemmas.Bool.{cases_Bool, eqb-true}
 use Rattle.rx_model.specs.declared.wire.TheConstants.{PIECE_BYTES}
-use Rattle.rx_top.proofs.BuiltLemmas.{forge_is_few, forges_in-push, offered_to-push, write_fits}
+use Rattle.rx_top.proofs.BuiltLemmas.{first_service-push, forge_is_few, forges_in-push, offered_to-push, write_fits}
+use Rattle.std.specs.Option.{option_or}
 use Rattle.rx_top.specs.Counts.{Counts, Offered, offered_in}
 use Rattle.rx_top.specs.declared.plan.Numbered.{Numbered}
 use Rattle.rx_top.specs.declared.plan.PlanLine.{PlanLine}
 use Rattle.rx_top.specs.declared.plan.PlanLine.TheVariants as lines
 use Rattle.rx_top.specs.declared.plan.TheConstants.{MAX_FORGES}
-use Rattle.rx_top.specs.Plans.{IsBuilt, forges_in, is_forge, is_later, offered_by, offered_to}
+use Rattle.rx_top.specs.Plans.{IsBuilt, forge_passes, forges_in, is_later, offered_by, offered_to, service_in, service_of}
 
 -- a place of a list with one element more: one of the list, or the last
 places_push : {X : Type 0} (xs : List X) (x y : X) (i : ℕ) → slice_get (xs ++ x ∷ []) i ≡ Some y
@@ -30,10 +31,8 @@ built_more ls l built fits i m at =
     ]
 
 few_more : (ls : List Numbered) (what : PlanLine) → forges_in ls ≤ MAX_FORGES → is_later ls what ≡ false
-    → forges_in ls + cond (is_forge what) 1 0 ≤ MAX_FORGES
-few_more ls (lines.Forge node host bytes) few fits =
-    let room = forge_is_few ls node host bytes fits in
-    omega (arith, room)
+    → forges_in ls + cond (forge_passes (service_of ls) what) 1 0 ≤ MAX_FORGES
+few_more ls (lines.Forge node host bytes) few fits = forge_is_few ls node host bytes fits few
 few_more ls _ few fits = omega arith
 
 within_more : (ls : List Numbered) (what : PlanLine) (call : ℕ) → offered_to call ls ≤ PIECE_BYTES
@@ -50,15 +49,18 @@ within_more ls (lines.HandlerWrite name bytes) call within fits =
 within_more ls _ call within fits = omega arith
 
 -- one line more, which isn't refused
-pub counts_more : {ls : List Numbered} {count count' : ℕ} {bytes : Offered} (l : Numbered) (bytes' : Offered)
-    → Counts ls count bytes
+pub counts_more : {ls : List Numbered} {named named' : Option ℕ} {count count' : ℕ} {bytes : Offered} (l : Numbered)
+    (bytes' : Offered)
+    → Counts ls named count bytes
     → is_later ls l.what ≡ false
-    → count' ≡ count + cond (is_forge l.what) 1 0
+    → named' ≡ option_or named (service_in l.what)
+    → count' ≡ count + cond (forge_passes (service_of ls) l.what) 1 0
     → ((call : ℕ) → offered_in bytes' call ≡ offered_in bytes call + offered_by call l.what)
-    → Counts (ls ++ l ∷ []) count' bytes'
-counts_more {ls} l bytes' counts fits forged offers =
+    → Counts (ls ++ l ∷ []) named' count' bytes'
+counts_more {ls} l bytes' counts fits names forged offers =
     record {
       built = built_more ls l counts.built fits;
+      service = rw (names, counts.service, first_service-push ls l) refl;
       forges = rw (forged, counts.forges, forges_in-push ls l) refl;
       few = rw (forges_in-push ls l) (few_more ls l.what counts.few fits);
       offered = λ call. rw (offers call, counts.offered call, offered_to-push call ls l) refl;

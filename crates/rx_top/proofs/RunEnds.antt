@@ -6,7 +6,6 @@ use Rattle.rx_model.specs.declared.names.CallName.{CallName}
 use Rattle.rx_model.specs.declared.names.Host.{Host}
 use Rattle.rx_model.specs.declared.names.Limits.{Limits}
 use Rattle.rx_model.specs.Accepted.{accepted_names}
-use Rattle.rx_model.specs.Looks.{Setup}
 use Rattle.rx_model.specs.Rules.{Legal}
 use Rattle.rx_model.proofs.OnceLaw.{once}
 use Rattle.rx_server.specs.Node.{Node}
@@ -20,7 +19,7 @@ use Rattle.rx_top.specs.declared.plan.PlanLine.TheVariants as lines
 use Rattle.rx_top.specs.Follows.{Follows, IsOf, call_refusal, is_server}
 use Rattle.rx_top.specs.Runs.{Ran, RanSome, RanTo, RunIs, plan_setup, trace_of}
 use Rattle.rx_top.specs.Steps.{Broke, LineIs, event_trace, line_refusal}
-use Rattle.rx_top.proofs.RunSteps.{SoFar, follows_more, one_more, refused_there, served}
+use Rattle.rx_top.proofs.RunSteps.{SoFar, follows_more, is_served, one_more, refused_there, served, setup_is}
 
 -- at a first line that is no server line
 pub no_node : (plan rest : List Numbered) (first : Numbered) (told : Option (List ℕ)) → plan ≡ first ∷ rest
@@ -29,7 +28,7 @@ pub no_node : (plan rest : List Numbered) (first : Numbered) (told : Option (Lis
 no_node plan rest first told whole other = (
   [],
   record {
-    served = record { legal = tt; once = once plan_setup [] tt };
+    served = record { legal = tt; once = once (plan_setup plan) [] tt };
     place = 0;
     line = first.what;
     there = rw whole refl;
@@ -55,7 +54,7 @@ pub unmade : (plan : List Numbered) (told : Option (List ℕ)) → (h : List Eve
 unmade plan told = (
   [],
   record {
-    served = record { legal = tt; once = once plan_setup [] tt };
+    served = record { legal = tt; once = once (plan_setup plan) [] tt };
     place = 0;
     follows = refl;
     told = gained_all told told [] (gained_none told);
@@ -70,7 +69,7 @@ ends node names plan rest first i before told whole last (h, r) =
     let room : length plan ≤ i + 1 = rw whole (omega (arith, last)) in (
       h,
       record {
-        served = served node h r.stands r.setup;
+        served = served node h plan (i + 1) r.stands r.service;
         follows = subst (λ (ls : List Numbered). Follows ls h) (take_all (i + 1) plan room) r.follows;
         told = r.told;
       },
@@ -83,7 +82,7 @@ stops : (node : Node) (names : List CallName) (plan : List Numbered) (place : �
 stops node names plan place before told (h, r) = (
   h,
   record {
-    served = served node h r.stands r.setup;
+    served = served node h plan place r.stands r.service;
     place = place;
     follows = r.follows;
     told = gained_all before told (trace_of h) r.told;
@@ -98,7 +97,7 @@ refuses : (node : Node) (names : List CallName) (plan : List Numbered) (place : 
 refuses node names plan place l why before told (h, r) there refusal = (
   h,
   record {
-    served = served node h r.stands r.setup;
+    served = served node h plan place r.stands r.service;
     place = place;
     line = l.what;
     there = there;
@@ -119,11 +118,10 @@ breaks old new names plan place l before told after (h, r) there b =
     subst (λ (ns : List CallName). IsOf ns l.what b.event) r.named b.is_of in
     let unrefused : call_refusal (accepted_names h) l.what ≡ None =
     subst (λ (ns : List CallName). call_refusal ns l.what ≡ None) r.named b.unrefused in
-    let legal : Legal plan_setup (b.event ∷ h) =
-    subst (λ (s : Setup). Legal s (b.event ∷ h)) r.setup ((b.answered h r.stands).0, r.stands.legal) in (
+    let legal : Legal old.setup (b.event ∷ h) = ((b.answered h r.stands).0, r.stands.legal) in (
       b.event ∷ h,
       record {
-        served = record { legal = legal; once = once plan_setup (b.event ∷ h) legal };
+        served = is_served old.setup plan (b.event ∷ h) legal (setup_is old h plan place r.stands r.service);
         place = place + 1;
         follows = rw (one_more plan place l there)
             (follows_more (take place plan) l h b.event r.server r.follows of unrefused);

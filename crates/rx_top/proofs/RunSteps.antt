@@ -1,5 +1,5 @@
 -- The run of a plan, line by line.
-use Rattle.std.proofs.Common.{◌≡◌, ◌+◌, ◌++◌, ◌<◌, ◌≤◌, cond, not, true, false, List, [], ◌∷◌, length, reverse, slice_get, take, Option, Some, None, refl, ap, sym, subst, ◌∙◌, ℕ, zero, suc, arith, get_or, map}
+use Rattle.std.proofs.Common.{◌≡◌, ◌+◌, ◌++◌, ◌<◌, ◌≤◌, cond, not, true, false, List, [], ◌∷◌, length, reverse, slice_get, take, Option, Some, None, refl, ap, sym, subst, ◌∙◌, ℕ, zero, suc, arith, get_or, map, unwrap_or}
 use Rattle.std.proofs.lemmas.List.{reverse-append, take_more}
 use Rattle.std.proofs.lemmas.Option.{get_or_from_slice_get, slice_get-get_or, slice_get_within}
 use Rattle.std.specs.List.{find}
@@ -13,7 +13,7 @@ use Rattle.rx_model.specs.declared.wire.TheConstants.{PIECE_BYTES}
 use Rattle.rx_model.specs.Accepted.{accepted_names, with_accepted}
 use Rattle.rx_model.specs.Looks.{Looks, Setup, looks}
 use Rattle.rx_model.specs.Names.{same_name}
-use Rattle.rx_model.specs.Rules.{Allowed, Legal, is_request}
+use Rattle.rx_model.specs.Rules.{Allowed, Legal, is_taken}
 use Rattle.rx_model.proofs.NameLaws.{name_is, or_true}
 use Rattle.rx_model.proofs.OnceLaw.{once}
 use Rattle.rx_server.specs.Node.{Entry, Node, reply_in, reply_of}
@@ -24,17 +24,17 @@ use Rattle.rx_top.specs.declared.plan.PlanLine.{PlanLine}
 use Rattle.rx_top.specs.declared.plan.PlanLine.TheVariants as lines
 use Rattle.rx_top.specs.declared.plan.TheConstants.{DEFAULT_SERVICE}
 use Rattle.rx_top.specs.Follows.{Follows, FollowsBack, IsOf, call_refusal, has_server, is_server, name_at, refusal_of, server_refusal}
-use Rattle.rx_top.specs.Plans.{is_later, offered_to}
+use Rattle.rx_top.specs.Plans.{first_service, is_later, offered_to, service_of}
 use Rattle.rx_top.specs.Runs.{IsServed, plan_setup, trace_of}
-use Rattle.rx_top.specs.Steps.{AreWell, IsReady, IsWell, Made, event_trace, line_refusal}
-use Rattle.rx_top.proofs.BuiltLemmas.{finish_is_zero, forge_is_request, write_fits}
+use Rattle.rx_top.specs.Steps.{IsReady, IsWell, Made, event_trace, line_refusal}
+use Rattle.rx_top.proofs.BuiltLemmas.{finish_is_zero, first_service-push, first_service-take, forge_is_taken, write_fits}
 use Rattle.rx_top.proofs.OfferedLaw.{Offered, offered_more}
 
 -- the server and the names behind these lines, the first of which is the server's
 pub record Running (node : Node) (names : List CallName) (ls : List Numbered) (before put : Option (List ℕ))
     (h : List Event) : Type 0 where
   pub stands : Stands node h
-  pub setup : node.setup ≡ plan_setup
+  pub service : first_service ls ≡ Some node.setup.service
   pub named : names ≡ accepted_names h
   pub follows : Follows ls h
   pub server : has_server (reverse ls) ≡ true
@@ -65,8 +65,10 @@ pub ready : (node : Node) (names : List CallName) (ls : List Numbered) (before t
     → Running node names ls before told h → IsWell what → is_later ls what ≡ false → IsReady node names what
 ready node names ls before told h (lines.Server host service limits) r well built = tt
 ready node names ls before told h (lines.Forge to host bytes) r well built =
-    (let is : is_request DEFAULT_SERVICE bytes ≡ true = forge_is_request ls to host bytes built in
-    subst (λ (s : Setup). is_request s.service bytes ≡ true) (sym r.setup) is)
+    (let is : is_taken (service_of ls) bytes ≡ true = forge_is_taken ls to host bytes built in
+    let named : service_of ls ≡ node.setup.service =
+    ap (λ (o : Option ℕ). unwrap_or o DEFAULT_SERVICE) r.service in
+    subst (λ (s : ℕ). is_taken s bytes ≡ true) named is)
 ready node names ls before told h lines.Accept r well built = tt
 ready node names ls before told h (lines.HandlerRead call max) r well built = well
 ready node names ls before told h (lines.HandlerWrite call bytes) r well built = λ c at.
@@ -80,19 +82,38 @@ ready node names ls before told h (lines.Poll n) r well built = tt
 
 -- ---- the lines so far
 
-pub served : (node : Node) (h : List Event) → Stands node h → node.setup ≡ plan_setup → IsServed h
-served node h stands setup =
-    let legal : Legal plan_setup h = subst (λ (s : Setup). Legal s h) setup stands.legal in
-    record { legal = legal; once = once plan_setup h legal }
+-- the server has the plan's service
+pub setup_is : (node : Node) (h : List Event) (plan : List Numbered) (place : ℕ) → Stands node h
+    → first_service (take place plan) ≡ Some node.setup.service → node.setup ≡ plan_setup plan
+setup_is node h plan place stands named =
+    let first : first_service plan ≡ Some node.setup.service =
+    first_service-take place plan node.setup.service named in
+    let is : node.setup.service ≡ service_of plan =
+    sym (ap (λ (o : Option ℕ). unwrap_or o DEFAULT_SERVICE) first) in
+    let limits : node.setup.limits ≡ default_limits = stands.limits in
+    let with_limits : Limits → Setup = λ l. record { service = node.setup.service; limits = l } in
+    let with_service : ℕ → Setup = λ s. record { service = s; limits = default_limits } in
+    ap with_limits limits ∙ ap with_service is
+
+pub is_served : (s : Setup) (plan : List Numbered) (h : List Event) → Legal s h → s ≡ plan_setup plan → IsServed plan h
+is_served s plan h was setup =
+    let legal : Legal (plan_setup plan) h = subst (λ (t : Setup). Legal t h) setup was in
+    record { legal = legal; once = once (plan_setup plan) h legal }
+
+pub served : (node : Node) (h : List Event) (plan : List Numbered) (place : ℕ) → Stands node h
+    → first_service (take place plan) ≡ Some node.setup.service → IsServed plan h
+served node h plan place stands named =
+    is_served node.setup plan h stands.legal (setup_is node h plan place stands named)
 
 -- the server's line
-pub starts : (node : Node) (first : Numbered) (told : Option (List ℕ)) → Stands node [] → node.setup ≡ plan_setup
+pub starts : (node : Node) (first : Numbered) (told : Option (List ℕ)) → Stands node []
+    → first_service (first ∷ []) ≡ Some node.setup.service
     → is_server first.what ≡ true
     → Running node [] (first ∷ []) told told []
-starts node first told stands setup server =
+starts node first told stands service server =
     record {
       stands = stands;
-      setup = setup;
+      service = service;
       named = refl;
       follows = rw server (refl, refl);
       server = rw server refl;
@@ -153,7 +174,7 @@ goes_on old new names named ls l before told after h r m =
     let answer : Allowed old.setup (looks h) m.event = (m.answered h r.stands).0 in
     record {
       stands = (m.answered h r.stands).1;
-      setup = m.setup ∙ r.setup;
+      service = first_service-push ls l ∙ (rw (r.service, m.setup) refl);
       named = m.keeps ∙ ap (with_accepted m.event) r.named;
       follows = follows_more ls l h m.event r.server r.follows of unrefused;
       server = rw (reverse_push ls l, r.server) (or_true (is_server l.what));
@@ -184,14 +205,15 @@ SoFar node names ls before told = (h : List Event) × Running node names ls befo
 
 pub begins : (node : Node) (names : List CallName) (plan rest : List Numbered) (first : Numbered) (service : ℕ)
     (host : Host) (limits : Limits) (told : Option (List ℕ)) → plan ≡ first ∷ rest
-    → AreWell plan → first.what ≡ lines.Server host service limits → Stands node []
+    → first.what ≡ lines.Server host service limits → Stands node []
     → node.setup ≡ record { service = service; limits = default_limits } → names ≡ []
     → SoFar node names (take 1 plan) told told
-begins node names plan rest first service host limits told whole well server stands setup none =
-    let named : service ≡ DEFAULT_SERVICE = subst IsWell server (well 0 first (rw whole refl)) in
+begins node names plan rest first service host limits told whole server stands setup none =
     let first_is : is_server first.what ≡ true = rw server refl in
-    let set : node.setup ≡ plan_setup = setup ∙ ap (λ (n : ℕ). record { service = n; limits = default_limits }) named in
-    ([], rw (whole, none) (starts node first told stands set first_is))
+    let named : service ≡ node.setup.service = sym (ap (λ (s : Setup). s.service) setup) in
+    let first_names : first_service (first ∷ []) ≡ Some node.setup.service =
+    rw server (ap (λ (n : ℕ). Some n) named) in
+    ([], rw (whole, none) (starts node first told stands first_names first_is))
 
 pub next : (old new : Node) (names named : List CallName) (plan : List Numbered) (place : ℕ) (l : Numbered)
     (before told after : Option (List ℕ)) → SoFar old names (take place plan) before told

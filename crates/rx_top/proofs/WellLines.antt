@@ -1,14 +1,15 @@
--- What every line that is read keeps to: a server line names the one service, and a read asks for a byte.
-use Rattle.std.proofs.Common.{◌≡◌, ◌<◌, ◌≤◌, ◌++◌, ◌&&◌, cond, nat_le, nat_lt, true, false, List, [], ◌∷◌, length, reverse, slice_get, Option, Some, None, Result, Ok, Err, refl, subst, ℕ, zero, suc, arith}
+-- What every line that is read keeps to: a read asks for a byte.
+use Rattle.std.proofs.Common.{◌≡◌, ◌<◌, ◌≤◌, ◌++◌, ◌&&◌, cond, nat_le, nat_lt, true, false, List, [], ◌∷◌, length, reverse, slice_get, Option, Some, None, Result, Ok, Err, refl, subst, ℕ, zero, suc, arith, unwrap_or}
 use Rattle.std.proofs.lemmas.Bool.{leb-true}
 use Rattle.std.specs.Option.{ok_or}
 use Rattle.std.specs.Str.{bytes_eq, is_utf8}
 use Rattle.std.specs.Str.Parse.{digits_value}
 use Rattle.rx_model.proofs.Each.{Each, each_append}
+use Rattle.rx_model.specs.declared.names.Host.{Host}
 use Rattle.rx_top.specs.declared.plan.LineFault.{LineFault}
 use Rattle.rx_top.specs.declared.plan.LineFault.TheVariants.{BadLine}
 use Rattle.rx_top.specs.declared.plan.LineWhy.TheVariants.{Later, Number, TooMany, Word}
-use Rattle.rx_top.specs.declared.plan.TheConstants.{MAX_BYTES, MAX_LINES}
+use Rattle.rx_top.specs.declared.plan.TheConstants.{DEFAULT_SERVICE, MAX_BYTES, MAX_LINES}
 use Rattle.rx_top.specs.Numbers.{is_decimal, number_within}
 use Rattle.rx_top.specs.Pieces.{lines_of, words_of}
 use Rattle.rx_top.specs.Words.{bytes_word, call_word, code_word, host_word, max_word, node_word}
@@ -16,7 +17,7 @@ use Rattle.rx_top.specs.declared.plan.LineWhy.{LineWhy}
 use Rattle.rx_top.specs.declared.plan.Numbered.{Numbered}
 use Rattle.rx_top.specs.declared.plan.PlanLine.{PlanLine}
 use Rattle.rx_top.specs.declared.plan.PlanLine.TheVariants as lines
-use Rattle.rx_top.specs.Lines.{Form, and_then, end, form_of, forms, plan_line, word}
+use Rattle.rx_top.specs.Lines.{Form, and_then, end, form_of, default_limits, forms, plan_line, server_options, with_option, word}
 use Rattle.rx_top.specs.Plans.{after, is_later, is_skipped, plan_back, plan_of, with_line, with_said}
 use Rattle.rx_top.specs.Steps.{AreWell, IsWell}
 
@@ -73,6 +74,17 @@ max_asks (b ∷ bs) n h =
       | Some m ↦ λ is e. (let same : m ≡ n = cc (e) in subst (λ (k : ℕ). 0 < k) same (some_within (b ∷ bs) m is))
     ]) refl h
 
+-- the options of a server
+options_give : (host : Host) (given : Option ℕ) → GivesWell (server_options host given)
+options_give host given [] line h =
+    (let is : lines.Server host (unwrap_or given DEFAULT_SERVICE) default_limits ≡ line = cc (h) in subst IsWell is tt)
+options_give host given (w ∷ ws) line h =
+    (elim (with_option given w) as
+    (λ (r : Result (Option ℕ) LineWhy). and_then r (λ next. server_options host next ws) ≡ Ok line → IsWell line) [
+      | Err why ↦ λ e. absurd cc
+      | Ok next ↦ λ e. options_give host next ws line e
+    ]) h
+
 -- each of the forms does
 abbrev AllGive : List (List ℕ × Form) → Type 0
 AllGive [] = Unit {0}
@@ -88,7 +100,7 @@ form_gives first (f ∷ fs) all words line h =
 
 forms_give : AllGive forms
 forms_give = (
-  any_gives host_word _ (λ host. end_gives _ refl),
+  any_gives host_word _ (λ host. options_give host None),
   (
     any_gives node_word _ (λ node. any_gives host_word _ (λ host. any_gives bytes_word _ (λ bytes. end_gives _ tt))),
     (

@@ -1,13 +1,14 @@
 -- The seven lines of a plan: each judged word by word from the left. Public clauses cite this module.
-use Rattle.std.specs.Prelude.{if◌then◌else◌, codes, ℕ, List, [], ◌∷◌, drop, Result, Ok, Err, bytes_eq}
+use Rattle.std.specs.Prelude.{if◌then◌else◌, codes, is_some, unwrap_or, ℕ, List, [], ◌∷◌, drop, Option, Some, None, Result, Ok, Err, bytes_eq}
+use Rattle.rx_model.specs.declared.names.Host.{Host}
 use Rattle.rx_model.specs.declared.names.Limits.{Limits}
 use Rattle.rx_model.specs.declared.wire.TheConstants.{DEFAULT_CONNS, DEFAULT_CALLS, DEFAULT_SLOTS}
 use Rattle.rx_top.specs.declared.plan.LineWhy.{LineWhy}
-use Rattle.rx_top.specs.declared.plan.LineWhy.TheVariants.{Word}
+use Rattle.rx_top.specs.declared.plan.LineWhy.TheVariants.{Word, Twice}
 use Rattle.rx_top.specs.declared.plan.PlanLine.{PlanLine}
 use Rattle.rx_top.specs.declared.plan.PlanLine.TheVariants as lines
 use Rattle.rx_top.specs.declared.plan.TheConstants.{DEFAULT_SERVICE}
-use Rattle.rx_top.specs.Words.{first_as, no_more, node_word, call_word, host_word, max_word, code_word, bytes_word}
+use Rattle.rx_top.specs.Words.{first_as, no_more, node_word, call_word, host_word, max_word, code_word, bytes_word, service_word}
 
 -- what a line's words say, or their first fault
 abbrev pub Form : Type 0
@@ -32,9 +33,19 @@ end line words = and_then (no_more words) (λ _. Ok line)
 abbrev pub default_limits : Limits
 default_limits = record { conns = DEFAULT_CONNS; calls = DEFAULT_CALLS; slots = DEFAULT_SLOTS }
 
--- server HOST
+-- the service with one more option, where this one was given so far: a second one is `Twice`
+abbrev pub with_option : Option ℕ → List ℕ → Result (Option ℕ) LineWhy
+with_option given word = and_then (service_word word) (λ service. if is_some given then Err Twice else Ok (Some service))
+
+-- the options of a server, where this service was given so far
+abbrev pub server_options : Host → Option ℕ → Form
+server_options host given [] = Ok (lines.Server host (unwrap_or given DEFAULT_SERVICE) default_limits)
+server_options host given (word ∷ words) =
+    and_then (with_option given word) (λ next. server_options host next words)
+
+-- server HOST [service=N]
 abbrev pub server_line : Form
-server_line = word host_word (λ host. end (lines.Server host DEFAULT_SERVICE default_limits))
+server_line = word host_word (λ host. server_options host None)
 
 -- forge NODE HOST BYTES
 abbrev pub forge_line : Form

@@ -1,8 +1,9 @@
 -- The plan that a text gives, or its first fault. Public clauses cite this module.
-use Rattle.std.specs.Prelude.{◌≡◌, ◌==◌, ◌||◌, ◌&&◌, ◌+◌, not, if◌then◌else◌, nat_le, nat_lt, ℕ, suc, ℤ, pos, Bool, true, false, List, [], ◌∷◌, ◌++◌, length, take, reverse, slice_get, sum_by, count_by, Some, Result, Ok, Err}
+use Rattle.std.specs.Prelude.{◌≡◌, ◌==◌, ◌||◌, ◌&&◌, ◌+◌, not, if◌then◌else◌, nat_le, nat_lt, unwrap_or, ℕ, suc, ℤ, pos, Bool, true, false, List, [], ◌∷◌, ◌++◌, length, take, reverse, slice_get, sum_by, Option, Some, None, Result, Ok, Err}
+use Rattle.std.specs.Option.{option_or}
 use Rattle.std.specs.Str.{is_utf8}
 use Rattle.rx_model.specs.declared.wire.TheConstants.{PIECE_BYTES}
-use Rattle.rx_model.specs.Rules.{is_request}
+use Rattle.rx_model.specs.Rules.{is_request, passes_front}
 use Rattle.rx_top.specs.declared.marks.TheConstants.{HASH, SPACE}
 use Rattle.rx_top.specs.declared.plan.LineFault.{LineFault}
 use Rattle.rx_top.specs.declared.plan.LineFault.TheVariants.{BadLine, OutOfMemory}
@@ -15,16 +16,38 @@ use Rattle.rx_top.specs.declared.plan.TheConstants.{DEFAULT_SERVICE, MAX_FORGES,
 use Rattle.rx_top.specs.Lines.{plan_line}
 use Rattle.rx_top.specs.Pieces.{lines_of, words_of}
 
+-- ---- the service of a plan
+
+-- the service that a server line names
+abbrev pub service_in : PlanLine → Option ℕ
+service_in (lines.Server host service limits) = Some service
+service_in _ = None
+
+-- the service of the first server line
+abbrev pub first_service : List Numbered → Option ℕ
+first_service [] = None
+first_service (l ∷ ls) = option_or (service_in l.what) (first_service ls)
+
+-- the same, and the default one where there is no server line
+abbrev pub service_of : List Numbered → ℕ
+service_of ls = unwrap_or (first_service ls) DEFAULT_SERVICE
+
 -- ---- what isn't built yet
 
--- whether a line forges a datagram
-abbrev pub is_forge : PlanLine → Bool
-is_forge (lines.Forge node host bytes) = true
-is_forge _ = false
+-- whether a line forges a datagram whose connection a server of the service looks for
+abbrev pub forge_passes : ℕ → PlanLine → Bool
+forge_passes service (lines.Forge node host bytes) = passes_front service bytes
+forge_passes service _ = false
 
--- how many of the lines forge a datagram
+-- how many of the lines behind others do, each for the service of the lines before it
+abbrev pub forges_behind : List Numbered → List Numbered → ℕ
+forges_behind before [] = 0
+forges_behind before (l ∷ ls) =
+    (if forge_passes (service_of before) l.what then 1 else 0) + forges_behind (before ++ l ∷ []) ls
+
+-- how many of the lines do
 abbrev pub forges_in : List Numbered → ℕ
-forges_in ls = count_by (λ l. is_forge l.what) ls
+forges_in ls = forges_behind [] ls
 
 -- the bytes that a line offers to @K
 abbrev pub offered_by : ℕ → PlanLine → ℕ
@@ -40,11 +63,12 @@ abbrev pub is_zero : ℤ → Bool
 is_zero (pos n) = n == 0
 is_zero _ = false
 
--- a line that is refused after those before it: a datagram that is no request or one more than may be, more bytes for a
--- call than one piece has, and a code that isn't 0
+-- a line that is refused after those before it: a datagram whose connection is looked for and that is no request or one
+-- more than may be, more bytes for a call than one piece has, and a code that isn't 0
 abbrev pub is_later : List Numbered → PlanLine → Bool
 is_later before (lines.Forge node host bytes) =
-    not (is_request DEFAULT_SERVICE bytes) || nat_le MAX_FORGES (forges_in before)
+    passes_front (service_of before) bytes
+    && (not (is_request (service_of before) bytes) || nat_le MAX_FORGES (forges_in before))
 is_later before (lines.HandlerWrite call bytes) = nat_lt PIECE_BYTES (offered_to call before + length bytes)
 is_later before (lines.Finish call code) = not (is_zero code)
 is_later before _ = false

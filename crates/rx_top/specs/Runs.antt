@@ -12,32 +12,32 @@ use Rattle.rx_top.specs.declared.outcome.Outcome.TheVariants as outcomes
 use Rattle.rx_top.specs.declared.outcome.PlanWhy.{PlanWhy}
 use Rattle.rx_top.specs.declared.plan.Numbered.{Numbered}
 use Rattle.rx_top.specs.declared.plan.PlanLine.{PlanLine}
-use Rattle.rx_top.specs.declared.plan.TheConstants.{DEFAULT_SERVICE}
 use Rattle.rx_top.specs.Follows.{Follows, refusal_of}
+use Rattle.rx_top.specs.Plans.{service_of}
 
--- the server of a plan: of the one service, with the default limits
-abbrev pub plan_setup : Setup
-plan_setup = record { service = DEFAULT_SERVICE; limits = default_limits }
+-- the server of a plan: of the service that its server line names, with the default limits
+abbrev pub plan_setup : List Numbered → Setup
+plan_setup ls = record { service = service_of ls; limits = default_limits }
 
 -- the trace of the server's events
 abbrev pub trace_of : List Event → List ℕ
 trace_of h = side_text (codes "s") h
 
--- the events are legal for the server, and no call was accepted twice
-pub record IsServed (h : List Event) : Type 0 where
-  pub legal : Legal plan_setup h
+-- the events are legal for the plan's server, and no call was accepted twice
+pub record IsServed (ls : List Numbered) (h : List Event) : Type 0 where
+  pub legal : Legal (plan_setup ls) h
   pub once : Once h
 
 -- a whole run: the events follow the lines, and the bytes put are their trace
 pub record Ran (ls : List Numbered) (before after : Option (List ℕ)) (h : List Event) : Type 0 where
-  pub served : IsServed h
+  pub served : IsServed ls h
   pub follows : Follows ls h
   pub told : Gained before after (trace_of h)
 
 -- a run that a line ended: the lines before it have their events and were put
 pub record RanTo (ls : List Numbered) (number : ℕ) (why : PlanWhy) (before after : Option (List ℕ))
     (h : List Event) : Type 0 where
-  pub served : IsServed h
+  pub served : IsServed ls h
   pub place : ℕ
   pub line : PlanLine
   pub there : slice_get ls place ≡ Some (record { line = number; what = line })
@@ -46,10 +46,9 @@ pub record RanTo (ls : List Numbered) (number : ℕ) (why : PlanWhy) (before aft
   pub told : Gained before after (trace_of h)
 
 -- a run that a fault of the sink or want of memory ended: the first lines have their events, and the first bytes of
--- their
--- trace were put
+-- their trace were put
 pub record RanSome (ls : List Numbered) (before after : Option (List ℕ)) (h : List Event) : Type 0 where
-  pub served : IsServed h
+  pub served : IsServed ls h
   pub place : ℕ
   pub follows : Follows (take place ls) h
   pub told : GainedSome before after (trace_of h)

@@ -9,7 +9,7 @@ use Rattle.rx_model.specs.declared.names.CallName.{CallName}
 use Rattle.rx_model.specs.declared.names.Host.{Host}
 use Rattle.rx_model.specs.declared.wire.TheConstants.{PIECE_BYTES}
 use Rattle.rx_model.specs.Accepted.{with_accepted}
-use Rattle.rx_model.specs.Rules.{is_request}
+use Rattle.rx_model.specs.Rules.{is_taken}
 use Rattle.rx_model.specs.Text.{line_of}
 use Rattle.rx_server.specs.Node.{Node, reply_of}
 use Rattle.rx_server.specs.Stands.{Answered}
@@ -18,14 +18,13 @@ use Rattle.rx_top.specs.declared.outcome.Outcome.TheVariants as outcomes
 use Rattle.rx_top.specs.declared.outcome.PlanWhy.{PlanWhy}
 use Rattle.rx_top.specs.declared.outcome.PlanWhy.TheVariants as causes
 use Rattle.rx_top.specs.declared.plan.Numbered.{Numbered}
-use Rattle.rx_top.specs.declared.plan.TheConstants.{DEFAULT_SERVICE}
 use Rattle.rx_top.specs.declared.plan.PlanLine.{PlanLine}
 use Rattle.rx_top.specs.declared.plan.PlanLine.TheVariants as lines
 use Rattle.rx_top.specs.Follows.{Begins, IsOf, call_refusal, is_server, name_at}
 
--- a datagram is a request, a read asks for a byte, an offer fits the reply, a handler ends with 0
+-- a datagram is one that a server takes so far, a read asks for a byte, an offer fits the reply, a handler ends with 0
 abbrev pub IsReady : Node → List CallName → PlanLine → Type 0
-IsReady node names (lines.Forge to host bytes) = is_request node.setup.service bytes ≡ true
+IsReady node names (lines.Forge to host bytes) = is_taken node.setup.service bytes ≡ true
 IsReady node names (lines.HandlerRead call max) = 0 < max
 IsReady node names (lines.HandlerWrite call bytes) = (c : CallName) → name_at names call ≡ Some c
     → length (reply_of node c) + length bytes ≤ PIECE_BYTES
@@ -93,9 +92,8 @@ LineIs (Err outcomes.Ran) old new names named l before after = ⊥
 
 -- ---- what every line that is read keeps to
 
--- a server line names the one service, and a read asks for a byte
+-- a read asks for a byte
 abbrev pub IsWell : PlanLine → Type 0
-IsWell (lines.Server host service limits) = service ≡ DEFAULT_SERVICE
 IsWell (lines.HandlerRead call max) = 0 < max
 IsWell _ = Unit {0}
 

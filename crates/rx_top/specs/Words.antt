@@ -1,10 +1,11 @@
 -- What a word of a line stands for, or its fault. Public clauses cite this module.
-use Rattle.std.specs.Prelude.{◌==◌, ◌&&◌, ◌-◌, ◌^◌, if◌then◌else◌, codes, ℕ, ℤ, List, [], ◌∷◌, Option, Result, Ok, Err, bytes_eq}
+use Rattle.std.specs.Prelude.{◌==◌, ◌&&◌, ◌-◌, ◌^◌, if◌then◌else◌, codes, nat_eq, ℕ, ℤ, List, [], ◌∷◌, drop, length, Option, Result, Ok, Err, bytes_eq}
+use Rattle.std.specs.List.{starts_with}
 use Rattle.std.specs.Option.{ok_or}
 use Rattle.rx_model.specs.declared.names.Host.{Host}
 use Rattle.rx_top.specs.declared.marks.TheConstants.{AT}
 use Rattle.rx_top.specs.declared.plan.LineWhy.{LineWhy}
-use Rattle.rx_top.specs.declared.plan.LineWhy.TheVariants.{Word, Number, TooMany, Later}
+use Rattle.rx_top.specs.declared.plan.LineWhy.TheVariants.{Word, Number, Twice, TooMany, Later}
 use Rattle.rx_top.specs.declared.plan.TheConstants.{MAX_BYTES}
 use Rattle.rx_top.specs.Numbers.{is_decimal, number_within, host_in, code_in, bytes_in}
 
@@ -12,6 +13,7 @@ use Rattle.rx_top.specs.Numbers.{is_decimal, number_within, host_in, code_in, by
 abbrev pub why_text : LineWhy → List ℕ
 why_text Word = codes "word"
 why_text Number = codes "number"
+why_text Twice = codes "twice"
 why_text TooMany = codes "toomany"
 why_text Later = codes "later"
 
@@ -45,6 +47,17 @@ abbrev pub call_word : List ℕ → Result ℕ LineWhy
 call_word [] = Err Word
 call_word (sigil ∷ digits) =
     if (sigil == AT) && is_decimal digits then ok_or (number_within 1 (2 ^ 32 - 1) digits) Number else Err Word
+
+-- the head of a service's option
+abbrev pub service_head : List ℕ
+service_head = codes "service="
+
+-- service=N: another option is `Word`, and an N that isn't a service `Number`
+abbrev pub service_word : List ℕ → Result ℕ LineWhy
+service_word word =
+    if starts_with nat_eq word service_head
+    then ok_or (number_within 0 (2 ^ 16 - 1) (drop (length service_head) word)) Number
+    else Err Word
 
 -- what the first word stands for; a missing one is `Word`
 abbrev pub first_as : {A : Type 0} → (List ℕ → Result A LineWhy) → List (List ℕ) → Result A LineWhy

@@ -3,6 +3,8 @@
 
 mod bytes_word;
 mod draft;
+#[cfg(test)]
+mod forge_tests;
 mod line;
 mod marks;
 mod number;

@@ -1,12 +1,12 @@
 //! The seven lines of a plan, word by word.
 
-ghost use Rattle.std.specs.Prelude.{◌≡◌, ◌<◌, ◌∷◌, drop, length, IfOk, IfErr};
-ghost use Rattle.rx_top.specs.Words.{first_as, call_word, node_word, host_word, max_word, code_word, bytes_word, no_more};
-ghost use Rattle.rx_top.specs.Lines.{server_line, forge_line, accept_line, read_line, write_line, finish_line, poll_line, plan_line};
+ghost use Rattle.std.specs.Prelude.{◌≡◌, ◌<◌, ◌∷◌, None, drop, length, IfOk, IfErr};
+ghost use Rattle.rx_top.specs.Words.{first_as, call_word, node_word, host_word, max_word, code_word, bytes_word, service_word, no_more};
+ghost use Rattle.rx_top.specs.Lines.{server_line, server_options, with_option, forge_line, accept_line, read_line, write_line, finish_line, poll_line, plan_line};
 ghost use Rattle.rx_top.specs.Reading.{IsAnswer, IsUnfilled};
 
 use crate::bytes_word::bytes_in;
-use crate::marks::AT;
+use crate::marks::{AT, SERVICE_HEAD};
 use crate::number::{code_in, host_in, is_decimal, number_within};
 use crate::pieces::Pieces;
 use crate::plan::{DEFAULT_SERVICE, LineWhy, MAX_BYTES, PlanLine};
@@ -76,16 +76,37 @@ fn server_line(words: &mut Pieces) -> Result<PlanLine, LineWhy>
     ensures { result ≡ server_line words.old }
 {
     let host = host_word(words)?;
-    no_more(words)?;
+    server_options(host, words)
+}
+
+/// The options of a server behind its host.
+fn server_options(host: Host, words: &mut Pieces) -> Result<PlanLine, LineWhy>
+    ensures { result ≡ server_options host None words.old }
+{
+    let mut service = None;
+    while let Some(word) = words.next() {
+        service = with_option(service, word)?;
+    }
     Ok(PlanLine::Server {
         host,
-        service: DEFAULT_SERVICE,
+        service: service.unwrap_or(DEFAULT_SERVICE),
         limits: Limits {
             conns: DEFAULT_CONNS,
             calls: DEFAULT_CALLS,
             slots: DEFAULT_SLOTS,
         },
     })
+}
+
+/// The service with one more option, where this one was given so far.
+fn with_option(given: Option<u16>, word: &str) -> Result<Option<u16>, LineWhy>
+    ensures { result ≡ with_option given word.now }
+{
+    let service = service_word(word)?;
+    if given.is_some() {
+        return Err(LineWhy::Twice);
+    }
+    Ok(Some(service))
 }
 
 fn forge_line(alloc: Global, words: &mut Pieces) -> Result<PlanLine, Refusal>
@@ -218,6 +239,15 @@ fn bytes_word(alloc: Global, words: &mut Pieces) -> Result<Bytes, Refusal>
         Some(bytes) => Ok(bytes),
         None => Err(Refusal::Bad(LineWhy::Number)),
     }
+}
+
+/// The service that an option names.
+fn service_word(word: &str) -> Result<u16, LineWhy>
+    ensures { result ≡ service_word word.now }
+{
+    let digits = word.strip_prefix(SERVICE_HEAD).ok_or(LineWhy::Word)?;
+    let service = number_within(digits, 0, u16::MAX.into()).ok_or(LineWhy::Number)?;
+    Ok(service as u16)
 }
 
 /// The next word, which has to be there and not to be empty.

@@ -21,5 +21,8 @@ pub const DOT: char = '.';
 /// It parts a byte from how often it stands.
 pub const STAR: char = '*';
 
+/// It begins the option that names a server's service.
+pub const SERVICE_HEAD: &str = "service=";
+
 /// It begins a number below 0.
 pub const MINUS: char = '-';

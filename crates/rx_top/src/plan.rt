@@ -11,7 +11,7 @@ use std::marker::Model;
 /// Lines of a plan at most, with empty lines and comments.
 pub const MAX_LINES: u32 = 1_000_000;
 
-/// Lines that forge a datagram, at most.
+/// Lines that forge a datagram whose connection is looked for, at most.
 pub const MAX_FORGES: usize = 60;
 
 /// Bytes that one word stands for, or that one read asks for, at most.
@@ -27,6 +27,8 @@ pub enum LineWhy {
     Word,
     /// A word isn't the number, host or bytes that belong there, or is out of range.
     Number,
+    /// An option is given a second time.
+    Twice,
     /// There are more lines than a plan may have.
     TooMany,
     /// The line asks for what isn't built yet.
@@ -41,6 +43,7 @@ impl LineWhy {
         match self {
             LineWhy::Word => "word",
             LineWhy::Number => "number",
+            LineWhy::Twice => "twice",
             LineWhy::TooMany => "toomany",
             LineWhy::Later => "later",
         }

@@ -1,7 +1,7 @@
 //! One line of a plan, on the server.
 
 ghost use Rattle.std.specs.Prelude.{◌≡◌, ◌⊎◌, ◌≤◌, ◌<◌, ◌+◌, length, true, false, None, Some, IfOk, IfErr};
-ghost use Rattle.rx_model.specs.Rules.{is_request};
+ghost use Rattle.rx_model.specs.Rules.{is_taken};
 ghost use Rattle.rx_server.specs.Stands.{Answered};
 ghost use Rattle.rx_top.specs.Follows.{IsOf, call_refusal, name_at as spec_name_at, is_server};
 ghost use Rattle.rx_model.specs.declared.wire.TheConstants.{PIECE_BYTES};
@@ -92,7 +92,7 @@ pub fn step(
 }
 
 fn forge(alloc: Global, server: &mut Server, from: Host, datagram: &[u8]) -> Result<Event, Stop>
-    requires { is_request server.old.setup.service datagram.now ≡ true }
+    requires { is_taken server.old.setup.service datagram.now ≡ true }
     ensures answered { IfOk result (λ e. Answered server.old server.new e) }
     ensures event { IfOk result (λ e. IsTaken e from datagram.now) }
     ensures err { IfErr result (λ stop. stop ≡ Stop.OutOfMemory) }

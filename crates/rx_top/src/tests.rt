@@ -4,8 +4,6 @@ use std::alloc::{AllocError, Global};
 use std::process::Abort;
 use std::test::Fail;
 
-const REQUEST: &str = "00000001000000040000000100000001000000010105000000000001";
-
 /// A plan's line as text: its number, its word and its values.
 fn shown(alloc: Global, line: &Numbered) -> Result<String, AllocError> {
     let n = line.line;
@@ -37,7 +35,7 @@ fn shown(alloc: Global, line: &Numbered) -> Result<String, AllocError> {
 }
 
 /// What a text gives: its lines, or its first fault.
-fn answer(alloc: Global, text: &[u8]) -> Result<String, AllocError> {
+pub fn answer(alloc: Global, text: &[u8]) -> Result<String, AllocError> {
     match read_plan(alloc, text) {
         Ok(plan) => {
             let mut all = String::new(alloc);
@@ -54,7 +52,7 @@ fn answer(alloc: Global, text: &[u8]) -> Result<String, AllocError> {
 }
 
 /// Texts, and the lines of their plans.
-static PLANS: [(&str, &str); 24] = [
+static PLANS: [(&str, &str); 29] = [
     (
         "server 10.0.0.1:7000",
         "1 server 167772161:7000 1 Limits { conns: 1024, calls: 64, slots: 2048 };",
@@ -86,6 +84,23 @@ static PLANS: [(&str, &str); 24] = [
         "server 010.00.000.0001:07000",
         "1 server 167772161:7000 1 Limits { conns: 1024, calls: 64, slots: 2048 };",
     ),
+    (
+        "server 10.0.0.1:7000 service=1",
+        "1 server 167772161:7000 1 Limits { conns: 1024, calls: 64, slots: 2048 };",
+    ),
+    (
+        "server 10.0.0.1:7000 service=0",
+        "1 server 167772161:7000 0 Limits { conns: 1024, calls: 64, slots: 2048 };",
+    ),
+    (
+        "server 10.0.0.1:7000 service=65535",
+        "1 server 167772161:7000 65535 Limits { conns: 1024, calls: 64, slots: 2048 };",
+    ),
+    (
+        "server 10.0.0.1:7000 service=0000000000002",
+        "1 server 167772161:7000 2 Limits { conns: 1024, calls: 64, slots: 2048 };",
+    ),
+    ("forge s 10.0.0.2:7001 -", "1 forge 0 167772162:7001 [];"),
     ("read @1 1", "1 read 1 1;"),
     ("read @4294967295 16777216", "1 read 4294967295 16777216;"),
     (
@@ -109,7 +124,7 @@ fn each_line_is_read(rt: HostRuntime) -> Result<(), Fail> {
 }
 
 /// A word is unknown, misplaced, missing or surplus, before any other fault of the line.
-static WORDS: [&str; 37] = [
+static WORDS: [&str; 46] = [
     "client 10.0.0.2:7001 epoch=1",
     "Accept",
     " accept",
@@ -123,6 +138,15 @@ static WORDS: [&str; 37] = [
     "server 10.0.0.1:7000 conns=1",
     "server  10.0.0.1:7000",
     "server 10.0.0.1:7000 ",
+    "server 10.0.0.1:7000 2",
+    "server 10.0.0.1:7000 service",
+    "server 10.0.0.1:7000 Service=2",
+    "server 10.0.0.1:7000 =2",
+    "server 10.0.0.1:7000 conns=1 service=x",
+    "server 10.0.0.1:7000  service=2",
+    "server 10.0.0.1:7000 service=2 ",
+    "server 10.0.0.1:7000 service=2 slots=9",
+    "server 10.0.0.1:7000 service=2 calls=1 service=3",
     "forge s 10.0.0.2:7001",
     "forge c1 10.0.0.2:7001 -",
     "forge c1 10.0.0.2 xx",
@@ -150,7 +174,7 @@ static WORDS: [&str; 37] = [
 ];
 
 /// A word isn't the number, host or bytes that belong there, before any other fault of the line.
-static NUMBERS: [&str; 40] = [
+static NUMBERS: [&str; 51] = [
     "server 10.0.0.1 conns=1",
     "forge s 10.0.0.2 xx",
     "read @1 0 17",
@@ -181,6 +205,17 @@ static NUMBERS: [&str; 40] = [
     "finish @1 +0",
     "finish @1 2147483648",
     "finish @1 -2147483649",
+    "server 10.0.0.1 service=2",
+    "server service=2 10.0.0.1:7000",
+    "server 10.0.0.1:7000 service=",
+    "server 10.0.0.1:7000 service=x",
+    "server 10.0.0.1:7000 service=+2",
+    "server 10.0.0.1:7000 service=-1",
+    "server 10.0.0.1:7000 service=1=2",
+    "server 10.0.0.1:7000 service=65536",
+    "server 10.0.0.1:7000 service=4294967297",
+    "server 10.0.0.1:7000 service=x conns=1",
+    "server 10.0.0.1:7000 service=2 service=x",
     "server 10.0.0.1",
     "server 10.0.0.1:",
     "server 10.0.0.1:7000:1",
@@ -193,14 +228,20 @@ static NUMBERS: [&str; 40] = [
     "server localhost:7000",
 ];
 
+/// An option is given a second time, before any other fault of the line.
+static TWICES: [&str; 3] = [
+    "server 10.0.0.1:7000 service=2 service=2",
+    "server 10.0.0.1:7000 service=2 service=3 conns=1",
+    "server 10.0.0.1:7000 service=2 service=2 service=x",
+];
+
 /// The line has no fault, and asks for what isn't built yet.
-static LATERS: [&str; 6] = [
+static LATERS: [&str; 5] = [
     "finish @1 2147483647",
     "finish @1 -2147483648",
     "finish @1 5",
     "finish @1 -05",
-    "forge s 10.0.0.2:7001 -",
-    "forge s 10.0.0.2:7001 16777216*05",
+    "forge s 10.0.0.2:7001 00000001000000040000000100000001000000010101000000000001",
 ];
 
 fn each_gives(
@@ -224,6 +265,12 @@ fn a_bad_word_is_answered(rt: HostRuntime) -> Result<(), Fail> {
 #[test]
 fn a_bad_value_is_answered(rt: HostRuntime) -> Result<(), Fail> {
     each_gives(&rt, &NUMBERS, "1 number")?;
+    Ok(())
+}
+
+#[test]
+fn a_second_option_is_answered(rt: HostRuntime) -> Result<(), Fail> {
+    each_gives(&rt, &TWICES, "1 twice")?;
     Ok(())
 }
 
@@ -259,80 +306,6 @@ fn what_is_no_text_is_refused_at_line_0(rt: HostRuntime) -> Result<(), Fail> {
     assert_eq!(rt; given.as_str(), "0 word");
     let given = answer(rt.alloc(), "# \u{e9}\naccept".as_bytes())?;
     assert_eq!(rt; given.as_str(), "2 accept;");
-    Ok(())
-}
-
-/// A line for each of some datagrams, which are a request but for one field.
-fn forges(alloc: Global, datagram: &str) -> Result<String, AllocError> {
-    let text = format!(in alloc; "forge s 10.0.0.2:7001 {datagram}")?;
-    answer(alloc, text.as_bytes())
-}
-
-#[test]
-fn other_datagrams_than_requests_are_later(rt: HostRuntime) -> Result<(), Fail> {
-    let datagrams = [
-        // 27 bytes
-        "000000010000000400000001000000010000000101050000000000",
-        // another type
-        "00000001000000040000000100000001000000010205000000000001",
-        // not of the client
-        "00000001000000040000000100000001000000010104000000000001",
-        // not the last packet
-        "00000001000000040000000100000001000000010101000000000001",
-        // several packets
-        "00000001000000040000000100000001000000010125000000000001",
-        // another call number
-        "00000001000000040000000200000001000000010105000000000001",
-        // another seq
-        "00000001000000040000000100000000000000010105000000000001",
-        // another security index
-        "00000001000000040000000100000001000000010105000200000001",
-        // another service
-        "00000001000000040000000100000001000000010105000000000002",
-    ];
-    for datagram in datagrams {
-        let given = forges(rt.alloc(), datagram)?;
-        assert!(rt; given.as_str() == "1 later", "{datagram} gives {given}");
-    }
-    Ok(())
-}
-
-/// A plan of a request and so many bytes behind its header.
-fn with_payload(alloc: Global, bytes: u32) -> Result<bool, AllocError> {
-    let mut text = format!(in alloc; "forge s 10.0.0.2:7001 {REQUEST}")?;
-    for _ in 0..bytes {
-        text.push_str("5a")?;
-    }
-    Ok(read_plan(alloc, text.as_bytes()).is_ok())
-}
-
-#[test]
-fn a_request_has_1472_bytes_at_most(rt: HostRuntime) -> Result<(), Fail> {
-    assert!(rt; with_payload(rt.alloc(), 1444)?);
-    assert!(rt; !with_payload(rt.alloc(), 1445)?);
-    Ok(())
-}
-
-/// What a plan of so many forge lines gives.
-fn forged(alloc: Global, count: u32) -> Result<Option<LineFault>, AllocError> {
-    let mut text = String::new(alloc);
-    for _ in 0..count {
-        text.push_str("forge s 10.0.0.2:7001 ")?;
-        text.push_str(REQUEST)?;
-        text.push_str("\n\n")?;
-    }
-    Ok(read_plan(alloc, text.as_bytes()).err())
-}
-
-#[test]
-fn the_61st_forge_line_is_later(rt: HostRuntime) -> Result<(), Fail> {
-    let later = LineFault::BadLine {
-        line: 121,
-        why: LineWhy::Later,
-    };
-    assert_eq!(rt; forged(rt.alloc(), 60)?, None);
-    assert_eq!(rt; forged(rt.alloc(), 61)?, Some(later));
-    assert_eq!(rt; forged(rt.alloc(), 62)?, Some(later));
     Ok(())
 }
 

@@ -187,4 +187,8 @@ fn say<E: Sink>(err: &mut E, line: &str)
 }
 
 #[cfg(test)]
+mod bound_tests;
+#[cfg(test)]
+mod kind_tests;
+#[cfg(test)]
 mod tests;

@@ -6,11 +6,11 @@ use std::test::Fail;
 
 /// A plan's text, and what the program leaves: its trace, its line on `err` and its status.
 #[derive(Drop)]
-struct Row<'a> {
-    plan: &'a str,
-    out: &'a str,
-    err: &'a str,
-    status: u8,
+pub struct Row<'a> {
+    pub plan: &'a str,
+    pub out: &'a str,
+    pub err: &'a str,
+    pub status: u8,
 }
 
 static ONE_CALL: Row<'static> = Row {
@@ -107,7 +107,7 @@ static TRACES: [Row<'static>; 5] = [
 ];
 
 /// Lines of a text that the grammar doesn't have, or that ask for what isn't built yet: nothing is put.
-static BAD_LINES: [(&str, &str); 28] = [
+static BAD_LINES: [(&str, &str); 33] = [
     ("accept\nbogus", "rx: p:2: word\n"),
     ("server 10.0.0.1:7000\nbogus", "rx: p:2: word\n"),
     ("server", "rx: p:1: word\n"),
@@ -119,6 +119,7 @@ static BAD_LINES: [(&str, &str); 28] = [
     ("forge c1 10.0.0.2:7001 -", "rx: p:1: word\n"),
     ("read #1 16", "rx: p:1: word\n"),
     ("server 10.0.0.1:7000 conns=1", "rx: p:1: word\n"),
+    ("server 10.0.0.1:7000 service", "rx: p:1: word\n"),
     ("#x", "rx: p:1: word\n"),
     ("read @0 5", "rx: p:1: number\n"),
     ("read @1 0", "rx: p:1: number\n"),
@@ -131,8 +132,22 @@ static BAD_LINES: [(&str, &str); 28] = [
     ("write @1 3*5", "rx: p:1: number\n"),
     ("write @1 16777217*5a", "rx: p:1: number\n"),
     ("server 10.0.0.1", "rx: p:1: number\n"),
+    ("server 10.0.0.1:7000 service=", "rx: p:1: number\n"),
+    ("server 10.0.0.1:7000 service=65536", "rx: p:1: number\n"),
+    (
+        "server 10.0.0.1:7000 service=2 service=2",
+        "rx: p:1: twice\n",
+    ),
     ("finish @1 5", "rx: p:1: later\n"),
-    ("forge s 10.0.0.2:7001 00", "rx: p:1: later\n"),
+    (
+        "forge s 10.0.0.2:7001 00000001000000040000000100000001000000010101000000000001",
+        "rx: p:1: later\n",
+    ),
+    (
+        "server 10.0.0.1:7000 service=2\n\
+            forge s 10.0.0.2:7001 00000001000000040000000100000001000000010101000000000002",
+        "rx: p:2: later\n",
+    ),
     ("write @1 1413*5a", "rx: p:1: later\n"),
     ("write @1 700*5a\nwrite @1 713*5a", "rx: p:2: later\n"),
     ("\n# c\nbogus", "rx: p:3: word\n"),
@@ -222,7 +237,7 @@ fn words_of(alloc: Global, texts: &[&str]) -> Result<Vec<String>, AllocError> {
     Ok(words)
 }
 
-fn gives(rt: &(impl AllocGlobal + Abort), row: &Row<'_>) -> Result<(), AllocError> {
+pub fn gives(rt: &(impl AllocGlobal + Abort), row: &Row<'_>) -> Result<(), AllocError> {
     let alloc = rt.alloc();
     let mut out = MemSink::make(alloc, ROOM, Vec::new(alloc))?;
     let mut err = MemSink::make(alloc, ROOM, Vec::new(alloc))?;
@@ -280,100 +295,17 @@ fn a_refused_line_is_said_behind_the_trace(rt: HostRuntime) -> Result<(), Fail> 
 }
 
 /// A text, and a line behind it so many times.
-fn with_lines(alloc: Global, text: &str, line: &str, count: usize) -> Result<String, AllocError> {
+pub fn with_lines(
+    alloc: Global,
+    text: &str,
+    line: &str,
+    count: usize,
+) -> Result<String, AllocError> {
     let mut all = String::from_str(alloc, text)?;
     for _ in 0..count {
         all.push_str(line)?;
     }
     Ok(all)
-}
-
-#[test]
-fn sixty_datagrams_are_forged_at_most(rt: HostRuntime) -> Result<(), Fail> {
-    let alloc = rt.alloc();
-    let server = "server 10.0.0.1:7000\n";
-    let forge = "forge s 10.0.0.2:7001 00000001000000040000000100000001000000010105000000000001\n";
-    let kept =
-        "s take 10.0.0.2:7001 00000001000000040000000100000001000000010105000000000001 -> kept\n";
-    let repeat =
-        "s take 10.0.0.2:7001 00000001000000040000000100000001000000010105000000000001 -> repeat\n";
-    let sixty = with_lines(alloc, server, forge, 60)?;
-    let more = with_lines(alloc, server, forge, 61)?;
-    let trace = with_lines(alloc, kept, repeat, 59)?;
-    gives(
-        &rt,
-        &Row {
-            plan: sixty.as_str(),
-            out: trace.as_str(),
-            err: "",
-            status: 0,
-        },
-    )?;
-    gives(
-        &rt,
-        &Row {
-            plan: more.as_str(),
-            out: "",
-            err: "rx: p:62: later\n",
-            status: 2,
-        },
-    )?;
-    Ok(())
-}
-
-#[test]
-fn a_reply_of_1412_bytes_is_taken_in_two_writes(rt: HostRuntime) -> Result<(), Fail> {
-    let alloc = rt.alloc();
-    let plan = "server 10.0.0.1:7000\n\
-        forge s 10.0.0.2:7001 00000001000000040000000100000001000000010105000000000001\n\
-        accept\n\
-        read @1 16\n\
-        write @1 1000*5a\n\
-        write @1 412*5a\n";
-    let first =
-        "s take 10.0.0.2:7001 00000001000000040000000100000001000000010105000000000001 -> kept\n\
-        s accept -> 10.0.0.2:7001/1/4/0/1\n\
-        s read 10.0.0.2:7001/1/4/0/1 16 -> end\n\
-        s write 10.0.0.2:7001/1/4/0/1 1000 -> 1000 ";
-    let mut trace = with_lines(alloc, first, "5a", 1000)?;
-    trace.push_str("\ns write 10.0.0.2:7001/1/4/0/1 412 -> 412 ")?;
-    for _ in 0..412 {
-        trace.push_str("5a")?;
-    }
-    trace.push_str("\n")?;
-    gives(
-        &rt,
-        &Row {
-            plan,
-            out: trace.as_str(),
-            err: "",
-            status: 0,
-        },
-    )?;
-    Ok(())
-}
-
-#[test]
-fn a_plan_has_1000000_lines_at_most(rt: HostRuntime) -> Result<(), Fail> {
-    let alloc = rt.alloc();
-    let rows = [
-        (999_999, "rx: p:1000000: nonode\n"),
-        (1_000_000, "rx: p:1000001: toomany\n"),
-    ];
-    for (empty, err) in rows {
-        let mut plan = with_lines(alloc, "", "\n", empty)?;
-        plan.push_str("accept")?;
-        gives(
-            &rt,
-            &Row {
-                plan: plan.as_str(),
-                out: "",
-                err,
-                status: 2,
-            },
-        )?;
-    }
-    Ok(())
 }
 
 #[test]

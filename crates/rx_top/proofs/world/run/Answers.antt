@@ -22,7 +22,7 @@ loop-numbered-init g c =
     record {
       history = begins c.in-Ok.server c.new-names.result.items c.args.plan.now c.in-Some.rest.now c.in-Some.first.now
           c.in-Server.service c.in-Server.host c.in-Server.limits (g.O.Sink.told c.args.out.now)
-          whole c.requires.well c.in-Server.is c.in-Ok.ensures.empty c.in-Ok.ensures.setup c.new-names.ensures.items;
+          whole c.in-Server.is c.in-Ok.ensures.empty c.in-Ok.ensures.setup c.new-names.ensures.items;
       faults = refl;
     }
 

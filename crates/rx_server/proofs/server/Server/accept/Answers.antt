@@ -19,5 +19,5 @@ returns-clause-answered c =
     let found = position_in (λ (e : Entry). not e.accepted) live _ items _ c.deref.ensures.value c.in_ok-place.ensures
     in
     rw (← c.self.view_is, c.name.ensures.name, c.accept.ensures)
-    (accept_at c.self.inside.service c.self.inside.conns.items live items c.in_ok-place.place
+    (accept_at c.self.inside.service c.self.inside.strays.items c.self.inside.conns.items live items c.in_ok-place.place
     c.index_mut-call.result.now found c.index_mut-call.ensures.value)

@@ -35,7 +35,7 @@ invariant_of-self c =
     let old = c.self.invariant in
     let len = c.push_reserved.ensures.len in
     let capacity = c.push_reserved.ensures.capacity in
-    (old.0, old.1, omega (arith, c.deref.ensures.len, len), omega (arith, capacity))
+    (old.0, old.1, omega (arith, c.deref.ensures.len, len), omega (arith, capacity), old.4)
 
 pub returns-clause-node : goal.returns-clause-node
 returns-clause-node c =

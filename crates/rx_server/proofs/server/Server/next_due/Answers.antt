@@ -13,4 +13,5 @@ returns-clause-within c =
     ∙ ap (λ (xs : List ConnEntry). due_from 0 xs (take live c.deref-2.result.now)) c.deref.ensures.value
     ∙ ap (λ (es : List Entry). due_from 0 c.self.inside.conns.items (take live es)) c.deref-2.ensures.value in
     rw (← c.self.view_is) (some_within
-    (node_of c.self.inside.service c.self.inside.conns.items live c.self.inside.calls.items) c.next_due.result is)
+    (node_of c.self.inside.service c.self.inside.strays.items c.self.inside.conns.items live c.self.inside.calls.items)
+        c.next_due.result is)

@@ -1,95 +1,52 @@
-use Rattle.std.proofs.Common.{◌≤◌, sym, length, arith, refl}
-use Rattle.std.proofs.lemmas.List.{length-take}
-use Rattle.rx_model.specs.declared.wire.TheConstants.{DEFAULT_CALLS, DEFAULT_CONNS}
-use Rattle.rx_model.specs.Body as models
+use Rattle.std.proofs.Common.{◌≡◌, ◌∙◌, ap, arith, refl, sym, true, false, Ok}
 use Rattle.rx_model.specs.Message.{Message}
-use Rattle.rx_packet.specs.Seen.{message_of, message_with_head}
-use Rattle.rx_server.specs.declared.judge.Judged.TheVariants as judgements
+use Rattle.rx_model.specs.Rules.{front_row}
+use Rattle.rx_model.specs.Strays.{stray_of}
+use Rattle.rx_packet.specs.declared.body.Body.{Body}
+use Rattle.rx_packet.specs.Seen.{message_of}
 use Rattle.rx_server.specs.Node.{Node}
-use Rattle.rx_server.proofs.TakePlaces.{Comes, carries_data, comes_as, crowded_at, data_is, full_at, repeat_at}
-use Rattle.rx_server.proofs.TakePlaces.{repeat_lives, starts_at}
-use Rattle.rx_server.proofs.TakeRows.{room_for_call, room_for_conn}
+use Rattle.rx_server.specs.Takes.{owes_stray, strays_with}
+use Rattle.rx_server.proofs.Places.{node_of}
+use Rattle.rx_server.proofs.TakeFront.{asks_behind, owing_step}
+use Rattle.rx_server.proofs.TakePlaces.{carries_data, data_is}
 use Rattle.rx_server.proofs.server.Server.take.Goals as goal
 
-pub returns-in_default : goal.returns-in_default
-returns-in_default c =
-    let carries = carries_data c.args.self.now.setup.service c.args.bytes.now
-    (message_of c.in-Ok.message.0 c.in-Ok.message.1) c.requires (sym c.in-Ok.ensures.exact) in
-    absurd (data_is c.in-Ok.message.1 c.in_default.not-Chunk carries)
-
-pub index_mut-call-requires : goal.index_mut-call-requires
-index_mut-call-requires c =
-    let is = rw (← c.self.view_is) at c.in-Repeat.ensures in
-    let below = repeat_lives c.self.inside.service c.self.inside.conns.items c.self.inside.live
-    c.self.inside.calls.items c.name_of-name.result c.in-Repeat.place is in
+pub returns-then-owes_stray-clause-answered : goal.returns-then-owes_stray-clause-answered
+returns-then-owes_stray-clause-answered c =
+    let node : Node = node_of c.self.inside.service c.self.inside.strays.items c.self.inside.conns.items
+    c.self.inside.live c.self.inside.calls.items in
+    let m : Message = message_of c.in-Ok.message.0 c.in-Ok.message.1 in
+    let owed : owes_stray c.in-Some.row m.body ≡ true = sym c.owes_stray.ensures ∙ c.if-owes_stray.true in
     let old = c.self.invariant in
-    omega (arith, below, old.0, old.1)
+    let is : c.push_back.new.self.items ≡ strays_with true (stray_of c.args.from m) c.self.inside.strays.items =
+    rw (c.push_back.ensures.items, c.stray_of.ensures m.body, old.4) refl in
+    rw (← c.self.view_is, is) (owing_step node c.args.from c.args.bytes.now m c.in-Some.row true
+    (λ i. omega (arith, c.type_inv.bytes i)) (sym c.in-Ok.ensures.exact) (sym c.front_row.ensures ∙ c.in-Some.is) owed)
 
-pub owe_busy-requires-clause-room : goal.owe_busy-requires-clause-room
-owe_busy-requires-clause-room c = λ new.
-    let old = c.self.invariant in
-    let fits : length c.self.inside.conns.items ≤ DEFAULT_CONNS = omega (arith, old.2, c.self.inside.conns.ok.0) in
-    room_for_conn c.args.self.now c.name_of-name.result judgements.NoRoom tt tt c.in-NoRoom.ensures
-    (rw (← c.self.view_is) fits) new
+pub returns-else-owes_stray-clause-answered : goal.returns-else-owes_stray-clause-answered
+returns-else-owes_stray-clause-answered c =
+    let node : Node = node_of c.self.inside.service c.self.inside.strays.items c.self.inside.conns.items
+    c.self.inside.live c.self.inside.calls.items in
+    let m : Message = message_of c.in-Ok.message.0 c.in-Ok.message.1 in
+    let owed : owes_stray c.in-Some.row m.body ≡ false = sym c.owes_stray.ensures ∙ c.if-owes_stray.false in
+    rw (← c.self.view_is) (owing_step node c.args.from c.args.bytes.now m c.in-Some.row false
+    (λ i. omega (arith, c.type_inv.bytes i)) (sym c.in-Ok.ensures.exact) (sym c.front_row.ensures ∙ c.in-Some.is) owed)
 
-pub start-requires-clause-room : goal.start-requires-clause-room
-start-requires-clause-room c =
-    let old = c.self.invariant in
-    let fits : length c.args.self.now.calls ≤ DEFAULT_CALLS =
-    rw (← c.self.view_is) (omega (arith, old.0, length-take c.self.inside.live c.self.inside.calls.items)) in
-    rw c.owe_busy-in-Kept.ensures.is (room_for_call c.args.self.now c.name_of-name.result c.in-Kept.ensures fits)
+pub returns-in-Chunk-clause-answered : goal.returns-in-Chunk-clause-answered
+returns-in-Chunk-clause-answered c =
+    let reads = sym c.in-Ok.ensures.exact in
+    let none = ap (λ (n : Node). front_row n.setup.service (message_of c.in-Ok.message.0 c.in-Ok.message.1))
+    (sym c.self.view_is) ∙ sym c.front_row.ensures ∙ c.in_default.is in
+    c.take_request.ensures.answered c.args.bytes.now (record {
+      bytes_fit = λ i. omega (arith, c.type_inv.bytes i);
+      passes = asks_behind c.args.self.now.setup.service c.args.bytes.now _ c.requires reads none;
+      reads = reads ∙ ap (λ (b : Body). Ok (message_of c.in-Ok.message.0 b)) c.in-Chunk.is;
+    })
 
-pub returns-in-Repeat-clause-answered : goal.returns-in-Repeat-clause-answered
-returns-in-Repeat-clause-answered c =
-    let node : Node = c.args.self.now in
-    let head = c.in-Ok.message.0 in
-    let m : Message = message_with_head head (models.Chunk c.in-Chunk.payload.now) in
-    let name = c.name_of-name.result in
-    let comes : Comes node.setup.service c.args.from c.args.bytes.now m name =
-    comes_as node.setup.service c.args.from c.args.bytes.now head c.in-Ok.message.1 c.in-Chunk.payload name
-    (λ i. omega (arith, c.type_inv.bytes i)) c.requires c.in-Ok.ensures.exact c.in-Chunk.is
-    c.name_of-name.ensures.name in
-    let judged_so = rw (← c.self.view_is) at c.in-Repeat.ensures in
-    let came = rw (← c.self.view_is) at comes in
-    rw (← c.self.view_is, c.on_repeat.ensures)
-    (repeat_at c.self.inside.service c.self.inside.conns.items c.self.inside.live c.self.inside.calls.items
-    c.in-Repeat.place
-    c.index_mut-call.result.now c.args.from c.args.bytes.now m name came judged_so c.index_mut-call.ensures.value)
-
-pub returns-in-Full-clause-answered : goal.returns-in-Full-clause-answered
-returns-in-Full-clause-answered c =
-    let node : Node = c.args.self.now in
-    let head = c.in-Ok.message.0 in
-    let m : Message = message_with_head head (models.Chunk c.in-Chunk.payload.now) in
-    let name = c.name_of-name.result in
-    let comes : Comes node.setup.service c.args.from c.args.bytes.now m name =
-    comes_as node.setup.service c.args.from c.args.bytes.now head c.in-Ok.message.1 c.in-Chunk.payload name
-    (λ i. omega (arith, c.type_inv.bytes i)) c.requires c.in-Ok.ensures.exact c.in-Chunk.is
-    c.name_of-name.ensures.name in
-    full_at node c.args.from c.args.bytes.now m name comes c.in-Full.ensures
-
-pub returns-in-NoRoom-clause-answered : goal.returns-in-NoRoom-clause-answered
-returns-in-NoRoom-clause-answered c =
-    let node : Node = c.args.self.now in
-    let head = c.in-Ok.message.0 in
-    let m : Message = message_with_head head (models.Chunk c.in-Chunk.payload.now) in
-    let name = c.name_of-name.result in
-    let comes : Comes node.setup.service c.args.from c.args.bytes.now m name =
-    comes_as node.setup.service c.args.from c.args.bytes.now head c.in-Ok.message.1 c.in-Chunk.payload name
-    (λ i. omega (arith, c.type_inv.bytes i)) c.requires c.in-Ok.ensures.exact c.in-Chunk.is
-    c.name_of-name.ensures.name in
-    crowded_at node c.owe_busy.new.self c.args.from c.args.bytes.now m name comes c.in-NoRoom.ensures c.owe_busy.ensures
-
-pub returns-in-Kept-clause-answered : goal.returns-in-Kept-clause-answered
-returns-in-Kept-clause-answered c =
-    let node : Node = c.args.self.now in
-    let head = c.in-Ok.message.0 in
-    let m : Message = message_with_head head (models.Chunk c.in-Chunk.payload.now) in
-    let name = c.name_of-name.result in
-    let comes : Comes node.setup.service c.args.from c.args.bytes.now m name =
-    comes_as node.setup.service c.args.from c.args.bytes.now head c.in-Ok.message.1 c.in-Chunk.payload name
-    (λ i. omega (arith, c.type_inv.bytes i)) c.requires c.in-Ok.ensures.exact c.in-Chunk.is
-    c.name_of-name.ensures.name in
-    starts_at node c.owe_busy-in-Kept.new.self c.start.new.self c.args.from c.args.bytes.now m c.in-Chunk.payload.now
-    name comes
-    c.in-Kept.ensures refl c.owe_busy-in-Kept.ensures c.start.ensures
+pub returns-in_default-body : goal.returns-in_default-body
+returns-in_default-body c =
+    let reads = sym c.in-Ok.ensures.exact in
+    let none = ap (λ (n : Node). front_row n.setup.service (message_of c.in-Ok.message.0 c.in-Ok.message.1))
+    (sym c.self.view_is) ∙ sym c.front_row.ensures ∙ c.in_default.is in
+    let passes = asks_behind c.args.self.now.setup.service c.args.bytes.now _ c.requires reads none in
+    absurd (data_is c.in-Ok.message.1 c.in_default-body.not-Chunk (carries_data _ c.args.bytes.now _ passes reads))

@@ -19,7 +19,8 @@ write-requires c =
     let name = c.args.name.now in
     let found = position_in (is_named name) live _ items _ c.deref.ensures.value c.in-Some.ensures in
     let asked = rw (← c.self.view_is) at c.requires in
-    let room = room_at c.self.inside.service c.self.inside.conns.items live items c.in-Some.place
+    let room = room_at c.self.inside.service c.self.inside.strays.items c.self.inside.conns.items live items
+        c.in-Some.place
     c.index_mut-call.result.now name (length c.args.bytes.now) found c.index_mut-call.ensures.value asked in
     room
 
@@ -30,9 +31,11 @@ returns-clause-answered c =
     let name = c.args.name.now in
     let found = position_in (is_named name) live _ items _ c.deref.ensures.value c.in-Some.ensures in
     let asked = rw (← c.self.view_is) at c.requires in
-    let room = room_at c.self.inside.service c.self.inside.conns.items live items c.in-Some.place
+    let room = room_at c.self.inside.service c.self.inside.strays.items c.self.inside.conns.items live items
+        c.in-Some.place
     c.index_mut-call.result.now name (length c.args.bytes.now) found c.index_mut-call.ensures.value asked in
     rw (← c.self.view_is, c.write.ensures.entry)
-    (write_at c.self.inside.service c.self.inside.conns.items live items c.in-Some.place c.index_mut-call.result.now
+    (write_at c.self.inside.service c.self.inside.strays.items c.self.inside.conns.items live items c.in-Some.place
+        c.index_mut-call.result.now
     name c.args.bytes.now c.write.result
     (λ i. omega (arith, c.type_inv.bytes i)) found c.index_mut-call.ensures.value room c.write.ensures.answer)
