@@ -1,4 +1,4 @@
-use super::tests::{Row, gives, with_lines};
+use super::tests::{Row, gives, traces, with_lines};
 use std::test::Fail;
 
 #[test]
@@ -13,15 +13,7 @@ fn sixty_datagrams_are_forged_at_most(rt: HostRuntime) -> Result<(), Fail> {
     let sixty = with_lines(alloc, server, forge, 60)?;
     let more = with_lines(alloc, server, forge, 61)?;
     let trace = with_lines(alloc, kept, repeat, 59)?;
-    gives(
-        &rt,
-        &Row {
-            plan: sixty.as_str(),
-            out: trace.as_str(),
-            err: "",
-            status: 0,
-        },
-    )?;
+    traces(&rt, sixty.as_str(), trace.as_str())?;
     gives(
         &rt,
         &Row {
@@ -54,15 +46,7 @@ fn a_reply_of_1412_bytes_is_taken_in_two_writes(rt: HostRuntime) -> Result<(), F
         trace.push_str("5a")?;
     }
     trace.push_str("\n")?;
-    gives(
-        &rt,
-        &Row {
-            plan,
-            out: trace.as_str(),
-            err: "",
-            status: 0,
-        },
-    )?;
+    traces(&rt, plan, trace.as_str())?;
     Ok(())
 }
 

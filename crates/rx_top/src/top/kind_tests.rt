@@ -1,4 +1,4 @@
-use super::tests::{Row, gives, with_lines};
+use super::tests::{Row, gives, traces, with_lines};
 use std::alloc::{AllocError, Global};
 use std::test::Fail;
 
@@ -212,15 +212,7 @@ fn a_request_has_1444_bytes_of_payload_at_most(rt: HostRuntime) -> Result<(), Fa
         let datagram = request_of(alloc, payload)?;
         let plan = format!(in alloc; "server 10.0.0.1:7000\nforge s 10.0.0.2:7001 {datagram}\n")?;
         let trace = format!(in alloc; "s take 10.0.0.2:7001 {datagram} -> {took}\n")?;
-        gives(
-            &rt,
-            &Row {
-                plan: plan.as_str(),
-                out: trace.as_str(),
-                err: "",
-                status: 0,
-            },
-        )?;
+        traces(&rt, plan.as_str(), trace.as_str())?;
     }
     Ok(())
 }
@@ -246,14 +238,6 @@ fn of_65_stray_aborts_the_last_64_are_given(rt: HostRuntime) -> Result<(), Fail>
     }
     let plan = with_lines(alloc, plan.as_str(), "poll s\n", 65)?;
     trace.push_str("s poll -> none\n")?;
-    gives(
-        &rt,
-        &Row {
-            plan: plan.as_str(),
-            out: trace.as_str(),
-            err: "",
-            status: 0,
-        },
-    )?;
+    traces(&rt, plan.as_str(), trace.as_str())?;
     Ok(())
 }

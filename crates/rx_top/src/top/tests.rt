@@ -258,6 +258,19 @@ pub fn gives(rt: &(impl AllocGlobal + Abort), row: &Row<'_>) -> Result<(), Alloc
     Ok(())
 }
 
+/// A plan that is made whole, and its trace.
+pub fn traces(rt: &(impl AllocGlobal + Abort), plan: &str, out: &str) -> Result<(), AllocError> {
+    gives(
+        rt,
+        &Row {
+            plan,
+            out,
+            err: "",
+            status: 0,
+        },
+    )
+}
+
 #[test]
 fn one_call_has_its_ten_lines(rt: HostRuntime) -> Result<(), Fail> {
     gives(&rt, &ONE_CALL)?;
