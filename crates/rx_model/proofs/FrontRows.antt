@@ -87,7 +87,7 @@ pub request_took : (s : Setup) (l : Looks) (from : Host) (bytes : List ℕ) (m :
 request_took s l from bytes m passes reads =
     ap (λ (r : Result Message BadMsg). else_row (front_of_reading s.service r) (took_served s l from r)) reads
     ∙ ap (λ (o : Option Took). else_row o (request_row (request_of s l (name_of from m) m)))
-        (request_passes s.service m passes)
+    (request_passes s.service m passes)
 
 -- ---- what they answer
 
@@ -97,7 +97,7 @@ IsFrontRow row = IsIdle row ⊎ (row ≡ tooks.Unserved)
 
 message_row : (foreign other away : Bool) (row : Took)
     → cond foreign (Some tooks.Foreign)
-        (cond other (Some tooks.Strange) (cond away (Some tooks.Unserved) None)) ≡ Some row
+    (cond other (Some tooks.Strange) (cond away (Some tooks.Unserved) None)) ≡ Some row
     → IsFrontRow row
 message_row true other away row is = subst IsFrontRow (let same : tooks.Foreign ≡ row = cc (is) in same) (inl tt)
 message_row false true away row is = subst IsFrontRow (let same : tooks.Strange ≡ row = cc (is) in same) (inl tt)
@@ -132,7 +132,7 @@ with_fits from bytes (Err bad) xs small reads all = all
 with_fits from bytes (Ok m) xs small reads all =
     let is = read_fits bytes m small reads in
     owed_fits (record { name = name_of from m; message = m }) m.body xs all
-        (record { epoch = is.epoch; cid = is.cid; index = is.index; service = is.service })
+    (record { epoch = is.epoch; cid = is.cid; index = is.index; service = is.service })
 
 unserved_taken : (l : Looks) (from : Host) (bytes : List ℕ) → Lives l → IsBytes bytes
     → Lives (after (events.Taken from bytes tooks.Unserved) l)

@@ -211,7 +211,7 @@ polled_stray l x xs to bytes lives owes a =
     let is : IsStray x = All-head IsStray x xs (subst (All IsStray) owes lives.strays) in
     subst (λ (got : Option (Host × List ℕ)). Lives (after (events.Polled got) l)) (sym a)
     (subst Lives (sym (given_is_stray l x is))
-        (lives_strays l (drop 1 l.strays) lives (All-drop IsStray 1 l.strays lives.strays)))
+    (lives_strays l (drop 1 l.strays) lives (All-drop IsStray 1 l.strays lives.strays)))
 
 polled_with : (s : Setup) (l : Looks) (xs : List Stray) (to : Host) (bytes : List ℕ) → s.service < 2 ^ 16 → Lives l
     → l.strays ≡ xs

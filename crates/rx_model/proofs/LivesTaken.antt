@@ -125,7 +125,7 @@ lives_taken s l from bytes got lives small taken a =
     elim (taken_is s.service bytes taken) as (λ _. Lives (after (events.Taken from bytes got) l)) [
       | inl f ↦
           subst (λ (took : Took). Lives (after (events.Taken from bytes took) l))
-              (sym (a ∙ took_front s l from bytes f))
+          (sym (a ∙ took_front s l from bytes f))
           (lives_front l from bytes f.row lives small (front_rows s.service (reading_of bytes) f.row f.is))
       | inr f ↦ served_taken s l from bytes got lives small f.request (a ∙ took_behind s l from bytes f)
     ]

@@ -333,9 +333,9 @@ with_owed_ack (Taken from bytes got) c l =
     owed_for_named got (named from (reading_of bytes)) c (front_of (l.kept c)) l.now (l.owed_ack c)
 with_owed_ack (HasRead d max got bytes) c l =
     if same_name c d then
-      owed_for_read (used_of (received_of l c))
-        (used_of (record { kept = l.kept c; read = l.read c ++ bytes; ended = is_end got || l.ended c })) l.now
-        (l.owed_ack c)
+    owed_for_read (used_of (received_of l c))
+    (used_of (record { kept = l.kept c; read = l.read c ++ bytes; ended = is_end got || l.ended c })) l.now
+    (l.owed_ack c)
     else l.owed_ack c
 with_owed_ack (Polled (Some (to, bytes))) c l =
     unless_ack_given (unless_stray (named to (reading_of bytes))) c (l.owed_ack c)

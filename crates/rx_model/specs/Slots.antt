@@ -43,4 +43,4 @@ abbrev pub room : Setup → Looks → CallName → ℕ
 room s l c =
     PIECE_BYTES * (opened (length (l.said c))
     + min (min (WINDOW_PACKETS - pieces_of (sent_of l c)) (spare_slots s l + 1 - lead l c))
-        (2 ^ 32 - 2 - opened (length (l.said c)))) - length (l.said c)
+    (2 ^ 32 - 2 - opened (length (l.said c)))) - length (l.said c)

@@ -38,7 +38,7 @@ given_at : (service : ℕ) (strays : List Stray) (conns : List ConnEntry) (live 
     → ((y : ConnEntry) → conn_after y d ≡ given_conn y) → conn_in d < length conns → x ≡ get_or conns (conn_in d) x
     → CallsAfter (take live items) (take live after) d
     → Gives (node_of service strays conns live items)
-        (node_of service strays (set conns (conn_in d) (given_conn x)) live after) d
+    (node_of service strays (set conns (conn_in d) (given_conn x)) live after) d
 given_at service strays conns live items after x d plain below conn calls =
     record {
       setup = refl;

@@ -78,7 +78,7 @@ pub read_at : (service : ℕ) (strays : List Stray) (conns : List ConnEntry) (li
     (max : ℕ) (got : ServeRead) (bytes : List ℕ)
     → position (is_named c) (take live items) ≡ Some i → x ≡ get_or items i x → (got, bytes) ≡ entry_read x max
     → Answered (node_of service strays conns live items)
-        (node_of service strays conns live (set items i (after_read x got)))
+    (node_of service strays conns live (set items i (after_read x got)))
     (read_event c max got bytes)
 read_at service strays conns live items i x c max got bytes found value answer h s =
     let at = found_at (is_named c) live items i x found value in
@@ -99,7 +99,7 @@ write_at service strays conns live items i x c offer got bytes found value fits 
     let at = found_at (is_named c) live items i x found value in
     rw (take-set-lt live items i (after_write x (accepted_of got offer)) at.lives)
     (write_some (node_of service strays conns live items) h i x c offer got
-        (alive _ h s) bytes found at.there fits answer)
+    (alive _ h s) bytes found at.there fits answer)
 
 -- the call found by its name is finished
 pub finish_at : (service : ℕ) (strays : List Stray) (conns : List ConnEntry) (live : ℕ) (items : List Entry) (i : ℕ)
@@ -107,7 +107,7 @@ pub finish_at : (service : ℕ) (strays : List Stray) (conns : List ConnEntry) (
     (c : CallName) (got : Result (Unit {0}) ServeRefused)
     → position (is_named c) (take live items) ≡ Some i → x ≡ get_or items i x → got ≡ entry_finish x
     → Answered (node_of service strays conns live items)
-        (node_of service strays conns live (set items i (after_finish x got)))
+    (node_of service strays conns live (set items i (after_finish x got)))
     (finish_event c got)
 finish_at service strays conns live items i x c got found value answer h s =
     let at = found_at (is_named c) live items i x found value in

@@ -65,7 +65,7 @@ poll_none node h s quiet none =
     agrees_none l (next_item l) (subst (λ (o : Option Due). Agrees l o (next_item l)) none (node_agrees node h s))
     in
     let answer : None ≡ poll_answer node.setup l = sym (no_strays node h s.stands quiet
-        ∙ ap (datagram_for node.setup l) no_item) in
+    ∙ ap (datagram_for node.setup l) no_item) in
     (answer, nothing_kept_changes node h (events.Polled None) s.stands answer refl refl refl (λ x. refl) (λ c. refl))
 
 -- what is due is given
@@ -89,7 +89,7 @@ pub poll_stray : (node : Node) (h : List Event) (x : Stray) (bytes : List ℕ) �
 poll_stray node h x bytes s first text =
     let l : Looks = looks h in
     let owed : l.strays ≡ x ∷ drop 1 l.strays = first_is l.strays x
-        (ap (λ (xs : List Stray). slice_get xs 0) (sym s.stands.strays) ∙ first) in
+    (ap (λ (xs : List Stray). slice_get xs 0) (sym s.stands.strays) ∙ first) in
     let answer : Some (x.host, bytes) ≡ poll_answer node.setup l = ap (λ (b : List ℕ). Some (x.host, b)) text
     ∙ sym (ap (poll_with node.setup l) owed) in
     let fits : IsStray x = All-head IsStray x (drop 1 l.strays) (subst (All IsStray) owed s.lives.strays) in

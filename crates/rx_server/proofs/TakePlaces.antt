@@ -65,11 +65,11 @@ pub repeat_at : (service : ℕ) (strays : List Stray) (conns : List ConnEntry) (
     (x : Entry)
     (from : Host) (bytes : List ℕ) (m : Message) (c : CallName)
     → Asks service bytes m → c ≡ name_of from m
-        → judgements.Repeat place ≡ judged (node_of service strays conns live items) c
+    → judgements.Repeat place ≡ judged (node_of service strays conns live items) c
     → x ≡ get_or items place x
     → Answered (node_of service strays conns live items)
     (node_of service strays conns live (set items place (after_repeat x m.serial)))
-        (events.Taken from bytes tooks.Repeat)
+    (events.Taken from bytes tooks.Repeat)
 repeat_at service strays conns live items place x from bytes m c asks name is value h s =
     let node : Node = node_of service strays conns live items in
     let at = found_at (λ (e : Entry). same_name e.name c) live items place x (repeat_place node c place is) value in
@@ -97,7 +97,7 @@ crowded_at node new from bytes m c asks name is owes h s =
 -- the call of what came starts
 pub starts_at : (node mid new : Node) (from : Host) (bytes : List ℕ) (m : Message) (payload : List ℕ) (c : CallName)
     → Asks node.setup.service bytes m → c ≡ name_of from m → judgements.Kept ≡ judged node c
-        → m.body ≡ models.Chunk payload
+    → m.body ≡ models.Chunk payload
     → OwesBusy node mid (connection_of c) c.chan None
     → new ≡ record mid { calls = mid.calls ++ fresh_entry c payload (owed_at_start m.flags m.serial) ∷ [] }
     → Answered node new (events.Taken from bytes tooks.Kept)

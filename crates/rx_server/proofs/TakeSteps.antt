@@ -42,9 +42,15 @@ pub new_allowed : (node : Node) (h : List Event) (from : Host) (bytes : List ℕ
     × Allowed node.setup (looks h) (taken from bytes (took_judged j))
 new_allowed node h from bytes m j a is_new is =
     let new = new_place node (name_of from m) j is_new is in
-    let absent = not_kept node h (name_of from m) a.standing new.0 in
-    (absent, (a.bytes_fit, request_taken node.setup.service bytes a.passes, ap took_judged new.1
-        ∙ new_answer node h from bytes m a absent))
+    let absent = not_kept node h (name_of from m) a.standing new.0 in (
+      absent,
+      (
+        a.bytes_fit,
+        request_taken node.setup.service bytes a.passes,
+        ap took_judged new.1
+            ∙ new_answer node h from bytes m a absent,
+      ),
+    )
 
 -- ---- repeated
 

@@ -19,5 +19,5 @@ returns-clause-answered c =
     let found = position_in (is_named name) live _ items _ c.deref.ensures.value c.in-Some.ensures in
     rw (← c.self.view_is, c.finish.ensures.entry, c.requires)
     (finish_at c.self.inside.service c.self.inside.strays.items c.self.inside.conns.items live items c.in-Some.place
-        c.index_mut-call.result.now
+    c.index_mut-call.result.now
     name c.finish.result found c.index_mut-call.ensures.value c.finish.ensures.answer)

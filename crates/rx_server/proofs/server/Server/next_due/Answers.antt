@@ -14,4 +14,4 @@ returns-clause-within c =
     ∙ ap (λ (es : List Entry). due_from 0 c.self.inside.conns.items (take live es)) c.deref-2.ensures.value in
     rw (← c.self.view_is) (some_within
     (node_of c.self.inside.service c.self.inside.strays.items c.self.inside.conns.items live c.self.inside.calls.items)
-        c.next_due.result is)
+    c.next_due.result is)

@@ -37,6 +37,6 @@ returns-clause-answered c =
     let quiet : new.strays ≡ [] = ap (λ (n : Node). n.strays) owed.1 ∙ owed.0 in
     let bytes : List ℕ = take c.write_due-count.result.1 c.write_due-count.new.to in
     subst (λ (n : Node). Answered n c.on_given.new.self (events.Polled (Some (c.write_due-count.result.0, bytes))))
-        owed.1
+    owed.1
     (λ h s. poll_some new _ h c.in_ok-due.due _ _ (alive _ h s) quiet due c.write_due-count.ensures.writes
     c.on_given.ensures)

@@ -20,7 +20,7 @@ write-requires c =
     let found = position_in (is_named name) live _ items _ c.deref.ensures.value c.in-Some.ensures in
     let asked = rw (← c.self.view_is) at c.requires in
     let room = room_at c.self.inside.service c.self.inside.strays.items c.self.inside.conns.items live items
-        c.in-Some.place
+    c.in-Some.place
     c.index_mut-call.result.now name (length c.args.bytes.now) found c.index_mut-call.ensures.value asked in
     room
 
@@ -32,10 +32,10 @@ returns-clause-answered c =
     let found = position_in (is_named name) live _ items _ c.deref.ensures.value c.in-Some.ensures in
     let asked = rw (← c.self.view_is) at c.requires in
     let room = room_at c.self.inside.service c.self.inside.strays.items c.self.inside.conns.items live items
-        c.in-Some.place
+    c.in-Some.place
     c.index_mut-call.result.now name (length c.args.bytes.now) found c.index_mut-call.ensures.value asked in
     rw (← c.self.view_is, c.write.ensures.entry)
     (write_at c.self.inside.service c.self.inside.strays.items c.self.inside.conns.items live items c.in-Some.place
-        c.index_mut-call.result.now
+    c.index_mut-call.result.now
     name c.args.bytes.now c.write.result
     (λ i. omega (arith, c.type_inv.bytes i)) found c.index_mut-call.ensures.value room c.write.ensures.answer)
