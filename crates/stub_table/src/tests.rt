@@ -1,0 +1,6 @@
+mod afs;
+mod limits;
+mod replies;
+mod requests;
+mod told;
+mod values;

@@ -1,0 +1,252 @@
+//! Reading values from left to right.
+
+ghost use Rattle.std.specs.Prelude.{◌≡◌, Some, map};
+ghost use Rattle.xdr_value.specs.View.{kind_of, types_of, value_of, values_of, part_of, choice_of};
+ghost use Rattle.xdr_value.specs.Heads.{arm_kind};
+ghost use Rattle.xdr_value.specs.HeadView.{head_view};
+ghost use Rattle.xdr_code.specs.Reading.{Gives, Adds, maybe_at, chosen_at, parts_at, elements_at, head_at, value_at};
+
+use crate::fault::{Fault, Stop, Why};
+use crate::items::{limited, read_tag, word};
+use crate::leaves::{basic, leaf, member, signed_number, unsigned_number};
+use std::alloc::Global;
+use xdr_value::{
+    Arm, Def, Field, Head, Interface, Ty, Value, arm_of, list_limit, resolve, tag_number,
+};
+
+/// How many structs, unions, arrays and optional data may stand within one another.
+pub const MAX_LEVELS: u32 = 64;
+
+/// For how many elements a list has room before the first is read, whatever its count says.
+const FIRST_ROOM: u32 = 64;
+
+#[cycle(value)]
+#[tactic(auto, unfolding(crate::specs::Reading::value_at))]
+fn value<'a>(
+    alloc: Global,
+    types: &[Def],
+    levels: u32,
+    ty: &Ty,
+    bytes: &'a [u8],
+) -> Result<(Value, &'a [u8]), Stop>
+    ensures { Gives (λ x. (value_of x.0, x.1.now)) result
+        (value_at levels (types_of types.now) (kind_of ty.now) bytes.now) }
+{
+    if levels == 0 {
+        leaf(alloc, resolve(types, ty), bytes)
+    } else {
+        inside(alloc, types, levels - 1, resolve(types, ty), bytes)
+    }
+}
+
+#[inline(never)]
+#[cycle(value)]
+fn value_onto<'a>(
+    items: &mut Vec<Value>,
+    alloc: Global,
+    types: &[Def],
+    levels: u32,
+    ty: &Ty,
+    bytes: &'a [u8],
+) -> Result<&'a [u8], Stop>
+    ensures { Adds items.old.items items.new.items (λ r. r.now) result
+        (value_at levels (types_of types.now) (kind_of ty.now) bytes.now) }
+{
+    let (item, rest) = value(alloc, types, levels, ty, bytes)?;
+    items.push(item)?;
+    Ok(rest)
+}
+
+// Puts the value at the front behind the items. A plain number is read at once.
+#[inline(always)]
+#[cycle(value)]
+fn read_onto<'a>(
+    items: &mut Vec<Value>,
+    alloc: Global,
+    types: &[Def],
+    levels: u32,
+    ty: &Ty,
+    bytes: &'a [u8],
+) -> Result<&'a [u8], Stop>
+    ensures { Adds items.old.items items.new.items (λ r. r.now) result
+        (value_at levels (types_of types.now) (kind_of ty.now) bytes.now) }
+{
+    match ty {
+        Ty::Int => {
+            let (n, rest) = word(bytes)?;
+            let number = signed_number(n);
+            items.push(number)?;
+            Ok(rest)
+        }
+        Ty::Uint => {
+            let (n, rest) = word(bytes)?;
+            let number = unsigned_number(n);
+            items.push(number)?;
+            Ok(rest)
+        }
+        _ => value_onto(items, alloc, types, levels, ty, bytes),
+    }
+}
+
+// Where the levels are those that may begin inside.
+#[cycle(value)]
+#[tactic(auto, unfolding(crate::specs::Reading::head_at))]
+fn inside<'a>(
+    alloc: Global,
+    types: &[Def],
+    levels: u32,
+    head: Head<'_>,
+    bytes: &'a [u8],
+) -> Result<(Value, &'a [u8]), Stop>
+    ensures { Gives (λ x. (value_of x.0, x.1.now)) result
+        (head_at (types_of types.now) (Some (value_at levels (types_of types.now))) (head_view head.entry) bytes.now) }
+{
+    match head {
+        Head::Basic(kind) => basic(alloc, kind, bytes),
+        Head::Enum(members) => member(members, bytes),
+        Head::Unknown => Err(Stop::Fault(Fault::Short)),
+        Head::Struct(fields) => {
+            let (items, rest) = parts(alloc, types, levels, fields, bytes)?;
+            Ok((Value::List(items), rest))
+        }
+        Head::Union(kind, arms) => {
+            let (chosen, rest) = read_tag(kind, arms, bytes)?;
+            chosen_arm(alloc, types, levels, arms, chosen, rest)
+        }
+        Head::Array(of, n) => {
+            let (items, rest) = elements(alloc, types, levels, of, n, bytes)?;
+            Ok((Value::List(items), rest))
+        }
+        Head::ArrayUpTo(of, limit) => {
+            let (n, rest) = limited(bytes, list_limit(types, of, limit), Why::Length)?;
+            let (items, rest) = elements(alloc, types, levels, of, n, rest)?;
+            Ok((Value::List(items), rest))
+        }
+        Head::Maybe(of) => optional(alloc, types, levels, of, bytes),
+    }
+}
+
+#[cycle(value)]
+fn optional<'a>(
+    alloc: Global,
+    types: &[Def],
+    levels: u32,
+    of: &Ty,
+    bytes: &'a [u8],
+) -> Result<(Value, &'a [u8]), Stop>
+    ensures { Gives (λ x. (value_of x.0, x.1.now)) result
+        (maybe_at (value_at levels (types_of types.now)) (kind_of of.now) bytes.now) }
+{
+    let (n, rest) = limited(bytes, 1, Why::Bool)?;
+    if n == 0 {
+        return Ok((Value::Maybe(None), rest));
+    }
+    let (inner, rest) = value(alloc, types, levels, of, rest)?;
+    Ok((Value::there(alloc, inner)?, rest))
+}
+
+#[cycle(value)]
+fn chosen_arm<'a>(
+    alloc: Global,
+    types: &[Def],
+    levels: u32,
+    arms: &Vec<Arm>,
+    chosen: Value,
+    bytes: &'a [u8],
+) -> Result<(Value, &'a [u8]), Stop>
+    ensures { Gives (λ x. (value_of x.0, x.1.now)) result
+        (chosen_at (value_at levels (types_of types.now)) (map choice_of arms.now.items) (value_of chosen, bytes.now)) }
+{
+    match arm_of(arms, tag_number(&chosen)) {
+        // No tag that is read lacks its arm.
+        None => Err(Stop::Fault(Fault::Short)),
+        Some(of) => {
+            let (inner, rest) = arm(alloc, types, levels, of, bytes)?;
+            Ok((Value::chosen(alloc, chosen, inner)?, rest))
+        }
+    }
+}
+
+#[cycle(value)]
+fn arm<'a>(
+    alloc: Global,
+    types: &[Def],
+    levels: u32,
+    arm: &Arm,
+    bytes: &'a [u8],
+) -> Result<(Value, &'a [u8]), Stop>
+    ensures { Gives (λ x. (value_of x.0, x.1.now)) result
+        (value_at levels (types_of types.now) (arm_kind (choice_of arm.now)) bytes.now) }
+{
+    match &arm.field {
+        None => value(alloc, types, levels, &Ty::Void, bytes),
+        Some(field) => value(alloc, types, levels, &field.ty, bytes),
+    }
+}
+
+#[cycle(value)]
+fn parts<'a>(
+    alloc: Global,
+    types: &[Def],
+    levels: u32,
+    fields: &Vec<Field>,
+    bytes: &'a [u8],
+) -> Result<(Vec<Value>, &'a [u8]), Stop>
+    ensures { Gives (λ x. (values_of x.0.items, x.1.now)) result
+        (parts_at (value_at levels (types_of types.now)) (map part_of fields.now.items) bytes.now) }
+{
+    let mut items = Vec::with_capacity(alloc, fields.len())?;
+    let mut rest = bytes;
+    for field in fields {
+        rest = read_onto(&mut items, alloc, types, levels, &field.ty, rest)?;
+    }
+    Ok((items, rest))
+}
+
+#[cycle(value)]
+fn elements<'a>(
+    alloc: Global,
+    types: &[Def],
+    levels: u32,
+    of: &Ty,
+    n: u32,
+    bytes: &'a [u8],
+) -> Result<(Vec<Value>, &'a [u8]), Stop>
+    ensures { Gives (λ x. (values_of x.0.items, x.1.now)) result
+        (elements_at (value_at levels (types_of types.now)) (kind_of of.now) n bytes.now) }
+{
+    let room = if n < FIRST_ROOM { n } else { FIRST_ROOM };
+    let mut items = Vec::with_capacity(alloc, room as usize)?;
+    let mut rest = bytes;
+    for _ in 0..n {
+        rest = read_onto(&mut items, alloc, types, levels, of, rest)?;
+    }
+    Ok((items, rest))
+}
+
+/// One value for each field from left to right, where each may hold `MAX_LEVELS` levels, and the
+/// bytes behind them; or the first thing from the left that stops the reading.
+pub fn read_fields<'a>(
+    alloc: Global,
+    iface: &Interface,
+    fields: &Vec<Field>,
+    bytes: &'a [u8],
+) -> Result<(Vec<Value>, &'a [u8]), Stop>
+    ensures { Gives (λ x. (values_of x.0.items, x.1.now)) result
+        (parts_at (value_at MAX_LEVELS (types_of iface.now.types.items)) (map part_of fields.now.items) bytes.now) }
+{
+    parts(alloc, &iface.types, MAX_LEVELS, fields, bytes)
+}
+
+/// A value of the type and the bytes behind it.
+pub fn read_value<'a>(
+    alloc: Global,
+    types: &[Def],
+    ty: &Ty,
+    bytes: &'a [u8],
+) -> Result<(Value, &'a [u8]), Stop>
+    ensures { Gives (λ x. (value_of x.0, x.1.now)) result
+        (value_at MAX_LEVELS (types_of types.now) (kind_of ty.now) bytes.now) }
+{
+    value(alloc, types, MAX_LEVELS, ty, bytes)
+}

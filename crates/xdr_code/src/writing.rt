@@ -1,0 +1,310 @@
+//! Writing values.
+
+ghost use Rattle.std.specs.Prelude.{◌≡◌, ◌<◌, ◌≤◌, ◌^◌, ◌++◌, length, map, replicate, IfOk, OnOk};
+ghost use Rattle.std.specs.Int.{w32, w64, to_be_bytes, cast_unsigned};
+ghost use Rattle.xdr_value.specs.View.{kind_of, types_of, value_of, values_of, part_of, choice_of};
+ghost use Rattle.xdr_value.specs.HeadView.{head_view, tag_view};
+ghost use Rattle.xdr_value.specs.Ranges.{IsBelow, IsWithin};
+ghost use Rattle.xdr_value.specs.Heads.{head_of, arm_of, arm_kind};
+ghost use Rattle.xdr_value.specs.Fits.{Fits, PartsFit, AllFit, NumberFits, OctetsFit, ItemsFit, TagFits, ArmFits, tag_number, count, depth};
+ghost use Rattle.xdr_value.specs.Spelling.{word, padded, spelling, parts_spelling, all_spelling, number_spelling, octets_spelling, items_spelling, tag_spelling, arm_spelling};
+
+use crate::reading::MAX_LEVELS;
+use std::alloc::{AllocError, Global};
+use xdr_value::{
+    Arm, Basic, Def, Field, Head, Interface, Tag, Ty, Value, arm_of, resolve, tag_number,
+};
+
+#[inline(always)]
+fn put_word(out: &mut Vec<u8>, n: u32) -> Result<(), AllocError>
+    ensures { OnOk result (out.new.items ≡ out.old.items ++ word n) }
+{
+    out.extend_from_slice(&n.to_be_bytes())?;
+    Ok(())
+}
+
+fn put_signed(out: &mut Vec<u8>, n: i128) -> Result<(), AllocError>
+    requires { IsWithin (2 ^ 31) n }
+    ensures { OnOk result (out.new.items ≡ out.old.items ++ word (cast_unsigned w32 n)) }
+{
+    put_word(out, (n as i32).cast_unsigned())
+}
+
+fn put_unsigned(out: &mut Vec<u8>, n: i128) -> Result<(), AllocError>
+    requires { IsBelow (2 ^ 32) n }
+    ensures { OnOk result (out.new.items ≡ out.old.items ++ word (cast_unsigned w32 n)) }
+{
+    put_word(out, n as u32)
+}
+
+fn put_hyper(out: &mut Vec<u8>, n: i128) -> Result<(), AllocError>
+    requires { IsWithin (2 ^ 63) n }
+    ensures { OnOk result (out.new.items ≡ out.old.items ++ to_be_bytes w64 (cast_unsigned w64 n)) }
+{
+    out.extend_from_slice(&(n as i64).cast_unsigned().to_be_bytes())?;
+    Ok(())
+}
+
+fn put_uhyper(out: &mut Vec<u8>, n: i128) -> Result<(), AllocError>
+    requires { IsBelow (2 ^ 64) n }
+    ensures { OnOk result (out.new.items ≡ out.old.items ++ to_be_bytes w64 (cast_unsigned w64 n)) }
+{
+    out.extend_from_slice(&(n as u64).to_be_bytes())?;
+    Ok(())
+}
+
+fn put_number(out: &mut Vec<u8>, n: i128, head: Head) -> Result<(), AllocError>
+    requires { NumberFits (head_view head) n }
+    ensures { OnOk result (out.new.items ≡ out.old.items ++ number_spelling (head_view head.entry) n) }
+{
+    match head {
+        Head::Basic(kind) => match kind {
+            Basic::Int | Basic::Short | Basic::Char => put_signed(out, n),
+            Basic::Uint | Basic::Ushort | Basic::Uchar => put_unsigned(out, n),
+            Basic::Hyper => put_hyper(out, n),
+            Basic::Uhyper => put_uhyper(out, n),
+            _ => Ok(()),
+        },
+        Head::Enum(_) => put_signed(out, n),
+        _ => Ok(()),
+    }
+}
+
+#[inline(never)]
+fn put_resolved(out: &mut Vec<u8>, n: i128, types: &[Def], ty: &Ty) -> Result<(), AllocError>
+    requires { NumberFits (head_of (types_of types.now) (kind_of ty.now)) n }
+    ensures { OnOk result (out.new.items ≡ out.old.items
+        ++ number_spelling (head_of (types_of types.now) (kind_of ty.now)) n) }
+{
+    put_number(out, n, resolve(types, ty))
+}
+
+// A plain number is written at once.
+#[inline(always)]
+#[tactic(auto, unfolding(xdr_value::specs::Heads::head_of, xdr_value::specs::Heads::head_within))]
+fn put_plain(out: &mut Vec<u8>, n: i128, types: &[Def], ty: &Ty) -> Result<(), AllocError>
+    requires { NumberFits (head_of (types_of types.now) (kind_of ty.now)) n }
+    ensures { OnOk result (out.new.items ≡ out.old.items
+        ++ number_spelling (head_of (types_of types.now) (kind_of ty.now)) n) }
+{
+    match ty {
+        Ty::Int => put_signed(out, n),
+        Ty::Uint => put_unsigned(out, n),
+        _ => put_resolved(out, n, types, ty),
+    }
+}
+
+fn put_tag(out: &mut Vec<u8>, value: &Value, tag: Tag) -> Result<(), AllocError>
+    requires { TagFits (tag_view tag) (value_of value.now) }
+    ensures { OnOk result (out.new.items ≡ out.old.items ++ tag_spelling (value_of value.now)) }
+{
+    match value {
+        Value::Number(n) => match tag {
+            Tag::Int | Tag::Enum(_) => put_signed(out, *n),
+            Tag::Uint => put_unsigned(out, *n),
+            _ => Ok(()),
+        },
+        Value::Flag(b) => put_word(out, if *b { 1 } else { 0 }),
+        _ => Ok(()),
+    }
+}
+
+fn put_padded(out: &mut Vec<u8>, bytes: &Vec<u8>) -> Result<(), AllocError>
+    ensures { OnOk result (out.new.items ≡ out.old.items ++ padded bytes.now.items) }
+{
+    out.extend_from_slice(bytes)?;
+    for _ in 0..(4 - bytes.len() % 4) % 4 {
+        out.push(0)?;
+    }
+    Ok(())
+}
+
+fn put_octets(out: &mut Vec<u8>, bytes: &Vec<u8>, head: Head) -> Result<(), AllocError>
+    requires { OctetsFit (head_view head) bytes.now.items }
+    ensures { OnOk result (out.new.items ≡ out.old.items ++ octets_spelling (head_view head.entry) bytes.now.items) }
+{
+    match head {
+        Head::Basic(kind) => match kind {
+            Basic::Opaque(_) => put_padded(out, bytes),
+            Basic::OpaqueUpTo(_) | Basic::Text(_) => {
+                put_word(out, bytes.len() as u32)?;
+                put_padded(out, bytes)
+            }
+            _ => Ok(()),
+        },
+        _ => Ok(()),
+    }
+}
+
+#[cycle(put)]
+fn put_value(out: &mut Vec<u8>, v: &Value, types: &[Def], ty: &Ty) -> Result<(), AllocError>
+    requires { Fits (types_of types.now) (kind_of ty.now) (value_of v.now) }
+    ensures { OnOk result (out.new.items ≡ out.old.items
+        ++ spelling (types_of types.now) (kind_of ty.now) (value_of v.now)) }
+{
+    match v {
+        Value::Number(n) => put_plain(out, *n, types, ty),
+        Value::Flag(b) => put_word(out, if *b { 1 } else { 0 }),
+        Value::Octets(bytes) => put_octets(out, bytes, resolve(types, ty)),
+        Value::List(items) => put_items(out, items, types, resolve(types, ty)),
+        Value::Union(chosen, inner) => match resolve(types, ty) {
+            Head::Union(tag, arms) => put_union(out, inner, chosen, types, tag, arms),
+            _ => Ok(()),
+        },
+        Value::Maybe(inner) => match inner {
+            None => put_word(out, 0),
+            Some(inner) => match resolve(types, ty) {
+                Head::Maybe(of) => {
+                    put_word(out, 1)?;
+                    put_value(out, inner, types, of)?;
+                    Ok(())
+                }
+                _ => Ok(()),
+            },
+        },
+        Value::Void => Ok(()),
+    }
+}
+
+#[cycle(put)]
+fn put_items(
+    out: &mut Vec<u8>,
+    items: &Vec<Value>,
+    types: &[Def],
+    head: Head,
+) -> Result<(), AllocError>
+    requires { ItemsFit (types_of types.now) (head_view head)
+        (λ ps. PartsFit (types_of types.now) ps (values_of items.now.items))
+        (λ k. AllFit (types_of types.now) k (values_of items.now.items)) (count (values_of items.now.items)) }
+    ensures { OnOk result (out.new.items ≡ out.old.items ++ items_spelling (head_view head.entry)
+        (λ ps. parts_spelling (types_of types.now) ps (values_of items.now.items))
+        (λ k. all_spelling (types_of types.now) k (values_of items.now.items)) (count (values_of items.now.items))) }
+{
+    match head {
+        Head::Struct(fields) => put_parts(out, items, types, fields),
+        Head::Array(of, _) => put_all(out, items, types, of),
+        Head::ArrayUpTo(of, _) => {
+            put_word(out, items.len() as u32)?;
+            put_all(out, items, types, of)?;
+            Ok(())
+        }
+        _ => Ok(()),
+    }
+}
+
+// One of a list, where a number is written at once.
+#[inline(always)]
+#[cycle(put)]
+fn put_one(out: &mut Vec<u8>, v: &Value, types: &[Def], ty: &Ty) -> Result<(), AllocError>
+    requires { Fits (types_of types.now) (kind_of ty.now) (value_of v.now) }
+    ensures { OnOk result (out.new.items ≡ out.old.items
+        ++ spelling (types_of types.now) (kind_of ty.now) (value_of v.now)) }
+{
+    match v {
+        Value::Number(n) => put_plain(out, *n, types, ty),
+        _ => put_value(out, v, types, ty),
+    }
+}
+
+// One of a list whose type was looked up.
+#[inline(always)]
+#[cycle(put)]
+fn put_element(
+    out: &mut Vec<u8>,
+    v: &Value,
+    types: &[Def],
+    ty: &Ty,
+    head: Head,
+) -> Result<(), AllocError>
+    requires head { head_view head ≡ head_of (types_of types.now) (kind_of ty.now) }
+    requires fits { Fits (types_of types.now) (kind_of ty.now) (value_of v.now) }
+    ensures { OnOk result (out.new.items ≡ out.old.items
+        ++ spelling (types_of types.now) (kind_of ty.now) (value_of v.now)) }
+{
+    match v {
+        Value::Number(n) => put_plain(out, *n, types, ty),
+        Value::List(items) => put_items(out, items, types, head),
+        _ => put_value(out, v, types, ty),
+    }
+}
+
+#[cycle(put)]
+fn put_union(
+    out: &mut Vec<u8>,
+    inner: &Value,
+    chosen: &Value,
+    types: &[Def],
+    tag: Tag,
+    arms: &Vec<Arm>,
+) -> Result<(), AllocError>
+    requires tag { TagFits (tag_view tag) (value_of chosen.now) }
+    requires arm { ArmFits (arm_of (tag_number (value_of chosen.now)) (map choice_of arms.now.items))
+        (λ k. Fits (types_of types.now) k (value_of inner.now)) }
+    ensures { OnOk result (out.new.items ≡ out.old.items
+        ++ (tag_spelling (value_of chosen.now)
+        ++ arm_spelling (arm_of (tag_number (value_of chosen.now)) (map choice_of arms.now.items))
+        (λ k. spelling (types_of types.now) k (value_of inner.now)))) }
+{
+    put_tag(out, chosen, tag)?;
+    match arm_of(arms, tag_number(chosen)) {
+        None => Ok(()),
+        Some(arm) => {
+            put_arm(out, inner, types, arm)?;
+            Ok(())
+        }
+    }
+}
+
+#[cycle(put)]
+fn put_arm(out: &mut Vec<u8>, inner: &Value, types: &[Def], arm: &Arm) -> Result<(), AllocError>
+    requires { Fits (types_of types.now) (arm_kind (choice_of arm.now)) (value_of inner.now) }
+    ensures { OnOk result (out.new.items ≡ out.old.items
+        ++ spelling (types_of types.now) (arm_kind (choice_of arm.now)) (value_of inner.now)) }
+{
+    match &arm.field {
+        None => put_value(out, inner, types, &Ty::Void),
+        Some(field) => put_value(out, inner, types, &field.ty),
+    }
+}
+
+#[cycle(put)]
+fn put_parts(
+    out: &mut Vec<u8>,
+    items: &Vec<Value>,
+    types: &[Def],
+    fields: &Vec<Field>,
+) -> Result<(), AllocError>
+    requires { PartsFit (types_of types.now) (map part_of fields.now.items) (values_of items.now.items) }
+    ensures { OnOk result (out.new.items ≡ out.old.items
+        ++ parts_spelling (types_of types.now) (map part_of fields.now.items) (values_of items.now.items)) }
+{
+    for i in 0..items.len() {
+        put_one(out, &items[i], types, &fields[i].ty)?;
+    }
+    Ok(())
+}
+
+#[cycle(put)]
+fn put_all(out: &mut Vec<u8>, items: &Vec<Value>, types: &[Def], of: &Ty) -> Result<(), AllocError>
+    requires { AllFit (types_of types.now) (kind_of of.now) (values_of items.now.items) }
+    ensures { OnOk result (out.new.items ≡ out.old.items
+        ++ all_spelling (types_of types.now) (kind_of of.now) (values_of items.now.items)) }
+{
+    let head = resolve(types, of);
+    for item in items {
+        put_element(out, item, types, of, head)?;
+    }
+    Ok(())
+}
+
+/// The spelling of a value that fits, and has at most 64 levels.
+pub fn encode(alloc: Global, iface: &Interface, ty: &Ty, v: &Value) -> Result<Vec<u8>, AllocError>
+    requires fits { Fits (types_of iface.now.types.items) (kind_of ty.now) (value_of v.now) }
+    requires shallow { depth (value_of v.now) ≤ MAX_LEVELS }
+    ensures { IfOk result (λ bytes. bytes.items ≡
+        spelling (types_of iface.now.types.items) (kind_of ty.now) (value_of v.now)) }
+{
+    let mut out = Vec::new(alloc);
+    put_value(&mut out, v, &iface.types, ty)?;
+    Ok(out)
+}

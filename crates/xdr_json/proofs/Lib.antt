@@ -1,0 +1,7 @@
+pub mod Lists
+pub mod Loop
+pub mod Texts
+pub mod Plain
+pub mod Fields
+pub mod Names
+pub mod Back

@@ -1,0 +1,39 @@
+use Rattle.std.proofs.Common.{◌≡◌, ℕ, ◌+◌, ◌∷◌, ◌<◌, List, drop, length, get_or, sym, ap, ◌∙◌, subst}
+use Rattle.std.proofs.lemmas.List.{drop_more, drop_all}
+use Rattle.xdr_value.specs.View.{kind_of, types_of, value_of, values_of}
+use Rattle.xdr_value.specs.Fits.{AllFit}
+use Rattle.xdr_value.specs.declared.value.Value.{Value}
+use Rattle.xdr_json.specs.Bytes.{AllHaveBytes}
+use Rattle.xdr_json.specs.Json.{elements_json}
+use Rattle.serde_json.specs.View.{items_view}
+use Rattle.xdr_json.proofs.Lists.{joined, elements_go_on, elements_end}
+use Rattle.xdr_json.proofs.printing.+json.Goals as goal
+
+-- a value that is met is the first of those that are left
+in_left : (vs : List Value) (i : ℕ) (v : Value) → i < length vs → v ≡ get_or vs i v → drop i vs ≡ v ∷ drop (i + 1) vs
+in_left vs i v lt is = drop_more vs i v lt ∙ ap (λ (w : Value). w ∷ drop (i + 1) vs) (sym is)
+
+pub elements_json-loop-item-preserved : goal.elements_json-loop-item-preserved
+elements_json-loop-item-preserved t c =
+    let left = in_left c.deref-item-items.result.now c.loop-item.item-index c.item-item.result c.loop-item-test.true
+    c.item-item.is in
+    let types = types_of c.args.types.now in
+    let of = kind_of c.args.of.now in
+    let total = elements_json types of (values_of c.args.items.now.items) in
+    record {
+      fits = (subst (λ vs. AllFit types of (values_of vs)) left c.loop-item.invariant.fits).1;
+      held = λ h. (subst (λ vs. AllHaveBytes (values_of vs) → AllHaveBytes (values_of c.args.items.now.items)) left
+          c.loop-item.invariant.held) (c.in_ok-element.ensures.held, h);
+      told =
+          elements_go_on types of c.loop-item.elements.items c.in_ok-element.element (value_of c.item-item.result)
+          (values_of (drop (c.loop-item.item-index + 1) c.deref-item-items.result.now)) c.push.new.self.items total
+          c.in_ok-push.ensures.items c.in_ok-element.ensures.json
+          (subst (λ vs. joined (items_view c.loop-item.elements.items) (elements_json types of (values_of vs)) ≡ total)
+          left c.loop-item.invariant.told);
+    }
+
+pub elements_json-returns-clause-json : goal.elements_json-returns-clause-json
+elements_json-returns-clause-json t c =
+    elements_end (types_of c.args.types.now) (kind_of c.args.of.now) c.loop-item.elements.items _ _
+    (ap values_of (drop_all c.loop-item.item-index c.deref-item-items.result.now c.loop-item-test.false))
+    c.loop-item.invariant.told

@@ -1,0 +1,6 @@
+pub mod TypeText
+pub mod Json
+pub mod Judged
+pub mod Judging
+pub mod Answers
+pub mod Bytes

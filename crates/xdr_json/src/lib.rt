@@ -1,0 +1,24 @@
+//! Values of XDR (RFC 4506) as JSON (RFC 8259).
+//!
+//! A contract sees JSON as `serde_json`'s data of `specs/` (`read` of a text), a value as `Datum`.
+//! `json_of` says which JSON a value is, `judged` which value JSON is or where it is none first.
+//! A caller writes values with `to_json` and reads them with `from_json`; `write_type` writes types.
+//! Of a number, `serde_json` reads only digits as whole: `1.0` and `-0` are values of no type.
+#![tactic(auto)]
+
+mod fault;
+mod judging;
+mod laws;
+mod leaves;
+mod objects;
+mod printing;
+mod type_name;
+
+pub use fault::JsonFault;
+pub use judging::from_json;
+pub use laws::value_returns;
+pub use printing::to_json;
+pub use type_name::write_type;
+
+#[cfg(test)]
+mod tests;

@@ -1,0 +1,5 @@
+mod forms;
+mod misfits;
+mod texts;
+mod told;
+mod types;

@@ -1,0 +1,9 @@
+pub mod Views
+pub mod Tells
+pub mod Forms
+pub mod Rings
+pub mod SoundLaw
+pub mod FitsLaw
+pub mod Filled
+pub mod Lists
+pub mod Called

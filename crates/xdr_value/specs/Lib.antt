@@ -1,0 +1,13 @@
+pub mod Data
+pub mod View
+pub mod Heads
+pub mod HeadView
+pub mod Ranges
+pub mod Hollow
+pub mod Fits
+pub mod Spelling
+pub mod Facts
+pub mod Tests
+pub mod Fitting
+pub mod Zero
+pub mod Values

@@ -1,0 +1,40 @@
+//! An interface, which keeps in its type that it is sound.
+
+ghost use Rattle.std.specs.Prelude.{◌≡◌, IsTrue};
+ghost use Rattle.xdr_value.specs.View.{types_of, procs_of};
+ghost use Rattle.xdr_value.specs.Tests.{is_sound};
+
+use crate::def::{Def, Proc};
+
+/// Types that name one another, and procedures over them.
+#[derive(Drop)]
+pub struct Interface {
+    pub package: Option<String>,
+    pub prefix: Option<String>,
+    pub types: Vec<Def>,
+    pub procs: Vec<Proc>,
+    pub ghost sound: { IsTrue (is_sound (types_of types.items) (procs_of procs.items)) },
+}
+
+impl Interface {
+    /// An interface of these types and procedures, of which `sound` says yes.
+    pub fn make(
+        package: Option<String>,
+        prefix: Option<String>,
+        types: Vec<Def>,
+        procs: Vec<Proc>,
+    ) -> Interface
+        requires { IsTrue (is_sound (types_of types.items) (procs_of procs.items)) }
+        ensures types { result.types ≡ types }
+        ensures procs { result.procs ≡ procs }
+        ensures package { result.«package» ≡ «package» }
+        ensures prefix { result.prefix ≡ prefix }
+    {
+        Interface {
+            package,
+            prefix,
+            types,
+            procs,
+        }
+    }
+}
