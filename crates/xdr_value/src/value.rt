@@ -8,8 +8,8 @@ ghost use Rattle.xdr_value.specs.View.{value_of, values_of};
 use std::alloc::{AllocError, Global};
 
 /// A value of a type: `Number` of the numbers and enums, `Octets` of opaque data and strings,
-/// `List` of arrays and structs, `Union` of a tag and its arm, `Maybe` of optional data.
-#[derive(Drop)]
+/// `List` of arrays and structs, `Union` of a tag and its arm, `Maybe` of optional data. It is
+/// matched by reference, since it has a `drop` of its own.
 pub enum Value {
     Number(i128),
     Flag(bool),
@@ -20,7 +20,34 @@ pub enum Value {
     Void,
 }
 
+impl Drop for Value {
+    // A number has nothing to free. Most values are one, so that is seen without a call.
+    #[inline(always)]
+    #[cycle(free)]
+    fn drop(self) {
+        match self {
+            Value::Number(_) => {}
+            held => held.free(),
+        }
+    }
+}
+
 impl Value {
+    #[inline(never)]
+    #[cycle(free)]
+    fn free(self) {
+        match self {
+            Value::Number(_) | Value::Flag(_) | Value::Void => {}
+            Value::Octets(bytes) => drop(bytes),
+            Value::List(items) => free_all(items),
+            Value::Union(tag, arm) => {
+                drop(tag);
+                drop(arm);
+            }
+            Value::Maybe(inner) => drop(inner),
+        }
+    }
+
     /// Optional data that is there.
     pub fn there(alloc: Global, inner: Value) -> Result<Value, AllocError>
         ensures { IfOk result (λ v. value_of v ≡ some (value_of inner)) }
@@ -43,6 +70,16 @@ impl Value {
         ensures { IfOk result (λ v. value_of v ≡ value_of self.now) }
     {
         copy(alloc, self)
+    }
+}
+
+// From the last to the first, so that what was allocated last is freed first. The C library then has
+// the memory at hand for the next value; freed from the front, a long list goes back to the system.
+#[inline(never)]
+#[cycle(free)]
+fn free_all(mut items: Vec<Value>) {
+    while let Some(item) = items.pop() {
+        drop(item);
     }
 }
 

@@ -15,7 +15,7 @@ fn words_files_values(rt: HostRuntime) -> Result<(), AllocError> {
         ("int<4>", "[1,true]", "$[1] int"),
     ];
     check(&rt, alloc, &rows)?;
-    let five = matches!(value_in(alloc, "int", "5"), Ok(Value::Number(5)));
+    let five = matches!(&value_in(alloc, "int", "5"), Ok(Value::Number(5)));
     assert!(rt; five);
     let five = printed(alloc, "int", &Value::Number(5))?;
     assert_eq!(rt; five.as_str(), "5");
