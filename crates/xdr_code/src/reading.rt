@@ -1,27 +1,25 @@
 //! Reading values from left to right.
 
-ghost use Rattle.std.specs.Prelude.{◌≡◌, Some, map};
+ghost use Rattle.std.specs.Prelude.{◌≡◌, ◌/◌, Some, length, map, min};
+ghost use Rattle.xdr_value.specs.Data.{Kind};
 ghost use Rattle.xdr_value.specs.View.{kind_of, types_of, value_of, values_of, part_of, choice_of};
-ghost use Rattle.xdr_value.specs.Heads.{arm_kind};
+ghost use Rattle.xdr_value.specs.Heads.{is_struct, arm_kind, head_of};
 ghost use Rattle.xdr_value.specs.HeadView.{head_view};
-ghost use Rattle.xdr_code.specs.Reading.{Gives, Adds, maybe_at, chosen_at, parts_at, elements_at, head_at, value_at};
+ghost use Rattle.xdr_value.specs.declared.ty.Basic.TheVariants as basics;
+ghost use Rattle.xdr_code.specs.Reading.{Gives, Adds, basic_at, maybe_at, chosen_at, parts_at, elements_at, head_at, value_at};
 
 use crate::fault::{Fault, Stop, Why};
 use crate::items::{limited, read_tag, word};
 use crate::leaves::{basic, leaf, member, signed_number, unsigned_number};
 use std::alloc::Global;
 use xdr_value::{
-    Arm, Def, Field, Head, Interface, Ty, Value, arm_of, list_limit, resolve, tag_number,
+    Arm, Basic, Def, Field, Head, Interface, Ty, Value, arm_of, list_limit, resolve, tag_number,
 };
 
 /// How many structs, unions, arrays and optional data may stand within one another.
 pub const MAX_LEVELS: u32 = 64;
 
-/// For how many elements a list has room before the first is read, whatever its count says.
-const FIRST_ROOM: u32 = 64;
-
 #[cycle(value)]
-#[tactic(auto, unfolding(crate::specs::Reading::value_at))]
 fn value<'a>(
     alloc: Global,
     types: &[Def],
@@ -32,35 +30,107 @@ fn value<'a>(
     ensures { Gives (λ x. (value_of x.0, x.1.now)) result
         (value_at levels (types_of types.now) (kind_of ty.now) bytes.now) }
 {
+    headed(alloc, types, levels, resolve(types, ty), bytes)
+}
+
+// A value of a type whose head was looked up.
+#[cycle(value)]
+#[tactic(auto, unfolding(crate::specs::Reading::value_at))]
+fn headed<'a>(
+    alloc: Global,
+    types: &[Def],
+    levels: u32,
+    head: Head<'_>,
+    bytes: &'a [u8],
+) -> Result<(Value, &'a [u8]), Stop>
+    ensures { (k : Kind) → head_view head.entry ≡ head_of (types_of types.now) k
+        → Gives (λ x. (value_of x.0, x.1.now)) result
+        (value_at levels (types_of types.now) k bytes.now) }
+{
     if levels == 0 {
-        leaf(alloc, resolve(types, ty), bytes)
+        leaf(alloc, head, bytes)
     } else {
-        inside(alloc, types, levels - 1, resolve(types, ty), bytes)
+        inside(alloc, types, levels - 1, head, bytes)
     }
 }
 
-#[inline(never)]
+// Puts the struct at the front behind the items.
+#[inline(always)]
 #[cycle(value)]
-fn value_onto<'a>(
+#[tactic(auto, unfolding(crate::specs::Reading::head_at))]
+fn struct_onto<'a>(
     items: &mut Vec<Value>,
     alloc: Global,
     types: &[Def],
     levels: u32,
-    ty: &Ty,
+    fields: &Vec<Field>,
     bytes: &'a [u8],
 ) -> Result<&'a [u8], Stop>
     ensures { Adds items.old.items items.new.items (λ r. r.now) result
-        (value_at levels (types_of types.now) (kind_of ty.now) bytes.now) }
+        (head_at (types_of types.now) (Some (value_at levels (types_of types.now)))
+        (is_struct (map part_of fields.now.items)) bytes.now) }
 {
-    let (item, rest) = value(alloc, types, levels, ty, bytes)?;
-    items.push(item)?;
+    let (values, rest) = parts(alloc, types, levels, fields, bytes)?;
+    items.push(Value::List(values))?;
     Ok(rest)
 }
 
-// Puts the value at the front behind the items. A plain number is read at once.
+// Puts the value at the front, of a type whose head was looked up, behind the items.
+#[inline(never)]
+#[cycle(value)]
+#[tactic(auto, unfolding(crate::specs::Reading::value_at))]
+fn headed_onto<'a>(
+    items: &mut Vec<Value>,
+    alloc: Global,
+    types: &[Def],
+    levels: u32,
+    head: Head<'_>,
+    bytes: &'a [u8],
+) -> Result<&'a [u8], Stop>
+    ensures { (k : Kind) → head_view head.entry ≡ head_of (types_of types.now) k
+        → Adds items.old.items items.new.items (λ r. r.now) result
+        (value_at levels (types_of types.now) k bytes.now) }
+{
+    match head {
+        Head::Struct(fields) if levels > 0 => {
+            struct_onto(items, alloc, types, levels - 1, fields, bytes)
+        }
+        _ => {
+            let (item, rest) = headed(alloc, types, levels, head, bytes)?;
+            items.push(item)?;
+            Ok(rest)
+        }
+    }
+}
+
+// Puts the number at the front behind the items.
+#[inline(always)]
+#[tactic(auto, unfolding(crate::specs::Reading::basic_at))]
+fn int_onto<'a>(items: &mut Vec<Value>, bytes: &'a [u8]) -> Result<&'a [u8], Stop>
+    ensures { Adds items.old.items items.new.items (λ r. r.now) result
+        (basic_at basics.Int bytes.now) }
+{
+    let (n, rest) = word(bytes)?;
+    items.push(signed_number(n))?;
+    Ok(rest)
+}
+
+#[inline(always)]
+#[tactic(auto, unfolding(crate::specs::Reading::basic_at))]
+fn uint_onto<'a>(items: &mut Vec<Value>, bytes: &'a [u8]) -> Result<&'a [u8], Stop>
+    ensures { Adds items.old.items items.new.items (λ r. r.now) result
+        (basic_at basics.Uint bytes.now) }
+{
+    let (n, rest) = word(bytes)?;
+    items.push(unsigned_number(n))?;
+    Ok(rest)
+}
+
+// Puts the value at the front, a part of a struct, behind the items. An int and an unsigned are read
+// without a call.
 #[inline(always)]
 #[cycle(value)]
-fn read_onto<'a>(
+fn part_onto<'a>(
     items: &mut Vec<Value>,
     alloc: Global,
     types: &[Def],
@@ -72,19 +142,31 @@ fn read_onto<'a>(
         (value_at levels (types_of types.now) (kind_of ty.now) bytes.now) }
 {
     match ty {
-        Ty::Int => {
-            let (n, rest) = word(bytes)?;
-            let number = signed_number(n);
-            items.push(number)?;
-            Ok(rest)
-        }
-        Ty::Uint => {
-            let (n, rest) = word(bytes)?;
-            let number = unsigned_number(n);
-            items.push(number)?;
-            Ok(rest)
-        }
-        _ => value_onto(items, alloc, types, levels, ty, bytes),
+        Ty::Int => int_onto(items, bytes),
+        Ty::Uint => uint_onto(items, bytes),
+        _ => headed_onto(items, alloc, types, levels, resolve(types, ty), bytes),
+    }
+}
+
+// The same of an element of an array, whose type was looked up once for all.
+#[inline(always)]
+#[cycle(value)]
+fn element_onto<'a>(
+    items: &mut Vec<Value>,
+    alloc: Global,
+    types: &[Def],
+    levels: u32,
+    head: Head<'_>,
+    bytes: &'a [u8],
+) -> Result<&'a [u8], Stop>
+    ensures { (k : Kind) → head_view head.entry ≡ head_of (types_of types.now) k
+        → Adds items.old.items items.new.items (λ r. r.now) result
+        (value_at levels (types_of types.now) k bytes.now) }
+{
+    match head {
+        Head::Basic(Basic::Int) => int_onto(items, bytes),
+        Head::Basic(Basic::Uint) => uint_onto(items, bytes),
+        _ => headed_onto(items, alloc, types, levels, head, bytes),
     }
 }
 
@@ -184,6 +266,8 @@ fn arm<'a>(
     }
 }
 
+// Kept apart from `inside`, where the compiler would push each number by a call.
+#[inline(never)]
 #[cycle(value)]
 fn parts<'a>(
     alloc: Global,
@@ -198,9 +282,17 @@ fn parts<'a>(
     let mut items = Vec::with_capacity(alloc, fields.len())?;
     let mut rest = bytes;
     for field in fields {
-        rest = read_onto(&mut items, alloc, types, levels, &field.ty, rest)?;
+        rest = part_onto(&mut items, alloc, types, levels, &field.ty, rest)?;
     }
     Ok((items, rest))
+}
+
+// For how many elements a list has room at first. An element that takes bytes takes at least four,
+// so a count that lies makes room for no more than the bytes could hold.
+fn room_for(n: u32, bytes: &[u8]) -> usize
+    ensures { result ≡ min n (length bytes.now / 4) }
+{
+    (n as usize).min(bytes.len() / 4)
 }
 
 #[cycle(value)]
@@ -215,11 +307,11 @@ fn elements<'a>(
     ensures { Gives (λ x. (values_of x.0.items, x.1.now)) result
         (elements_at (value_at levels (types_of types.now)) (kind_of of.now) n bytes.now) }
 {
-    let room = if n < FIRST_ROOM { n } else { FIRST_ROOM };
-    let mut items = Vec::with_capacity(alloc, room as usize)?;
+    let head = resolve(types, of);
+    let mut items = Vec::with_capacity(alloc, room_for(n, bytes))?;
     let mut rest = bytes;
     for _ in 0..n {
-        rest = read_onto(&mut items, alloc, types, levels, of, rest)?;
+        rest = element_onto(&mut items, alloc, types, levels, head, rest)?;
     }
     Ok((items, rest))
 }

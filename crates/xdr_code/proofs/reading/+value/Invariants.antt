@@ -5,7 +5,10 @@ use Rattle.xdr_code.proofs.Loop.{with_front}
 use Rattle.xdr_code.proofs.reading.+value.Given as goal
 
 abbrev pub decreases-value : goal.decreases-value
-decreases-value l = 5 * l.levels
+decreases-value l = 5 * l.levels + 1
+
+abbrev pub decreases-headed : goal.decreases-headed
+decreases-headed l = 5 * l.levels
 
 abbrev pub decreases-parts : goal.decreases-parts
 decreases-parts l = 5 * l.levels + 3
@@ -14,16 +17,22 @@ abbrev pub decreases-elements : goal.decreases-elements
 decreases-elements l = 5 * l.levels + 3
 
 abbrev pub decreases-chosen_arm : goal.decreases-chosen_arm
-decreases-chosen_arm l = 5 * l.levels + 2
+decreases-chosen_arm l = 5 * l.levels + 3
 
 abbrev pub decreases-arm : goal.decreases-arm
-decreases-arm l = 5 * l.levels + 1
+decreases-arm l = 5 * l.levels + 2
 
-abbrev pub decreases-value_onto : goal.decreases-value_onto
-decreases-value_onto l = 5 * l.levels + 1
+abbrev pub decreases-headed_onto : goal.decreases-headed_onto
+decreases-headed_onto l = 5 * l.levels + 1
 
-abbrev pub decreases-read_onto : goal.decreases-read_onto
-decreases-read_onto l = 5 * l.levels + 2
+abbrev pub decreases-part_onto : goal.decreases-part_onto
+decreases-part_onto l = 5 * l.levels + 2
+
+abbrev pub decreases-struct_onto : goal.decreases-struct_onto
+decreases-struct_onto l = 5 * l.levels + 4
+
+abbrev pub decreases-element_onto : goal.decreases-element_onto
+decreases-element_onto l = 5 * l.levels + 2
 
 abbrev pub decreases-inside : goal.decreases-inside
 decreases-inside l = 5 * l.levels + 4
