@@ -19,3 +19,4 @@ pub mod Deeper
 pub mod Reached
 pub mod Exact
 pub mod Writes
+pub mod WordLaws

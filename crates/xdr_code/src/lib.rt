@@ -13,6 +13,7 @@ mod items;
 mod laws;
 mod leaves;
 mod reading;
+mod words;
 mod writing;
 
 pub use fault::{Fault, Stop, Why};

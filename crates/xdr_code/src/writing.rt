@@ -10,32 +10,11 @@ ghost use Rattle.xdr_value.specs.Fits.{Fits, PartsFit, AllFit, NumberFits, Octet
 ghost use Rattle.xdr_value.specs.Spelling.{word, padded, spelling, parts_spelling, all_spelling, number_spelling, octets_spelling, items_spelling, tag_spelling, arm_spelling};
 
 use crate::reading::MAX_LEVELS;
+use crate::words::{are_words, is_word, low_word, put_one, put_rows, put_word, put_words};
 use std::alloc::{AllocError, Global};
 use xdr_value::{
     Arm, Basic, Def, Field, Head, Interface, Tag, Ty, Value, arm_of, resolve, tag_number,
 };
-
-#[inline(always)]
-fn put_word(out: &mut Vec<u8>, n: u32) -> Result<(), AllocError>
-    ensures { OnOk result (out.new.items ≡ out.old.items ++ word n) }
-{
-    out.extend_from_slice(&n.to_be_bytes())?;
-    Ok(())
-}
-
-fn put_signed(out: &mut Vec<u8>, n: i128) -> Result<(), AllocError>
-    requires { IsWithin (2 ^ 31) n }
-    ensures { OnOk result (out.new.items ≡ out.old.items ++ word (cast_unsigned w32 n)) }
-{
-    put_word(out, (n as i32).cast_unsigned())
-}
-
-fn put_unsigned(out: &mut Vec<u8>, n: i128) -> Result<(), AllocError>
-    requires { IsBelow (2 ^ 32) n }
-    ensures { OnOk result (out.new.items ≡ out.old.items ++ word (cast_unsigned w32 n)) }
-{
-    put_word(out, n as u32)
-}
 
 fn put_hyper(out: &mut Vec<u8>, n: i128) -> Result<(), AllocError>
     requires { IsWithin (2 ^ 63) n }
@@ -59,38 +38,11 @@ fn put_number(out: &mut Vec<u8>, n: i128, head: Head) -> Result<(), AllocError>
 {
     match head {
         Head::Basic(kind) => match kind {
-            Basic::Int | Basic::Short | Basic::Char => put_signed(out, n),
-            Basic::Uint | Basic::Ushort | Basic::Uchar => put_unsigned(out, n),
             Basic::Hyper => put_hyper(out, n),
             Basic::Uhyper => put_uhyper(out, n),
-            _ => Ok(()),
+            _ => put_word(out, low_word(n)),
         },
-        Head::Enum(_) => put_signed(out, n),
-        _ => Ok(()),
-    }
-}
-
-#[inline(never)]
-fn put_resolved(out: &mut Vec<u8>, n: i128, types: &[Def], ty: &Ty) -> Result<(), AllocError>
-    requires { NumberFits (head_of (types_of types.now) (kind_of ty.now)) n }
-    ensures { OnOk result (out.new.items ≡ out.old.items
-        ++ number_spelling (head_of (types_of types.now) (kind_of ty.now)) n) }
-{
-    put_number(out, n, resolve(types, ty))
-}
-
-// A plain number is written at once.
-#[inline(always)]
-#[tactic(auto, unfolding(xdr_value::specs::Heads::head_of, xdr_value::specs::Heads::head_within))]
-fn put_plain(out: &mut Vec<u8>, n: i128, types: &[Def], ty: &Ty) -> Result<(), AllocError>
-    requires { NumberFits (head_of (types_of types.now) (kind_of ty.now)) n }
-    ensures { OnOk result (out.new.items ≡ out.old.items
-        ++ number_spelling (head_of (types_of types.now) (kind_of ty.now)) n) }
-{
-    match ty {
-        Ty::Int => put_signed(out, n),
-        Ty::Uint => put_unsigned(out, n),
-        _ => put_resolved(out, n, types, ty),
+        _ => put_word(out, low_word(n)),
     }
 }
 
@@ -100,8 +52,7 @@ fn put_tag(out: &mut Vec<u8>, value: &Value, tag: Tag) -> Result<(), AllocError>
 {
     match value {
         Value::Number(n) => match tag {
-            Tag::Int | Tag::Enum(_) => put_signed(out, *n),
-            Tag::Uint => put_unsigned(out, *n),
+            Tag::Int | Tag::Uint | Tag::Enum(_) => put_word(out, low_word(*n)),
             _ => Ok(()),
         },
         Value::Flag(b) => put_word(out, if *b { 1 } else { 0 }),
@@ -142,8 +93,11 @@ fn put_value(out: &mut Vec<u8>, v: &Value, types: &[Def], ty: &Ty) -> Result<(),
     ensures { OnOk result (out.new.items ≡ out.old.items
         ++ spelling (types_of types.now) (kind_of ty.now) (value_of v.now)) }
 {
+    if is_word(ty) {
+        return put_one(out, v);
+    }
     match v {
-        Value::Number(n) => put_plain(out, *n, types, ty),
+        Value::Number(n) => put_number(out, *n, resolve(types, ty)),
         Value::Flag(b) => put_word(out, if *b { 1 } else { 0 }),
         Value::Octets(bytes) => put_octets(out, bytes, resolve(types, ty)),
         Value::List(items) => put_items(out, items, types, resolve(types, ty)),
@@ -192,20 +146,6 @@ fn put_items(
     }
 }
 
-// One of a list, where a number is written at once.
-#[inline(always)]
-#[cycle(put)]
-fn put_one(out: &mut Vec<u8>, v: &Value, types: &[Def], ty: &Ty) -> Result<(), AllocError>
-    requires { Fits (types_of types.now) (kind_of ty.now) (value_of v.now) }
-    ensures { OnOk result (out.new.items ≡ out.old.items
-        ++ spelling (types_of types.now) (kind_of ty.now) (value_of v.now)) }
-{
-    match v {
-        Value::Number(n) => put_plain(out, *n, types, ty),
-        _ => put_value(out, v, types, ty),
-    }
-}
-
 // One of a list whose type was looked up.
 #[inline(always)]
 #[cycle(put)]
@@ -222,7 +162,6 @@ fn put_element(
         ++ spelling (types_of types.now) (kind_of ty.now) (value_of v.now)) }
 {
     match v {
-        Value::Number(n) => put_plain(out, *n, types, ty),
         Value::List(items) => put_items(out, items, types, head),
         _ => put_value(out, v, types, ty),
     }
@@ -278,8 +217,11 @@ fn put_parts(
     ensures { OnOk result (out.new.items ≡ out.old.items
         ++ parts_spelling (types_of types.now) (map part_of fields.now.items) (values_of items.now.items)) }
 {
+    if are_words(fields) {
+        return put_words(out, items);
+    }
     for i in 0..items.len() {
-        put_one(out, &items[i], types, &fields[i].ty)?;
+        put_value(out, &items[i], types, &fields[i].ty)?;
     }
     Ok(())
 }
@@ -290,7 +232,15 @@ fn put_all(out: &mut Vec<u8>, items: &Vec<Value>, types: &[Def], of: &Ty) -> Res
     ensures { OnOk result (out.new.items ≡ out.old.items
         ++ all_spelling (types_of types.now) (kind_of of.now) (values_of items.now.items)) }
 {
+    if is_word(of) {
+        return put_words(out, items);
+    }
     let head = resolve(types, of);
+    if let Head::Struct(fields) = head {
+        if are_words(fields) {
+            return put_rows(out, items, fields.len());
+        }
+    }
     for item in items {
         put_element(out, item, types, of, head)?;
     }
