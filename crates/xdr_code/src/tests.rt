@@ -1,9 +1,9 @@
 use super::*;
-use crate::test_types::{all_types, field, named, text};
+use crate::test_types::all_types;
 use std::alloc::{AllocError, Global};
 use std::process::Abort;
 use std::test::*;
-use xdr_value::{Def, Interface, Shape, Ty, Value, fits, has_levels_within, known, sound};
+use xdr_value::{Def, Field, Interface, Shape, Ty, Value, fits, has_levels_within, known, sound};
 
 // What an answer says, without its value.
 #[derive(Clone, Copy, Debug, PartialEq, Eq)]
@@ -76,7 +76,7 @@ fn answer(alloc: Global, iface: &Interface, ty: &Ty, bytes: &[u8]) -> Result<Tol
 
 fn tell(alloc: Global, name: &str, hex: &str) -> Result<Told, AllocError> {
     let iface = interface(alloc)?;
-    let ty = named(alloc, name)?;
+    let ty = Ty::named(alloc, name)?;
     let bytes = bytes_of(alloc, hex)?;
     answer(alloc, &iface, &ty, &bytes)
 }
@@ -287,7 +287,7 @@ fn chain(alloc: Global, n: usize, last: u8) -> Result<Vec<u8>, AllocError> {
 
 fn tell_chain(alloc: Global, n: usize, last: u8) -> Result<Told, AllocError> {
     let iface = interface(alloc)?;
-    let ty = named(alloc, "node")?;
+    let ty = Ty::named(alloc, "node")?;
     let bytes = chain(alloc, n, last)?;
     answer(alloc, &iface, &ty, &bytes)
 }
@@ -306,7 +306,7 @@ fn a_chain_of_33_is_too_deep(rt: HostRuntime) -> Result<(), AllocError> {
 
 fn first_number(alloc: Global, name: &str, hex: &str) -> Result<Option<i128>, AllocError> {
     let iface = interface(alloc)?;
-    let ty = named(alloc, name)?;
+    let ty = Ty::named(alloc, name)?;
     let bytes = bytes_of(alloc, hex)?;
     if !known(&iface.types, &ty) {
         return Ok(None);
@@ -348,12 +348,9 @@ fn row(alloc: Global, width: u8) -> Result<Def, AllocError> {
     for i in 0..width {
         let ty = if i % 2 == 0 { Ty::Int } else { Ty::Uint };
         let name = format!(in alloc; "f{i}")?;
-        fields.push(field(alloc, name.as_str(), ty)?)?;
+        fields.push(Field::make(alloc, name.as_str(), ty)?)?;
     }
-    Ok(Def {
-        name: text(alloc, "row")?,
-        shape: Shape::Struct(fields),
-    })
+    Def::make(alloc, "row", Shape::Struct(fields))
 }
 
 // Three structs of so many words behind their count, whole or without their last byte.
@@ -365,7 +362,7 @@ fn tell_rows(alloc: Global, width: u8, is_cut: bool) -> Result<Told, AllocError>
         return Ok(Told::Unknown);
     }
     let iface = Interface::make(None, None, types, procs);
-    let ty = Ty::ArrayUpTo(Box::new(alloc, named(alloc, "row")?)?, 3);
+    let ty = Ty::up_to(alloc, Ty::named(alloc, "row")?, 3)?;
     let mut bytes = bytes_of(alloc, "00000003")?;
     put_numbered(&mut bytes, 3 * width as u16)?;
     if is_cut {
@@ -386,7 +383,7 @@ fn structs_of_words_are_their_words_at_every_width(rt: HostRuntime) -> Result<()
 }
 
 fn ints_type(alloc: Global) -> Result<Ty, AllocError> {
-    Ok(Ty::ArrayUpTo(Box::new(alloc, Ty::Int)?, 4294967295))
+    Ty::up_to(alloc, Ty::Int, 4294967295)
 }
 
 // The bytes of a list of ints, behind their count.
@@ -443,8 +440,8 @@ fn ints_are_spelled_in_order_with_their_signs(rt: HostRuntime) -> Result<(), All
 fn read_two(alloc: Global, hex: &str) -> Result<(usize, usize), AllocError> {
     let iface = interface(alloc)?;
     let mut fields = Vec::new(alloc);
-    fields.push(field(alloc, "Fid", named(alloc, "fid")?)?)?;
-    fields.push(field(alloc, "Mode", Ty::Uint)?)?;
+    fields.push(Field::make(alloc, "Fid", Ty::named(alloc, "fid")?)?)?;
+    fields.push(Field::make(alloc, "Mode", Ty::Uint)?)?;
     let bytes = bytes_of(alloc, hex)?;
     match read_fields(alloc, &iface, &fields, &bytes) {
         Ok((values, rest)) => Ok((values.len(), rest.len())),

@@ -42,15 +42,9 @@ const STATUS_FIELDS: [&str; 21] = [
 fn status(alloc: Global) -> Result<Def, AllocError> {
     let mut fields = Vec::new(alloc);
     for name in STATUS_FIELDS {
-        fields.push(Field {
-            name: String::from_str(alloc, name)?,
-            ty: Ty::Uint,
-        })?;
+        fields.push(Field::make(alloc, name, Ty::Uint)?)?;
     }
-    Ok(Def {
-        name: String::from_str(alloc, "AFSFetchStatus")?,
-        shape: Shape::Struct(fields),
-    })
+    Def::make(alloc, "AFSFetchStatus", Shape::Struct(fields))
 }
 
 // The type of a case, and how many words its bytes have behind the first; None of an unknown case.
@@ -59,11 +53,11 @@ fn ty_of(alloc: Global, case: &str) -> Result<Option<Ty>, AllocError> {
         return Ok(Some(Ty::OpaqueUpTo(4294967295)));
     }
     if case == "ints" {
-        return Ok(Some(Ty::ArrayUpTo(Box::new(alloc, Ty::Int)?, 4294967295)));
+        return Ok(Some(Ty::up_to(alloc, Ty::Int, 4294967295)?));
     }
     if case == "status" {
-        let name = String::from_str(alloc, "AFSFetchStatus")?;
-        return Ok(Some(Ty::ArrayUpTo(Box::new(alloc, Ty::Named(name))?, 4294967295)));
+        let of = Ty::named(alloc, "AFSFetchStatus")?;
+        return Ok(Some(Ty::up_to(alloc, of, 4294967295)?));
     }
     Ok(None)
 }

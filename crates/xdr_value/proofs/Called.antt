@@ -2,7 +2,7 @@
 use Rattle.std.proofs.Common.{◌≡◌, ℕ, List, map, string_bytes}
 use Rattle.std.proofs.lemmas.Simd.{map-map}
 use Rattle.xdr_value.specs.Data.{Form, Part, Param, Procedure}
-use Rattle.xdr_value.specs.View.{member_of, part_of, param_of, proc_of, procs_of, form_of, types_of}
+use Rattle.xdr_value.specs.View.{def_of, member_of, part_of, param_of, proc_of, procs_of, types_of}
 use Rattle.xdr_value.specs.Facts.{names_of}
 use Rattle.xdr_value.specs.declared.def.Member.{Member}
 use Rattle.xdr_value.specs.declared.def.Field.{Field}
@@ -23,7 +23,7 @@ pub arg_names : (as_given : List Arg)
 arg_names as_given = map-map (λ (p : Param). p.name) param_of as_given
 
 pub def_names : (ds : List Def) → names_of (types_of ds) ≡ map (λ (d : Def). string_bytes d.name) ds
-def_names ds = map-map (λ (d : List ℕ × Form). d.0) (λ (d : Def). (string_bytes d.name, form_of d.shape)) ds
+def_names ds = map-map (λ (d : List ℕ × Form). d.0) def_of ds
 
 pub proc_names : (ps : List Proc)
     → map (λ (p : Procedure). p.name) (procs_of ps) ≡ map (λ (p : Proc). string_bytes p.name) ps

@@ -74,9 +74,12 @@ form_of (Enum ms) = enum (map member_of ms.items)
 form_of (Struct fs) = struct (map part_of fs.items)
 form_of (Union t arms) = choice (kind_of t) (map choice_of arms.items)
 
+abbrev pub def_of : Def → List ℕ × Form
+def_of d = (string_bytes d.name, form_of d.shape)
+
 -- the definitions
 abbrev pub types_of : List Def → Types
-types_of ds = map (λ d. (string_bytes d.name, form_of d.shape)) ds
+types_of = map def_of
 
 abbrev pub param_of : Arg → Param
 param_of a = record { name = string_bytes a.name; mode = a.mode; kind = kind_of a.ty }

@@ -1,6 +1,10 @@
 //! What the names of an interface stand for.
 
+ghost use Rattle.std.specs.Prelude.{◌≡◌, IfOk};
+ghost use Rattle.xdr_value.specs.View.{def_of, form_of, kind_of, member_of, param_of, part_of};
+
 use crate::ty::Ty;
+use std::alloc::{AllocError, Global};
 
 /// A field of a struct, or what an arm of a union holds.
 #[derive(Drop)]
@@ -9,11 +13,31 @@ pub struct Field {
     pub ty: Ty,
 }
 
+impl Field {
+    /// A field of this name, which is copied.
+    pub fn make(alloc: Global, name: &str, ty: Ty) -> Result<Field, AllocError>
+        ensures { IfOk result (λ f. part_of f ≡ record { name = name.now; kind = kind_of ty }) }
+    {
+        let name = String::from_str(alloc, name)?;
+        Ok(Field { name, ty })
+    }
+}
+
 /// A member of an enum.
 #[derive(Drop)]
 pub struct Member {
     pub name: String,
     pub number: i64,
+}
+
+impl Member {
+    /// A member of this name, which is copied.
+    pub fn make(alloc: Global, name: &str, number: i64) -> Result<Member, AllocError>
+        ensures { IfOk result (λ m. member_of m ≡ (name.now, number)) }
+    {
+        let name = String::from_str(alloc, name)?;
+        Ok(Member { name, number })
+    }
 }
 
 /// An arm of a union: without a case it is the default, without a field it is void.
@@ -39,6 +63,16 @@ pub struct Def {
     pub shape: Shape,
 }
 
+impl Def {
+    /// A definition of this name, which is copied.
+    pub fn make(alloc: Global, name: &str, shape: Shape) -> Result<Def, AllocError>
+        ensures { IfOk result (λ d. def_of d ≡ (name.now, form_of shape)) }
+    {
+        let name = String::from_str(alloc, name)?;
+        Ok(Def { name, shape })
+    }
+}
+
 /// Which way an argument goes: with the request, with the reply, or both.
 #[derive(Clone, Copy, Debug, PartialEq, Eq)]
 pub enum Mode {
@@ -53,6 +87,16 @@ pub struct Arg {
     pub name: String,
     pub mode: Mode,
     pub ty: Ty,
+}
+
+impl Arg {
+    /// An argument of this name, which is copied.
+    pub fn make(alloc: Global, mode: Mode, name: &str, ty: Ty) -> Result<Arg, AllocError>
+        ensures { IfOk result (λ a. param_of a ≡ record { name = name.now; mode = mode; kind = kind_of ty }) }
+    {
+        let name = String::from_str(alloc, name)?;
+        Ok(Arg { name, mode, ty })
+    }
 }
 
 /// A procedure. A split one has streams of bytes beside its arguments.

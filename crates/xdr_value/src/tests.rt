@@ -2,43 +2,21 @@ use super::*;
 use std::alloc::{AllocError, Global};
 use std::test::*;
 
-fn text(alloc: Global, name: &str) -> Result<String, AllocError> {
-    String::from_str(alloc, name)
-}
-
-fn field(alloc: Global, name: &str, ty: Ty) -> Result<Field, AllocError> {
-    Ok(Field {
-        name: text(alloc, name)?,
-        ty,
-    })
-}
-
-fn def(alloc: Global, name: &str, shape: Shape) -> Result<Def, AllocError> {
-    Ok(Def {
-        name: text(alloc, name)?,
-        shape,
-    })
-}
-
-fn named(alloc: Global, name: &str) -> Result<Ty, AllocError> {
-    Ok(Ty::Named(text(alloc, name)?))
-}
-
 // struct NAME { int v; REST next; }
 fn node(alloc: Global, name: &str, rest: Ty) -> Result<Def, AllocError> {
     let mut fields = Vec::new(alloc);
-    fields.push(field(alloc, "v", Ty::Int)?)?;
-    fields.push(field(alloc, "next", rest)?)?;
-    def(alloc, name, Shape::Struct(fields))
+    fields.push(Field::make(alloc, "v", Ty::Int)?)?;
+    fields.push(Field::make(alloc, "next", rest)?)?;
+    Def::make(alloc, name, Shape::Struct(fields))
 }
 
 // struct AFSFid { afs_uint32 Volume; afs_uint32 Vnode; afs_uint32 Unique; };
 fn afs_fid(alloc: Global) -> Result<Def, AllocError> {
     let mut fields = Vec::new(alloc);
-    fields.push(field(alloc, "Volume", Ty::Uint)?)?;
-    fields.push(field(alloc, "Vnode", Ty::Uint)?)?;
-    fields.push(field(alloc, "Unique", Ty::Uint)?)?;
-    def(alloc, "AFSFid", Shape::Struct(fields))
+    fields.push(Field::make(alloc, "Volume", Ty::Uint)?)?;
+    fields.push(Field::make(alloc, "Vnode", Ty::Uint)?)?;
+    fields.push(Field::make(alloc, "Unique", Ty::Uint)?)?;
+    Def::make(alloc, "AFSFid", Shape::Struct(fields))
 }
 
 fn arm(case: Option<i64>) -> Arm {
@@ -48,15 +26,9 @@ fn arm(case: Option<i64>) -> Arm {
 // enum E { A = 3, LAST = last };
 fn numbers(alloc: Global, last_name: &str, last: i64) -> Result<Def, AllocError> {
     let mut members = Vec::new(alloc);
-    members.push(Member {
-        name: text(alloc, "A")?,
-        number: 3,
-    })?;
-    members.push(Member {
-        name: text(alloc, last_name)?,
-        number: last,
-    })?;
-    def(alloc, "E", Shape::Enum(members))
+    members.push(Member::make(alloc, "A", 3)?)?;
+    members.push(Member::make(alloc, last_name, last)?)?;
+    Def::make(alloc, "E", Shape::Enum(members))
 }
 
 // union U switch (TAG t) with two void arms
@@ -64,7 +36,7 @@ fn choice(alloc: Global, tag: Ty, one: Option<i64>, two: Option<i64>) -> Result<
     let mut arms = Vec::new(alloc);
     arms.push(arm(one))?;
     arms.push(arm(two))?;
-    def(alloc, "U", Shape::Union { tag, arms })
+    Def::make(alloc, "U", Shape::Union { tag, arms })
 }
 
 fn is_sound(alloc: Global, one: Def) -> Result<bool, AllocError> {
@@ -83,17 +55,17 @@ fn are_sound(alloc: Global, one: Def, other: Def) -> Result<bool, AllocError> {
 #[test]
 fn only_rings_without_a_way_out_are_endless(rt: HostRuntime) -> Result<(), AllocError> {
     let alloc = rt.alloc();
-    let next = Ty::Maybe(Box::new(alloc, named(alloc, "Node")?)?);
+    let next = Ty::optional(alloc, Ty::named(alloc, "Node")?)?;
     assert!(rt; is_sound(alloc, node(alloc, "Node", next)?)?);
-    let list = Ty::ArrayUpTo(Box::new(alloc, named(alloc, "Node")?)?, 4);
+    let list = Ty::up_to(alloc, Ty::named(alloc, "Node")?, 4)?;
     assert!(rt; is_sound(alloc, node(alloc, "Node", list)?)?);
-    let pair = Ty::Array(Box::new(alloc, named(alloc, "Node")?)?, 2);
+    let pair = Ty::array(alloc, Ty::named(alloc, "Node")?, 2)?;
     assert!(rt; !is_sound(alloc, node(alloc, "Node", pair)?)?);
-    assert!(rt; !is_sound(alloc, node(alloc, "Node", named(alloc, "Node")?)?)?);
-    let one = node(alloc, "A", named(alloc, "B")?)?;
-    let other = node(alloc, "B", named(alloc, "A")?)?;
+    assert!(rt; !is_sound(alloc, node(alloc, "Node", Ty::named(alloc, "Node")?)?)?);
+    let one = node(alloc, "A", Ty::named(alloc, "B")?)?;
+    let other = node(alloc, "B", Ty::named(alloc, "A")?)?;
     assert!(rt; !are_sound(alloc, one, other)?);
-    let one = node(alloc, "A", named(alloc, "B")?)?;
+    let one = node(alloc, "A", Ty::named(alloc, "B")?)?;
     let other = node(alloc, "B", Ty::Bool)?;
     assert!(rt; are_sound(alloc, one, other)?);
     Ok(())
@@ -102,12 +74,12 @@ fn only_rings_without_a_way_out_are_endless(rt: HostRuntime) -> Result<(), Alloc
 #[test]
 fn names_are_defined_once(rt: HostRuntime) -> Result<(), AllocError> {
     let alloc = rt.alloc();
-    assert!(rt; !is_sound(alloc, node(alloc, "Node", named(alloc, "Other")?)?)?);
+    assert!(rt; !is_sound(alloc, node(alloc, "Node", Ty::named(alloc, "Other")?)?)?);
     assert!(rt; !are_sound(alloc, afs_fid(alloc)?, afs_fid(alloc)?)?);
     let mut fields = Vec::new(alloc);
-    fields.push(field(alloc, "v", Ty::Int)?)?;
-    fields.push(field(alloc, "v", Ty::Uint)?)?;
-    assert!(rt; !is_sound(alloc, def(alloc, "S", Shape::Struct(fields))?)?);
+    fields.push(Field::make(alloc, "v", Ty::Int)?)?;
+    fields.push(Field::make(alloc, "v", Ty::Uint)?)?;
+    assert!(rt; !is_sound(alloc, Def::make(alloc, "S", Shape::Struct(fields))?)?);
     assert!(rt; !is_sound(alloc, numbers(alloc, "A", 4)?)?);
     Ok(())
 }
@@ -117,7 +89,7 @@ fn enums_and_cases_are_in_range(rt: HostRuntime) -> Result<(), AllocError> {
     let alloc = rt.alloc();
     assert!(rt; is_sound(alloc, numbers(alloc, "B", -2147483648)?)?);
     assert!(rt; !is_sound(alloc, numbers(alloc, "B", 2147483648)?)?);
-    assert!(rt; !is_sound(alloc, def(alloc, "E", Shape::Enum(Vec::new(alloc)))?)?);
+    assert!(rt; !is_sound(alloc, Def::make(alloc, "E", Shape::Enum(Vec::new(alloc)))?)?);
     assert!(rt; is_sound(alloc, choice(alloc, Ty::Int, Some(1), None)?)?);
     assert!(rt; !is_sound(alloc, choice(alloc, Ty::Int, Some(1), Some(1))?)?);
     assert!(rt; !is_sound(alloc, choice(alloc, Ty::Int, None, None)?)?);
@@ -126,7 +98,7 @@ fn enums_and_cases_are_in_range(rt: HostRuntime) -> Result<(), AllocError> {
     assert!(rt; !is_sound(alloc, choice(alloc, Ty::Bool, Some(0), Some(2))?)?);
     assert!(rt; is_sound(alloc, choice(alloc, Ty::Uint, Some(4294967295), None)?)?);
     assert!(rt; !is_sound(alloc, choice(alloc, Ty::Uint, Some(-1), None)?)?);
-    let tag = named(alloc, "E")?;
+    let tag = Ty::named(alloc, "E")?;
     assert!(rt;
         are_sound(
             alloc,
@@ -134,7 +106,7 @@ fn enums_and_cases_are_in_range(rt: HostRuntime) -> Result<(), AllocError> {
             numbers(alloc, "B", 7)?
         )?
     );
-    let tag = named(alloc, "E")?;
+    let tag = Ty::named(alloc, "E")?;
     assert!(rt;
         !are_sound(
             alloc,
@@ -146,7 +118,7 @@ fn enums_and_cases_are_in_range(rt: HostRuntime) -> Result<(), AllocError> {
         tag: Ty::Int,
         arms: Vec::new(alloc),
     };
-    assert!(rt; !is_sound(alloc, def(alloc, "U", none)?)?);
+    assert!(rt; !is_sound(alloc, Def::make(alloc, "U", none)?)?);
     Ok(())
 }
 
@@ -154,25 +126,17 @@ fn enums_and_cases_are_in_range(rt: HostRuntime) -> Result<(), AllocError> {
 fn procs(alloc: Global, name: &str, opcode: u32, arg: &str) -> Result<Vec<Proc>, AllocError> {
     let mut procs = Vec::new(alloc);
     let mut args = Vec::new(alloc);
-    args.push(Arg {
-        name: text(alloc, "Fid")?,
-        mode: Mode::In,
-        ty: Ty::Uint,
-    })?;
-    args.push(Arg {
-        name: text(alloc, arg)?,
-        mode: Mode::InOut,
-        ty: Ty::Uint,
-    })?;
+    args.push(Arg::make(alloc, Mode::In, "Fid", Ty::Uint)?)?;
+    args.push(Arg::make(alloc, Mode::InOut, arg, Ty::Uint)?)?;
     procs.push(Proc {
-        name: text(alloc, "FetchStatus")?,
+        name: String::from_str(alloc, "FetchStatus")?,
         opcode: 132,
         split: false,
         multi: false,
         args,
     })?;
     procs.push(Proc {
-        name: text(alloc, name)?,
+        name: String::from_str(alloc, name)?,
         opcode,
         split: true,
         multi: false,
@@ -214,7 +178,7 @@ fn zero_of_afs_fid_is_three_zeros(rt: HostRuntime) -> Result<(), AllocError> {
     let procs = Vec::new(alloc);
     assert!(rt; sound(&types, &procs));
     let iface = Interface::make(None, None, types, procs);
-    let fid = named(alloc, "AFSFid")?;
+    let fid = Ty::named(alloc, "AFSFid")?;
     assert!(rt; known(&iface.types, &fid));
     let value = zero(alloc, &iface, &fid)?;
     assert!(rt; is_zeros(&value, 3));
@@ -268,10 +232,10 @@ fn voids(alloc: Global, n: usize) -> Result<Value, AllocError> {
 #[test]
 fn lists_without_bytes_are_bounded(rt: HostRuntime) -> Result<(), AllocError> {
     let alloc = rt.alloc();
-    let list = Ty::ArrayUpTo(Box::new(alloc, Ty::Void)?, 4294967295);
+    let list = Ty::up_to(alloc, Ty::Void, 4294967295)?;
     assert!(rt; fits_alone(alloc, &list, voids(alloc, 65536)?));
     assert!(rt; !fits_alone(alloc, &list, voids(alloc, 65537)?));
-    let fixed = Ty::Array(Box::new(alloc, Ty::Void)?, 65537);
+    let fixed = Ty::array(alloc, Ty::Void, 65537)?;
     assert!(rt; fits_alone(alloc, &fixed, voids(alloc, 65537)?));
     assert!(rt; !fits_alone(alloc, &fixed, voids(alloc, 65536)?));
     Ok(())

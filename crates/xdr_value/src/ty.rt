@@ -1,5 +1,11 @@
 //! Types (RFC 4506, section 4).
 
+ghost use Rattle.std.specs.Prelude.{◌≡◌, IfOk};
+ghost use Rattle.xdr_value.specs.Data.{array, array_up_to, maybe, named};
+ghost use Rattle.xdr_value.specs.View.{kind_of};
+
+use std::alloc::{AllocError, Global};
+
 /// A type of an interface. The number of `Opaque` and `Array` is how many there are, that of
 /// `OpaqueUpTo`, `Text` and `ArrayUpTo` how many there are at most.
 #[derive(Drop)]
@@ -21,6 +27,36 @@ pub enum Ty {
     ArrayUpTo(Box<Ty>, u32),
     Maybe(Box<Ty>),
     Named(String),
+}
+
+impl Ty {
+    /// The type of this name, which is copied.
+    pub fn named(alloc: Global, name: &str) -> Result<Ty, AllocError>
+        ensures { IfOk result (λ t. kind_of t ≡ named name.now) }
+    {
+        Ok(Ty::Named(String::from_str(alloc, name)?))
+    }
+
+    /// So many elements.
+    pub fn array(alloc: Global, of: Ty, count: u32) -> Result<Ty, AllocError>
+        ensures { IfOk result (λ t. kind_of t ≡ array (kind_of of) count) }
+    {
+        Ok(Ty::Array(Box::new(alloc, of)?, count))
+    }
+
+    /// At most so many elements.
+    pub fn up_to(alloc: Global, of: Ty, limit: u32) -> Result<Ty, AllocError>
+        ensures { IfOk result (λ t. kind_of t ≡ array_up_to (kind_of of) limit) }
+    {
+        Ok(Ty::ArrayUpTo(Box::new(alloc, of)?, limit))
+    }
+
+    /// Optional data.
+    pub fn optional(alloc: Global, of: Ty) -> Result<Ty, AllocError>
+        ensures { IfOk result (λ t. kind_of t ≡ maybe (kind_of of)) }
+    {
+        Ok(Ty::Maybe(Box::new(alloc, of)?))
+    }
 }
 
 /// A type that holds no other.

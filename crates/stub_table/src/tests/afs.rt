@@ -14,39 +14,9 @@ pub const LINK: usize = 3;
 
 pub const LAST: usize = 4;
 
-fn text(alloc: Global, name: &str) -> Result<String, AllocError> {
-    String::from_str(alloc, name)
-}
-
-fn named(alloc: Global, name: &str) -> Result<Ty, AllocError> {
-    Ok(Ty::Named(text(alloc, name)?))
-}
-
-fn def(alloc: Global, name: &str, shape: Shape) -> Result<Def, AllocError> {
-    Ok(Def {
-        name: text(alloc, name)?,
-        shape,
-    })
-}
-
-fn field(alloc: Global, name: &str, ty: Ty) -> Result<Field, AllocError> {
-    Ok(Field {
-        name: text(alloc, name)?,
-        ty,
-    })
-}
-
-fn arg(alloc: Global, mode: Mode, name: &str, ty: Ty) -> Result<Arg, AllocError> {
-    Ok(Arg {
-        name: text(alloc, name)?,
-        mode,
-        ty,
-    })
-}
-
 fn plain(alloc: Global, name: &str, opcode: u32, args: Vec<Arg>) -> Result<Proc, AllocError> {
     Ok(Proc {
-        name: text(alloc, name)?,
+        name: String::from_str(alloc, name)?,
         opcode,
         split: false,
         multi: false,
@@ -57,19 +27,19 @@ fn plain(alloc: Global, name: &str, opcode: u32, args: Vec<Arg>) -> Result<Proc,
 // struct AFSFid { afs_uint32 Volume; afs_uint32 Vnode; afs_uint32 Unique; };
 fn afs_fid(alloc: Global) -> Result<Def, AllocError> {
     let mut fields = Vec::new(alloc);
-    fields.push(field(alloc, "Volume", Ty::Uint)?)?;
-    fields.push(field(alloc, "Vnode", Ty::Uint)?)?;
-    fields.push(field(alloc, "Unique", Ty::Uint)?)?;
-    def(alloc, "AFSFid", Shape::Struct(fields))
+    fields.push(Field::make(alloc, "Volume", Ty::Uint)?)?;
+    fields.push(Field::make(alloc, "Vnode", Ty::Uint)?)?;
+    fields.push(Field::make(alloc, "Unique", Ty::Uint)?)?;
+    Def::make(alloc, "AFSFid", Shape::Struct(fields))
 }
 
 // struct Node { int v; Node *next; };
 fn node(alloc: Global) -> Result<Def, AllocError> {
     let mut fields = Vec::new(alloc);
-    fields.push(field(alloc, "v", Ty::Int)?)?;
-    let next = Ty::Maybe(Box::new(alloc, named(alloc, "Node")?)?);
-    fields.push(field(alloc, "next", next)?)?;
-    def(alloc, "Node", Shape::Struct(fields))
+    fields.push(Field::make(alloc, "v", Ty::Int)?)?;
+    let next = Ty::optional(alloc, Ty::named(alloc, "Node")?)?;
+    fields.push(Field::make(alloc, "next", next)?)?;
+    Def::make(alloc, "Node", Shape::Struct(fields))
 }
 
 fn types(alloc: Global) -> Result<Vec<Def>, AllocError> {
@@ -77,9 +47,9 @@ fn types(alloc: Global) -> Result<Vec<Def>, AllocError> {
     types.push(afs_fid(alloc)?)?;
     // typedef opaque AFSOpaque<1024>; typedef AFSFid AFSCBFids<50>;
     let opaque = Shape::Alias(Ty::OpaqueUpTo(1024));
-    types.push(def(alloc, "AFSOpaque", opaque)?)?;
-    let kin = Ty::ArrayUpTo(Box::new(alloc, named(alloc, "AFSFid")?)?, 50);
-    types.push(def(alloc, "AFSCBFids", Shape::Alias(kin))?)?;
+    types.push(Def::make(alloc, "AFSOpaque", opaque)?)?;
+    let kin = Ty::up_to(alloc, Ty::named(alloc, "AFSFid")?, 50)?;
+    types.push(Def::make(alloc, "AFSCBFids", Shape::Alias(kin))?)?;
     types.push(node(alloc)?)?;
     Ok(types)
 }
@@ -87,12 +57,12 @@ fn types(alloc: Global) -> Result<Vec<Def>, AllocError> {
 // proc FetchData(IN AFSFid *Fid, afs_int32 Pos, afs_int32 Length, OUT afs_int32 *Left) split = 130;
 fn fetch_data(alloc: Global) -> Result<Proc, AllocError> {
     let mut args = Vec::new(alloc);
-    args.push(arg(alloc, Mode::In, "Fid", named(alloc, "AFSFid")?)?)?;
-    args.push(arg(alloc, Mode::In, "Pos", Ty::Int)?)?;
-    args.push(arg(alloc, Mode::In, "Length", Ty::Int)?)?;
-    args.push(arg(alloc, Mode::Out, "Left", Ty::Int)?)?;
+    args.push(Arg::make(alloc, Mode::In, "Fid", Ty::named(alloc, "AFSFid")?)?)?;
+    args.push(Arg::make(alloc, Mode::In, "Pos", Ty::Int)?)?;
+    args.push(Arg::make(alloc, Mode::In, "Length", Ty::Int)?)?;
+    args.push(Arg::make(alloc, Mode::Out, "Left", Ty::Int)?)?;
     Ok(Proc {
-        name: text(alloc, "FetchData")?,
+        name: String::from_str(alloc, "FetchData")?,
         opcode: 130,
         split: true,
         multi: false,
@@ -103,10 +73,10 @@ fn fetch_data(alloc: Global) -> Result<Proc, AllocError> {
 // FetchStatus(IN AFSFid *Fid, IN string Name<256>, INOUT afs_uint32 *Mode, OUT AFSCBFids *Kin) = 132;
 fn fetch_status(alloc: Global) -> Result<Proc, AllocError> {
     let mut args = Vec::new(alloc);
-    args.push(arg(alloc, Mode::In, "Fid", named(alloc, "AFSFid")?)?)?;
-    args.push(arg(alloc, Mode::In, "Name", Ty::Text(256))?)?;
-    args.push(arg(alloc, Mode::InOut, "Mode", Ty::Uint)?)?;
-    args.push(arg(alloc, Mode::Out, "Kin", named(alloc, "AFSCBFids")?)?)?;
+    args.push(Arg::make(alloc, Mode::In, "Fid", Ty::named(alloc, "AFSFid")?)?)?;
+    args.push(Arg::make(alloc, Mode::In, "Name", Ty::Text(256))?)?;
+    args.push(Arg::make(alloc, Mode::InOut, "Mode", Ty::Uint)?)?;
+    args.push(Arg::make(alloc, Mode::Out, "Kin", Ty::named(alloc, "AFSCBFids")?)?)?;
     plain(alloc, "FetchStatus", 132, args)
 }
 
@@ -116,10 +86,10 @@ fn procs(alloc: Global) -> Result<Vec<Proc>, AllocError> {
     procs.push(fetch_status(alloc)?)?;
     // Store(INOUT opaque Data<100000>) = 7; Link(INOUT Node Chain) = 8; Last() = 4294967295;
     let mut args = Vec::new(alloc);
-    args.push(arg(alloc, Mode::InOut, "Data", Ty::OpaqueUpTo(100_000))?)?;
+    args.push(Arg::make(alloc, Mode::InOut, "Data", Ty::OpaqueUpTo(100_000))?)?;
     procs.push(plain(alloc, "Store", 7, args)?)?;
     let mut args = Vec::new(alloc);
-    args.push(arg(alloc, Mode::InOut, "Chain", named(alloc, "Node")?)?)?;
+    args.push(Arg::make(alloc, Mode::InOut, "Chain", Ty::named(alloc, "Node")?)?)?;
     procs.push(plain(alloc, "Link", 8, args)?)?;
     procs.push(plain(alloc, "Last", u32::MAX, Vec::new(alloc))?)?;
     Ok(procs)
@@ -132,8 +102,8 @@ pub fn interface(alloc: Global) -> Result<Interface, AllocError> {
         return Err(AllocError);
     }
     Ok(Interface::make(
-        Some(text(alloc, "RXAFS_")?),
-        Some(text(alloc, "S")?),
+        Some(String::from_str(alloc, "RXAFS_")?),
+        Some(String::from_str(alloc, "S")?),
         types,
         procs,
     ))

@@ -3,39 +3,10 @@
 use std::alloc::{AllocError, Global};
 use xdr_value::{Arm, Def, Field, Interface, Member, Shape, Ty, sound};
 
-fn text(alloc: Global, name: &str) -> Result<String, AllocError> {
-    String::from_str(alloc, name)
-}
-
-fn named(alloc: Global, name: &str) -> Result<Ty, AllocError> {
-    Ok(Ty::Named(text(alloc, name)?))
-}
-
-fn def(alloc: Global, name: &str, shape: Shape) -> Result<Def, AllocError> {
-    Ok(Def {
-        name: text(alloc, name)?,
-        shape,
-    })
-}
-
-fn field(alloc: Global, name: &str, ty: Ty) -> Result<Field, AllocError> {
-    Ok(Field {
-        name: text(alloc, name)?,
-        ty,
-    })
-}
-
-fn member(alloc: Global, name: &str, number: i64) -> Result<Member, AllocError> {
-    Ok(Member {
-        name: text(alloc, name)?,
-        number,
-    })
-}
-
 fn arm(alloc: Global, case: i64, name: &str, ty: Ty) -> Result<Arm, AllocError> {
     Ok(Arm {
         case: Some(case),
-        field: Some(field(alloc, name, ty)?),
+        field: Some(Field::make(alloc, name, ty)?),
     })
 }
 
@@ -46,28 +17,28 @@ fn void_arm(case: Option<i64>) -> Arm {
 // enum Color { RED = 2, ROUGE = 2, BLUE = 5 };
 fn color(alloc: Global) -> Result<Def, AllocError> {
     let mut members = Vec::new(alloc);
-    members.push(member(alloc, "RED", 2)?)?;
-    members.push(member(alloc, "ROUGE", 2)?)?;
-    members.push(member(alloc, "BLUE", 5)?)?;
-    def(alloc, "Color", Shape::Enum(members))
+    members.push(Member::make(alloc, "RED", 2)?)?;
+    members.push(Member::make(alloc, "ROUGE", 2)?)?;
+    members.push(Member::make(alloc, "BLUE", 5)?)?;
+    Def::make(alloc, "Color", Shape::Enum(members))
 }
 
 // struct Fid { uint Volume; uint Vnode; uint Unique; };
 fn fid(alloc: Global) -> Result<Def, AllocError> {
     let mut fields = Vec::new(alloc);
-    fields.push(field(alloc, "Volume", Ty::Uint)?)?;
-    fields.push(field(alloc, "Vnode", Ty::Uint)?)?;
-    fields.push(field(alloc, "Unique", Ty::Uint)?)?;
-    def(alloc, "Fid", Shape::Struct(fields))
+    fields.push(Field::make(alloc, "Volume", Ty::Uint)?)?;
+    fields.push(Field::make(alloc, "Vnode", Ty::Uint)?)?;
+    fields.push(Field::make(alloc, "Unique", Ty::Uint)?)?;
+    Def::make(alloc, "Fid", Shape::Struct(fields))
 }
 
 // struct Node { int v; Node *next; };
 fn node(alloc: Global) -> Result<Def, AllocError> {
     let mut fields = Vec::new(alloc);
-    fields.push(field(alloc, "v", Ty::Int)?)?;
-    let next = Ty::Maybe(Box::new(alloc, named(alloc, "Node")?)?);
-    fields.push(field(alloc, "next", next)?)?;
-    def(alloc, "Node", Shape::Struct(fields))
+    fields.push(Field::make(alloc, "v", Ty::Int)?)?;
+    let next = Ty::optional(alloc, Ty::named(alloc, "Node")?)?;
+    fields.push(Field::make(alloc, "next", next)?)?;
+    Def::make(alloc, "Node", Shape::Struct(fields))
 }
 
 // union ByColor switch (Color c) { case RED: int n; case BLUE: void; };
@@ -75,24 +46,24 @@ fn by_color(alloc: Global) -> Result<Def, AllocError> {
     let mut arms = Vec::new(alloc);
     arms.push(arm(alloc, 2, "n", Ty::Int)?)?;
     arms.push(void_arm(Some(5)))?;
-    let tag = named(alloc, "Color")?;
-    def(alloc, "ByColor", Shape::Union { tag, arms })
+    let tag = Ty::named(alloc, "Color")?;
+    Def::make(alloc, "ByColor", Shape::Union { tag, arms })
 }
 
 // union ByNumber switch (int n) { case 1: Fid f; };
 fn by_number(alloc: Global) -> Result<Def, AllocError> {
     let mut arms = Vec::new(alloc);
-    arms.push(arm(alloc, 1, "f", named(alloc, "Fid")?)?)?;
-    def(alloc, "ByNumber", Shape::Union { tag: Ty::Int, arms })
+    arms.push(arm(alloc, 1, "f", Ty::named(alloc, "Fid")?)?)?;
+    Def::make(alloc, "ByNumber", Shape::Union { tag: Ty::Int, arms })
 }
 
 // union ByCount switch (Count n) { case 1: Maybe m; default: void; };
 fn by_count(alloc: Global) -> Result<Def, AllocError> {
     let mut arms = Vec::new(alloc);
-    arms.push(arm(alloc, 1, "m", named(alloc, "Maybe")?)?)?;
+    arms.push(arm(alloc, 1, "m", Ty::named(alloc, "Maybe")?)?)?;
     arms.push(void_arm(None))?;
-    let tag = named(alloc, "Count")?;
-    def(alloc, "ByCount", Shape::Union { tag, arms })
+    let tag = Ty::named(alloc, "Count")?;
+    Def::make(alloc, "ByCount", Shape::Union { tag, arms })
 }
 
 // union ByFlag switch (bool b) { case 1: string s<4>; case 0: void; };
@@ -100,7 +71,7 @@ fn by_flag(alloc: Global) -> Result<Def, AllocError> {
     let mut arms = Vec::new(alloc);
     arms.push(arm(alloc, 1, "s", Ty::Text(4))?)?;
     arms.push(void_arm(Some(0)))?;
-    def(
+    Def::make(
         alloc,
         "ByFlag",
         Shape::Union {
@@ -113,20 +84,20 @@ fn by_flag(alloc: Global) -> Result<Def, AllocError> {
 // typedef Fid Fids<2>; typedef string Name<4>; typedef int *Maybe; typedef int Ints<4>;
 // typedef bool Pair[2]; typedef unsigned Count; typedef ByColor Paint; typedef Node *Chain;
 fn aliases(alloc: Global, types: &mut Vec<Def>) -> Result<(), AllocError> {
-    let fids = Ty::ArrayUpTo(Box::new(alloc, named(alloc, "Fid")?)?, 2);
-    types.push(def(alloc, "Fids", Shape::Alias(fids))?)?;
-    types.push(def(alloc, "Name", Shape::Alias(Ty::Text(4)))?)?;
-    let maybe = Ty::Maybe(Box::new(alloc, Ty::Int)?);
-    types.push(def(alloc, "Maybe", Shape::Alias(maybe))?)?;
-    let list = Ty::ArrayUpTo(Box::new(alloc, Ty::Int)?, 4);
-    types.push(def(alloc, "Ints", Shape::Alias(list))?)?;
-    let pair = Ty::Array(Box::new(alloc, Ty::Bool)?, 2);
-    types.push(def(alloc, "Pair", Shape::Alias(pair))?)?;
-    types.push(def(alloc, "Count", Shape::Alias(Ty::Uint))?)?;
-    let paint = named(alloc, "ByColor")?;
-    types.push(def(alloc, "Paint", Shape::Alias(paint))?)?;
-    let chain = Ty::Maybe(Box::new(alloc, named(alloc, "Node")?)?);
-    types.push(def(alloc, "Chain", Shape::Alias(chain))?)?;
+    let fids = Ty::up_to(alloc, Ty::named(alloc, "Fid")?, 2)?;
+    types.push(Def::make(alloc, "Fids", Shape::Alias(fids))?)?;
+    types.push(Def::make(alloc, "Name", Shape::Alias(Ty::Text(4)))?)?;
+    let maybe = Ty::optional(alloc, Ty::Int)?;
+    types.push(Def::make(alloc, "Maybe", Shape::Alias(maybe))?)?;
+    let list = Ty::up_to(alloc, Ty::Int, 4)?;
+    types.push(Def::make(alloc, "Ints", Shape::Alias(list))?)?;
+    let pair = Ty::array(alloc, Ty::Bool, 2)?;
+    types.push(Def::make(alloc, "Pair", Shape::Alias(pair))?)?;
+    types.push(Def::make(alloc, "Count", Shape::Alias(Ty::Uint))?)?;
+    let paint = Ty::named(alloc, "ByColor")?;
+    types.push(Def::make(alloc, "Paint", Shape::Alias(paint))?)?;
+    let chain = Ty::optional(alloc, Ty::named(alloc, "Node")?)?;
+    types.push(Def::make(alloc, "Chain", Shape::Alias(chain))?)?;
     Ok(())
 }
 
@@ -162,10 +133,10 @@ pub fn type_named(alloc: Global, name: &str) -> Result<Ty, AllocError> {
         "opaque[2]" => Ok(Ty::Opaque(2)),
         "opaque<2>" => Ok(Ty::OpaqueUpTo(2)),
         "string<4>" => Ok(Ty::Text(4)),
-        "int<4>" => Ok(Ty::ArrayUpTo(Box::new(alloc, Ty::Int)?, 4)),
-        "bool[2]" => Ok(Ty::Array(Box::new(alloc, Ty::Bool)?, 2)),
-        "void<100000>" => Ok(Ty::ArrayUpTo(Box::new(alloc, Ty::Void)?, 100_000)),
-        "int*" => Ok(Ty::Maybe(Box::new(alloc, Ty::Int)?)),
-        other => named(alloc, other),
+        "int<4>" => Ty::up_to(alloc, Ty::Int, 4),
+        "bool[2]" => Ty::array(alloc, Ty::Bool, 2),
+        "void<100000>" => Ty::up_to(alloc, Ty::Void, 100_000),
+        "int*" => Ty::optional(alloc, Ty::Int),
+        other => Ty::named(alloc, other),
     }
 }
