@@ -26,3 +26,5 @@ pub use writing::encode;
 mod test_types;
 #[cfg(test)]
 mod tests;
+#[cfg(test)]
+mod word_tests;

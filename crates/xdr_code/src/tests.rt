@@ -3,11 +3,11 @@ use crate::test_types::all_types;
 use std::alloc::{AllocError, Global};
 use std::process::Abort;
 use std::test::*;
-use xdr_value::{Def, Field, Interface, Shape, Ty, Value, fits, has_levels_within, known, sound};
+use xdr_value::{Field, Interface, Ty, Value, known, sound};
 
 // What an answer says, without its value.
 #[derive(Clone, Copy, Debug, PartialEq, Eq)]
-enum Told {
+pub enum Told {
     Whole(usize),
     Short,
     Bad(usize, Why),
@@ -17,7 +17,7 @@ enum Told {
     OtherBytes,
 }
 
-fn interface(alloc: Global) -> Result<Interface, AllocError> {
+pub fn interface(alloc: Global) -> Result<Interface, AllocError> {
     let types = all_types(alloc)?;
     let procs = Vec::new(alloc);
     if !sound(&types, &procs) {
@@ -35,7 +35,7 @@ fn digit(c: u8) -> u8 {
 }
 
 // The bytes of a text of hex digits, whose spaces count for nothing.
-fn bytes_of(alloc: Global, hex: &str) -> Result<Vec<u8>, AllocError> {
+pub fn bytes_of(alloc: Global, hex: &str) -> Result<Vec<u8>, AllocError> {
     let mut bytes = Vec::new(alloc);
     let mut high = None;
     for c in hex.as_bytes() {
@@ -54,7 +54,7 @@ fn bytes_of(alloc: Global, hex: &str) -> Result<Vec<u8>, AllocError> {
 }
 
 // A value that was found is spelled again, and the bytes have to be those that it was found in.
-fn answer(alloc: Global, iface: &Interface, ty: &Ty, bytes: &[u8]) -> Result<Told, AllocError> {
+pub fn answer(alloc: Global, iface: &Interface, ty: &Ty, bytes: &[u8]) -> Result<Told, AllocError> {
     if !known(&iface.types, ty) {
         return Ok(Told::Unknown);
     }
@@ -330,109 +330,6 @@ fn signs_are_kept(rt: HostRuntime) -> Result<(), AllocError> {
     assert_eq!(rt; first_number(alloc, "short", "ffff8000")?, Some(-32768));
     assert_eq!(rt; first_number(alloc, "char", "ffffff80")?, Some(-128));
     assert_eq!(rt; first_number(alloc, "color", "ffffffff")?, Some(-1));
-    Ok(())
-}
-
-// Words that differ, of which some have the highest bit set.
-fn put_numbered(bytes: &mut Vec<u8>, count: u16) -> Result<(), AllocError> {
-    for i in 0..count {
-        let word = (i as u32).wrapping_mul(2654435761);
-        bytes.extend_from_slice(&word.to_be_bytes())?;
-    }
-    Ok(())
-}
-
-// So many fields, of int and unsigned in turn.
-fn row(alloc: Global, width: u8) -> Result<Def, AllocError> {
-    let mut fields = Vec::new(alloc);
-    for i in 0..width {
-        let ty = if i % 2 == 0 { Ty::Int } else { Ty::Uint };
-        let name = format!(in alloc; "f{i}")?;
-        fields.push(Field::make(alloc, name.as_str(), ty)?)?;
-    }
-    Def::make(alloc, "row", Shape::Struct(fields))
-}
-
-// Three structs of so many words behind their count, whole or without their last byte.
-fn tell_rows(alloc: Global, width: u8, is_cut: bool) -> Result<Told, AllocError> {
-    let mut types = Vec::new(alloc);
-    types.push(row(alloc, width)?)?;
-    let procs = Vec::new(alloc);
-    if !sound(&types, &procs) {
-        return Ok(Told::Unknown);
-    }
-    let iface = Interface::make(None, None, types, procs);
-    let ty = Ty::up_to(alloc, Ty::named(alloc, "row")?, 3)?;
-    let mut bytes = bytes_of(alloc, "00000003")?;
-    put_numbered(&mut bytes, 3 * width as u16)?;
-    if is_cut {
-        let _ = bytes.pop();
-    }
-    answer(alloc, &iface, &ty, &bytes)
-}
-
-#[test]
-fn structs_of_words_are_their_words_at_every_width(rt: HostRuntime) -> Result<(), AllocError> {
-    let alloc = rt.alloc();
-    for width in 0..26u8 {
-        let whole = Told::Whole(4 + 12 * width as usize);
-        assert_eq!(rt; tell_rows(alloc, width, false)?, whole, "of {width}");
-        assert_eq!(rt; tell_rows(alloc, width, true)?, Told::Short, "of {width}");
-    }
-    Ok(())
-}
-
-fn ints_type(alloc: Global) -> Result<Ty, AllocError> {
-    Ty::up_to(alloc, Ty::Int, 4294967295)
-}
-
-// The bytes of a list of ints, behind their count.
-fn ints(alloc: Global, numbers: &[i128]) -> Result<Vec<u8>, AllocError> {
-    let iface = interface(alloc)?;
-    let ty = ints_type(alloc)?;
-    let mut items = Vec::new(alloc);
-    for number in numbers {
-        items.push(Value::Number(*number))?;
-    }
-    let list = Value::List(items);
-    if !known(&iface.types, &ty) || !fits(&iface, &ty, &list) || !has_levels_within(&list, 64) {
-        return Ok(Vec::new(alloc));
-    }
-    encode(alloc, &iface, &ty, &list)
-}
-
-// Thirteen are eight, four and one.
-#[test]
-fn ints_are_spelled_in_order_with_their_signs(rt: HostRuntime) -> Result<(), AllocError> {
-    let alloc = rt.alloc();
-    let numbers = [
-        0,
-        1,
-        -1,
-        2147483647,
-        -2147483648,
-        255,
-        -256,
-        16909060,
-        -16909060,
-        65536,
-        -65536,
-        7,
-        -2,
-    ];
-    let wanted = "0000000d 00000000 00000001 ffffffff 7fffffff 80000000 000000ff ffffff00 \
-        01020304 fefdfcfc 00010000 ffff0000 00000007 fffffffe";
-    assert_eq!(rt;
-        ints(alloc, &numbers)?.as_slice(),
-        bytes_of(alloc, wanted)?.as_slice()
-    );
-    let told = answer(
-        alloc,
-        &interface(alloc)?,
-        &ints_type(alloc)?,
-        &bytes_of(alloc, wanted)?,
-    )?;
-    assert_eq!(rt; told, Told::Whole(56));
     Ok(())
 }
 
