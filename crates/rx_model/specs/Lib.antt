@@ -4,12 +4,6 @@ pub mod Reading
 pub mod Spelling
 pub mod Spells
 pub mod Names
-pub mod Streams
 pub mod Strays
-pub mod Looks
-pub mod Slots
-pub mod Items
-pub mod Rules
-pub mod Accepted
 pub mod Text
 pub mod Telling

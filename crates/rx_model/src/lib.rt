@@ -1,10 +1,10 @@
-//! The vocabulary of histories: hosts, names of calls, answers and events, and in `specs/` what a history says and allows.
+//! What is said: hosts, names of calls, answers, events and their lines, the constants of the wire; in `specs/` messages,
+//! their spelling, and the text of a history.
 #![tactic(auto)]
 
 mod answers;
 mod bytes;
 mod event;
-mod laws;
 mod line;
 mod names;
 mod spelling_laws;
@@ -19,9 +19,8 @@ pub use answers::{
 };
 pub use bytes::Bytes;
 pub use event::{Event, Noted};
-pub use laws::accepts_once;
 pub use line::event_line;
 pub use names::{CallName, Host, Limits};
 pub use spelling_laws::{reads_the_spelled, reads_the_written, spells_one, writes_a_spelling};
 pub use stray::Stray;
-pub use text_laws::{legal_events_are_told, texts_tell_histories, texts_tell_sides};
+pub use text_laws::{texts_tell_histories, texts_tell_sides};

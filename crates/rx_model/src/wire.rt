@@ -69,14 +69,50 @@ pub const DATAGRAM_BYTES: usize = 1472;
 /// Bytes of a full piece of a stream, as this node sends it.
 pub const PIECE_BYTES: usize = 1412;
 
-/// Packets of a window at most.
-pub const WINDOW_PACKETS: u32 = 32;
+/// The greatest seq of a piece, so that the seq above it is one too.
+pub const LAST_SEQ: u32 = 4_294_967_294;
+
+/// Packets of a node's window, by default.
+pub const DEFAULT_WINDOW: u32 = 32;
+
+/// The least window that a node can be made with.
+pub const MIN_WINDOW: u32 = 32;
+
+/// The greatest window that a node can be made with, and that a peer has.
+pub const MAX_WINDOW: u32 = 255;
+
+/// Packets of a peer's window before it tells its own.
+pub const FIRST_PEER_WINDOW: u32 = 32;
 
 /// Milliseconds after which a delayed acknowledgement is due.
 pub const ACK_DELAY_MS: u64 = 100;
 
-/// Milliseconds after which a packet is first sent again.
+/// Milliseconds after which a packet is sent again, before a round trip was measured.
 pub const FIRST_RTO_MS: u64 = 1000;
+
+/// The least milliseconds after which a packet is sent again.
+pub const MIN_RTO_MS: u64 = 350;
+
+/// The most milliseconds after which a packet is sent again.
+pub const MAX_RTO_MS: u64 = 4000;
+
+/// The longest round trip that is measured, in milliseconds.
+pub const MAX_ROUND_TRIP_MS: u64 = 60000;
+
+/// The congestion window of a call that has just started, in packets.
+pub const FIRST_CWND: u32 = 2;
+
+/// The least threshold of slow start, in packets.
+pub const MIN_SSTHRESH: u32 = 2;
+
+/// Milliseconds after its last sending when a client pings.
+pub const PING_MS: u64 = 2000;
+
+/// Milliseconds of silence that end a call.
+pub const SILENCE_MS: u64 = 12000;
+
+/// Milliseconds without use after which a server may forget a connection.
+pub const IDLE_MS: u64 = 600_000;
 
 /// The most connections that a node keeps, by default.
 pub const DEFAULT_CONNS: u32 = 1024;
@@ -90,5 +126,29 @@ pub const DEFAULT_SLOTS: u32 = 2048;
 /// The most stray aborts that a server owes; a further one drops the oldest.
 pub const STRAYS: usize = 64;
 
+/// The security index of no security.
+pub const NULL_INDEX: u8 = 0;
+
+/// The security index of the class by a shared key.
+pub const TOKEN_INDEX: u8 = 200;
+
+/// Bytes of a challenge or of its answer at most.
+pub const SECURITY_BYTES: usize = 64;
+
+/// Bytes of the nonce that the class by a shared key challenges with.
+pub const NONCE_BYTES: usize = 8;
+
+/// Milliseconds of the server's clock within which the premise of forgetting has a datagram come.
+pub const LIFETIME_MS: u64 = 120_000;
+
+/// Milliseconds by which the same premise lets a client's clock fall behind the server's.
+pub const SKEW_MS: u64 = 60_000;
+
+/// The code of a call whose peer is silent, or whose channel a later call takes.
+pub const RX_CALL_DEAD: i32 = -1;
+
 /// The code of an abort: there is no such operation here.
 pub const RX_INVALID_OPERATION: i32 = -2;
+
+/// The code of an abort: the peer's answer to a challenge is wrong.
+pub const RX_PROTOCOL_ERROR: i32 = -5;

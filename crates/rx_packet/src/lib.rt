@@ -7,18 +7,14 @@
 
 mod ack;
 mod body;
-mod front;
 mod head;
 mod read;
-mod request;
 #[cfg(test)]
 mod tests;
 mod write;
 
 pub use ack::AckBody;
 pub use body::Body;
-pub use front::{front_row, passes_front};
 pub use head::Head;
 pub use read::read_msg;
-pub use request::{is_request, is_taken};
 pub use write::write_msg;

@@ -7,7 +7,7 @@ use Rattle.std.specs.List.{sum_by}
 use Rattle.std.specs.Option.{option_or}
 use Rattle.rx_model.specs.declared.names.Host.{Host}
 use Rattle.rx_model.specs.declared.wire.TheConstants.{PIECE_BYTES}
-use Rattle.rx_model.specs.Rules.{is_request, is_taken, passes_front}
+use Rattle.rx_first_rules.specs.Rules.{is_request, is_taken, passes_front}
 use Rattle.rx_top.specs.declared.plan.Numbered.{Numbered}
 use Rattle.rx_top.specs.declared.plan.PlanLine.TheVariants as lines
 use Rattle.rx_top.specs.declared.plan.TheConstants.{MAX_FORGES}

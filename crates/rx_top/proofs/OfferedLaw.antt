@@ -6,14 +6,14 @@ use Rattle.rx_model.specs.declared.answers.WroteGot.TheVariants as writers
 use Rattle.rx_model.specs.declared.event.Event.{Event}
 use Rattle.rx_model.specs.declared.event.Event.TheVariants as events
 use Rattle.rx_model.specs.declared.names.CallName.{CallName}
-use Rattle.rx_model.specs.Accepted.{accepted_names}
-use Rattle.rx_model.specs.Looks.{Setup, looks}
+use Rattle.rx_first_rules.specs.Accepted.{accepted_names}
+use Rattle.rx_first_rules.specs.Looks.{Setup, looks}
 use Rattle.rx_model.specs.Names.{same_name}
-use Rattle.rx_model.specs.Rules.{Legal}
-use Rattle.rx_model.proofs.AcceptedLaw.{accepted_distinct}
-use Rattle.rx_model.proofs.Facts.{Distinct, is_among}
+use Rattle.rx_first_rules.specs.Rules.{Legal}
+use Rattle.rx_first_rules.proofs.AcceptedLaw.{accepted_distinct}
+use Rattle.rx_first_rules.proofs.Facts.{Distinct, is_among}
 use Rattle.rx_model.proofs.NameLaws.{name_is, name_itself, number_itself, or_true}
-use Rattle.rx_model.proofs.OnceLaw.{waiting_is_new}
+use Rattle.rx_first_rules.proofs.OnceLaw.{waiting_is_new}
 use Rattle.rx_top.specs.declared.plan.Numbered.{Numbered}
 use Rattle.rx_top.specs.declared.plan.PlanLine.{PlanLine}
 use Rattle.rx_top.specs.declared.plan.PlanLine.TheVariants as lines

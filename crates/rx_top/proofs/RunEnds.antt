@@ -5,10 +5,10 @@ use Rattle.rx_model.specs.declared.event.Event.{Event}
 use Rattle.rx_model.specs.declared.names.CallName.{CallName}
 use Rattle.rx_model.specs.declared.names.Host.{Host}
 use Rattle.rx_model.specs.declared.names.Limits.{Limits}
-use Rattle.rx_model.specs.Accepted.{accepted_names}
-use Rattle.rx_model.specs.Rules.{Legal}
-use Rattle.rx_model.proofs.OnceLaw.{once}
-use Rattle.rx_server.specs.Node.{Node}
+use Rattle.rx_first_rules.specs.Accepted.{accepted_names}
+use Rattle.rx_first_rules.specs.Rules.{Legal}
+use Rattle.rx_first_rules.proofs.OnceLaw.{once}
+use Rattle.rx_first_server.specs.Node.{Node}
 use Rattle.rx_top.specs.declared.outcome.Outcome.{Outcome}
 use Rattle.rx_top.specs.declared.outcome.Outcome.TheVariants as outcomes
 use Rattle.rx_top.specs.declared.outcome.PlanWhy.{PlanWhy}

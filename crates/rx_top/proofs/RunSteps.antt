@@ -10,14 +10,15 @@ use Rattle.rx_model.specs.declared.names.CallName.{CallName}
 use Rattle.rx_model.specs.declared.names.Host.{Host}
 use Rattle.rx_model.specs.declared.names.Limits.{Limits}
 use Rattle.rx_model.specs.declared.wire.TheConstants.{PIECE_BYTES}
-use Rattle.rx_model.specs.Accepted.{accepted_names, with_accepted}
-use Rattle.rx_model.specs.Looks.{Looks, Setup, looks}
+use Rattle.rx_first_rules.specs.Accepted.{accepted_names, with_accepted}
+use Rattle.rx_first_rules.specs.Looks.{Looks, Setup, looks}
 use Rattle.rx_model.specs.Names.{same_name}
-use Rattle.rx_model.specs.Rules.{Allowed, Legal, is_taken}
+use Rattle.rx_first_rules.specs.Rules.{Allowed, Legal, is_taken}
 use Rattle.rx_model.proofs.NameLaws.{name_is, or_true}
-use Rattle.rx_model.proofs.OnceLaw.{once}
-use Rattle.rx_server.specs.Node.{Entry, Node, reply_in, reply_of}
-use Rattle.rx_server.specs.Stands.{Stands, default_limits, entry_of}
+use Rattle.rx_first_rules.proofs.OnceLaw.{once}
+use Rattle.rx_first_server.specs.Node.{Entry, Node, reply_in, reply_of}
+use Rattle.rx_first_server.specs.Stands.{Stands, entry_of}
+use Rattle.rx_model.specs.Names.{default_limits}
 use Rattle.rx_top.specs.declared.outcome.PlanWhy.TheVariants as causes
 use Rattle.rx_top.specs.declared.plan.Numbered.{Numbered}
 use Rattle.rx_top.specs.declared.plan.PlanLine.{PlanLine}

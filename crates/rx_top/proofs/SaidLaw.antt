@@ -6,9 +6,9 @@ use Rattle.rx_model.specs.declared.answers.WroteGot.TheVariants as writers
 use Rattle.rx_model.specs.declared.event.Event.{Event}
 use Rattle.rx_model.specs.declared.event.Event.TheVariants as events
 use Rattle.rx_model.specs.declared.names.CallName.{CallName}
-use Rattle.rx_model.specs.Looks.{Looks, Setup, accepted_by, looks}
+use Rattle.rx_first_rules.specs.Looks.{Looks, Setup, accepted_by, looks}
 use Rattle.rx_model.specs.Names.{same_name}
-use Rattle.rx_model.specs.Rules.{HasBytes, Legal, write_answer}
+use Rattle.rx_first_rules.specs.Rules.{HasBytes, Legal, write_answer}
 use Rattle.rx_model.proofs.NameLaws.{name_is, neither}
 
 -- a write to a call that wasn't accepted takes no byte

@@ -4,7 +4,7 @@ use Rattle.std.proofs.lemmas.Bool.{leb-true}
 use Rattle.std.specs.Option.{ok_or}
 use Rattle.std.specs.Str.{bytes_eq, is_utf8}
 use Rattle.std.specs.Str.Parse.{digits_value}
-use Rattle.rx_model.proofs.Each.{Each, each_append}
+use Rattle.rx_first_rules.proofs.Each.{Each, each_append}
 use Rattle.rx_model.specs.declared.names.Host.{Host}
 use Rattle.rx_top.specs.declared.plan.LineFault.{LineFault}
 use Rattle.rx_top.specs.declared.plan.LineFault.TheVariants.{BadLine}
@@ -17,7 +17,8 @@ use Rattle.rx_top.specs.declared.plan.LineWhy.{LineWhy}
 use Rattle.rx_top.specs.declared.plan.Numbered.{Numbered}
 use Rattle.rx_top.specs.declared.plan.PlanLine.{PlanLine}
 use Rattle.rx_top.specs.declared.plan.PlanLine.TheVariants as lines
-use Rattle.rx_top.specs.Lines.{Form, and_then, end, form_of, default_limits, forms, plan_line, server_options, with_option, word}
+use Rattle.rx_model.specs.Names.{default_limits}
+use Rattle.rx_top.specs.Lines.{Form, and_then, end, form_of, forms, plan_line, server_options, with_option, word}
 use Rattle.rx_top.specs.Plans.{after, is_later, is_skipped, plan_back, plan_of, with_line, with_said}
 use Rattle.rx_top.specs.Steps.{AreWell, IsWell}
 

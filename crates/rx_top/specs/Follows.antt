@@ -7,7 +7,7 @@ use Rattle.rx_model.specs.declared.answers.WroteGot.TheVariants as writers
 use Rattle.rx_model.specs.declared.event.Event.{Event}
 use Rattle.rx_model.specs.declared.event.Event.TheVariants as events
 use Rattle.rx_model.specs.declared.names.CallName.{CallName}
-use Rattle.rx_model.specs.Accepted.{accepted_names}
+use Rattle.rx_first_rules.specs.Accepted.{accepted_names}
 use Rattle.rx_top.specs.declared.outcome.PlanWhy.{PlanWhy}
 use Rattle.rx_top.specs.declared.outcome.PlanWhy.TheVariants as causes
 use Rattle.rx_top.specs.declared.plan.Numbered.{Numbered}

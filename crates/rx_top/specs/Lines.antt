@@ -1,8 +1,7 @@
 -- The seven lines of a plan: each judged word by word from the left. Public clauses cite this module.
 use Rattle.std.specs.Prelude.{if◌then◌else◌, codes, is_some, unwrap_or, ℕ, List, [], ◌∷◌, drop, Option, Some, None, Result, Ok, Err, bytes_eq}
 use Rattle.rx_model.specs.declared.names.Host.{Host}
-use Rattle.rx_model.specs.declared.names.Limits.{Limits}
-use Rattle.rx_model.specs.declared.wire.TheConstants.{DEFAULT_CONNS, DEFAULT_CALLS, DEFAULT_SLOTS}
+use Rattle.rx_model.specs.Names.{default_limits}
 use Rattle.rx_top.specs.declared.plan.LineWhy.{LineWhy}
 use Rattle.rx_top.specs.declared.plan.LineWhy.TheVariants.{Word, Twice}
 use Rattle.rx_top.specs.declared.plan.PlanLine.{PlanLine}
@@ -28,10 +27,6 @@ abbrev pub end : PlanLine → Form
 end line words = and_then (no_more words) (λ _. Ok line)
 
 -- ---- what follows the first word
-
--- the limits of a server whose line names none
-abbrev pub default_limits : Limits
-default_limits = record { conns = DEFAULT_CONNS; calls = DEFAULT_CALLS; slots = DEFAULT_SLOTS }
 
 -- the service with one more option, where this one was given so far: a second one is `Twice`
 abbrev pub with_option : Option ℕ → List ℕ → Result (Option ℕ) LineWhy

@@ -3,7 +3,7 @@ use Rattle.std.specs.Prelude.{◌≡◌, ◌==◌, ◌||◌, ◌&&◌, ◌+◌, 
 use Rattle.std.specs.Option.{option_or}
 use Rattle.std.specs.Str.{is_utf8}
 use Rattle.rx_model.specs.declared.wire.TheConstants.{PIECE_BYTES}
-use Rattle.rx_model.specs.Rules.{is_request, passes_front}
+use Rattle.rx_first_rules.specs.Rules.{is_request, passes_front}
 use Rattle.rx_top.specs.declared.marks.TheConstants.{HASH, SPACE}
 use Rattle.rx_top.specs.declared.plan.LineFault.{LineFault}
 use Rattle.rx_top.specs.declared.plan.LineFault.TheVariants.{BadLine, OutOfMemory}

@@ -2,11 +2,11 @@
 use Rattle.std.specs.Prelude.{◌≡◌, ℕ, List, codes, reverse, slice_get, take, Option, Some}
 use Rattle.rx_base.specs.Sink.{Gained, GainedSome}
 use Rattle.rx_model.specs.declared.event.Event.{Event}
-use Rattle.rx_model.specs.Accepted.{accepted_names}
-use Rattle.rx_model.specs.Looks.{Setup}
-use Rattle.rx_model.specs.Rules.{Legal, Once}
+use Rattle.rx_first_rules.specs.Accepted.{accepted_names}
+use Rattle.rx_first_rules.specs.Looks.{Setup}
+use Rattle.rx_first_rules.specs.Rules.{Legal, Once}
 use Rattle.rx_model.specs.Text.{side_text}
-use Rattle.rx_server.specs.Stands.{default_limits}
+use Rattle.rx_model.specs.Names.{default_limits}
 use Rattle.rx_top.specs.declared.outcome.Outcome.{Outcome}
 use Rattle.rx_top.specs.declared.outcome.Outcome.TheVariants as outcomes
 use Rattle.rx_top.specs.declared.outcome.PlanWhy.{PlanWhy}

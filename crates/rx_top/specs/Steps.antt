@@ -8,11 +8,11 @@ use Rattle.rx_model.specs.declared.event.Event.TheVariants as events
 use Rattle.rx_model.specs.declared.names.CallName.{CallName}
 use Rattle.rx_model.specs.declared.names.Host.{Host}
 use Rattle.rx_model.specs.declared.wire.TheConstants.{PIECE_BYTES}
-use Rattle.rx_model.specs.Accepted.{with_accepted}
-use Rattle.rx_model.specs.Rules.{is_taken}
+use Rattle.rx_first_rules.specs.Accepted.{with_accepted}
+use Rattle.rx_first_rules.specs.Rules.{is_taken}
 use Rattle.rx_model.specs.Text.{line_of}
-use Rattle.rx_server.specs.Node.{Node, reply_of}
-use Rattle.rx_server.specs.Stands.{Answered}
+use Rattle.rx_first_server.specs.Node.{Node, reply_of}
+use Rattle.rx_first_server.specs.Stands.{Answered}
 use Rattle.rx_top.specs.declared.outcome.Outcome.{Outcome}
 use Rattle.rx_top.specs.declared.outcome.Outcome.TheVariants as outcomes
 use Rattle.rx_top.specs.declared.outcome.PlanWhy.{PlanWhy}

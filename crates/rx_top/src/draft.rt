@@ -2,14 +2,14 @@
 
 ghost use Rattle.std.specs.Prelude.{◌≡◌, ◌+◌, ◌++◌, ◌∷◌, ◌≤◌, ◌<◌, ◌^◌, ◌||◌, ◌&&◌, not, nat_le, ℕ, [], false, length, if◌then◌else◌, IfOk, OnOk};
 ghost use Rattle.rx_model.specs.declared.wire.TheConstants.{PIECE_BYTES};
-ghost use Rattle.rx_model.specs.Rules.{is_request, passes_front};
+ghost use Rattle.rx_first_rules.specs.Rules.{is_request, passes_front};
 ghost use Rattle.rx_top.specs.Plans.{forge_passes, forges_in, is_later, offered_by, service_in, service_of, IsBuilt};
 ghost use Rattle.rx_top.specs.declared.plan.TheConstants.{MAX_FORGES};
 ghost use Rattle.rx_top.specs.Counts.{offered_in};
 
 use crate::plan::{DEFAULT_SERVICE, MAX_FORGES, Numbered, Plan, PlanLine};
+use rx_first_server::{is_request, passes_front};
 use rx_model::wire::PIECE_BYTES;
-use rx_packet::{is_request, passes_front};
 use std::alloc::{AllocError, Global};
 use std::collections::HashMap;
 use std::marker::Model;

@@ -10,7 +10,7 @@ use crate::marks::{AT, SERVICE_HEAD};
 use crate::number::{code_in, host_in, is_decimal, number_within};
 use crate::pieces::Pieces;
 use crate::plan::{DEFAULT_SERVICE, LineWhy, MAX_BYTES, PlanLine};
-use rx_model::wire::{DEFAULT_CALLS, DEFAULT_CONNS, DEFAULT_SLOTS};
+use rx_model::wire::{DEFAULT_CALLS, DEFAULT_CONNS, DEFAULT_SLOTS, DEFAULT_WINDOW};
 use rx_model::{Bytes, Host, Limits};
 use std::alloc::{AllocError, Global};
 
@@ -94,6 +94,7 @@ fn server_options(host: Host, words: &mut Pieces) -> Result<PlanLine, LineWhy>
             conns: DEFAULT_CONNS,
             calls: DEFAULT_CALLS,
             slots: DEFAULT_SLOTS,
+            window: DEFAULT_WINDOW,
         },
     })
 }

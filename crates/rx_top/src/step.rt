@@ -1,18 +1,18 @@
 //! One line of a plan, on the server.
 
 ghost use Rattle.std.specs.Prelude.{◌≡◌, ◌⊎◌, ◌≤◌, ◌<◌, ◌+◌, length, true, false, None, Some, IfOk, IfErr};
-ghost use Rattle.rx_model.specs.Rules.{is_taken};
-ghost use Rattle.rx_server.specs.Stands.{Answered};
+ghost use Rattle.rx_first_rules.specs.Rules.{is_taken};
+ghost use Rattle.rx_first_server.specs.Stands.{Answered};
 ghost use Rattle.rx_top.specs.Follows.{IsOf, call_refusal, name_at as spec_name_at, is_server};
 ghost use Rattle.rx_model.specs.declared.wire.TheConstants.{PIECE_BYTES};
-ghost use Rattle.rx_server.specs.Node.{given_from, reply_of};
+ghost use Rattle.rx_first_server.specs.Node.{given_from, reply_of};
 ghost use Rattle.rx_top.specs.Steps.{IsPolled, IsReadOf, IsReady, IsTaken, IsWriteOf};
 
 use crate::outcome::PlanWhy;
 use crate::plan::PlanLine;
+use rx_first_server::Server;
 use rx_model::wire::DATAGRAM_BYTES;
 use rx_model::{Bytes, CallName, Event, Host, ReadGot, ServeRead, WroteGot};
-use rx_server::Server;
 use std::alloc::{AllocError, Global};
 
 /// Why a line has no event.

@@ -55,7 +55,7 @@ pub fn answer(alloc: Global, text: &[u8]) -> Result<String, AllocError> {
 static PLANS: [(&str, &str); 29] = [
     (
         "server 10.0.0.1:7000",
-        "1 server 167772161:7000 1 Limits { conns: 1024, calls: 64, slots: 2048 };",
+        "1 server 167772161:7000 1 Limits { conns: 1024, calls: 64, slots: 2048, window: 32 };",
     ),
     (
         "forge s 10.0.0.2:7001 0000000100000004000000010000000100000001010500000000000168690a",
@@ -74,31 +74,31 @@ static PLANS: [(&str, &str); 29] = [
     ("# ", ""),
     (
         "server 0.0.0.0:0",
-        "1 server 0:0 1 Limits { conns: 1024, calls: 64, slots: 2048 };",
+        "1 server 0:0 1 Limits { conns: 1024, calls: 64, slots: 2048, window: 32 };",
     ),
     (
         "server 255.255.255.255:65535",
-        "1 server 4294967295:65535 1 Limits { conns: 1024, calls: 64, slots: 2048 };",
+        "1 server 4294967295:65535 1 Limits { conns: 1024, calls: 64, slots: 2048, window: 32 };",
     ),
     (
         "server 010.00.000.0001:07000",
-        "1 server 167772161:7000 1 Limits { conns: 1024, calls: 64, slots: 2048 };",
+        "1 server 167772161:7000 1 Limits { conns: 1024, calls: 64, slots: 2048, window: 32 };",
     ),
     (
         "server 10.0.0.1:7000 service=1",
-        "1 server 167772161:7000 1 Limits { conns: 1024, calls: 64, slots: 2048 };",
+        "1 server 167772161:7000 1 Limits { conns: 1024, calls: 64, slots: 2048, window: 32 };",
     ),
     (
         "server 10.0.0.1:7000 service=0",
-        "1 server 167772161:7000 0 Limits { conns: 1024, calls: 64, slots: 2048 };",
+        "1 server 167772161:7000 0 Limits { conns: 1024, calls: 64, slots: 2048, window: 32 };",
     ),
     (
         "server 10.0.0.1:7000 service=65535",
-        "1 server 167772161:7000 65535 Limits { conns: 1024, calls: 64, slots: 2048 };",
+        "1 server 167772161:7000 65535 Limits { conns: 1024, calls: 64, slots: 2048, window: 32 };",
     ),
     (
         "server 10.0.0.1:7000 service=0000000000002",
-        "1 server 167772161:7000 2 Limits { conns: 1024, calls: 64, slots: 2048 };",
+        "1 server 167772161:7000 2 Limits { conns: 1024, calls: 64, slots: 2048, window: 32 };",
     ),
     ("forge s 10.0.0.2:7001 -", "1 forge 0 167772162:7001 [];"),
     ("read @1 1", "1 read 1 1;"),

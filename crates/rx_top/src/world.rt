@@ -7,14 +7,14 @@ ghost use Rattle.rx_top.specs.Plans.{IsBuilt};
 ghost use Rattle.rx_top.specs.Runs.{RunIs};
 ghost use Rattle.rx_top.specs.Steps.{AreWell, IsReady, LineIs, event_trace};
 ghost use Rattle.rx_top.specs.Follows.{is_server};
-ghost use Rattle.rx_model.specs.Accepted.{with_accepted};
+ghost use Rattle.rx_first_rules.specs.Accepted.{with_accepted};
 
 use crate::outcome::{Outcome, PlanWhy};
 use crate::plan::{Numbered, Plan, PlanLine};
 use crate::step::{Stop, step};
 use rx_base::Sink;
+use rx_first_server::Server;
 use rx_model::{CallName, Event, event_line};
-use rx_server::Server;
 use std::alloc::{AllocError, Global};
 
 /// Makes the events of a plan's lines on its server, and puts one line of the trace for each. It ends at the first line

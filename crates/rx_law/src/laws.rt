@@ -1,0 +1,62 @@
+ghost use Rattle.std.specs.Prelude.{◌≡◌, ℕ, List, Ok};
+ghost use Rattle.rx_model.specs.declared.event.Event.{Event};
+ghost use Rattle.rx_model.specs.declared.event.Noted.{Noted};
+ghost use Rattle.rx_model.specs.declared.names.Host.{Host};
+ghost use Rattle.rx_rules.specs.After.{looks};
+ghost use Rattle.rx_model.specs.Body as bodies;
+ghost use Rattle.rx_rules.specs.CallLooks.{packet_of};
+ghost use Rattle.rx_model.specs.Message.{Message};
+ghost use Rattle.rx_law.specs.Promises.{EnteredOnlyWhenProved, LawIn, LawOn, OnceUnderForgery, ServerForgotNone};
+ghost use Rattle.rx_model.specs.Reading.{reading_of};
+ghost use Rattle.rx_rules.specs.Rules.{Legal};
+ghost use Rattle.rx_rules.specs.Setup.{Setup, Client, FitsSetup, IsServer, named};
+ghost use Rattle.rx_law.specs.Sides.{Node};
+ghost use Rattle.rx_law.specs.Streams.{is_shut, said};
+ghost use Rattle.rx_law.specs.Worlds.{Gave, TwoEnds, World};
+ghost use Rattle.rx_law.specs.Pieces.{IsAt};
+ghost use Rattle.rx_law.specs.Premises.{Held, HeldOnce};
+ghost use Rattle.rx_law.specs.Starts.{StartsOnce};
+
+/// A server that forgot no connection accepts no call twice, whatever bytes came.
+pub fn accepts_once()
+    ensures { OnceUnderForgery }
+{}
+
+/// A server with a key accepts only calls of clients that showed it, whatever bytes came.
+pub fn enters_when_proved()
+    ensures { EnteredOnlyWhenProved }
+{}
+
+/// Whatever bytes came, each DATA that a client ever gave is, at every later moment, the piece of its seq of what was
+/// said of its call.
+pub fn client_gives_pieces()
+    ensures { (s : Setup) (host : Host) (epoch : ℕ) (h : List Event) (to : Host) (bytes : List ℕ) (m : Message) (payload : List ℕ)
+        → s.kind ≡ Client host epoch → FitsSetup s → Legal s h → Gave to bytes h → reading_of bytes ≡ Ok m → m.body ≡ bodies.Chunk payload
+        → IsAt (said (looks s h) (named s to m)) (is_shut (looks s h) (named s to m)) m.seq (packet_of m payload).piece }
+{}
+
+/// The same of a server's call that never starts while it has a record.
+pub fn server_gives_pieces()
+    ensures { (s : Setup) (h : List Event) (to : Host) (bytes : List ℕ) (m : Message) (payload : List ℕ)
+        → IsServer s.kind → FitsSetup s → Legal s h → StartsOnce s h (named s to m) → Gave to bytes h → reading_of bytes ≡ Ok m
+        → m.body ≡ bodies.Chunk payload
+        → IsAt (said (looks s h) (named s to m)) (is_shut (looks s h) (named s to m)) m.seq (packet_of m payload).piece }
+{}
+
+/// Between two legal ends of a connection, with a network that invents nothing on it and a server that starts none of
+/// its calls while it has a record, at every moment: each call of the connection is accepted at most once; what each end
+/// read begins what the other said; and a client's call that ended has what its end says.
+pub fn connection_law_once()
+    ensures { (x : TwoEnds) (h : List Noted) → HeldOnce x h → LawOn x h }
+{}
+
+/// The same where the server forgot no record of the connection.
+pub fn connection_law()
+    ensures { (x : TwoEnds) (h : List Noted) → Held x h → LawOn x h }
+{}
+
+/// In a world of one server that forgot no record and any number of clients, whose network invents nothing, no call is
+/// accepted twice, and each call of each client has all that.
+pub fn world_law()
+    ensures { (nodes : List Node) (h : List Noted) → World nodes h → ServerForgotNone nodes h → LawIn nodes h }
+{}

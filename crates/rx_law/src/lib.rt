@@ -1,0 +1,9 @@
+//! The laws of Rx, over histories alone.
+#![tactic(auto)]
+
+mod laws;
+
+pub use laws::{
+    accepts_once, client_gives_pieces, connection_law, connection_law_once, enters_when_proved,
+    server_gives_pieces, world_law,
+};

@@ -1,0 +1,17 @@
+pub mod Classes
+pub mod Setup
+pub mod Least
+pub mod Received
+pub mod Rates
+pub mod Sent
+pub mod Owing
+pub mod CallLooks
+pub mod CallItems
+pub mod Life
+pub mod Looks
+pub mod Records
+pub mod Slots
+pub mod Judging
+pub mod After
+pub mod Items
+pub mod Rules
