@@ -8,7 +8,7 @@ use Rattle.rx_rules.specs.After.{challenged, settled, stopped_all, taken_heard, 
 use Rattle.rx_model.specs.Body.{Body}
 use Rattle.rx_model.specs.Body as bodies
 use Rattle.rx_rules.specs.CallLooks.{CallLooks, after_body, found}
-use Rattle.rx_rules.specs.Life.{Life, after_acks, after_code, after_silence}
+use Rattle.rx_rules.specs.Life.{Life, after_code, after_silence}
 use Rattle.rx_rules.specs.Looks.{CallRecord, Looks, call_at, is_proved, on_call, on_calls, on_channel, on_life, on_looks}
 use Rattle.rx_model.specs.Message.{Message}
 use Rattle.rx_model.specs.Names.{Connection, channel_of, connection_of, same_connection, same_name}

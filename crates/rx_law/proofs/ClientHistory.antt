@@ -23,14 +23,14 @@ use Rattle.rx_rules.specs.Records.{entered, fresh_conn, placed, silenced, starte
 use Rattle.rx_rules.specs.Rules.{AllowedAt, AllowedClient, Legal, connect_answer}
 use Rattle.rx_rules.specs.Setup.{Setup, Kind, Server, Client, FitsSetup, named}
 use Rattle.rx_rules.proofs.ConnsLaws.{number_of}
-use Rattle.rx_law.proofs.ForgotLaws.{with-same}
+use Rattle.rx_law.proofs.ForgotLaws.{with-forgotten}
 use Rattle.rx_rules.proofs.KeepsLaws.{keeps-on_channel, keeps-on_life, keeps-on_looks, keeps-trans}
 use Rattle.rx_model.proofs.NameLaws.{name_is}
 use Rattle.rx_law.proofs.SoundLaws.{Below, Counted, Sound, sound-keeps}
 use Rattle.rx_model.proofs.SpelledLaws.{spelled}
 use Rattle.rx_rules.proofs.StartLaws.{call_at-new, fours-start, keeps-started, number-started}
-use Rattle.rx_law.proofs.ForgotPub.{forgot-polled, forgot-turned}
-use Rattle.rx_law.proofs.GivenPub.{keeps-polled, keeps-read, keeps-silenced}
+use Rattle.rx_law.proofs.ForgotAfter.{forgot-polled, forgot-turned}
+use Rattle.rx_law.proofs.GivenLaws.{keeps-polled, keeps-read, keeps-silenced}
 use Rattle.rx_law.proofs.Client.{CauseBy, Fresh, client-turn, fresh-call}
 use Rattle.rx_law.proofs.Conns.{Conns, good-cancelled, good-given, good-linked, good-message, good-read, good-started}
 use Rattle.rx_law.proofs.Data.{GoodName}
@@ -66,7 +66,7 @@ message-client s host epoch from (Ok m) got l kind = of (outer_row s s.kind l fr
 
     of : (row : Option Took) → (taken_behind s row from d m got l).forgotten ≡ l.forgotten
     of (Some row) = forgot-turned row from m l
-    of None = with-same s got d m (prepared s got (connection_of d) l) ∙ prepared-client s host epoch got (connection_of d) l kind
+    of None = with-forgotten s got d m (prepared s got (connection_of d) l) ∙ prepared-client s host epoch got (connection_of d) l kind
 
 linked-client : (kind : Kind) (to : Host) (service first cid : ℕ) (l : Looks) → (linked kind to service first cid l).forgotten ≡ l.forgotten
 linked-client (Client host epoch) to service first cid l = refl

@@ -1,5 +1,5 @@
 -- The DATA that a poll gives is the piece of its seq, of a call of its name.
-use Rattle.std.proofs.Common.{◌≡◌, ◌&&◌, ◌||◌, ◌==◌, ◌<◌, ◌≤◌, ◌+◌, ◌-◌, ◌*◌, ◌%◌, ◌^◌, ℕ, ℤ, suc, zero, if◌then◌else◌, not}
+use Rattle.std.proofs.Common.{◌≡◌, ◌&&◌, ◌||◌, ◌==◌, ◌<◌, ◌≤◌, ◌+◌, ◌-◌, ◌*◌, ◌%◌, ◌^◌, ℕ, ℤ, suc, if◌then◌else◌, not}
 use Rattle.std.proofs.Common.{nat_lt, nat_le, is_some, Bool, true, false, List, [], ◌∷◌, ◌++◌, length, map, filter, drop, length-take}
 use Rattle.std.proofs.Common.{Option, Some, None, option_map, Result, Ok, Err, refl, ◌∙◌, ap, sym, subst, arith, bit_and}
 use Rattle.std.proofs.lemmas.Bool.Decides.{nat_tests}

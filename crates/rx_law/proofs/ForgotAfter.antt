@@ -24,10 +24,10 @@ use Rattle.rx_model.specs.Reading.{reading_of}
 use Rattle.rx_rules.specs.Records.{silenced}
 use Rattle.rx_rules.specs.Setup.{Setup, named}
 use Rattle.rx_model.specs.Strays.{is_stray}
-use Rattle.rx_law.proofs.ForgotLaws.{with-same}
+use Rattle.rx_law.proofs.ForgotLaws.{with-forgotten}
 use Rattle.rx_law.proofs.MessageTaken.{forgot-prepared}
 
-forgot-given : (s : Setup) (to : Host) (reading : Result Message BadMsg) (l : Looks)
+pub forgot-given : (s : Setup) (to : Host) (reading : Result Message BadMsg) (l : Looks)
     → (given_message s to reading l).forgotten ≡ l.forgotten
 forgot-given s to (Err bad) l = refl
 forgot-given s to (Ok m) l = of (is_stray m m.body) m.body
@@ -52,7 +52,7 @@ pub forgot-polled : (s : Setup) (got : Option (Host × List ℕ)) (l : Looks)
 forgot-polled s None l = refl
 forgot-polled s (Some (to, bytes)) l = forgot-given s to (reading_of bytes) (silenced l)
 
-forgot-turned : (row : Took) (from : Host) (m : Message) (l : Looks) → (turned_away row from m l).forgotten ≡ l.forgotten
+pub forgot-turned : (row : Took) (from : Host) (m : Message) (l : Looks) → (turned_away row from m l).forgotten ≡ l.forgotten
 forgot-turned tooks.Unserved from m l = of m.body
   where
     of : (body : Body) → (taken_unserved from m body l).forgotten ≡ l.forgotten
@@ -65,11 +65,11 @@ forgot-turned tooks.Unserved from m l = of m.body
     of (bodies.Response bytes) = refl
 forgot-turned _ from m l = refl
 
-forgot-behind : (s : Setup) (row : Option Took) (from : Host) (d : CallName) (m : Message) (got : Took) (l : Looks)
+pub forgot-behind : (s : Setup) (row : Option Took) (from : Host) (d : CallName) (m : Message) (got : Took) (l : Looks)
     → (taken_behind s row from d m got l).forgotten ≡ [] → l.forgotten ≡ []
 forgot-behind s (Some row) from d m got l none = sym (forgot-turned row from m l) ∙ none
 forgot-behind s None from d m got l none =
-    forgot-prepared s got (connection_of d) l (sym (with-same s got d m (prepared s got (connection_of d) l)) ∙ none)
+    forgot-prepared s got (connection_of d) l (sym (with-forgotten s got d m (prepared s got (connection_of d) l)) ∙ none)
 
 pub forgot-message : (s : Setup) (from : Host) (reading : Result Message BadMsg) (got : Took) (l : Looks)
     → (taken_message s from reading got l).forgotten ≡ [] → l.forgotten ≡ []

@@ -1,6 +1,7 @@
--- A taking forgets a connection only where it enters one.
+-- Behind the entering of its connection a taking forgets none, and leaves the stray aborts that are owed.
 use Rattle.std.proofs.Common.{◌≡◌, ◌&&◌, if◌then◌else◌, not, nat_lt, ◌==◌, Bool, true, false, Option, Some, None}
-use Rattle.std.proofs.Common.{refl, ◌∙◌}
+use Rattle.std.proofs.Common.{List, refl, ◌∙◌, ap}
+use Rattle.rx_model.specs.declared.stray.Stray.{Stray}
 use Rattle.rx_model.specs.declared.answers.Took.{Took}
 use Rattle.rx_model.specs.declared.answers.Took.TheVariants as tooks
 use Rattle.rx_model.specs.declared.names.CallName.{CallName}
@@ -13,29 +14,32 @@ use Rattle.rx_rules.specs.Looks.{CallRecord, Looks, call_at, channel_at, is_prov
 use Rattle.rx_rules.specs.Life.{after_code}
 use Rattle.rx_rules.specs.Records.{started_later}
 use Rattle.rx_model.specs.Message.{Message}
-use Rattle.rx_model.specs.Names.{channel_of, connection_of}
+use Rattle.rx_model.specs.Names.{Connection, channel_of, connection_of}
 use Rattle.rx_rules.specs.Setup.{Setup, is_client}
 
-same-if : (test : Bool) (m l k : Looks) → m.forgotten ≡ k.forgotten → l.forgotten ≡ k.forgotten
-    → (if test then m else l).forgotten ≡ k.forgotten
+-- what such a taking leaves
+abbrev pub aside : Looks → List Connection × List Stray
+aside l = (l.forgotten, l.strays)
+
+same-if : (test : Bool) (m l k : Looks) → aside m ≡ aside k → aside l ≡ aside k → aside (if test then m else l) ≡ aside k
 same-if true m l k here there = here
 same-if false m l k here there = there
 
-challenged-same : (s : Setup) (d : CallName) (l : Looks) → (challenged s d l).forgotten ≡ l.forgotten
+challenged-same : (s : Setup) (d : CallName) (l : Looks) → aside (challenged s d l) ≡ aside l
 challenged-same s d l =
     same-if (not (is_client s.kind) && (s.class.challenges && not (is_proved l (connection_of d))))
     (on_channel (channel_of d) (λ q. record q { owed_challenge = true }) l) l l refl refl
 
-opened-same : (s : Setup) (d : CallName) (l : Looks) → (opened s d l).forgotten ≡ l.forgotten
+opened-same : (s : Setup) (d : CallName) (l : Looks) → aside (opened s d l) ≡ aside l
 opened-same s d l =
     same-if (nat_lt (channel_at l (channel_of d)).number d.number) (started_later s d l) l l refl refl
 
 data-same : (s : Setup) (got : Took) (d : CallName) (m : Message) (l : Looks)
-    → (taken_data s got d m l).forgotten ≡ l.forgotten
+    → aside (taken_data s got d m l) ≡ aside l
 data-same s got d m l =
     challenged-same s d (record (taken_at s got d m l) { firsts = with_first got d m.seq l.firsts })
 
-heard-same : (s : Setup) (d : CallName) (body : Body) (l : Looks) → (taken_heard s d body l).forgotten ≡ l.forgotten
+heard-same : (s : Setup) (d : CallName) (body : Body) (l : Looks) → aside (taken_heard s d body l) ≡ aside l
 heard-same s d (bodies.Ack a) l = challenged-same s d (on_call d settled l)
 heard-same s d bodies.AckAll l = refl
 heard-same s d (bodies.Response bytes) l = refl
@@ -44,7 +48,7 @@ heard-same s d (bodies.Chunk payload) l = refl
 heard-same s d bodies.Busy l = refl
 heard-same s d (bodies.Abort code) l = refl
 
-stopped-same : (d : CallName) (body : Body) (l : Looks) → (taken_stopped d body l).forgotten ≡ l.forgotten
+stopped-same : (d : CallName) (body : Body) (l : Looks) → aside (taken_stopped d body l) ≡ aside l
 stopped-same d (bodies.Abort code) l =
     same-if (d.number == 0) (stopped_all (connection_of d) code l) (on_life d (after_code code) l) l refl refl
 stopped-same d (bodies.Response bytes) l = refl
@@ -55,13 +59,12 @@ stopped-same d bodies.AckAll l = refl
 stopped-same d (bodies.Challenge bytes) l = refl
 
 over-same : (d : CallName) (body : Body) (o : Option CallRecord) (l : Looks)
-    → (taken_over d body o l).forgotten ≡ l.forgotten
+    → aside (taken_over d body o l) ≡ aside l
 over-same d body None l = refl
 over-same d body (Some k) l = refl
 
--- behind its entering a taking forgets none
-pub with-same : (s : Setup) (got : Took) (d : CallName) (m : Message) (l : Looks)
-    → (taken_with s got d m l).forgotten ≡ l.forgotten
+with-same : (s : Setup) (got : Took) (d : CallName) (m : Message) (l : Looks)
+    → aside (taken_with s got d m l) ≡ aside l
 with-same s tooks.Kept d m l = data-same s tooks.Kept d m (opened s d l) ∙ opened-same s d l
 with-same s tooks.NoSlot d m l = data-same s tooks.NoSlot d m (opened s d l) ∙ opened-same s d l
 with-same s tooks.Repeat d m l = data-same s tooks.Repeat d m l
@@ -78,3 +81,13 @@ with-same s tooks.Unserved d m l = refl
 with-same s tooks.Foreign d m l = refl
 with-same s tooks.Strange d m l = refl
 with-same s (tooks.Bad bad) d m l = refl
+
+-- behind its entering a taking forgets none
+pub with-forgotten : (s : Setup) (got : Took) (d : CallName) (m : Message) (l : Looks)
+    → (taken_with s got d m l).forgotten ≡ l.forgotten
+with-forgotten s got d m l = ap (λ (p : List Connection × List Stray). p.0) (with-same s got d m l)
+
+-- and leaves the stray aborts
+pub with-strays : (s : Setup) (got : Took) (d : CallName) (m : Message) (l : Looks)
+    → (taken_with s got d m l).strays ≡ l.strays
+with-strays s got d m l = ap (λ (p : List Connection × List Stray). p.1) (with-same s got d m l)

@@ -28,14 +28,14 @@ use Rattle.rx_rules.proofs.LifeLaws.{end_waits, finish_waits, gone_waits, silenc
 
 -- ---- a message is given
 
-silent-name : (now : ℕ) (k : CallRecord) → (unless_silent now k).name ≡ k.name
+pub silent-name : (now : ℕ) (k : CallRecord) → (unless_silent now k).name ≡ k.name
 silent-name now k = of (is_silent now k)
   where
     of : (b : Bool) → (cond b (record k { life = after_silence (silence_of now k) k.life }) k).name ≡ k.name
     of true = refl
     of false = refl
 
-silent-waits : (now : ℕ) (k : CallRecord) → is_waiting (unless_silent now k).life ≡ true → is_waiting k.life ≡ true
+pub silent-waits : (now : ℕ) (k : CallRecord) → is_waiting (unless_silent now k).life ≡ true → is_waiting k.life ≡ true
 silent-waits now k = of (is_silent now k)
   where
     of : (b : Bool) → is_waiting (cond b (record k { life = after_silence (silence_of now k) k.life }) k).life ≡ true
@@ -46,7 +46,7 @@ silent-waits now k = of (is_silent now k)
 pub keeps-silenced : (c : CallName) (l : Looks) → Keeps c l (silenced l)
 keeps-silenced c l = keeps-on_calls c (unless_silent l.now) l (silent-name l.now) (silent-waits l.now)
 
-keeps-body : (c d : CallName) (m : Message) (body : Body) (l : Looks) → Keeps c l (given_body d m body l)
+pub keeps-body : (c d : CallName) (m : Message) (body : Body) (l : Looks) → Keeps c l (given_body d m body l)
 keeps-body c d m (bodies.Chunk payload) l = keeps-on_looks c d (after_piece l.now m.seq) l
 keeps-body c d m (bodies.Ack a) l = keeps-on_looks c d (after_ack_given l.now) l
 keeps-body c d m (bodies.Abort code) l =
@@ -59,12 +59,12 @@ keeps-body c d m (bodies.Response bytes) l =
 keeps-body c d m bodies.AckAll l =
     keeps-on_channel c (channel_of d) (λ q. record q { owed_ackall = false }) l (λ q. refl)
 
-keeps-counted : (c : CallName) (x : Connection) (l : Looks) → Keeps c l (counted x l)
+pub keeps-counted : (c : CallName) (x : Connection) (l : Looks) → Keeps c l (counted x l)
 keeps-counted c x l =
     keeps-on_conn c x (λ r. record r { given = suc r.given; last_use = l.now }) l
     (record { names = λ r. refl; numbers = λ r n. omega arith; lengths = λ r. refl })
 
-keeps-given : (s : Setup) (to : Host) (reading : Result Message BadMsg) (c : CallName) (l : Looks)
+pub keeps-given : (s : Setup) (to : Host) (reading : Result Message BadMsg) (c : CallName) (l : Looks)
     → Keeps c l (given_message s to reading l)
 keeps-given s to (Err bad) c l = keeps-refl c l
 keeps-given s to (Ok m) c l = of (is_stray m m.body)
@@ -84,7 +84,7 @@ keeps-polled s (Some (to, bytes)) c l = keeps-given s to (reading_of bytes) c l
 
 -- ---- the handlers' calls
 
-ackall-number : (owes : Bool) (q : ChannelLooks) → (owing_ackall owes q).number ≡ q.number
+pub ackall-number : (owes : Bool) (q : ChannelLooks) → (owing_ackall owes q).number ≡ q.number
 ackall-number true q = refl
 ackall-number false q = refl
 
@@ -98,7 +98,7 @@ keeps-read c d end bytes l =
     (keeps-trans c first second _ (keeps-on_looks c d (after_read l.now end bytes) first)
     (keeps-on_life c d (after_end end) second (end_waits end)))
 
-keeps-finished : (c d : CallName) (code : ℤ) (l : Looks) → Keeps c l (finished d code l)
+pub keeps-finished : (c d : CallName) (code : ℤ) (l : Looks) → Keeps c l (finished d code l)
 keeps-finished c d code l = of (is_zero code)
   where
     of : (b : Bool) → Keeps c l

@@ -28,7 +28,7 @@ use Rattle.rx_law.specs.Sides.{side}
 use Rattle.rx_law.specs.Streams.{Begins, end_at, end_by, end_of_life, is_shut_by, read_by, said_by}
 use Rattle.rx_law.specs.Worlds.{Gave, TwoEnds}
 use Rattle.rx_model.proofs.NameLaws.{number_itself, name_itself, same_number}
-use Rattle.rx_law.proofs.OncePub.{served}
+use Rattle.rx_law.proofs.OnceLaw.{served}
 use Rattle.rx_law.proofs.Client.{CauseBy}
 use Rattle.rx_law.proofs.ClientHistory.{called-turn, client-calls}
 use Rattle.rx_law.proofs.Ends.{ends_of}

@@ -18,12 +18,7 @@ mod ClientHistory
 mod Joint
 mod Law
 mod Joins
-mod StrayLaws
 mod World
-mod GivenPub
-mod ForgotPub
-mod TakenPub
-mod OncePub
 mod Given
 mod Example
 mod SoundLaws

@@ -20,7 +20,7 @@ use Rattle.rx_rules.specs.Records.{entered, used}
 use Rattle.rx_rules.specs.Setup.{Setup, IsServer, named}
 use Rattle.rx_rules.proofs.ConnsLaws.{conn_at-on_conn, conn_if}
 use Rattle.rx_rules.proofs.EnterLaws.{forgot-entered, keeps-entered, keeps-used, there-entered}
-use Rattle.rx_law.proofs.ForgotLaws.{with-same}
+use Rattle.rx_law.proofs.ForgotLaws.{with-forgotten}
 use Rattle.rx_rules.proofs.KeepsLaws.{Keeps}
 use Rattle.rx_rules.proofs.KeepsLaws.{keeps-refl, keeps-trans}
 use Rattle.rx_law.proofs.SoundLaws.{Sound, sound-keeps}
@@ -29,7 +29,7 @@ use Rattle.rx_law.proofs.TakenLaws.{sound-with}
 -- ---- a message is taken
 
 -- its record is entered where that is needed, and used
-keeps-prepared : (s : Setup) (got : Took) (c : CallName) (x : Connection) (l : Looks)
+pub keeps-prepared : (s : Setup) (got : Took) (c : CallName) (x : Connection) (l : Looks)
     → (prepared s got x l).forgotten ≡ [] → Keeps c l (prepared s got x l)
 keeps-prepared s got c x l none =
     keeps-trans c l (if enters got then entered s x l else l) _ (of (enters got) none)
@@ -47,17 +47,17 @@ forgot-prepared s got x l none = of (enters got) none
     of true none = forgot-entered s x l none
     of false none = none
 
-is_some-map : (change : ConnLooks → ConnLooks) (o : Option ConnLooks) → is_some o ≡ true
+pub is_some-map : (change : ConnLooks → ConnLooks) (o : Option ConnLooks) → is_some o ≡ true
     → is_some (option_map change o) ≡ true
 is_some-map change None is = is
 is_some-map change (Some r) is = refl
 
-there-used : (x : Connection) (l : Looks) → is_some (conn_at l x) ≡ true → is_some (conn_at (used x l) x) ≡ true
+pub there-used : (x : Connection) (l : Looks) → is_some (conn_at l x) ≡ true → is_some (conn_at (used x l) x) ≡ true
 there-used x l is =
     rw (conn_at-on_conn x x (λ r. record r { last_use = l.now }) l (λ r. refl))
     (is_some-map (conn_if x (λ r. record r { last_use = l.now })) (conn_at l x) is)
 
-there-prepared : (s : Setup) (got : Took) (x : Connection) (l : Looks) → IsServer s.kind
+pub there-prepared : (s : Setup) (got : Took) (x : Connection) (l : Looks) → IsServer s.kind
     → (prepared s got x l).forgotten ≡ [] → enters got ≡ true → is_some (conn_at (prepared s got x l) x) ≡ true
 there-prepared s got x l server none is =
     there-used x (if enters got then entered s x l else l) (of (enters got) is none)
@@ -68,7 +68,7 @@ there-prepared s got x l server none is =
     of false is none = absurd cc
 
 -- a row in front changes no call
-turned-keeps : (row : Took) (from : Host) (m : Message) (c : CallName) (l : Looks) → Keeps c l (turned_away row from m l)
+pub turned-keeps : (row : Took) (from : Host) (m : Message) (c : CallName) (l : Looks) → Keeps c l (turned_away row from m l)
 turned-keeps tooks.Unserved from m c l = of m.body
   where
     of : (body : Body) → Keeps c l (taken_unserved from m body l)
@@ -82,7 +82,7 @@ turned-keeps tooks.Unserved from m c l = of m.body
     of (bodies.Response bytes) = keeps-refl c l
 turned-keeps _ from m c l = keeps-refl c l
 
-sound-behind : (s : Setup) (row : Option Took) (from : Host) (c : CallName) (m : Message) (got : Took) (l : Looks) (n : ℕ)
+pub sound-behind : (s : Setup) (row : Option Took) (from : Host) (c : CallName) (m : Message) (got : Took) (l : Looks) (n : ℕ)
     → IsServer s.kind → (taken_behind s row from (named s from m) m got l).forgotten ≡ []
     → Sound l c n → Sound (taken_behind s row from (named s from m) m got l) c n
 sound-behind s (Some row) from c m got l n server none sound =
@@ -90,7 +90,7 @@ sound-behind s (Some row) from c m got l n server none sound =
 sound-behind s None from c m got l n server none sound =
     let d : CallName = named s from m in
     let ready : Looks = prepared s got (connection_of d) l in
-    let still : ready.forgotten ≡ [] = sym (with-same s got d m ready) ∙ none in
+    let still : ready.forgotten ≡ [] = sym (with-forgotten s got d m ready) ∙ none in
     sound-with s got c d m ready n (there-prepared s got (connection_of d) l server still) (omega arith)
     (sound-keeps c l ready n (keeps-prepared s got c (connection_of d) l still) sound)
 

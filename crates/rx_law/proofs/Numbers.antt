@@ -30,15 +30,15 @@ use Rattle.rx_rules.specs.Slots.{live}
 use Rattle.rx_rules.proofs.EnterLaws.{keeps-used}
 use Rattle.rx_rules.proofs.EveryLaws.{Every, every-filter, filter-passes}
 use Rattle.rx_rules.proofs.FindLaws.{find_passes}
-use Rattle.rx_law.proofs.ForgotLaws.{with-same}
+use Rattle.rx_law.proofs.ForgotLaws.{with-forgotten}
 use Rattle.rx_rules.proofs.KeepsLaws.{Keeps, keeps-on_life, keeps-on_looks, keeps-refl, keeps-trans}
 use Rattle.rx_rules.proofs.LifeLaws.{accept_waits}
 use Rattle.rx_model.proofs.NameLaws.{connection_is}
 use Rattle.rx_law.proofs.SoundLaws.{Sound, sound-keeps}
 use Rattle.rx_law.proofs.TakenLaws.{sound-with}
-use Rattle.rx_law.proofs.GivenPub.{keeps-finish, keeps-polled, keeps-read, keeps-silenced}
-use Rattle.rx_law.proofs.TakenPub.{turned-keeps, there-used}
-use Rattle.rx_law.proofs.ForgotPub.{forgot-finish, forgot-polled, forgot-turned}
+use Rattle.rx_law.proofs.GivenLaws.{keeps-finish, keeps-polled, keeps-read, keeps-silenced}
+use Rattle.rx_law.proofs.MessageTaken.{turned-keeps, there-used}
+use Rattle.rx_law.proofs.ForgotAfter.{forgot-finish, forgot-polled, forgot-turned}
 use Rattle.rx_law.proofs.Places.{Spared, spared-as, keeps-entered, spared-entered, there-entered}
 
 -- ---- a taking
@@ -88,7 +88,7 @@ sound-behind s (Some row) from c m got l known spared sound =
 sound-behind s None from c m got l known spared sound =
     let d : CallName = named s from m in
     let ready : Looks = prepared s got (connection_of d) l in
-    let still : Spared (connection_of c) ready = spared-as (connection_of c) ready (taken_with s got d m ready) (with-same s got d m ready) spared in
+    let still : Spared (connection_of c) ready = spared-as (connection_of c) ready (taken_with s got d m ready) (with-forgotten s got d m ready) spared in
     sound-with s got c d m ready 0 (there-prepared s got (connection_of d) l (known refl)) (omega arith)
     (sound-ready s got c (connection_of d) l still sound)
 
@@ -99,14 +99,14 @@ spared-behind y s (Some row) from d m got l spared =
 spared-behind y s None from d m got l spared =
     let ready : Looks = prepared s got (connection_of d) l in
     spared-prepared y s got (connection_of d) l
-    (spared-as y ready (taken_with s got d m ready) (with-same s got d m ready) spared)
+    (spared-as y ready (taken_with s got d m ready) (with-forgotten s got d m ready) spared)
 
 -- where it was ready
 pub spared-ready : (y : Connection) (s : Setup) (from : Host) (d : CallName) (m : Message) (got : Took) (l : Looks)
     → Spared y (taken_behind s None from d m got l) → Spared y (prepared s got (connection_of d) l)
 spared-ready y s from d m got l spared =
     let ready : Looks = prepared s got (connection_of d) l in
-    spared-as y ready (taken_with s got d m ready) (with-same s got d m ready) spared
+    spared-as y ready (taken_with s got d m ready) (with-forgotten s got d m ready) spared
 
 spared-message : (y : Connection) (s : Setup) (from : Host) (reading : Result Message BadMsg) (got : Took) (l : Looks)
     → Spared y (taken_message s from reading got l) → Spared y l

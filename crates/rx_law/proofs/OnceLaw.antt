@@ -34,27 +34,27 @@ use Rattle.rx_law.proofs.ForgotAfter.{forgot-finish, forgot-message, forgot-poll
 
 -- ---- an accept
 
-is_call-some : (o : Option CallRecord) → is_call (λ k. is_waiting k.life) o ≡ true
+pub is_call-some : (o : Option CallRecord) → is_call (λ k. is_waiting k.life) o ≡ true
     → (k : CallRecord) × (o ≡ Some k) × (is_waiting k.life ≡ true)
 is_call-some None is = absurd cc
 is_call-some (Some k) is = (k, refl, is)
 
 -- the call that an accept answers with waits
-waits : (s : Setup) (l : Looks) (d : CallName) → Some d ≡ accept_answer s l
+pub waits : (s : Setup) (l : Looks) (d : CallName) → Some d ≡ accept_answer s l
     → is_call (λ k. is_waiting k.life) (call_at l d) ≡ true
 waits s l d is = (both _ _ (find_passes (can_enter s l) l.firsts d (sym is))).0
 
-counted-accepted : (d : CallName) (k : CallRecord) (n : ℕ) → n ≡ 0 → same_name k.name d ≡ true
+pub counted-accepted : (d : CallName) (k : CallRecord) (n : ℕ) → n ≡ 0 → same_name k.name d ≡ true
     → Counted (option_map (changed_if d (λ j. record j { life = after_accept j.life })) (Some k)) (suc n)
 counted-accepted d k n none same =
     rw same ((λ is. absurd (let no = accepted_waits k.life in cc (is, no))), (omega arith))
 
-below-changed : (d : CallName) (o : Option CallRecord) (number top : ℕ) → Below o number top
+pub below-changed : (d : CallName) (o : Option CallRecord) (number top : ℕ) → Below o number top
     → Below (option_map (changed_if d (λ j. record j { life = after_accept j.life })) o) number top
 below-changed d None number top below = tt
 below-changed d (Some k) number top below = below
 
-sound-own : (s : Setup) (l : Looks) (c : CallName) (n : ℕ) → Some c ≡ accept_answer s l → Sound l c n
+pub sound-own : (s : Setup) (l : Looks) (c : CallName) (n : ℕ) → Some c ≡ accept_answer s l → Sound l c n
     → Sound (on_life c after_accept l) c (suc n)
 sound-own s l c n answer sound =
     let found = is_call-some (call_at l c) (waits s l c answer) in
@@ -73,7 +73,7 @@ sound-own s l c n answer sound =
       fours = sound.fours;
     }
 
-sound-accepted : (s : Setup) (l : Looks) (c d : CallName) (n : ℕ) → Some d ≡ accept_answer s l → Sound l c n
+pub sound-accepted : (s : Setup) (l : Looks) (c d : CallName) (n : ℕ) → Some d ≡ accept_answer s l → Sound l c n
     → Sound (on_life d after_accept l) c (if same_name c d then suc n else n)
 sound-accepted s l c d n answer sound =
     (elim (same_name c d)
@@ -88,7 +88,7 @@ sound-accepted s l c d n answer sound =
 -- ---- a history
 
 -- an event of a server that forgot nothing carries on what is known of each call
-sound-after : (s : Setup) (l : Looks) (e : Event) (c : CallName) (n : ℕ) → IsServer s.kind → AllowedServer s l e
+pub sound-after : (s : Setup) (l : Looks) (e : Event) (c : CallName) (n : ℕ) → IsServer s.kind → AllowedServer s l e
     → (after s e l).forgotten ≡ [] → Sound l c n → Sound (after s e l) c (if accepts e c then suc n else n)
 sound-after s l (events.Accepted (Some d)) c n server allowed none sound = sound-accepted s l c d n allowed sound
 sound-after s l (events.Accepted None) c n server allowed none sound = sound
@@ -114,7 +114,7 @@ sound-after s l (events.Ended d got) c n server allowed none sound = absurd allo
 sound-after s l (events.Cancelled d code got) c n server allowed none sound = absurd allowed
 
 -- where nothing is forgotten behind an event of a server, nothing was before it
-forgot-after : (s : Setup) (l : Looks) (e : Event) → AllowedServer s l e → (after s e l).forgotten ≡ [] → l.forgotten ≡ []
+pub forgot-after : (s : Setup) (l : Looks) (e : Event) → AllowedServer s l e → (after s e l).forgotten ≡ [] → l.forgotten ≡ []
 forgot-after s l (events.Accepted (Some d)) allowed none = none
 forgot-after s l (events.Accepted None) allowed none = none
 forgot-after s l (events.Wrote d offered got bytes) allowed none = none
@@ -134,7 +134,7 @@ pub served : (kind : Kind) (s : Setup) (l : Looks) (e : Event) → IsServer kind
 served (Server service nonces) s l e server allowed = allowed
 served (Client host epoch) s l e server allowed = absurd server
 
-sound-history : (s : Setup) (h : List Event) (c : CallName) → IsServer s.kind → Legal s h → (looks s h).forgotten ≡ []
+pub sound-history : (s : Setup) (h : List Event) (c : CallName) → IsServer s.kind → Legal s h → (looks s h).forgotten ≡ []
     → Sound (looks s h) c (times_accepted h c)
 sound-history s [] c server legal none = record { counted = refl; below = tt; fours = tt }
 sound-history s (e ∷ h) c server legal none =
@@ -142,7 +142,7 @@ sound-history s (e ∷ h) c server legal none =
     sound-after s (looks s h) e c (times_accepted h c) server allowed none
     (sound-history s h c server legal.1 (forgot-after s (looks s h) e allowed none))
 
-at_most_once : (o : Option CallRecord) (n : ℕ) → Counted o n → n ≤ 1
+pub at_most_once : (o : Option CallRecord) (n : ℕ) → Counted o n → n ≤ 1
 at_most_once None n counted = omega arith
 at_most_once (Some k) n counted = counted.1
 

@@ -1,6 +1,6 @@
 -- A RESPONSE that a server heard is the right one.
-use Rattle.std.proofs.Common.{◌≡◌, ◌&&◌, ◌==◌, ℕ, if◌then◌else◌, not, nat_lt, nat_le, Bool, true, false}
-use Rattle.std.proofs.Common.{List, [], ◌∷◌, Option, Some, None, refl, ap, subst}
+use Rattle.std.proofs.Common.{◌≡◌, ◌&&◌, ℕ, if◌then◌else◌, not, nat_lt, nat_le, Bool, true, false}
+use Rattle.std.proofs.Common.{List, Option, Some, None, refl, ap, subst}
 use Rattle.std.proofs.lemmas.Slice.Eq.{bytes_eq-Decides}
 use Rattle.byteorder.specs.Endian.{big_bytes}
 use Rattle.rx_model.specs.declared.wire.TheConstants.{NONCE_BYTES}
@@ -18,7 +18,7 @@ use Rattle.rx_model.specs.Names.{channel_of, connection_of, same_name}
 use Rattle.rx_rules.specs.Records.{started_later}
 use Rattle.rx_rules.specs.Setup.{Setup, Kind, Server, Client, IsServer}
 use Rattle.rx_rules.proofs.FindLaws.{find_passes}
-use Rattle.rx_model.proofs.NameLaws.{both, name_is, same_number}
+use Rattle.rx_model.proofs.NameLaws.{name_is}
 
 -- a row that isn't Heard didn't hold
 past : (b : Bool) (row rest : Took) → (tooks.Heard ≡ row → ⊥) → tooks.Heard ≡ (if b then row else rest)

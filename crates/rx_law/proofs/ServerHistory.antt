@@ -21,7 +21,7 @@ use Rattle.rx_rules.proofs.FindLaws.{find_passes}
 use Rattle.rx_model.proofs.NameLaws.{both, name_is, name_itself}
 use Rattle.rx_law.proofs.SoundLaws.{Sound}
 use Rattle.rx_model.proofs.SpelledLaws.{spelled}
-use Rattle.rx_law.proofs.OncePub.{served, is_call-some}
+use Rattle.rx_law.proofs.OnceLaw.{served, is_call-some}
 use Rattle.rx_law.proofs.Calls.{call-changed}
 use Rattle.rx_law.proofs.Conns.{Conns, good-message, good-given, good-read, good-finish}
 use Rattle.rx_law.proofs.Data.{GoodName}

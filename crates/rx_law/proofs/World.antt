@@ -32,14 +32,14 @@ use Rattle.rx_model.specs.Strays.{is_stray}
 use Rattle.rx_law.specs.Times.{ForgotNone}
 use Rattle.rx_law.specs.Worlds.{AreApart, AreNodes, Carried, Datagram, Gave, IsFrom, World, bag, given_at, with_given}
 use Rattle.rx_model.proofs.NameLaws.{number_itself, same_number}
-use Rattle.rx_law.proofs.OncePub.{once_under_forgery}
+use Rattle.rx_law.proofs.OnceLaw.{once_under_forgery}
 use Rattle.rx_law.proofs.ClientHistory.{client-calls}
 use Rattle.rx_law.proofs.Data.{OwnName, poll-flag, poll-gives}
 use Rattle.rx_law.proofs.Joint.{Came, CameOn, DataCame, Fed, gives-at, legal-before, polled-is, server-name}
 use Rattle.rx_law.proofs.Law.{law-on}
 use Rattle.rx_law.proofs.Server.{Standing, good-silenced}
 use Rattle.rx_law.proofs.ServerHistory.{server-stands, spared-once}
-use Rattle.rx_law.proofs.StrayLaws.{with-same}
+use Rattle.rx_law.proofs.ForgotLaws.{with-strays}
 
 -- ---- a client owes no stray abort
 
@@ -92,7 +92,7 @@ strays-message s host epoch from (Ok m) got l kind = of (outer_row s s.kind l fr
 
     of : (row : Option Took) → outer_row s s.kind l from m ≡ row → (taken_behind s row from d m got l).strays ≡ l.strays
     of (Some row) front = client-rows s s.kind host epoch l from m row kind front
-    of None front = with-same s got d m (prepared s got (connection_of d) l) ∙ strays-prepared s got (connection_of d) l
+    of None front = with-strays s got d m (prepared s got (connection_of d) l) ∙ strays-prepared s got (connection_of d) l
 
 strays-given : (s : Setup) (got : Option (Host × List ℕ)) (l : Looks) → l.strays ≡ [] → (given_by s got l).strays ≡ []
 strays-given s None l none = none
