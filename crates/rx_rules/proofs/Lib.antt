@@ -9,5 +9,3 @@ pub mod EveryLaws
 pub mod LeastLaws
 pub mod SentLaws
 pub mod Replay
-mod Examples
-mod ExamplesLong

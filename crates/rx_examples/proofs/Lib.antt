@@ -1,0 +1,12 @@
+pub mod Story
+pub mod Told
+mod OneCall
+mod Pieces
+mod Times
+mod Lives
+mod Messages
+mod Limits
+mod Places
+mod Wide
+mod Keys
+mod Rates
