@@ -35,3 +35,4 @@ mod ProvesLaws
 mod ShownTaken
 mod PlainGiven
 mod EnteredLaw
+mod LegalTold

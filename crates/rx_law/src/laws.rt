@@ -1,4 +1,6 @@
-ghost use Rattle.std.specs.Prelude.{◌≡◌, ℕ, List, Ok};
+ghost use Rattle.std.specs.Prelude.{◌≡◌, not, ℕ, List, Ok};
+ghost use Rattle.std.specs.List.{All};
+ghost use Rattle.rx_model.specs.Telling.{FitsEvent, IsTold};
 ghost use Rattle.rx_model.specs.declared.event.Event.{Event};
 ghost use Rattle.rx_model.specs.declared.event.Noted.{Noted};
 ghost use Rattle.rx_model.specs.declared.names.Host.{Host};
@@ -9,7 +11,7 @@ ghost use Rattle.rx_model.specs.Message.{Message};
 ghost use Rattle.rx_law.specs.Promises.{EnteredOnlyWhenProved, LawIn, LawOn, OnceUnderForgery, ServerForgotNone};
 ghost use Rattle.rx_model.specs.Reading.{reading_of};
 ghost use Rattle.rx_rules.specs.Rules.{Legal};
-ghost use Rattle.rx_rules.specs.Setup.{Setup, Client, FitsSetup, IsServer, named};
+ghost use Rattle.rx_rules.specs.Setup.{Setup, Client, FitsSetup, IsServer, is_client, named};
 ghost use Rattle.rx_law.specs.Sides.{Node};
 ghost use Rattle.rx_law.specs.Streams.{is_shut, said};
 ghost use Rattle.rx_law.specs.Worlds.{Gave, TwoEnds, World};
@@ -59,4 +61,10 @@ pub fn connection_law()
 /// accepted twice, and each call of each client has all that.
 pub fn world_law()
     ensures { (nodes : List Node) (h : List Noted) → World nodes h → ServerForgotNone nodes h → LawIn nodes h }
+{}
+
+/// In a legal history of a node each event is one that its line tells, where its numbers fit.
+pub fn legal_events_are_told()
+    ensures { (s : Setup) (h : List Event)
+        → Legal s h → All FitsEvent h → All (IsTold (not (is_client s.kind))) h }
 {}

@@ -5,5 +5,5 @@ mod laws;
 
 pub use laws::{
     accepts_once, client_gives_pieces, connection_law, connection_law_once, enters_when_proved,
-    server_gives_pieces, world_law,
+    legal_events_are_told, server_gives_pieces, world_law,
 };
