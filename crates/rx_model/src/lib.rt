@@ -12,6 +12,7 @@ mod stray;
 mod text;
 mod text_laws;
 pub mod wire;
+mod wire_laws;
 
 pub use answers::{
     Asked, BadMsg, CallRead, CallRefused, ConnFull, End, Full, NotOpen, ReadAns, ReadGot,
@@ -24,3 +25,4 @@ pub use names::{CallName, Host, Limits};
 pub use spelling_laws::{reads_the_spelled, reads_the_written, spells_one, writes_a_spelling};
 pub use stray::Stray;
 pub use text_laws::{texts_tell_histories, texts_tell_sides};
+pub use wire_laws::wire_numbers;

@@ -9,6 +9,7 @@ use Rattle.rx_packet.specs.declared.body.Body.{Body}
 use Rattle.rx_packet.specs.declared.body.Body.TheVariants as bodies
 use Rattle.rx_packet.specs.declared.head.Head.{Head}
 
+-- an acknowledgement, its marks seen as a list
 abbrev pub ack_of : AckBody → models.AckBody
 ack_of a =
     record {
@@ -20,6 +21,7 @@ ack_of a =
       window = a.window;
     }
 
+-- a body, what it borrows seen as it is now
 abbrev pub body_of : Body → models.Body
 body_of (bodies.Chunk payload) = models.Chunk payload.now
 body_of bodies.Busy = models.Busy
@@ -55,6 +57,7 @@ abbrev pub seen : Result (Head × Body) BadMsg → Result Message BadMsg
 seen (Ok m) = Ok (message_of m.0 m.1)
 seen (Err e) = Err e
 
+-- the same of a body alone
 abbrev pub seen_body : Result Body BadMsg → Result models.Body BadMsg
 seen_body (Ok body) = Ok (body_of body)
 seen_body (Err e) = Err e
