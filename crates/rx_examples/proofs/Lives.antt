@@ -1,5 +1,5 @@
 -- Worked examples of the lives of calls.
-use Rattle.std.specs.Prelude.{◌≡◌, ◌++◌, ℕ, List, [], ◌∷◌, codes, refl, pos, replicate}
+use Rattle.std.specs.Prelude.{◌++◌, ℕ, List, [], ◌∷◌, codes, refl, pos, replicate}
 use Rattle.rx_model.specs.Text.{hex_text}
 use Rattle.rx_rules.proofs.Replay.{unhex}
 use Rattle.rx_examples.proofs.Story.{Line, Connect, Call, Write, Shut, Read, Ask, Cancel, Accept, Finish, Forge, Poll, Deliver, Clock}
@@ -14,18 +14,27 @@ busy_told =
     ∷ (Call 1 4, codes "c1 call 4 -> 10.0.0.2:7001/1/4/0/1")
     ∷ (Shut 1 call, codes "c1 shut 10.0.0.2:7001/1/4/0/1 -> ok")
     ∷ (Poll 1, codes "c1 poll -> 10.0.0.1:7000 00000001000000040000000100000001000000010107000000000001")
-    ∷ (Deliver 1, codes "s take 10.0.0.2:7001 00000001000000040000000100000001000000010107000000000001 -> kep" ++ codes "t")
+    ∷ (
+      Deliver 1,
+      codes "s take 10.0.0.2:7001 00000001000000040000000100000001000000010107000000000001 -> kept",
+    )
     ∷ (Accept, codes "s accept -> 10.0.0.2:7001/1/4/0/1")
     ∷ (Cancel 1 call (pos 7), codes "c1 cancel 10.0.0.2:7001/1/4/0/1 7 -> ok")
     ∷ (Call 1 4, codes "c1 call 4 -> 10.0.0.2:7001/1/4/0/2")
     ∷ (Shut 1 (name 2 1 4 0 2), codes "c1 shut 10.0.0.2:7001/1/4/0/2 -> ok")
     ∷ (Poll 1, codes "c1 poll -> 10.0.0.1:7000 00000001000000040000000200000001000000020107000000000001")
-    ∷ (Deliver 2, codes "s take 10.0.0.2:7001 00000001000000040000000200000001000000020107000000000001 -> bus" ++ codes "y")
+    ∷ (
+      Deliver 2,
+      codes "s take 10.0.0.2:7001 00000001000000040000000200000001000000020107000000000001 -> busy",
+    )
     ∷ (Read 0 call 16, codes "s read 10.0.0.2:7001/1/4/0/1 16 -> gone -1")
     ∷ (Finish call (pos 0), codes "s finish 10.0.0.2:7001/1/4/0/1 0 -> gone -1")
     ∷ (Clock 1 1000, codes "c1 clock 1000")
     ∷ (Poll 1, codes "c1 poll -> 10.0.0.1:7000 00000001000000040000000200000001000000030107000000000001")
-    ∷ (Deliver 3, codes "s take 10.0.0.2:7001 00000001000000040000000200000001000000030107000000000001 -> kep" ++ codes "t")
+    ∷ (
+      Deliver 3,
+      codes "s take 10.0.0.2:7001 00000001000000040000000200000001000000030107000000000001 -> kept",
+    )
     ∷ (Accept, codes "s accept -> 10.0.0.2:7001/1/4/0/2")
     ∷ []
 
@@ -38,21 +47,46 @@ abbrev unread_told : List (Line × List ℕ)
 unread_told =
     (Connect 1 at_server 1 1, codes "c1 connect 10.0.0.1:7000 1 1 -> 4")
     ∷ (Call 1 4, codes "c1 call 4 -> 10.0.0.2:7001/1/4/0/1")
-    ∷ (Write 1 call (replicate 1412 90), codes "c1 write 10.0.0.2:7001/1/4/0/1 1412 -> 1412 " ++ hex_text (replicate 1412 90))
+    ∷ (
+      Write 1 call (replicate 1412 90),
+      codes "c1 write 10.0.0.2:7001/1/4/0/1 1412 -> 1412 " ++ hex_text (replicate 1412 90),
+    )
     ∷ (Write 1 call (unhex (codes "6b")), codes "c1 write 10.0.0.2:7001/1/4/0/1 1 -> 1 6b")
     ∷ (Shut 1 call, codes "c1 shut 10.0.0.2:7001/1/4/0/1 -> ok")
-    ∷ (Poll 1, codes "c1 poll -> 10.0.0.1:7000 00000001000000040000000100000001000000010101000000000001" ++ hex_text (replicate 1412 90))
+    ∷ (
+      Poll 1,
+      codes "c1 poll -> 10.0.0.1:7000 00000001000000040000000100000001000000010101000000000001"
+          ++ hex_text (replicate 1412 90),
+    )
     ∷ (Poll 1, codes "c1 poll -> 10.0.0.1:7000 000000010000000400000001000000020000000201070000000000016b")
-    ∷ (Deliver 2, codes "s take 10.0.0.2:7001 000000010000000400000001000000020000000201070000000000016b -> k" ++ codes "ept")
+    ∷ (
+      Deliver 2,
+      codes "s take 10.0.0.2:7001 000000010000000400000001000000020000000201070000000000016b -> kept",
+    )
     ∷ (Accept, codes "s accept -> none")
-    ∷ (Poll 0, codes "s poll -> 10.0.0.2:7001 000000010000000400000001000000000000000102000000000000010000" ++ codes "000000000001000000020000000203020001000000000005a4000005a40000002000000001")
-    ∷ (Deliver 1, codes "s take 10.0.0.2:7001 00000001000000040000000100000001000000010101000000000001" ++ hex_text (replicate 1412 90) ++ codes " -> kept")
+    ∷ (
+      Poll 0,
+      codes "s poll -> 10.0.0.2:7001 00000001000000040000000100000000000000010200000000000001000000000000000100"
+          ++ codes "0000020000000203020001000000000005a4000005a40000002000000001",
+    )
+    ∷ (
+      Deliver 1,
+      codes "s take 10.0.0.2:7001 00000001000000040000000100000001000000010101000000000001"
+          ++ hex_text (replicate 1412 90)
+          ++ codes " -> kept",
+    )
     ∷ (Accept, codes "s accept -> 10.0.0.2:7001/1/4/0/1")
     ∷ (Write 0 call (unhex (codes "00")), codes "s write 10.0.0.2:7001/1/4/0/1 1 -> unread")
     ∷ (Finish call (pos 0), codes "s finish 10.0.0.2:7001/1/4/0/1 0 -> unread")
     ∷ (Finish call (pos 5), codes "s finish 10.0.0.2:7001/1/4/0/1 5 -> ok")
-    ∷ (Poll 0, codes "s poll -> 10.0.0.2:7001 000000010000000400000001000000000000000204000000000000010000" ++ codes "0005")
-    ∷ (Deliver 4, codes "c1 take 10.0.0.1:7000 00000001000000040000000100000000000000020400000000000001000000" ++ codes "05 -> stopped")
+    ∷ (
+      Poll 0,
+      codes "s poll -> 10.0.0.2:7001 0000000100000004000000010000000000000002040000000000000100000005",
+    )
+    ∷ (
+      Deliver 4,
+      codes "c1 take 10.0.0.1:7000 0000000100000004000000010000000000000002040000000000000100000005 -> stopped",
+    )
     ∷ (Ask 1 call, codes "c1 ask 10.0.0.2:7001/1/4/0/1 -> abort 5")
     ∷ []
 
@@ -62,8 +96,10 @@ unread = refl
 
 -- the same of a request of one packet
 abbrev finish_unread_told : List (Line × List ℕ)
-finish_unread_told =
-    (Forge 0 at_client (unhex (codes "0000000100000004000000010000000100000001010500000000000168690a")), codes "s take 10.0.0.2:7001 0000000100000004000000010000000100000001010500000000000168690a " ++ codes "-> kept")
+finish_unread_told = (
+  Forge 0 at_client (unhex (codes "0000000100000004000000010000000100000001010500000000000168690a")),
+  codes "s take 10.0.0.2:7001 0000000100000004000000010000000100000001010500000000000168690a -> kept",
+)
     ∷ (Accept, codes "s accept -> 10.0.0.2:7001/1/4/0/1")
     ∷ (Finish call (pos 0), codes "s finish 10.0.0.2:7001/1/4/0/1 0 -> unread")
     ∷ []
@@ -119,7 +155,10 @@ least_code_told =
     ∷ (Call 1 4, codes "c1 call 4 -> 10.0.0.2:7001/1/4/0/1")
     ∷ (Shut 1 call, codes "c1 shut 10.0.0.2:7001/1/4/0/1 -> ok")
     ∷ (Poll 1, codes "c1 poll -> 10.0.0.1:7000 00000001000000040000000100000001000000010107000000000001")
-    ∷ (Forge 1 at_server (unhex (codes "0000000100000004000000010000000000000001040000000000000180000000")), codes "c1 take 10.0.0.1:7000 00000001000000040000000100000000000000010400000000000001800000" ++ codes "00 -> stopped")
+    ∷ (
+      Forge 1 at_server (unhex (codes "0000000100000004000000010000000000000001040000000000000180000000")),
+      codes "c1 take 10.0.0.1:7000 0000000100000004000000010000000000000001040000000000000180000000 -> stopped",
+    )
     ∷ (Ask 1 call, codes "c1 ask 10.0.0.2:7001/1/4/0/1 -> abort -2147483648")
     ∷ []
 

@@ -1,6 +1,6 @@
 -- Worked examples of round trips, of congestion windows, and of serials.
-use Rattle.std.specs.Prelude.{◌≡◌, ◌-◌, ◌^◌, ℕ, suc, zero, List, [], ◌∷◌, map, Option, Some, None, option_map, refl}
-use Rattle.rx_model.specs.Names.{default_limits}
+use Rattle.std.specs.Prelude.{◌≡◌, ◌-◌, ◌^◌, ℕ, suc, zero, List, [], ◌∷◌, map, Option, Some, option_map, refl}
+use Rattle.rx_model.specs.Names.{connection_of, default_limits}
 use Rattle.rx_model.specs.Body as bodies
 use Rattle.rx_rules.specs.Classes.{null}
 use Rattle.rx_rules.specs.Items.{message_on}
@@ -69,7 +69,7 @@ served = record { kind = Server 1 0; limits = default_limits; class = null }
 abbrev serial_behind : ℕ → ℕ
 serial_behind given =
     (message_on served (record { rank = 0; name = call; seq = 0; flags = 0; body = bodies.AckAll })
-    (record (fresh_conn (record { host = at_client; epoch = 1; cid = 4 }) at_client 1 1 at_start) { given = given })).serial
+    (record (fresh_conn (connection_of call) at_client 1 1 at_start) { given = given })).serial
 
 -- 0 follows the greatest serial
 serials : map serial_behind (0 ∷ (2 ^ 32 - 2) ∷ (2 ^ 32 - 1) ∷ (2 ^ 32) ∷ []) ≡ 1 ∷ (2 ^ 32 - 1) ∷ 0 ∷ 1 ∷ []

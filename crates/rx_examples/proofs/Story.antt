@@ -1,7 +1,7 @@
 -- Lines of a plan, played over nodes by the rules alone: each line's trace is computed. For examples.
-use Rattle.std.specs.Prelude.{◌==◌, ◌&&◌, ◌+◌, ◌-◌, ◌*◌, if◌then◌else◌, nat_lt, ℕ, ℤ, suc, zero, Bool, true, false}
-use Rattle.std.specs.Prelude.{List, [], ◌∷◌, ◌++◌, length, map, take, drop, replicate, codes, slice_get, slice_set, unwrap_or}
-use Rattle.std.specs.Prelude.{Option, Some, None, Result, Ok, Err, option_map}
+use Rattle.std.specs.Prelude.{◌==◌, ◌+◌, ◌-◌, if◌then◌else◌, nat_lt, ℕ, ℤ, suc, zero, Bool}
+use Rattle.std.specs.Prelude.{List, [], ◌∷◌, ◌++◌, length, take, drop, slice_get, slice_set, unwrap_or}
+use Rattle.std.specs.Prelude.{Option, Some, None, Ok, Err, option_map}
 use Rattle.std.specs.List.{join_with_byte, list_any}
 use Rattle.rx_model.specs.declared.answers.Asked.TheVariants as askeds
 use Rattle.rx_model.specs.declared.answers.CallRefused.TheVariants as crowds
@@ -9,7 +9,6 @@ use Rattle.rx_model.specs.declared.answers.ReadAns.TheVariants as answers
 use Rattle.rx_model.specs.declared.answers.ReadGot.TheVariants as readers
 use Rattle.rx_model.specs.declared.answers.ServeRead.TheVariants as reads
 use Rattle.rx_model.specs.declared.answers.Took.TheVariants as tooks
-use Rattle.rx_model.specs.declared.answers.WroteGot.{WroteGot}
 use Rattle.rx_model.specs.declared.answers.WroteGot.TheVariants as writers
 use Rattle.rx_model.specs.declared.event.Event.{Event}
 use Rattle.rx_model.specs.declared.event.Event.TheVariants as events
@@ -21,7 +20,7 @@ use Rattle.rx_rules.specs.After.{after}
 use Rattle.rx_rules.specs.Items.{due}
 use Rattle.rx_rules.specs.Least.{least_by}
 use Rattle.rx_rules.specs.Looks.{Looks, at_start}
-use Rattle.rx_rules.specs.Setup.{Setup, Kind, Server, Client, is_client}
+use Rattle.rx_rules.specs.Setup.{Setup, is_client}
 use Rattle.rx_rules.specs.Slots.{live}
 use Rattle.rx_rules.proofs.Replay.{answered}
 

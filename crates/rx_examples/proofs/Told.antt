@@ -1,11 +1,12 @@
 -- The words of worked examples: their nodes and names, and that lines have the traces that stand beside them.
-use Rattle.std.specs.Prelude.{◌≡◌, ◌+◌, ℕ, List, [], ◌∷◌, map, slice_get}
-use Rattle.std.specs.Prelude.{Option, Some, None, option_map, option_and_then}
+use Rattle.std.specs.Prelude.{◌≡◌, ◌+◌, ℕ, List, [], ◌∷◌, map, replicate, slice_get}
+use Rattle.std.specs.Prelude.{Option, option_map, option_and_then}
 use Rattle.rx_model.specs.declared.names.CallName.{CallName}
 use Rattle.rx_model.specs.declared.names.Host.{Host}
+use Rattle.rx_model.specs.declared.names.Limits.{Limits}
 use Rattle.rx_model.specs.Names.{default_limits}
 use Rattle.rx_rules.specs.CallLooks.{CallLooks}
-use Rattle.rx_rules.specs.Classes.{null}
+use Rattle.rx_rules.specs.Classes.{Class, null}
 use Rattle.rx_rules.specs.Looks.{call_at}
 use Rattle.rx_rules.specs.Setup.{Setup, Server, Client}
 use Rattle.rx_examples.proofs.Story.{Line, Play, played, stages_from, story_from}
@@ -33,12 +34,36 @@ name n epoch cid chan number =
 abbrev pub call : CallName
 call = name 2 1 4 0 1
 
--- a server of service 1, and a client of epoch 1, as they are by default
+-- a server of service 1 at its host with these limits, or of this class
+abbrev pub server_with : Limits → Host × Setup
+server_with limits = (at_server, record { kind = Server 1 0; limits = limits; class = null })
+
+abbrev pub server_of : Class → Host × Setup
+server_of class = (at_server, record { kind = Server 1 0; limits = default_limits; class = class })
+
+-- a client of epoch 1 with these limits, of this class, or at this host
+abbrev pub client_with : Limits → Host × Setup
+client_with limits = (at_client, record { kind = Client at_client 1; limits = limits; class = null })
+
+abbrev pub client_of : Class → Host × Setup
+client_of class = (at_client, record { kind = Client at_client 1; limits = default_limits; class = class })
+
+abbrev pub client_at : Host → Host × Setup
+client_at host = (host, record { kind = Client host 1; limits = default_limits; class = null })
+
+-- the two as they are by default
 abbrev pub server : Host × Setup
-server = (at_server, record { kind = Server 1 0; limits = default_limits; class = null })
+server = server_of null
 
 abbrev pub client : Host × Setup
-client = (at_client, record { kind = Client at_client 1; limits = default_limits; class = null })
+client = client_of null
+
+-- two keys
+abbrev pub key_a : List ℕ
+key_a = replicate 32 170
+
+abbrev pub key_b : List ℕ
+key_b = replicate 32 187
 
 -- ---- what is shown
 

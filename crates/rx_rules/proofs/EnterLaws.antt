@@ -85,7 +85,8 @@ there-placed : (x : Connection) (service : ℕ) (l : Looks) → is_some (conn_at
     → is_some (conn_at (placed (fresh_conn x x.host service 1 l) None l) x) ≡ true
 there-placed x service l none =
     rw (
-      find-last (λ q. same_connection q.connection x) l.conns (fresh_conn x x.host service 1 l) (is_none (conn_at l x) none),
+      find-last (λ q. same_connection q.connection x) l.conns (fresh_conn x x.host service 1 l)
+          (is_none (conn_at l x) none),
       connection_itself x,
     ) refl
   where
@@ -119,7 +120,8 @@ keeps-used c x l =
     (record { names = λ r. refl; numbers = λ r n. omega arith; lengths = λ r. refl })
 
 -- where nothing is forgotten behind it, nothing was before
-forgot-placed : (new : ConnLooks) (o : Option ConnLooks) (l : Looks) → (placed new o l).forgotten ≡ [] → l.forgotten ≡ []
+forgot-placed : (new : ConnLooks) (o : Option ConnLooks) (l : Looks) → (placed new o l).forgotten ≡ [] → l.forgotten
+    ≡ []
 forgot-placed new None l none = none
 forgot-placed new (Some old) l none = absurd cc
 

@@ -1,4 +1,5 @@
--- What changes that start no call leave: no call waits anew, no channel's number falls, each connection has its channels.
+-- What changes that start no call leave: no call waits anew, no channel's number falls, each connection has its
+-- channels.
 use Rattle.std.proofs.Common.{◌≡◌, ◌≤◌, ℕ, cond, Bool, true, false, length}
 use Rattle.std.proofs.Common.{Option, Some, None, option_map, refl, ◌∙◌, arith, sym, subst}
 use Rattle.std.specs.Prelude.{slice_get, unwrap_or}
@@ -142,6 +143,7 @@ keeps-on_channel c ch change l same =
     keeps-on_conn c ch.connection (λ r. record r { channels = changed_at ch.chan change r.channels }) l
     (record {
       names = λ r. refl;
-      numbers = λ r n. number_in-changed r.channels ch.chan n change (let is = same (unwrap_or (slice_get r.channels ch.chan) (fresh_channel 0)) in omega arith);
+      numbers = λ r n. number_in-changed r.channels ch.chan n change
+          (let is = same (unwrap_or (slice_get r.channels ch.chan) (fresh_channel 0)) in omega arith);
       lengths = λ r. length-changed r.channels ch.chan change;
     })

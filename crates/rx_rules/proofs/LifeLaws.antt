@@ -50,7 +50,8 @@ accept_waits lives.Accepted is = is
 accept_waits (lives.Broken before) is = is
 accept_waits (lives.Over before) is = is
 
-pub finish_waits : (fine : Bool) (code : ℤ) (x : Life) → is_waiting (after_finish fine code x) ≡ true → is_waiting x ≡ true
+pub finish_waits : (fine : Bool) (code : ℤ) (x : Life) → is_waiting (after_finish fine code x) ≡ true → is_waiting x
+    ≡ true
 finish_waits true code lives.Waiting is = refl
 finish_waits true code lives.Accepted is = absurd cc
 finish_waits true code lives.Finished is = absurd cc

@@ -27,7 +27,8 @@ replaced-name new k =
     ]) refl
 
 -- another call is not replaced
-kept : (new k : CallRecord) (c : CallName) → same_name k.name c ≡ true → same_name c new.name ≡ false → replaced new k ≡ k
+kept : (new k : CallRecord) (c : CallName) → same_name k.name c ≡ true → same_name c new.name ≡ false → replaced new k
+    ≡ k
 kept new k c is other = rw (name_is k.name c is, other) refl
 
 -- the record of another call
@@ -43,7 +44,8 @@ call_at-other c new l other o is =
     of_found : (p : Option CallRecord) → call_at l c ≡ p → option_map (replaced new) (call_at l c) ≡ p
     of_found None is = rw is refl
     of_found (Some k) is =
-        rw is (ap (λ (j : CallRecord). Some j) (kept new k c (find_passes (λ j. same_name j.name c) l.calls k is) other))
+        rw is (ap (λ (j : CallRecord). Some j) (kept new k c
+        (find_passes (λ j. same_name j.name c) l.calls k is) other))
 
     turned : same_name new.name c ≡ true → ⊥
     turned is =
@@ -102,7 +104,8 @@ conn_at-started s life d l x = conn_at-on_conn x (connection_of d) (numbered d) 
 -- where the channel's number is at most the new one's, the record of a connection isn't behind the one that starts
 low-at : (d : CallName) (l : Looks) (x : Connection) (r : ConnLooks)
     → number_of (conn_at l (connection_of d)) d.chan ≤ d.number
-    → conn_at l x ≡ Some r → same_connection r.connection (connection_of d) ≡ true → number_in r.channels d.chan ≤ d.number
+    → conn_at l x ≡ Some r → same_connection r.connection (connection_of d) ≡ true
+    → number_in r.channels d.chan ≤ d.number
 low-at d l x r low is same =
     let own : r.connection ≡ x =
     connection_is r.connection x (find_passes (λ q. same_connection q.connection x) l.conns r is) in

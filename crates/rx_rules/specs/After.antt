@@ -76,7 +76,8 @@ taken_data s got c m l =
 abbrev pub settled : CallRecord → CallRecord
 settled k = record k { life = after_acks (is_all_acked k.looks.sent) k.life }
 
--- what another message that is heard changes beside its call: a right RESPONSE proves the client, a CHALLENGE is answered
+-- what another message that is heard changes beside its call: a right RESPONSE proves the client, a CHALLENGE is
+-- answered
 abbrev pub taken_heard : Setup → CallName → Body → Looks → Looks
 taken_heard s c (bodies.Ack a) l = challenged s c (on_call c settled l)
 taken_heard s c bodies.AckAll l = on_call c settled l

@@ -15,8 +15,8 @@ use Rattle.rx_rules.specs.Received as packets
 use Rattle.rx_rules.specs.Sent.{Sent, Newly, nothing_sent, held_pieces, given_of, is_all_given, is_strange_ack, newly_of}
 use Rattle.rx_rules.specs.Sent as streams
 
--- what it received and what it said; its rates; the acknowledgement that it owes; the moment at which it was last heard,
--- and that of its last giving of a DATA or an ACK, each at first that of its start
+-- what it received and what it said; its rates; the acknowledgement that it owes; the moment at which it was last
+-- heard, and that of its last giving of a DATA or an ACK, each at first that of its start
 pub record CallLooks : Type 0 where
   pub received : Received
   pub sent : Sent

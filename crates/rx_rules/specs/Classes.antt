@@ -7,8 +7,8 @@ use Rattle.rx_model.specs.declared.names.CallName.{CallName}
 use Rattle.rx_model.specs.declared.wire.TheConstants.{NULL_INDEX, TOKEN_INDEX, SECURITY_BYTES, NONCE_BYTES}
 use Rattle.rx_model.specs.Message.{IsBytes}
 
--- a security class: its index; whether it challenges; the challenge of a call with a nonce; the response to one; whether
--- a response is right
+-- a security class: its index; whether it challenges; the challenge of a call with a nonce; the response to one;
+-- whether a response is right
 pub record Class : Type 0 where
   pub index : ℕ
   pub challenges : Bool

@@ -65,7 +65,8 @@ item_of s k i =
 abbrev pub items_of : Setup → Looks → Option CallRecord → List Item
 items_of s l None = []
 items_of s l (Some k) =
-    if is_active k.life && not (is_silent l.now k) then map (item_of s k) (call_items (is_client s.kind) k.looks) else []
+    if is_active k.life && not (is_silent l.now k) then map (item_of s k)
+    (call_items (is_client s.kind) k.looks) else []
 
 -- CHALLENGE and RESPONSE are owed as long as their call lives
 abbrev pub class_items : Setup → Looks → CallName → ChannelLooks → Bool → List Item

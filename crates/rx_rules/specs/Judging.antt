@@ -55,8 +55,8 @@ abbrev pub is_peer : Host → Option ConnLooks → Bool
 is_peer from None = false
 is_peer from (Some r) = same_host r.peer from
 
--- the first row that holds at a client: from the wrong side; of no connection with the sender, of another class or of the
--- wrong kind
+-- the first row that holds at a client: from the wrong side; of no connection with the sender, of another class or of
+-- the wrong kind
 abbrev pub client_outer : Setup → Looks → Host → Message → Option Took
 client_outer s l from m =
     if has_flag CLIENT_INITIATED m.flags then Some tooks.Foreign

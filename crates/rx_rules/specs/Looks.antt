@@ -15,8 +15,8 @@ pub record CallRecord : Type 0 where
   pub life : Life
   pub looks : CallLooks
 
--- a channel: the number of its latest call, 0 where it had none, and what it owes: an ABORT's code, the number of a BUSY,
--- a CHALLENGE, a RESPONSE's bytes, an ACKALL
+-- a channel: the number of its latest call, 0 where it had none, and what it owes: an ABORT's code, the number of a
+-- BUSY, a CHALLENGE, a RESPONSE's bytes, an ACKALL
 pub record ChannelLooks : Type 0 where
   pub number : ℕ
   pub owed_abort : Option ℤ

@@ -54,7 +54,8 @@ after_backoff r = record r { rto = min (2 * r.rto) MAX_RTO_MS }
 
 -- ---- the congestion window
 
--- how many pieces may be in flight, up to which number slow start lasts, and the node's own window, which it never passes
+-- how many pieces may be in flight, up to which number slow start lasts, and the node's own window, which it never
+-- passes
 pub record Cwnd : Type 0 where
   pub window : ℕ
   pub ssthresh : ℕ

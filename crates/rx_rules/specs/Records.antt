@@ -1,5 +1,5 @@
--- The records of a node: connections that are entered, used and forgotten, and calls that start. Public clauses cite this
--- module.
+-- The records of a node: connections that are entered, used and forgotten, and calls that start. Public clauses cite
+-- this module.
 use Rattle.std.specs.Prelude.{◌&&◌, ◌||◌, ◌-◌, not, if◌then◌else◌, nat_le, is_some, ℕ, suc, Bool}
 use Rattle.std.specs.Prelude.{false, List, [], ◌∷◌, ◌++◌, length, map, filter, Option, Some, None}
 use Rattle.std.specs.List.{list_any}
