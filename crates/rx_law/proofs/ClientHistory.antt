@@ -127,7 +127,8 @@ client-conns s host epoch l (events.Ended d got) kind fits allowed conns = conns
 client-conns s host epoch l (events.Cancelled d code (Ok done)) kind fits allowed conns = good-cancelled s d code l conns
 client-conns s host epoch l (events.Cancelled d code (Err closed)) kind fits allowed conns = conns
 client-conns s host epoch l (events.Taken from bytes got) kind fits allowed conns =
-    good-message s from (reading_of bytes) got l fits (λ m reads. (spelled bytes m allowed.0 reads).fits.number) conns
+    good-message s from (reading_of bytes) got l fits
+    (λ m reads. (let f = (spelled bytes m allowed.0 reads).fits in (f.number, f.epoch, f.cid))) conns
 client-conns s host epoch l (events.Polled got) kind fits allowed conns = good-given s got (silenced l) conns
 client-conns s host epoch l (events.Clocked now) kind fits allowed conns = conns
 client-conns s host epoch l (events.Accepted got) kind fits allowed conns = absurd allowed

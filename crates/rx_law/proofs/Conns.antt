@@ -31,9 +31,13 @@ use Rattle.rx_rules.specs.Setup.{Setup, Kind, Server, Client, FitsSetup, FitsKin
 use Rattle.rx_model.specs.Strays.{is_stray}
 use Rattle.rx_rules.proofs.EveryLaws.{Every}
 
--- of a server's: its peer is its client's host; of a client's: its cid
+-- its numbers fit the fields of a header, and its cid has its two low bits 0
+abbrev pub FitsConnection : Connection → Type 0
+FitsConnection x = (x.epoch < 2 ^ 32) × (x.cid % 4 ≡ 0) × (x.cid + 4 ≤ 2 ^ 32)
+
+-- of a server's: its peer is its client's host, and its name fits; of a client's: its cid
 abbrev pub OfKind : Kind → ConnLooks → Type 0
-OfKind (Server service nonces) r = r.peer ≡ r.connection.host
+OfKind (Server service nonces) r = (r.peer ≡ r.connection.host) × FitsConnection r.connection
 OfKind (Client host epoch) r = (r.connection.cid % 4 ≡ 0) × (r.connection.cid + 4 ≤ 2 ^ 32) × (r.connection.epoch ≡ epoch)
 
 pub record GoodConn (s : Setup) (r : ConnLooks) : Type 0 where
@@ -226,23 +230,25 @@ good-placed s new (Some old) l good all =
     every-map s (λ r. if same_connection r.connection old.connection then new else r) l.conns
     (λ r own. good-if s (same_connection r.connection old.connection) (λ q. new) r (λ y. good) own) all
 
-good-with_conn : (s : Setup) (kind : Kind) (x : Connection) (l : Looks) → s.kind ≡ kind → FitsKind kind → Conns s l → Conns s (with_conn s kind x l)
-good-with_conn s (Client host epoch) x l is fits all = all
-good-with_conn s (Server service nonces) x l is fits all =
+good-with_conn : (s : Setup) (kind : Kind) (x : Connection) (l : Looks) → s.kind ≡ kind → FitsKind kind → FitsConnection x → Conns s l
+    → Conns s (with_conn s kind x l)
+good-with_conn s (Client host epoch) x l is fits low all = all
+good-with_conn s (Server service nonces) x l is fits low all =
     good-placed s (fresh_conn x x.host service 1 l) (if is_full s l then idle_conn l else None) l
     (record {
       service = fits.0;
       first = omega arith;
       first_fits = omega arith;
       numbers = fresh-low x;
-      kind = subst (λ (k : Kind). OfKind k (fresh_conn x x.host service 1 l)) (sym is) refl;
+      kind = subst (λ (k : Kind). OfKind k (fresh_conn x x.host service 1 l)) (sym is) (refl, low);
     }) all
 
-pub good-prepared : (s : Setup) (got : Took) (x : Connection) (l : Looks) → FitsSetup s → Conns s l → Conns s (prepared s got x l)
-good-prepared s got x l fits all =
+pub good-prepared : (s : Setup) (got : Took) (x : Connection) (l : Looks) → FitsSetup s → FitsConnection x → Conns s l
+    → Conns s (prepared s got x l)
+good-prepared s got x l fits low all =
     good-used s x (if enters got then entered s x l else l)
     (if-good s (enters got) (entered s x l) l
-    (if-good s (is_some (conn_at l x)) l (with_conn s s.kind x l) all (good-with_conn s s.kind x l refl fits.kind all)) all)
+    (if-good s (is_some (conn_at l x)) l (with_conn s s.kind x l) all (good-with_conn s s.kind x l refl fits.kind low all)) all)
 
 good-turned : (s : Setup) (row : Took) (from : Host) (m : Message) (l : Looks) → Conns s l → Conns s (turned_away row from m l)
 good-turned s tooks.Unserved from m l all = of m.body
@@ -253,16 +259,19 @@ good-turned s tooks.Unserved from m l all = of m.body
 good-turned s _ from m l all = all
 
 good-behind : (s : Setup) (row : Option Took) (from : Host) (d : CallName) (m : Message) (got : Took) (l : Looks) → FitsSetup s
-    → d.number < 2 ^ 32 → Conns s l → Conns s (taken_behind s row from d m got l)
-good-behind s (Some row) from d m got l fits low all = good-turned s row from m l all
-good-behind s None from d m got l fits low all =
-    good-with s got d m (prepared s got (connection_of d) l) low (good-prepared s got (connection_of d) l fits all)
+    → d.number < 2 ^ 32 → FitsConnection (connection_of d) → Conns s l → Conns s (taken_behind s row from d m got l)
+good-behind s (Some row) from d m got l fits low named all = good-turned s row from m l all
+good-behind s None from d m got l fits low named all =
+    good-with s got d m (prepared s got (connection_of d) l) low (good-prepared s got (connection_of d) l fits named all)
 
 pub good-message : (s : Setup) (from : Host) (reading : Result Message BadMsg) (got : Took) (l : Looks) → FitsSetup s
-    → ((m : Message) → reading ≡ Ok m → m.number < 2 ^ 32) → Conns s l → Conns s (taken_message s from reading got l)
+    → ((m : Message) → reading ≡ Ok m → (m.number < 2 ^ 32) × (m.epoch < 2 ^ 32) × (m.cid < 2 ^ 32)) → Conns s l
+    → Conns s (taken_message s from reading got l)
 good-message s from (Err bad) got l fits low all = all
 good-message s from (Ok m) got l fits low all =
-    good-behind s (outer_row s s.kind l from m) from (named s from m) m got l fits (low m refl) all
+    let f = low m refl in
+    let top = f.2 in
+    good-behind s (outer_row s s.kind l from m) from (named s from m) m got l fits f.0 (f.1, (omega arith), (omega arith)) all
 
 -- ---- givings and the application's calls
 

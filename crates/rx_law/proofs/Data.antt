@@ -35,7 +35,7 @@ use Rattle.rx_rules.proofs.FindLaws.{find_passes}
 use Rattle.rx_rules.proofs.LeastLaws.{least-keeps}
 use Rattle.rx_rules.proofs.SentLaws.{given-within}
 use Rattle.rx_model.proofs.MessageLaws.{reads_back}
-use Rattle.rx_model.proofs.NameLaws.{both, connection_is, name_is}
+use Rattle.rx_model.proofs.NameLaws.{both, connection_is, name_is, not_true}
 use Rattle.rx_law.proofs.Conns.{Conns, OfKind, found-good}
 use Rattle.rx_law.proofs.Ends.{ends_of}
 use Rattle.rx_rules.proofs.EveryLaws.{Every, every-append, every-filter}
@@ -142,6 +142,8 @@ pub record SaysPiece (s : Setup) (l : Looks) (i : Item) (payload : List ℕ) : T
   pub payload_is : payload ≡ (piece_at call.looks.sent (suc behind)).payload
   pub last : has_flag LAST_PACKET (side_flag s.kind + i.flags) ≡ (piece_at call.looks.sent (suc behind)).last
   pub flags : side_flag s.kind + i.flags < 8
+  pub active : is_active call.life ≡ true
+  pub awake : is_silent l.now call ≡ false
 
 -- its flags tell the kind of its node
 abbrev pub Flagged : Setup → Item → Type 0
@@ -240,8 +242,9 @@ module _ (s : Setup) (l : Looks) (good : (c : CallName) → GoodCall s l c) wher
   chunk_is : (a b : List ℕ) → bodies.Chunk a ≡ bodies.Chunk b → a ≡ b
   chunk_is a b is = cc
 
-  item-says : (k : CallRecord) (i : CallItem) → call_at l k.name ≡ Some k → Sound k i.sending → Says s l (item_of s k i)
-  item-says k i there sound = (side i.sending, of i.sending sound)
+  item-says : (k : CallRecord) (i : CallItem) → call_at l k.name ≡ Some k → (is_active k.life && not (is_silent l.now k)) ≡ true
+      → Sound k i.sending → Says s l (item_of s k i)
+  item-says k i there speaks sound = (side i.sending, of i.sending sound)
     where
       side : (sending : Sending) → Flagged s (item_of s k (record { rank = i.rank; sending = sending }))
       side (sendings.Piece seq again) = flags-side s.kind (asks k.looks.cwnd k.looks.sent seq again) (piece_at k.looks.sent seq).last
@@ -262,13 +265,15 @@ module _ (s : Setup) (l : Looks) (good : (c : CallName) → GoodCall s l c) wher
                 flags-last s.kind (asks k.looks.cwnd k.looks.sent seq again) (piece_at k.looks.sent seq).last
                 ∙ ap (λ (p : Piece). p.last) at;
             flags = flags-low s.kind (asks k.looks.cwnd k.looks.sent seq again) (piece_at k.looks.sent seq).last;
+            active = (both (is_active k.life) (not (is_silent l.now k)) speaks).0;
+            awake = not_true (is_silent l.now k) (both (is_active k.life) (not (is_silent l.now k)) speaks).1;
           }
       of (sendings.Ack reason serial) sound payload is = absurd cc
 
-  map-says : (k : CallRecord) (is : List CallItem) → call_at l k.name ≡ Some k → Every (λ i. Sound k i.sending) is
-      → Every (Says s l) (map (item_of s k) is)
-  map-says k [] there all = tt
-  map-says k (i ∷ is) there all = (item-says k i there all.0, map-says k is there all.1)
+  map-says : (k : CallRecord) (is : List CallItem) → call_at l k.name ≡ Some k → (is_active k.life && not (is_silent l.now k)) ≡ true
+      → Every (λ i. Sound k i.sending) is → Every (Says s l) (map (item_of s k) is)
+  map-says k [] there speaks all = tt
+  map-says k (i ∷ is) there speaks all = (item-says k i there speaks all.0, map-says k is there speaks all.1)
 
   below-is : (a b : ℕ) → nat_lt a b ≡ true → a < b
   below-is a b is = grind (arith, nat_tests)
@@ -321,10 +326,10 @@ module _ (s : Setup) (l : Looks) (good : (c : CallName) → GoodCall s l c) wher
       let there : call_at l k.name ≡ Some k = subst (λ (n : CallName). call_at l n ≡ Some k) (sym named) is in
       let sends : SendsOf (ends_of (Some k)) = subst (λ (o : Option CallRecord). SendsOf (ends_of o)) is (good name).sends in
       (elim (is_active k.life && not (is_silent l.now k))
-      as (λ b. Every (Says s l) (if b then map (item_of s k) (call_items (is_client s.kind) k.looks) else [])) [
-        | true ↦ map-says k (call_items (is_client s.kind) k.looks) there (call-sound k (is_client s.kind) sends)
-        | false ↦ tt
-      ])
+      as (λ b. (is_active k.life && not (is_silent l.now k)) ≡ b → Every (Says s l) (if b then map (item_of s k) (call_items (is_client s.kind) k.looks) else [])) [
+        | true ↦ λ speaks. map-says k (call_items (is_client s.kind) k.looks) there speaks (call-sound k (is_client s.kind) sends)
+        | false ↦ λ rests. tt
+      ]) refl
 
   channel-says : (ch : Channel) → Every (Says s l) (channel_items s l ch)
   channel-says ch =
@@ -358,6 +363,8 @@ pub record GivesPiece (s : Setup) (l : Looks) (to : Host) (m : Message) (payload
   pub seq : m.seq ≡ suc behind
   pub counts : suc behind ≤ counting_of call.looks.sent
   pub piece : (packet_of m payload).piece ≡ piece_at call.looks.sent (suc behind)
+  pub active : is_active call.life ≡ true
+  pub awake : is_silent l.now call ≡ false
 
 counting-low : (shut : Bool) (n : ℕ) → n ≤ 1412 * 4294967294 → counting shut n < 2 ^ 32
 counting-low true n low = omega arith
@@ -373,7 +380,7 @@ name-again s r i kind own name =
     λ j. record { host = host j; epoch = i.name.epoch; cid = whole j; chan = split j; number = i.name.number }
   where
     of : (k : Kind) → OfKind k r → OwnName k i.name → client_host k r.peer ≡ i.name.host
-    of (Server service nonces) kind name = kind ∙ ap (λ (x : Connection). x.host) own
+    of (Server service nonces) kind name = kind.0 ∙ ap (λ (x : Connection). x.host) own
     of (Client host epoch) kind name = sym name.0
 
 some_pair : (a b : Host × List ℕ) → Some a ≡ Some b → a ≡ b
@@ -423,6 +430,8 @@ item-gives s l i (Some r) to bytes m payload fits conns good there says is reads
       seq = ap (λ (x : Message). x.seq) (sym same) ∙ p.seq;
       counts = p.counts;
       piece = λ j. record { payload = payload_is j; last = last_is j };
+      active = p.active;
+      awake = p.awake;
     }
   where
     chunk_same : (a b : List ℕ) → bodies.Chunk a ≡ bodies.Chunk b → a ≡ b

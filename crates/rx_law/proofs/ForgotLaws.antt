@@ -1,6 +1,6 @@
--- Behind the entering of its connection a taking forgets none, and leaves the stray aborts that are owed.
+-- Behind the entering of its connection a taking forgets none, and leaves the stray aborts that are owed and the moment.
 use Rattle.std.proofs.Common.{◌≡◌, ◌&&◌, if◌then◌else◌, not, nat_lt, ◌==◌, Bool, true, false, Option, Some, None}
-use Rattle.std.proofs.Common.{List, refl, ◌∙◌, ap}
+use Rattle.std.proofs.Common.{List, ℕ, refl, ◌∙◌, ap}
 use Rattle.rx_model.specs.declared.stray.Stray.{Stray}
 use Rattle.rx_model.specs.declared.answers.Took.{Took}
 use Rattle.rx_model.specs.declared.answers.Took.TheVariants as tooks
@@ -18,8 +18,8 @@ use Rattle.rx_model.specs.Names.{Connection, channel_of, connection_of}
 use Rattle.rx_rules.specs.Setup.{Setup, is_client}
 
 -- what such a taking leaves
-abbrev pub aside : Looks → List Connection × List Stray
-aside l = (l.forgotten, l.strays)
+abbrev pub aside : Looks → List Connection × List Stray × ℕ
+aside l = (l.forgotten, l.strays, l.now)
 
 same-if : (test : Bool) (m l k : Looks) → aside m ≡ aside k → aside l ≡ aside k → aside (if test then m else l) ≡ aside k
 same-if true m l k here there = here
@@ -85,9 +85,13 @@ with-same s (tooks.Bad bad) d m l = refl
 -- behind its entering a taking forgets none
 pub with-forgotten : (s : Setup) (got : Took) (d : CallName) (m : Message) (l : Looks)
     → (taken_with s got d m l).forgotten ≡ l.forgotten
-with-forgotten s got d m l = ap (λ (p : List Connection × List Stray). p.0) (with-same s got d m l)
+with-forgotten s got d m l = ap (λ (p : List Connection × List Stray × ℕ). p.0) (with-same s got d m l)
 
 -- and leaves the stray aborts
 pub with-strays : (s : Setup) (got : Took) (d : CallName) (m : Message) (l : Looks)
     → (taken_with s got d m l).strays ≡ l.strays
-with-strays s got d m l = ap (λ (p : List Connection × List Stray). p.1) (with-same s got d m l)
+with-strays s got d m l = ap (λ (p : List Connection × List Stray × ℕ). p.1) (with-same s got d m l)
+
+-- and the moment
+pub with-now : (s : Setup) (got : Took) (d : CallName) (m : Message) (l : Looks) → (taken_with s got d m l).now ≡ l.now
+with-now s got d m l = ap (λ (p : List Connection × List Stray × ℕ). p.2) (with-same s got d m l)

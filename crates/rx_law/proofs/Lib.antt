@@ -36,3 +36,5 @@ mod ShownTaken
 mod PlainGiven
 mod EnteredLaw
 mod LegalTold
+mod Moments
+mod Hears

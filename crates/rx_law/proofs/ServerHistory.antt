@@ -41,7 +41,8 @@ server-conns s l (events.Wrote d offered got bytes) fits allowed conns = conns
 server-conns s l (events.HasRead d max got bytes) fits allowed conns = good-read s d (is_end got) bytes l conns
 server-conns s l (events.Finished d code got) fits allowed conns = good-finish s d code got l conns
 server-conns s l (events.Taken from bytes got) fits allowed conns =
-    good-message s from (reading_of bytes) got l fits (λ m reads. (spelled bytes m allowed.0 reads).fits.number) conns
+    good-message s from (reading_of bytes) got l fits
+    (λ m reads. (let f = (spelled bytes m allowed.0 reads).fits in (f.number, f.epoch, f.cid))) conns
 server-conns s l (events.Polled got) fits allowed conns = good-given s got (silenced l) conns
 server-conns s l (events.Clocked now) fits allowed conns = conns
 server-conns s l (events.Linked to service first got) fits allowed conns = absurd allowed

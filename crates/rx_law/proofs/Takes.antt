@@ -80,7 +80,7 @@ chunk-ends v m (bodies.Chunk payload) k =
 chunk-ends v m _ k = (refl, refl, refl, refl)
 
 -- the new record is found, whether there was one or none
-call_at-any : (c : CallName) (new : CallRecord) (l : Looks) → new.name ≡ c → (o : Option CallRecord) → call_at l c ≡ o
+pub call_at-any : (c : CallName) (new : CallRecord) (l : Looks) → new.name ≡ c → (o : Option CallRecord) → call_at l c ≡ o
     → find (λ k. same_name k.name c) (with_call new l.calls) ≡ Some new
 call_at-any c new l named None is = call_at-new c new l named is
 call_at-any c new l named (Some k) is =

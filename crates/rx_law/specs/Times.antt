@@ -1,9 +1,9 @@
 -- The times of a history: that no datagram is old, and that clocks go alike. Public clauses cite this module.
-use Rattle.std.specs.Prelude.{◌≡◌, ◌+◌, ◌<◌, ◌≤◌, ◌⊎◌, ℕ, suc, false, List, [], ◌∷◌, slice_get, IfSome}
+use Rattle.std.specs.Prelude.{◌≡◌, ◌+◌, ◌<◌, ◌≤◌, ◌⊎◌, ℕ, suc, Bool, true, false, List, [], ◌∷◌, slice_get, IfSome}
 use Rattle.std.specs.Prelude.{IsSomeAnd}
 use Rattle.std.specs.List.{list_any}
 use Rattle.rx_model.specs.declared.event.Event.{Event}
-use Rattle.rx_model.specs.declared.event.Event.TheVariants.{Taken}
+use Rattle.rx_model.specs.declared.event.Event.TheVariants.{Clocked, Taken}
 use Rattle.rx_model.specs.declared.event.Noted.{Noted}
 use Rattle.rx_model.specs.declared.names.Host.{Host}
 use Rattle.rx_model.specs.declared.wire.TheConstants.{LIFETIME_MS, SKEW_MS}
@@ -15,17 +15,39 @@ use Rattle.rx_law.specs.Worlds.{ComesOn, TwoEnds}
 
 -- ---- clocks
 
--- from every earlier place to this one the client's clock advances by at least the server's advance less a minute
-abbrev pub AdvancesAlike : ℕ → ℕ → List Noted → ℕ → ℕ → Type 0
-AdvancesAlike server client [] now own = now ≤ own + SKEW_MS
-AdvancesAlike server client (e ∷ h) now own =
-    (now + moment client (e ∷ h) ≤ own + moment server (e ∷ h) + SKEW_MS) × AdvancesAlike server client h now own
+-- a clock event
+abbrev pub is_clock : Event → Bool
+is_clock (Clocked now) = true
+is_clock _ = false
 
--- the same of each two places
+-- an event of the client other than a clock event
+abbrev pub Acts : ℕ → Noted → Type 0
+Acts client e = (e.node ≡ client) × (is_clock e.event ≡ false)
+
+-- from each earlier such event to this moment the client's clock advances by at least the server's advance less a minute
+abbrev pub AdvancesAlike : ℕ → ℕ → List Noted → ℕ → ℕ → Type 0
+AdvancesAlike server client [] now own = Unit {0}
+AdvancesAlike server client (e ∷ h) now own =
+    (Acts client e → now + moment client h ≤ own + moment server h + SKEW_MS) × AdvancesAlike server client h now own
+
+-- the same of each two such events: a clock event of the client may come a while before the server's, so long as the
+-- client does nothing between them
 abbrev pub GoAlike : ℕ → ℕ → List Noted → Type 0
 GoAlike server client [] = Unit {0}
 GoAlike server client (e ∷ h) =
-    AdvancesAlike server client h (moment server (e ∷ h)) (moment client (e ∷ h)) × GoAlike server client h
+    (Acts client e → AdvancesAlike server client h (moment server h) (moment client h)) × GoAlike server client h
+
+-- from every earlier place to this moment
+abbrev pub AdvancesAlways : ℕ → ℕ → List Noted → ℕ → ℕ → Type 0
+AdvancesAlways server client [] now own = now ≤ own + SKEW_MS
+AdvancesAlways server client (e ∷ h) now own =
+    (now + moment client (e ∷ h) ≤ own + moment server (e ∷ h) + SKEW_MS) × AdvancesAlways server client h now own
+
+-- the same of each two places, which is more than is asked
+abbrev pub GoAlways : ℕ → ℕ → List Noted → Type 0
+GoAlways server client [] = Unit {0}
+GoAlways server client (e ∷ h) =
+    AdvancesAlways server client h (moment server (e ∷ h)) (moment client (e ∷ h)) × GoAlways server client h
 
 -- ---- datagrams
 
