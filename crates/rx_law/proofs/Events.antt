@@ -62,7 +62,7 @@ calls-prepared s got x l = of (enters got)
     of true = calls-entered s x l
     of false = refl
 
-calls-turned : (row : Took) (from : Host) (m : Message) (l : Looks) → (turned_away row from m l).calls ≡ l.calls
+pub calls-turned : (row : Took) (from : Host) (m : Message) (l : Looks) → (turned_away row from m l).calls ≡ l.calls
 calls-turned tooks.Unserved from m l = of m.body
   where
     of : (body : Body) → (taken_unserved from m body l).calls ≡ l.calls

@@ -38,3 +38,4 @@ mod EnteredLaw
 mod LegalTold
 mod Moments
 mod Hears
+mod HearsAfter
