@@ -39,3 +39,4 @@ mod LegalTold
 mod Moments
 mod Hears
 mod HearsAfter
+mod Firm

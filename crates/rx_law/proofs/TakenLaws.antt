@@ -43,7 +43,7 @@ keeps-challenged s c d l =
     (on_channel (channel_of d) (λ q. record q { owed_challenge = true }) l)
     (keeps-on_channel c (channel_of d) (λ q. record q { owed_challenge = true }) l (λ q. refl))
 
-keeps-data : (s : Setup) (got : Took) (c d : CallName) (m : Message) (l : Looks) → Keeps c l (taken_data s got d m l)
+pub keeps-data : (s : Setup) (got : Took) (c d : CallName) (m : Message) (l : Looks) → Keeps c l (taken_data s got d m l)
 keeps-data s got c d m l =
     let heard = keeps-on_looks c d (after_taken (node_view s l) got m) l in
     keeps-trans c l _ _ (record { calls = heard.calls; numbers = heard.numbers; fours = heard.fours })
@@ -53,7 +53,7 @@ keeps-settled : (c d : CallName) (l : Looks) → Keeps c l (on_call d settled l)
 keeps-settled c d l =
     keeps-on_call c d settled l (λ k. refl) (λ k. acks_wait (is_all_acked k.looks.sent) k.life)
 
-keeps-heard : (s : Setup) (c d : CallName) (body : Body) (l : Looks) → Keeps c l (taken_heard s d body l)
+pub keeps-heard : (s : Setup) (c d : CallName) (body : Body) (l : Looks) → Keeps c l (taken_heard s d body l)
 keeps-heard s c d (bodies.Ack a) l =
     keeps-trans c l (on_call d settled l) _ (keeps-settled c d l) (keeps-challenged s c d (on_call d settled l))
 keeps-heard s c d bodies.AckAll l = keeps-settled c d l
@@ -87,7 +87,7 @@ keeps-owing_abort : (c d : CallName) (code : Option ℤ) (l : Looks) → Keeps c
 keeps-owing_abort c d None l = keeps-on_channel c (channel_of d) (owing_abort None) l (λ q. refl)
 keeps-owing_abort c d (Some code) l = keeps-on_channel c (channel_of d) (owing_abort (Some code)) l (λ q. refl)
 
-keeps-stopped : (c d : CallName) (body : Body) (l : Looks) → Keeps c l (taken_stopped d body l)
+pub keeps-stopped : (c d : CallName) (body : Body) (l : Looks) → Keeps c l (taken_stopped d body l)
 keeps-stopped c d (bodies.Abort code) l =
     (elim (d.number == 0)
     as (λ b. Keeps c l (if b then stopped_all (connection_of d) code l else on_life d (after_code code) l)) [
@@ -122,12 +122,12 @@ again-number bodies.AckAll life q = refl
 again-number (bodies.Challenge bytes) life q = refl
 again-number (bodies.Response bytes) life q = refl
 
-keeps-over : (c d : CallName) (body : Body) (o : Option CallRecord) (l : Looks) → Keeps c l (taken_over d body o l)
+pub keeps-over : (c d : CallName) (body : Body) (o : Option CallRecord) (l : Looks) → Keeps c l (taken_over d body o l)
 keeps-over c d body None l = keeps-refl c l
 keeps-over c d body (Some k) l =
     keeps-on_channel c (channel_of d) (owing_again body k.life) l (again-number body k.life)
 
-keeps-busy : (c d : CallName) (l : Looks) → Keeps c l (taken_busy d l)
+pub keeps-busy : (c d : CallName) (l : Looks) → Keeps c l (taken_busy d l)
 keeps-busy c d l =
     let broken = on_life (latest_name l (channel_of d)) (after_code RX_CALL_DEAD) l in
     keeps-trans c l broken _
