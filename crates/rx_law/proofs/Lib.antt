@@ -40,3 +40,5 @@ mod Moments
 mod Hears
 mod HearsAfter
 mod Firm
+mod Recalls
+mod Enters

@@ -27,7 +27,8 @@ use Rattle.rx_law.specs.Sides.{moment, side, with_clock}
 use Rattle.rx_model.specs.Strays.{is_stray}
 use Rattle.rx_law.proofs.ForgotLaws.{with-now}
 
-now-placed : (new : ConnLooks) (o : Option ConnLooks) (l : Looks) → (placed new o l).now ≡ l.now
+-- a place taken leaves the moment
+pub now-placed : (new : ConnLooks) (o : Option ConnLooks) (l : Looks) → (placed new o l).now ≡ l.now
 now-placed new None l = refl
 now-placed new (Some old) l = refl
 

@@ -22,15 +22,15 @@ pub spared-as : (x : Connection) (l m : Looks) → m.forgotten ≡ l.forgotten �
 spared-as x l m is spared = subst (λ (xs : List Connection). list_any (λ y. same_connection y x) xs ≡ false) is spared
 
 -- the new record, or none
-abbrev OnlyNew : ConnLooks → Option ConnLooks → Type 0
+abbrev pub OnlyNew : ConnLooks → Option ConnLooks → Type 0
 OnlyNew new None = Unit {0}
 OnlyNew new (Some r) = r ≡ new
 
 -- in place of the old
-abbrev instead : ConnLooks → ConnLooks → ConnLooks → ConnLooks
+abbrev pub instead : ConnLooks → ConnLooks → ConnLooks → ConnLooks
 instead new old r = if same_connection r.connection old.connection then new else r
 
-find-only : (p : ConnLooks → Bool) (new old : ConnLooks) (rs : List ConnLooks) → find p rs ≡ None
+pub find-only : (p : ConnLooks → Bool) (new old : ConnLooks) (rs : List ConnLooks) → find p rs ≡ None
     → OnlyNew new (find p (map (instead new old) rs))
 find-only p new old [] none = tt
 find-only p new old (r ∷ rs) none =
@@ -57,14 +57,14 @@ find-kept p new old (r ∷ rs) fails apart =
       | false ↦ λ other. ap (λ (o : Option ConnLooks). cond (p r) (Some r) o) rest
     ]) refl
 
-fresh-number : (x : Connection) (n : ℕ) → number_in (fresh_channels x) n ≡ 0
+pub fresh-number : (x : Connection) (n : ℕ) → number_in (fresh_channels x) n ≡ 0
 fresh-number x zero = refl
 fresh-number x (suc zero) = refl
 fresh-number x (suc (suc zero)) = refl
 fresh-number x (suc (suc (suc zero))) = refl
 fresh-number x (suc (suc (suc (suc n)))) = refl
 
-only-fours : (x : Connection) (new : ConnLooks) (o : Option ConnLooks) → new.channels ≡ fresh_channels x → OnlyNew new o → Fours o
+pub only-fours : (x : Connection) (new : ConnLooks) (o : Option ConnLooks) → new.channels ≡ fresh_channels x → OnlyNew new o → Fours o
 only-fours x new None fresh only = tt
 only-fours x new (Some r) fresh only = ap (λ (q : ConnLooks). length q.channels) only ∙ ap (λ (qs : List ChannelLooks). length qs) fresh
 
@@ -73,12 +73,12 @@ last-only true new = refl
 last-only false new = tt
 
 -- the record that goes is of another connection
-abbrev Apart : Connection → Option ConnLooks → Type 0
+abbrev pub Apart : Connection → Option ConnLooks → Type 0
 Apart y None = Unit {0}
 Apart y (Some old) = same_connection old.connection y ≡ false
 
 -- what is there stays, and what comes is new
-found-placed : (x y : Connection) (new : ConnLooks) (o : Option ConnLooks) (l : Looks) → new.connection ≡ x
+pub found-placed : (x y : Connection) (new : ConnLooks) (o : Option ConnLooks) (l : Looks) → new.connection ≡ x
     → (is_some o ≡ true → conn_at l x ≡ None)
     → Apart y o → (q : Option ConnLooks) → conn_at l y ≡ q
     → (conn_at (placed new o l) y ≡ q) ⊎ ((q ≡ None) × OnlyNew new (conn_at (placed new o l) y))
@@ -124,7 +124,7 @@ spared-placed y new None l spared = (tt, spared)
 spared-placed y new (Some old) l spared =
     neither (same_connection old.connection y) (list_any (λ z. same_connection z y) l.forgotten) spared
 
-is_none : (o : Option ConnLooks) → is_some o ≡ false → o ≡ None
+pub is_none : (o : Option ConnLooks) → is_some o ≡ false → o ≡ None
 is_none None is = refl
 is_none (Some r) is = absurd cc
 
