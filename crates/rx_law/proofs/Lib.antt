@@ -42,3 +42,4 @@ mod HearsAfter
 mod Firm
 mod Recalls
 mod Enters
+mod Asks
