@@ -250,7 +250,7 @@ at-most : (a b : ℕ) → nat_le a b ≡ true → a ≤ b
 at-most a b h = grind (arith, nat_tests)
 
 -- a channel's number fits
-channel-fits : (s : Setup) (r : ConnLooks) (n : ℕ) → GoodConn s r → number_in r.channels n < 2 ^ 32
+pub channel-fits : (s : Setup) (r : ConnLooks) (n : ℕ) → GoodConn s r → number_in r.channels n < 2 ^ 32
 channel-fits s r n good = of r.channels n good.numbers
   where
     of : (qs : List ChannelLooks) (n : ℕ) → Every (λ q. q.number < 2 ^ 32) qs → number_in qs n < 2 ^ 32

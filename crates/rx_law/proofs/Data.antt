@@ -66,7 +66,7 @@ pub record GoodCall (s : Setup) (l : Looks) (c : CallName) : Type 0 where
 same_ok : (a b : Body) → ◌≡◌ {A = Result Body BadMsg} (Ok a) (Ok b) → a ≡ b
 same_ok a b is = cc
 
-same_message : (a b : Message) → ◌≡◌ {A = Result Message BadMsg} (Ok a) (Ok b) → a ≡ b
+pub same_message : (a b : Message) → ◌≡◌ {A = Result Message BadMsg} (Ok a) (Ok b) → a ≡ b
 same_message a b is = cc
 
 chunk-in : (kind : ℕ) (rest payload : List ℕ) → body_in kind rest ≡ bodies.Chunk payload → (kind == 1) ≡ true
@@ -110,7 +110,7 @@ with-body-is bytes (Ok body) m is =
     (let same : message_with bytes body ≡ m = same_message (message_with bytes body) m is in
     ap (λ (x : Message). Ok x.body) same)
 
-long-enough : (test : Bool) (bad : BadMsg) (rest : Result Message BadMsg) (m : Message) → (if test then Err bad else rest) ≡ Ok m → rest ≡ Ok m
+pub long-enough : (test : Bool) (bad : BadMsg) (rest : Result Message BadMsg) (m : Message) → (if test then Err bad else rest) ≡ Ok m → rest ≡ Ok m
 long-enough true bad rest m is = absurd cc
 long-enough false bad rest m is = is
 
@@ -383,7 +383,7 @@ name-again s r i kind own name =
     of (Server service nonces) kind name = kind.0 ∙ ap (λ (x : Connection). x.host) own
     of (Client host epoch) kind name = sym name.0
 
-some_pair : (a b : Host × List ℕ) → Some a ≡ Some b → a ≡ b
+pub some_pair : (a b : Host × List ℕ) → Some a ≡ Some b → a ≡ b
 some_pair a b is = cc
 
 item-gives : (s : Setup) (l : Looks) (i : Item) (o : Option ConnLooks) (to : Host) (bytes : List ℕ) (m : Message) (payload : List ℕ)

@@ -77,13 +77,14 @@ pub record Plain (now : ℕ) (f : ConnLooks → ConnLooks) : Type 0 where
   pub uses : (r : ConnLooks) (u : ℕ) → u ≤ now → u ≤ r.last_use → u ≤ (f r).last_use
   pub busy : (r : ConnLooks) (n k : ℕ) → busy_in (f r).channels n ≡ Some k → busy_in r.channels n ≡ Some k
 
-young-map : (x y : Connection) (f : ConnLooks → ConnLooks) (rs : List ConnLooks) (u now : ℕ) → Plain now f → u ≤ now → Young y u rs
-    → Young y u (map (conn_if x f) rs)
-young-map x y f [] u now plain low young = tt
-young-map x y f (r ∷ rs) u now plain low young = (one (same_connection r.connection x), young-map x y f rs u now plain low young.1)
+-- a change of a record that sets no last use back
+pub young-map : (x y : Connection) (f : ConnLooks → ConnLooks) (rs : List ConnLooks) (u : ℕ) → KeepsConns f
+    → ((r : ConnLooks) → u ≤ r.last_use → u ≤ (f r).last_use) → Young y u rs → Young y u (map (conn_if x f) rs)
+young-map x y f [] u names uses young = tt
+young-map x y f (r ∷ rs) u names uses young = (one (same_connection r.connection x), young-map x y f rs u names uses young.1)
   where
     one : (b : Bool) → same_connection (cond b (f r) r).connection y ≡ true → u ≤ (cond b (f r) r).last_use
-    one true same = plain.uses r u low (young.0 (subst (λ (z : Connection). same_connection z y ≡ true) (plain.names r) same))
+    one true same = uses r (young.0 (subst (λ (z : Connection). same_connection z y ≡ true) (names r) same))
     one false same = young.0 same
 
 busy-map : (x : Connection) (f : ConnLooks → ConnLooks) (now : ℕ) (o : Option ConnLooks) (n k : ℕ) → Plain now f
@@ -99,7 +100,7 @@ pub firm-on_conn : (c : CallName) (x : Connection) (f : ConnLooks → ConnLooks)
 firm-on_conn c x f l plain =
     record {
       now = refl;
-      young = λ u low young. young-map x (connection_of c) f l.conns u l.now plain low young;
+      young = λ u low young. young-map x (connection_of c) f l.conns u plain.names (λ r is. plain.uses r u low is) young;
       busy = λ n is.
           busy-map x f l.now (conn_at l (connection_of c)) c.chan n plain
           (subst (λ (o : Option ConnLooks). busy_of o c.chan ≡ Some n) (conn_at-on_conn (connection_of c) x f l plain.names) is);

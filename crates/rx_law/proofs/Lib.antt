@@ -43,3 +43,8 @@ mod Firm
 mod Recalls
 mod Enters
 mod Asks
+mod Gives
+mod Judges
+mod Knows
+mod Learns
+mod Due

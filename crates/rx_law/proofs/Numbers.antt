@@ -61,7 +61,7 @@ spared-prepared y s got x l spared = of (enters got) spared
     of false spared = spared
 
 -- what is entered, or known, is there
-there-prepared : (s : Setup) (got : Took) (x : Connection) (l : Looks) → IsServer s.kind ⊎ (is_some (conn_at l x) ≡ true)
+pub there-prepared : (s : Setup) (got : Took) (x : Connection) (l : Looks) → IsServer s.kind ⊎ (is_some (conn_at l x) ≡ true)
     → enters got ≡ true → is_some (conn_at (prepared s got x l) x) ≡ true
 there-prepared s got x l known is = there-used x (if enters got then entered s x l else l) (of known (enters got) is)
   where

@@ -173,7 +173,7 @@ sound-started s c d l r n there chan above sound =
     ]) refl
 
 -- the connection that is looked for is there
-there-is : (o : Option ConnLooks) → is_some o ≡ true → (r : ConnLooks) × (o ≡ Some r)
+pub there-is : (o : Option ConnLooks) → is_some o ≡ true → (r : ConnLooks) × (o ≡ Some r)
 there-is None is = absurd cc
 there-is (Some r) is = (r, refl)
 
