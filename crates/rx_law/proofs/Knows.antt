@@ -89,10 +89,10 @@ judged-keeps s l m from bytes got c u keeps firm old =
 module _ (s : Setup) (l : Looks) (from : Host) (bytes : List ℕ) (got : Took) (m : Message) (c : CallName) (u : ℕ) (server : IsServer s.kind)
     (answer : got ≡ took_reading s l from (Ok m)) (reads : reading_of bytes ≡ Ok m) (front : outer_row s s.kind l from m ≡ None)
     (fits : m.number < 2 ^ 32) (new : AsksNew s l (events.Taken from bytes got) c) (old : Recalls l c u) where
-  abbrev d : CallName
+  abbrev pub d : CallName
   d = named s from m
 
-  abbrev ready : Looks
+  abbrev pub ready : Looks
   ready = prepared s got (connection_of d) l
 
   same-calls : call_at ready c ≡ call_at l c
@@ -101,7 +101,8 @@ module _ (s : Setup) (l : Looks) (from : Host) (bytes : List ℕ) (got : Took) (
   known : Recalls ready c u
   known = recalls-prepared c s got (connection_of d) l u old
 
-  asked : d ≡ c → enters got ≡ true → nat_lt (channel_at l (channel_of c)).number c.number ≡ true → AskedFor s l from bytes got c
+  -- DATA that is judged above its channel's number asks for its call
+  pub asked : d ≡ c → enters got ≡ true → nat_lt (channel_at l (channel_of c)).number c.number ≡ true → AskedFor s l from bytes got c
   asked is enter above =
       let mine : nat_lt (channel_at l (channel_of d)).number d.number ≡ true =
       subst (λ (n : CallName). nat_lt (channel_at l (channel_of n)).number n.number ≡ true) (sym is) above in
@@ -109,7 +110,7 @@ module _ (s : Setup) (l : Looks) (from : Host) (bytes : List ℕ) (got : Took) (
       record { message = m; payload = chunk.0; reads = reads; front = front; named_is = is; body = chunk.1; answer = enter }
 
   -- above the channel's number where it is judged, it was so before
-  above-before : d ≡ c → nat_lt (channel_at ready (channel_of c)).number c.number ≡ true → nat_lt (channel_at l (channel_of c)).number c.number ≡ true
+  pub above-before : d ≡ c → nat_lt (channel_at ready (channel_of c)).number c.number ≡ true → nat_lt (channel_at l (channel_of c)).number c.number ≡ true
   above-before is above =
       let rises : number_of (conn_at l (connection_of c)) c.chan ≤ number_of (conn_at ready (connection_of c)) c.chan =
       subst (λ (n : CallName). number_of (conn_at l (connection_of n)) n.chan ≤ number_of (conn_at ready (connection_of n)) n.chan) is

@@ -49,7 +49,8 @@ use Rattle.rx_law.proofs.Numbers.{there-prepared}
 use Rattle.rx_law.proofs.Recalls.{Recalls, lives-some, recalls-clock, recalls-keeps}
 use Rattle.rx_law.proofs.TakenLaws.{keeps-data}
 
-use Rattle.rx_law.proofs.Knows.{AsksFor, AsksNew, AskedFor, Judged, judged-keeps, judged-with}
+use Rattle.rx_law.proofs.Knows.{AsksFor, AsksNew, AskedFor, Judged, above-before, asked, judged-keeps, judged-with}
+use Rattle.rx_law.specs.Starts.{StartsBy, StartsNew}
 
 -- what the server knows of a call behind an event: it was used at a moment that is later or the same; where it came by the
 -- event, or a datagram of its name was given by it, it was used now
@@ -202,3 +203,25 @@ server-next s l (events.Called cid got) c u server allowed conns some new old = 
 server-next s l (events.Shut d got) c u server allowed conns some new old = absurd allowed
 server-next s l (events.Ended d got) c u server allowed conns some new old = absurd allowed
 server-next s l (events.Cancelled d code got) c u server allowed conns some new old = absurd allowed
+
+-- ---- a start
+
+-- where no DATA asks for a call that is there, none starts it
+pub starts-by : (s : Setup) (l : Looks) (from : Host) (bytes : List ℕ) (got : Took) (c : CallName) (u : ℕ) → IsServer s.kind → IsBytes bytes
+    → got ≡ took_of s l from bytes → enters got ≡ true → AsksNew s l (events.Taken from bytes got) c → Recalls l c u → StartsBy s l from bytes c got
+starts-by s l from bytes got c u server is_bytes is enter new old = λ m reads front name above. (
+    let answer : got ≡ took_reading s l from (Ok m) = is ∙ ap (took_reading s l from) reads in
+    let fits = (spelled bytes m is_bytes reads).fits.number in
+    let ready : nat_lt (channel_at (prepared s got (connection_of (named s from m)) l) (channel_of c)).number c.number ≡ true =
+    subst (λ (n : CallName). nat_lt (channel_at (prepared s got (connection_of n) l) (channel_of c)).number c.number ≡ true) (sym name) above in
+    let before = above-before s l from bytes got m c u server answer reads front fits new old name ready in
+    new (asked s l from bytes got m c u server answer reads front fits new old name enter before) before)
+
+-- with any event
+pub starts-new : (s : Setup) (l : Looks) (e : Event) (c : CallName) (u : ℕ) → IsServer s.kind → AllowedServer s l e → AsksNew s l e c
+    → Recalls l c u → StartsNew s l e c
+starts-new s l (events.Taken from bytes tooks.Kept) c u server allowed new old =
+    starts-by s l from bytes tooks.Kept c u server allowed.0 allowed.1 refl new old
+starts-new s l (events.Taken from bytes tooks.NoSlot) c u server allowed new old =
+    starts-by s l from bytes tooks.NoSlot c u server allowed.0 allowed.1 refl new old
+starts-new s l _ c u server allowed new old = tt

@@ -47,4 +47,5 @@ mod Gives
 mod Judges
 mod Knows
 mod Learns
+mod Late
 mod Due
