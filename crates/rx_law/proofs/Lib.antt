@@ -48,4 +48,5 @@ mod Judges
 mod Knows
 mod Learns
 mod Late
+mod TimedSteps
 mod Due
