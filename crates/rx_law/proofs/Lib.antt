@@ -49,4 +49,5 @@ mod Knows
 mod Learns
 mod Late
 mod TimedSteps
+mod StartsTimed
 mod Due
