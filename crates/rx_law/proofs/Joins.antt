@@ -1,5 +1,5 @@
 -- What comes on a joined connection was given.
-use Rattle.std.proofs.Common.{◌≡◌, ℕ, true, List, [], ◌∷◌, Option, Some, None, ◌∙◌, ap, sym, subst}
+use Rattle.std.proofs.Common.{◌≡◌, ℕ, true, List, [], ◌∷◌, Option, Some, None, ◌∙◌, ap, sym, subst, inl, inr}
 use Rattle.std.specs.Prelude.{IfSome}
 use Rattle.rx_model.specs.declared.answers.Took.TheVariants as tooks
 use Rattle.rx_model.specs.declared.event.Event.{Event}
@@ -21,6 +21,9 @@ use Rattle.rx_law.proofs.Numbers.{client-known}
 use Rattle.rx_law.proofs.Places.{Spared}
 use Rattle.rx_law.proofs.ServerHistory.{spared-once}
 use Rattle.rx_law.specs.Premises.{Held, HeldOnce, LinkedTo}
+use Rattle.rx_law.specs.Starts.{StartsOnce}
+use Rattle.rx_law.proofs.JoinsTimed.{joined-lately, peer-is}
+use Rattle.rx_law.proofs.StartsTimed.{starts-once}
 
 server-came : (s : Setup) (l : Looks) (y : Connection) (e : Event) (Wanted : List ℕ → Type 0) → IsServer s.kind → ComesOn y y.host e Wanted
     → DataCame s l y e Wanted
@@ -29,10 +32,6 @@ server-came s l y (events.Taken from bytes tooks.Kept) Wanted server comes = λ 
     let host : from ≡ y.host = ap (λ (n : CallName). n.host) (sym own) ∙ ap (λ (z : Connection). z.host) at in
     comes host (record { message = m; reads = reads; on = ap (λ (h : Host). connection_of (name_of h m)) (sym host) ∙ ap connection_of (sym own) ∙ at }))
 server-came s l y _ Wanted server comes = tt
-
-peer-is : (from host : Host) (o : Option ConnLooks) → is_peer from o ≡ true → IfSome o (λ r. r.peer ≡ host) → from ≡ host
-peer-is from host None is linked = absurd cc
-peer-is from host (Some r) is linked = sym (host_is r.peer from is) ∙ linked
 
 client-came : (s : Setup) (l : Looks) (y : Connection) (host : Host) (e : Event) (Wanted : List ℕ → Type 0) → s.kind ≡ Client y.host y.epoch
     → IfSome (conn_at l y) (λ r. r.peer ≡ host) → ComesOn y host e Wanted → Came s l y e Wanted
@@ -80,6 +79,10 @@ connection-law x h held =
     (record {
       joined = j;
       linked = held.linked;
-      once = λ c on. spared-once x.server_setup (side x.server h) c j.server_kind j.server_legal
-          (subst (λ (y : Connection). Spared y (at_server x h)) (sym on) held.kept);
+      once = λ c on. (elim held.kept as (λ k. StartsOnce x.server_setup (side x.server h) c) [
+        | inl kept ↦
+            spared-once x.server_setup (side x.server h) c j.server_kind j.server_legal
+            (subst (λ (y : Connection). Spared y (at_server x h)) (sym on) kept)
+        | inr timely ↦ starts-once x h c (joined-lately x h j held.linked timely) on
+      ]);
     })

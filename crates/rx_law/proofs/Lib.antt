@@ -50,4 +50,5 @@ mod Learns
 mod Late
 mod TimedSteps
 mod StartsTimed
+mod JoinsTimed
 mod Due

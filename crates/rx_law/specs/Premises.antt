@@ -1,12 +1,12 @@
 -- What the law of a connection rests on. Public clauses cite this module.
-use Rattle.std.specs.Prelude.{◌≡◌, List, [], ◌∷◌, IfSome}
+use Rattle.std.specs.Prelude.{◌≡◌, ◌⊎◌, List, [], ◌∷◌, IfSome}
 use Rattle.rx_model.specs.declared.event.Noted.{Noted}
 use Rattle.rx_rules.specs.Looks.{conn_at}
-use Rattle.rx_law.specs.Promises.{at_client}
+use Rattle.rx_law.specs.Promises.{LawOn, at_client}
 use Rattle.rx_law.specs.Sides.{side}
 use Rattle.rx_model.specs.declared.names.CallName.{CallName}
 use Rattle.rx_model.specs.Names.{connection_of}
-use Rattle.rx_law.specs.Times.{ForgotNoneOf}
+use Rattle.rx_law.specs.Times.{ForgotNoneOf, TimelyOn}
 use Rattle.rx_law.specs.Starts.{StartsOnce}
 use Rattle.rx_law.specs.Worlds.{Joined, TwoEnds}
 
@@ -16,11 +16,15 @@ LinkedTo x [] = Unit {0}
 LinkedTo x (e ∷ h) = IfSome (conn_at (at_client x h) x.connection) (λ r. r.peer ≡ x.server_host) × LinkedTo x h
 
 -- two legal ends of a connection to that server, with a network that invents nothing, where the server forgot no record
--- of it
+-- of it or no datagram is old
 pub record Held (x : TwoEnds) (h : List Noted) : Type 0 where
   pub joined : Joined x h
   pub linked : LinkedTo x h
-  pub kept : ForgotNoneOf x.server_setup x.connection (side x.server h)
+  pub kept : ForgotNoneOf x.server_setup x.connection (side x.server h) ⊎ TimelyOn x h
+
+-- each call of such a connection has the law
+abbrev pub ConnectionLaw : Type 0
+ConnectionLaw = (x : TwoEnds) (h : List Noted) → Held x h → LawOn x h
 
 -- the same, where the server starts no call of it while it has a record
 pub record HeldOnce (x : TwoEnds) (h : List Noted) : Type 0 where

@@ -26,8 +26,8 @@ use Rattle.rx_law.specs.Sides.{Node, side}
 use Rattle.rx_rules.specs.Slots.{common}
 use Rattle.rx_rules.specs.Setup.{shared_slots}
 use Rattle.rx_law.specs.Streams.{Begins, said, read, is_shut, end_at}
-use Rattle.rx_law.specs.Times.{ForgotNone, ForgotNoneOf, Timely, TimelyOn}
-use Rattle.rx_law.specs.Worlds.{Gave, Joined, TwoEnds, World}
+use Rattle.rx_law.specs.Times.{ForgotNone, Timely}
+use Rattle.rx_law.specs.Worlds.{Gave, TwoEnds, World}
 
 -- ---- the two ends of a connection
 
@@ -108,12 +108,6 @@ pub record LawOf (x : TwoEnds) (c : CallName) (h : List Noted) : Type 0 where
 -- of each call of a connection, at every moment
 abbrev pub LawOn : TwoEnds → List Noted → Type 0
 LawOn x h = (c : CallName) → connection_of c ≡ x.connection → (later now : List Noted) → h ≡ later ++ now → LawOf x c now
-
--- where the network invents nothing, and the server forgot nothing of the connection or no datagram is old
-abbrev pub ConnectionLaw : Type 0
-ConnectionLaw =
-    (x : TwoEnds) (h : List Noted) → Joined x h
-    → (ForgotNoneOf x.server_setup x.connection (side x.server h) ⊎ TimelyOn x h) → LawOn x h
 
 -- a client's connection in a world, with its ends
 abbrev pub ends_in : Connection → ℕ → Node → Node → TwoEnds

@@ -16,7 +16,7 @@ ghost use Rattle.rx_law.specs.Sides.{Node};
 ghost use Rattle.rx_law.specs.Streams.{is_shut, said};
 ghost use Rattle.rx_law.specs.Worlds.{Gave, TwoEnds, World};
 ghost use Rattle.rx_law.specs.Pieces.{IsAt};
-ghost use Rattle.rx_law.specs.Premises.{Held, HeldOnce};
+ghost use Rattle.rx_law.specs.Premises.{ConnectionLaw, HeldOnce};
 ghost use Rattle.rx_law.specs.Starts.{StartsOnce};
 
 /// A server that forgot no connection accepts no call twice, whatever bytes came.
@@ -52,9 +52,11 @@ pub fn connection_law_once()
     ensures { (x : TwoEnds) (h : List Noted) → HeldOnce x h → LawOn x h }
 {}
 
-/// The same where the server forgot no record of the connection.
+/// The same where the server forgot no record of the connection, or where it may, but nothing that comes is old: each
+/// datagram was given less than 120,000 milliseconds before by the server's clock, and between two events of the client
+/// its clock loses at most 60,000 on the server's.
 pub fn connection_law()
-    ensures { (x : TwoEnds) (h : List Noted) → Held x h → LawOn x h }
+    ensures { ConnectionLaw }
 {}
 
 /// In a world of one server that forgot no record and any number of clients, whose network invents nothing, no call is
