@@ -24,7 +24,7 @@ use Rattle.rx_model.proofs.NameLaws.{both}
 use Rattle.rx_rules.proofs.Replay.{unhex}
 use Rattle.rx_model.specs.Names.{Connection}
 use Rattle.rx_law.specs.Promises.{EndsOk, LawIn, ends_in}
-use Rattle.rx_law.proofs.World.{world-law}
+use Rattle.rx_law.proofs.World.{world-kept}
 
 abbrev host : ℕ → ℕ → Host
 host addr port = record { addr = addr; port = port }
@@ -136,7 +136,7 @@ a_world =
 
 -- its server forgot nothing, so its calls have the law
 its-law : LawIn nodes happened
-its-law = world-law nodes happened a_world refl
+its-law = world-kept nodes happened a_world refl
 
 the-connection : Connection
 the-connection = record { host = host 167772162 7001; epoch = 1; cid = 4 }

@@ -51,4 +51,6 @@ mod Late
 mod TimedSteps
 mod StartsTimed
 mod JoinsTimed
+mod WorldTimed
+mod WorldLaw
 mod Due

@@ -29,6 +29,7 @@ use Rattle.rx_rules.specs.Rules.{AllowedAt, AllowedClient, Legal}
 use Rattle.rx_rules.specs.Setup.{Setup, Kind, Server, Client, FitsSetup, IsServer, is_client, named}
 use Rattle.rx_law.specs.Sides.{Node, side, GivesTo, IsClientAt}
 use Rattle.rx_model.specs.Strays.{is_stray}
+use Rattle.rx_law.specs.Starts.{StartsOnce}
 use Rattle.rx_law.specs.Times.{ForgotNone}
 use Rattle.rx_law.specs.Worlds.{AreApart, AreNodes, Carried, Datagram, Gave, IsFrom, World, bag, given_at, with_given}
 use Rattle.rx_model.proofs.NameLaws.{number_itself, same_number}
@@ -169,7 +170,7 @@ gave-polled s l got to bytes m fits standing answer is reads =
           ((good-silenced s l (named s to m) (standing.0.calls (named s to m))).named (rw g.there refl)).own);
     }
 
-gave-mine : (s : Setup) (h : List Event) (to : Host) (bytes : List ℕ) (m : Message) → FitsSetup s → Legal s h → Gave to bytes h → reading_of bytes ≡ Ok m
+pub gave-mine : (s : Setup) (h : List Event) (to : Host) (bytes : List ℕ) (m : Message) → FitsSetup s → Legal s h → Gave to bytes h → reading_of bytes ≡ Ok m
     → Mine s to m
 gave-mine s [] to bytes m fits legal gave reads = absurd gave
 gave-mine s (e ∷ h) to bytes m fits legal (inr gave) reads = gave-mine s h to bytes m fits legal.1 gave reads
@@ -213,7 +214,7 @@ with-in from (events.Finished c code got) d ds old = inr old
 with-in from (events.Taken a given got) d ds old = inr old
 with-in from (events.Clocked now) d ds old = inr old
 
-later-gave : (n : ℕ) (e : Noted) (h : List Noted) (to : Host) (bytes : List ℕ) → Gave to bytes (side n h) → Gave to bytes (side n (e ∷ h))
+pub later-gave : (n : ℕ) (e : Noted) (h : List Noted) (to : Host) (bytes : List ℕ) → Gave to bytes (side n h) → Gave to bytes (side n (e ∷ h))
 later-gave n e h to bytes gave =
     (elim (e.node == n) as (λ b. Gave to bytes (cond b (e.event ∷ side n h) (side n h))) [
       | true ↦ inr gave
@@ -244,23 +245,23 @@ giver nodes d (e ∷ h) is = of (slice_get nodes e.node) refl (λ i. giver nodes
 
 -- ---- one connection of a world
 
-if-some : {X : Type 0} (o : Option X) (x : X) (P : X → Type 0) → o ≡ Some x → IfSome o P → P x
+pub if-some : {X : Type 0} (o : Option X) (x : X) (P : X → Type 0) → o ≡ Some x → IfSome o P → P x
 if-some {X = X} o x P is holds = subst (λ (q : Option X). IfSome q P) is holds
 
-and-some : {X : Type 0} (o : Option X) (x : X) (P : X → Type 0) → o ≡ Some x → IsSomeAnd o P → P x
+pub and-some : {X : Type 0} (o : Option X) (x : X) (P : X → Type 0) → o ≡ Some x → IsSomeAnd o P → P x
 and-some {X = X} o x P is holds = subst (λ (q : Option X). IsSomeAnd q P) is holds
 
 module _ (nodes : List Node) (k : ℕ) (client server : Node) (y : Connection) (there : slice_get nodes k ≡ Some client)
     (kind : client.setup.kind ≡ Client y.host y.epoch) (first : slice_get nodes 0 ≡ Some server) (are : AreNodes nodes)
     (apart : (i j : ℕ) → i ≢ j → IfSome (slice_get nodes i) (λ n. IfSome (slice_get nodes j) (λ o. AreApart n.setup.kind o.setup.kind))) where
-  is_server : IsServer server.setup.kind
+  pub is_server : IsServer server.setup.kind
   is_server = and-some (slice_get nodes 0) server (λ n. IsServer n.setup.kind) first are.server
 
   not-server : (q : Kind) → q ≡ Client y.host y.epoch → IsServer q → ⊥
   not-server (Server service nonces) is server = absurd cc
   not-server (Client host epoch) is server = server
 
-  not-first : k ≢ 0
+  pub not-first : k ≢ 0
   not-first is =
       let same : Some client ≡ Some server = sym there ∙ ap (slice_get nodes) is ∙ first in
       let one = some_node client server same in
@@ -270,7 +271,7 @@ module _ (nodes : List Node) (k : ℕ) (client server : Node) (y : Connection) (
       some_node a b is = cc
 
   -- a node that isn't the first is a client at its own address
-  at-home : (j : ℕ) (n : Node) → slice_get nodes j ≡ Some n → (j ≡ 0) ⊎ IsClientAt n.host n.setup.kind
+  pub at-home : (j : ℕ) (n : Node) → slice_get nodes j ≡ Some n → (j ≡ 0) ⊎ IsClientAt n.host n.setup.kind
   at-home zero n is = inl refl
   at-home (suc j) n is = inr (if-some (slice_get nodes (suc j)) n (λ n. IsClientAt n.host n.setup.kind) is (are.clients j))
 
@@ -281,7 +282,7 @@ module _ (nodes : List Node) (k : ℕ) (client server : Node) (y : Connection) (
       client_host is = cc
   own-address n (Server service nonces) is at = absurd at
 
-  client-address : y.host ≡ client.host
+  pub client-address : y.host ≡ client.host
   client-address =
       (elim (at-home k client there) as (λ t. y.host ≡ client.host) [
         | inl zero' ↦ absurd (not-first zero')
@@ -304,7 +305,7 @@ module _ (nodes : List Node) (k : ℕ) (client server : Node) (y : Connection) (
             named' (home ∙ host, life a b refl))
       ]) refl
 
-  flagged-server : (from : Host) (m : Message) (q : Kind) → IsServer q → outer_row server.setup q (looks server.setup []) from m ≡ None → has_flag CLIENT_INITIATED m.flags ≡ true
+  pub flagged-server : (from : Host) (m : Message) (q : Kind) → IsServer q → outer_row server.setup q (looks server.setup []) from m ≡ None → has_flag CLIENT_INITIATED m.flags ≡ true
   flagged-server from m (Server service nonces) is front =
       of (has_flag CLIENT_INITIATED m.flags) (not (is_for_servers server.setup.class.challenges m.body)) (not ((m.service == service) && (m.index == server.setup.class.index))) front
     where
@@ -313,7 +314,7 @@ module _ (nodes : List Node) (k : ℕ) (client server : Node) (y : Connection) (
       of false b c is = absurd cc
   flagged-server from m (Client host epoch) is front = absurd is
 
-  flagged-any : (l : Looks) (from : Host) (m : Message) (q : Kind) → IsServer q → outer_row server.setup q l from m ≡ None
+  pub flagged-any : (l : Looks) (from : Host) (m : Message) (q : Kind) → IsServer q → outer_row server.setup q l from m ≡ None
       → outer_row server.setup q (looks server.setup []) from m ≡ None
   flagged-any l from m (Server service nonces) is front = front
   flagged-any l from m (Client host epoch) is front = absurd is
@@ -332,34 +333,30 @@ module _ (nodes : List Node) (k : ℕ) (client server : Node) (y : Connection) (
       epoch_is : (Client host epoch) ≡ Client a b → epoch ≡ b
       epoch_is is = cc
 
-  -- data of the connection that comes at the server was given by the client
-  server-gave : (h : List Noted) (from : Host) (bytes : List ℕ) (m : Message) (payload : List ℕ) (l : Looks)
-      → ((j : ℕ) (n : Node) → slice_get nodes j ≡ Some n → Legal n.setup (side j h))
-      → Contains (bag nodes h) (record { from = from; to = server.host; bytes = bytes })
+  -- who gives data of the connection that comes at the server is the client
+  pub giver-client : (h : List Noted) (from : Host) (bytes : List ℕ) (m : Message) (payload : List ℕ) (l : Looks) (j : ℕ) (n : Node)
+      → slice_get nodes j ≡ Some n → n.host ≡ from → Legal n.setup (side j h) → Gave server.host bytes (side j h)
       → reading_of bytes ≡ Ok m → m.body ≡ bodies.Chunk payload → outer_row server.setup server.setup.kind l from m ≡ None
-      → connection_of (named server.setup from m) ≡ y → Gave server.host bytes (side k h)
-  server-gave h from bytes m payload l legal contains reads chunk front at =
-      let g = giver nodes _ h (contains-in _ (bag nodes h) contains.0 contains.1 contains.2) in
-      let fits = if-some (slice_get nodes g.index) g.node (λ n. FitsSetup n.setup) g.there (are.fits g.index) in
-      let mine = gave-mine g.node.setup (side g.index h) server.host bytes m fits (legal g.index g.node g.there) g.gave reads in
+      → connection_of (named server.setup from m) ≡ y → j ≡ k
+  giver-client h from bytes m payload l j n at_node host_is legal gave reads chunk front at =
+      let fits = if-some (slice_get nodes j) n (λ n. FitsSetup n.setup) at_node (are.fits j) in
+      let mine = gave-mine n.setup (side j h) server.host bytes m fits legal gave reads in
       let flag = flagged-server from m server.setup.kind is_server (flagged-any l from m server.setup.kind is_server front) in
-      let client' : is_client g.node.setup.kind ≡ true = sym mine.flag ∙ flag in
+      let client' : is_client n.setup.kind ≡ true = sym mine.flag ∙ flag in
       let own = server-name server.setup from m is_server in
       let host : from ≡ y.host = ap (λ (n : CallName). n.host) (sym own) ∙ ap (λ (z : Connection). z.host) at in
       let epoch : m.epoch ≡ y.epoch = ap (λ (n : CallName). n.epoch) (sym own) ∙ ap (λ (z : Connection). z.epoch) at in
-      let one = one-is g client' (g.host ∙ host) (λ a b is. own-life g.node.setup.kind (named g.node.setup server.host m) (mine.own payload chunk) a b is ∙ epoch) in
-      subst (λ (j : ℕ). Gave server.host bytes (side j h)) one g.gave
+      one-is client' (host_is ∙ host) (λ a b is. own-life n.setup.kind (named n.setup server.host m) (mine.own payload chunk) a b is ∙ epoch)
     where
-      one-is : (g : Giver nodes (record { from = from; to = server.host; bytes = bytes }) h) → is_client g.node.setup.kind ≡ true → g.node.host ≡ y.host
-          → ((a : Host) (b : ℕ) → g.node.setup.kind ≡ Client a b → b ≡ y.epoch) → g.index ≡ k
-      one-is g client' host life =
-          (elim (at-home g.index g.node g.there) as (λ t. g.index ≡ k) [
+      one-is : is_client n.setup.kind ≡ true → n.host ≡ y.host → ((a : Host) (b : ℕ) → n.setup.kind ≡ Client a b → b ≡ y.epoch) → j ≡ k
+      one-is client' host life =
+          (elim (at-home j n at_node) as (λ t. j ≡ k) [
             | inl zero' ↦ absurd (
-                let same : Some g.node ≡ Some server = sym g.there ∙ ap (slice_get nodes) zero' ∙ first in
-                let node : g.node ≡ server = some_node g.node server same in
-                let served : IsServer g.node.setup.kind = subst (λ (n : Node). IsServer n.setup.kind) (sym node) is_server in
-                no-client g.node.setup.kind served client')
-            | inr home ↦ one-life g.index g.node g.there g.node.setup.kind refl client' home host life
+                let same : Some n ≡ Some server = sym at_node ∙ ap (slice_get nodes) zero' ∙ first in
+                let node : n ≡ server = some_node n server same in
+                let served : IsServer n.setup.kind = subst (λ (n : Node). IsServer n.setup.kind) (sym node) is_server in
+                no-client n.setup.kind served client')
+            | inr home ↦ one-life j n at_node n.setup.kind refl client' home host life
           ])
         where
           some_node : (a b : Node) → Some a ≡ Some b → a ≡ b
@@ -369,6 +366,36 @@ module _ (nodes : List Node) (k : ℕ) (client server : Node) (y : Connection) (
           no-client (Server service nonces) server is = absurd cc
           no-client (Client a b) server is = server
 
+  -- data of the connection that comes at the server was given by the client
+  server-gave : (h : List Noted) (from : Host) (bytes : List ℕ) (m : Message) (payload : List ℕ) (l : Looks)
+      → ((j : ℕ) (n : Node) → slice_get nodes j ≡ Some n → Legal n.setup (side j h))
+      → Contains (bag nodes h) (record { from = from; to = server.host; bytes = bytes })
+      → reading_of bytes ≡ Ok m → m.body ≡ bodies.Chunk payload → outer_row server.setup server.setup.kind l from m ≡ None
+      → connection_of (named server.setup from m) ≡ y → Gave server.host bytes (side k h)
+  server-gave h from bytes m payload l legal contains reads chunk front at =
+      let g = giver nodes _ h (contains-in _ (bag nodes h) contains.0 contains.1 contains.2) in
+      subst (λ (j : ℕ). Gave server.host bytes (side j h))
+      (giver-client h from bytes m payload l g.index g.node g.there g.host (legal g.index g.node g.there) g.gave reads chunk front at) g.gave
+
+  -- who gives what is judged at the client is the server
+  pub giver-server : (h : List Noted) (from : Host) (bytes : List ℕ) (m : Message) (l : Looks) (j : ℕ) (n : Node)
+      → slice_get nodes j ≡ Some n → Legal n.setup (side j h) → Gave client.host bytes (side j h)
+      → reading_of bytes ≡ Ok m → outer_row client.setup client.setup.kind l from m ≡ None → j ≡ 0
+  giver-server h from bytes m l j n at_node legal gave reads front =
+      let fits = if-some (slice_get nodes j) n (λ n. FitsSetup n.setup) at_node (are.fits j) in
+      let mine = gave-mine n.setup (side j h) client.host bytes m fits legal gave reads in
+      let flag = flagged-client l from m (ap (λ (q : Kind). outer_row client.setup q l from m) (sym kind) ∙ front) in
+      let other : is_client n.setup.kind ≡ false = sym mine.flag ∙ flag in
+      zero-is (at-home j n at_node) other
+    where
+      no-server : (q : Kind) → IsClientAt n.host q → is_client q ≡ false → ⊥
+      no-server (Server service nonces) at is = at
+      no-server (Client a b) at is = absurd cc
+
+      zero-is : (j ≡ 0) ⊎ IsClientAt n.host n.setup.kind → is_client n.setup.kind ≡ false → j ≡ 0
+      zero-is (inl is) other = is
+      zero-is (inr at) other = absurd (no-server n.setup.kind at other)
+
   -- what is judged at the client was given by the server
   client-gave : (h : List Noted) (from : Host) (bytes : List ℕ) (m : Message) (l : Looks)
       → ((j : ℕ) (n : Node) → slice_get nodes j ≡ Some n → Legal n.setup (side j h))
@@ -376,23 +403,11 @@ module _ (nodes : List Node) (k : ℕ) (client server : Node) (y : Connection) (
       → reading_of bytes ≡ Ok m → outer_row client.setup client.setup.kind l from m ≡ None → Gave y.host bytes (side 0 h)
   client-gave h from bytes m l legal contains reads front =
       let g = giver nodes _ h (contains-in _ (bag nodes h) contains.0 contains.1 contains.2) in
-      let fits = if-some (slice_get nodes g.index) g.node (λ n. FitsSetup n.setup) g.there (are.fits g.index) in
-      let mine = gave-mine g.node.setup (side g.index h) client.host bytes m fits (legal g.index g.node g.there) g.gave reads in
-      let flag = flagged-client l from m (ap (λ (q : Kind). outer_row client.setup q l from m) (sym kind) ∙ front) in
-      let other : is_client g.node.setup.kind ≡ false = sym mine.flag ∙ flag in
-      let zero' = zero-is g.index g.node (at-home g.index g.node g.there) other in
+      let zero' = giver-server h from bytes m l g.index g.node g.there (legal g.index g.node g.there) g.gave reads front in
       subst (λ (a : Host). Gave a bytes (side 0 h)) (sym client-address) (subst (λ (j : ℕ). Gave client.host bytes (side j h)) zero' g.gave)
-    where
-      no-server : (n : Node) (q : Kind) → IsClientAt n.host q → is_client q ≡ false → ⊥
-      no-server n (Server service nonces) at is = at
-      no-server n (Client a b) at is = absurd cc
-
-      zero-is : (j : ℕ) (n : Node) → (j ≡ 0) ⊎ IsClientAt n.host n.setup.kind → is_client n.setup.kind ≡ false → j ≡ 0
-      zero-is j n (inl is) other = is
-      zero-is j n (inr at) other = absurd (no-server n n.setup.kind at other)
 
   -- what comes on the connection was given
-  world-came : (h : List Noted) → Carried nodes h → ((j : ℕ) (n : Node) → slice_get nodes j ≡ Some n → Legal n.setup (side j h))
+  pub world-came : (h : List Noted) → Carried nodes h → ((j : ℕ) (n : Node) → slice_get nodes j ≡ Some n → Legal n.setup (side j h))
       → CameOn (ends_in y k client server) h
   world-came [] carried legal = tt
   world-came (e ∷ h) carried legal =
@@ -419,8 +434,10 @@ module _ (nodes : List Node) (k : ℕ) (client server : Node) (y : Connection) (
           λ m reads front at. client-gave h from bytes m (at_client (ends_in y k client server) h) legal carried reads front
       at-client _ carried legal = tt
 
-  pub world-fed : (h : List Noted) → World nodes h → ForgotNone server.setup (side 0 h) → Fed (ends_in y k client server) h
-  world-fed h w kept =
+  -- a client's connection in a world, where no call of it starts anew
+  pub world-fed-by : (h : List Noted) → World nodes h → ((c : CallName) → connection_of c ≡ y → StartsOnce server.setup (side 0 h) c)
+      → Fed (ends_in y k client server) h
+  world-fed-by h w once =
       let legal : (j : ℕ) (n : Node) → slice_get nodes j ≡ Some n → Legal n.setup (side j h) =
       λ j n is. if-some (slice_get nodes j) n (λ n. Legal n.setup (side j h)) is (w.sides.legal j) in
       record {
@@ -432,13 +449,18 @@ module _ (nodes : List Node) (k : ℕ) (client server : Node) (y : Connection) (
         client_legal = legal k client there;
         server_legal = legal 0 server first;
         came = world-came h w.carried legal;
-        once = λ c on. spared-once server.setup (side 0 h) c is_server (legal 0 server first)
-            (ap (λ (xs : List Connection). list_any (λ z. same_connection z (connection_of c)) xs) kept);
+        once = once;
       }
 
+  pub world-fed : (h : List Noted) → World nodes h → ForgotNone server.setup (side 0 h) → Fed (ends_in y k client server) h
+  world-fed h w kept =
+      world-fed-by h w
+      (λ c on. spared-once server.setup (side 0 h) c is_server (if-some (slice_get nodes 0) server (λ n. Legal n.setup (side 0 h)) first (w.sides.legal 0))
+      (ap (λ (xs : List Connection). list_any (λ z. same_connection z (connection_of c)) xs) kept))
+
 -- where the server forgot nothing, every call of every client has the law
-pub world-law : (nodes : List Node) (h : List Noted) → World nodes h → ServerForgotNone nodes h → LawIn nodes h
-world-law nodes h w kept =
+pub world-kept : (nodes : List Node) (h : List Noted) → World nodes h → ServerForgotNone nodes h → LawIn nodes h
+world-kept nodes h w kept =
     record {
       once = once-in (slice_get nodes 0) refl;
       connections = λ y k client server there kind first.

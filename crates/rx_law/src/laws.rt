@@ -8,7 +8,7 @@ ghost use Rattle.rx_rules.specs.After.{looks};
 ghost use Rattle.rx_model.specs.Body as bodies;
 ghost use Rattle.rx_rules.specs.CallLooks.{packet_of};
 ghost use Rattle.rx_model.specs.Message.{Message};
-ghost use Rattle.rx_law.specs.Promises.{EnteredOnlyWhenProved, LawIn, LawOn, OnceUnderForgery, ServerForgotNone};
+ghost use Rattle.rx_law.specs.Promises.{EnteredOnlyWhenProved, LawOn, OnceUnderForgery, WorldLaw};
 ghost use Rattle.rx_model.specs.Reading.{reading_of};
 ghost use Rattle.rx_rules.specs.Rules.{Legal};
 ghost use Rattle.rx_rules.specs.Setup.{Setup, Client, FitsSetup, IsServer, is_client, named};
@@ -59,10 +59,11 @@ pub fn connection_law()
     ensures { ConnectionLaw }
 {}
 
-/// In a world of one server that forgot no record and any number of clients, whose network invents nothing, no call is
-/// accepted twice, and each call of each client has all that.
+/// In a world of one server and any number of clients, whose network invents nothing, no call is accepted twice, and each
+/// call of each client has all that: where the server forgot no record, or where no datagram is old and each client's
+/// clock goes like the server's.
 pub fn world_law()
-    ensures { (nodes : List Node) (h : List Noted) → World nodes h → ServerForgotNone nodes h → LawIn nodes h }
+    ensures { WorldLaw }
 {}
 
 /// In a legal history of a node each event is one that its line tells, where its numbers fit.
