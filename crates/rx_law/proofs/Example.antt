@@ -26,10 +26,12 @@ use Rattle.rx_model.specs.Names.{Connection}
 use Rattle.rx_law.specs.Promises.{EndsOk, LawIn, ends_in}
 use Rattle.rx_law.proofs.World.{world-kept}
 
-abbrev host : ℕ → ℕ → Host
+-- an address
+abbrev pub host : ℕ → ℕ → Host
 host addr port = record { addr = addr; port = port }
 
-abbrev name : ℕ → ℕ → ℕ → ℕ → ℕ → ℕ → CallName
+-- a call
+abbrev pub name : ℕ → ℕ → ℕ → ℕ → ℕ → ℕ → CallName
 name addr port epoch cid chan number =
     record { host = host addr port; epoch = epoch; cid = cid; chan = chan; number = number }
 
@@ -63,7 +65,7 @@ happened =
     ∷ []
 
 -- bytes that test as such are
-are_bytes : (bytes : List ℕ) → list_all (λ b. nat_lt b 256) bytes ≡ true → IsBytes bytes
+pub are_bytes : (bytes : List ℕ) → list_all (λ b. nat_lt b 256) bytes ≡ true → IsBytes bytes
 are_bytes [] all i = omega arith
 are_bytes (b ∷ bs) all zero = is_below b (both _ _ all).0
   where
@@ -74,11 +76,13 @@ are_bytes (b ∷ bs) all (suc i) = are_bytes bs (both _ _ all).1 i
 no_bytes : IsBytes []
 no_bytes i = omega arith
 
-null_fits : FitsClass null
+-- no security fits
+pub null_fits : FitsClass null
 null_fits =
     record { index = omega arith; challenge = λ c nonce. (no_bytes, omega arith); respond = λ c asked. tt }
 
-default_fits : FitsLimits (record { conns = 1024; calls = 64; slots = 2048; window = 32 })
+-- the limits of a node for which none are named
+pub default_fits : FitsLimits (record { conns = 1024; calls = 64; slots = 2048; window = 32 })
 default_fits =
     record {
       some_conns = omega arith;

@@ -53,4 +53,5 @@ mod StartsTimed
 mod JoinsTimed
 mod WorldTimed
 mod WorldLaw
+mod ForgetsExample
 mod Due
