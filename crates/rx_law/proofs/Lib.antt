@@ -54,4 +54,5 @@ mod JoinsTimed
 mod WorldTimed
 mod WorldLaw
 mod ForgetsExample
+mod Clocks
 mod Due

@@ -15,6 +15,7 @@ ghost use Rattle.rx_rules.specs.Setup.{Setup, Client, FitsSetup, IsServer, is_cl
 ghost use Rattle.rx_law.specs.Sides.{Node};
 ghost use Rattle.rx_law.specs.Streams.{is_shut, said};
 ghost use Rattle.rx_law.specs.Worlds.{Gave, TwoEnds, World};
+ghost use Rattle.rx_law.specs.Times.{GoAlike, GoAlways};
 ghost use Rattle.rx_law.specs.Pieces.{IsAt};
 ghost use Rattle.rx_law.specs.Premises.{ConnectionLaw, HeldOnce};
 ghost use Rattle.rx_law.specs.Starts.{StartsOnce};
@@ -70,4 +71,10 @@ pub fn world_law()
 pub fn legal_events_are_told()
     ensures { (s : Setup) (h : List Event)
         → Legal s h → All FitsEvent h → All (IsTold (not (is_client s.kind))) h }
+{}
+
+/// Clocks of which the client's never loses more than 60,000 milliseconds on the server's, between any two places of a
+/// history, go alike between the client's own events, which is all that the laws ask.
+pub fn clocks_go_alike()
+    ensures { (server client : ℕ) (h : List Noted) → GoAlways server client h → GoAlike server client h }
 {}
