@@ -1,9 +1,8 @@
 -- Clocks that go alike between any two places go alike between the client's own events.
-use Rattle.std.proofs.Common.{◌≡◌, ◌==◌, ◌≤◌, ◌+◌, ℕ, cond, Bool, true, false, List, [], ◌∷◌, refl, subst, arith}
+use Rattle.std.proofs.Common.{◌≡◌, ◌==◌, ℕ, cond, Bool, true, false, List, [], ◌∷◌, refl, subst, arith}
 use Rattle.rx_model.specs.declared.event.Event.{Event}
 use Rattle.rx_model.specs.declared.event.Event.TheVariants as events
 use Rattle.rx_model.specs.declared.event.Noted.{Noted}
-use Rattle.rx_model.specs.declared.wire.TheConstants.{SKEW_MS}
 use Rattle.rx_law.specs.Sides.{moment, with_clock}
 use Rattle.rx_law.specs.Times.{AdvancesAlike, AdvancesAlways, GoAlike, GoAlways, is_clock}
 

@@ -1,37 +1,29 @@
 -- What a server gives with the name of a call is of its channel's latest call, or a BUSY that the channel owes.
-use Rattle.std.proofs.Common.{◌≡◌, ◌⊎◌, ◌&&◌, ◌<◌, ◌≤◌, ◌+◌, ◌-◌, ◌%◌, ◌^◌, ℕ, ℤ, if◌then◌else◌, not, nat_lt, nat_le, Bool, true, false, List, [], ◌∷◌, ◌++◌}
+use Rattle.std.proofs.Common.{◌≡◌, ◌⊎◌, ◌&&◌, ◌<◌, ◌^◌, ℕ, if◌then◌else◌, not, nat_lt, nat_le, Bool, true, false, List, [], ◌∷◌}
 use Rattle.std.proofs.Common.{length, map, filter, drop, Option, Some, None, option_map, Result, Ok, Err, refl, ◌∙◌, ap, sym, subst, inl, inr, arith}
-use Rattle.std.specs.Prelude.{option_and_then, slice_get, slice_index, unwrap_or}
+use Rattle.std.specs.Prelude.{slice_index}
 use Rattle.rx_model.specs.declared.answers.BadMsg.{BadMsg}
 use Rattle.rx_model.specs.declared.answers.BadMsg.TheVariants as faults
 use Rattle.rx_model.specs.declared.names.CallName.{CallName}
-use Rattle.rx_model.specs.declared.names.Host.{Host}
-use Rattle.rx_model.specs.declared.stray.Stray.{Stray}
 use Rattle.rx_model.specs.Body.{Body}
 use Rattle.rx_model.specs.Body as bodies
 use Rattle.rx_rules.specs.CallItems.{CallItem, call_items}
-use Rattle.rx_rules.specs.Items.{Item, all_channels, busy_items, challenge_body, channel_items, class_items, datagram_for, datagram_on, item_of, items, items_of}
-use Rattle.rx_rules.specs.Items.{items_on, message_on, next_item, owed_item, poll_with, where_owed}
+use Rattle.rx_rules.specs.Items.{Item, all_channels, busy_items, challenge_body, channel_items, class_items, item_of, items, items_of}
+use Rattle.rx_rules.specs.Items.{items_on, next_item, owed_item, where_owed}
 use Rattle.rx_rules.specs.Life.{is_live, is_active}
-use Rattle.rx_rules.specs.Looks.{CallRecord, ChannelLooks, ConnLooks, Looks, call_at, call_named, channel_at, conn_at, fresh_channel, is_call, latest}
+use Rattle.rx_rules.specs.Looks.{CallRecord, ChannelLooks, ConnLooks, Looks, call_at, call_named, channel_at, is_call, latest}
 use Rattle.rx_model.specs.Message.{Message}
-use Rattle.rx_model.specs.Names.{Channel, Connection, channel_of, channels_of, connection_of, name_of, same_connection, same_name}
+use Rattle.rx_model.specs.Names.{Channel, channel_of, channels_of, same_name}
 use Rattle.rx_model.specs.Reading.{body_reading, message_with, number_at, reading_of, with_body}
 use Rattle.rx_rules.specs.Records.{is_silent}
-use Rattle.rx_rules.specs.Setup.{Setup, Kind, Server, Client, IsServer, is_client, named}
+use Rattle.rx_rules.specs.Setup.{Setup, is_client}
 use Rattle.rx_model.specs.Spelling.{made}
-use Rattle.rx_model.specs.Strays.{stray_message}
-use Rattle.rx_rules.proofs.ConnsLaws.{channel_number, number_in, number_of}
 use Rattle.rx_rules.proofs.EveryLaws.{Every, every-append, every-filter}
 use Rattle.rx_rules.proofs.FindLaws.{find_passes}
 use Rattle.rx_rules.proofs.LeastLaws.{least-keeps}
 use Rattle.rx_model.proofs.FieldLaws.{four}
-use Rattle.rx_model.proofs.NameLaws.{connection_is, name_is}
-use Rattle.rx_law.proofs.Client.{channel-fits}
-use Rattle.rx_law.proofs.Conns.{Conns, FitsConnection, OfKind, found-good}
-use Rattle.rx_law.proofs.Data.{long-enough, same_message, some_pair}
-use Rattle.rx_law.proofs.Firm.{busy_of}
-use Rattle.rx_law.proofs.Joint.{server-name}
+use Rattle.rx_model.proofs.NameLaws.{name_is}
+use Rattle.rx_law.proofs.Data.{long-enough, same_message}
 
 -- the name is of its channel's latest call, or of one to which the channel owes a BUSY
 abbrev pub IsDue : Looks → CallName → Type 0

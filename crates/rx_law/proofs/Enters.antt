@@ -1,12 +1,12 @@
 -- A connection that a server enters: what it knows of a call stays, whichever record is forgotten for it.
-use Rattle.std.proofs.Common.{◌≡◌, ◌⊎◌, ◌≤◌, ◌+◌, ℕ, zero, suc, cond, if◌then◌else◌, is_some}
+use Rattle.std.proofs.Common.{◌≡◌, ◌≤◌, ◌+◌, ℕ, zero, suc, cond, if◌then◌else◌, is_some}
 use Rattle.std.proofs.Common.{Bool, true, false, List, [], ◌∷◌, ◌++◌, map, Option, Some, None, refl, ◌∙◌, ap, sym, subst, inl, inr, arith}
 use Rattle.std.specs.List.{find}
 use Rattle.rx_model.specs.declared.answers.Took.{Took}
 use Rattle.rx_model.specs.declared.names.CallName.{CallName}
 use Rattle.rx_model.specs.declared.wire.TheConstants.{IDLE_MS}
 use Rattle.rx_rules.specs.After.{enters, prepared}
-use Rattle.rx_rules.specs.Looks.{CallRecord, ChannelLooks, ConnLooks, Looks, call_at, conn_at}
+use Rattle.rx_rules.specs.Looks.{ChannelLooks, ConnLooks, Looks, conn_at}
 use Rattle.rx_model.specs.Names.{Connection, connection_of, same_connection}
 use Rattle.rx_rules.specs.Records.{entered, fresh_conn, idle_conn, is_full, placed, used, with_conn}
 use Rattle.rx_rules.specs.Setup.{Setup, Kind, Server, Client}

@@ -1,9 +1,8 @@
 -- What changes leave of a node's records of connections: no last use goes back, and no BUSY is owed anew.
-use Rattle.std.proofs.Common.{◌≡◌, ◌&&◌, ◌==◌, ◌≤◌, ℕ, ℤ, zero, suc, cond, if◌then◌else◌, not, nat_lt, Bool, true, false, List, [], ◌∷◌}
-use Rattle.std.proofs.Common.{map, drop, Option, Some, None, option_map, Result, Ok, Err, refl, ◌∙◌, sym, subst, arith}
+use Rattle.std.proofs.Common.{◌≡◌, ◌&&◌, ◌==◌, ◌≤◌, ℕ, ℤ, zero, suc, cond, if◌then◌else◌, not, Bool, true, false, List, [], ◌∷◌}
+use Rattle.std.proofs.Common.{map, Option, Some, None, option_map, Result, Ok, Err, refl, ◌∙◌, sym, subst, arith}
 use Rattle.std.specs.List.{find}
 use Rattle.std.specs.Prelude.{slice_get, unwrap_or}
-use Rattle.rx_model.specs.declared.answers.BadMsg.{BadMsg}
 use Rattle.rx_model.specs.declared.answers.ServeRefused.{ServeRefused}
 use Rattle.rx_model.specs.declared.answers.ServeRefused.TheVariants as refusals
 use Rattle.rx_model.specs.declared.answers.Took.{Took}
@@ -11,23 +10,19 @@ use Rattle.rx_model.specs.declared.answers.Took.TheVariants as tooks
 use Rattle.rx_model.specs.declared.names.CallName.{CallName}
 use Rattle.rx_model.specs.declared.names.Host.{Host}
 use Rattle.rx_model.specs.declared.wire.TheConstants.{RX_PROTOCOL_ERROR}
-use Rattle.rx_rules.specs.After.{challenged, counted, finish_done, given_body, given_by, given_message, is_ok_end, is_zero, owing_abort}
+use Rattle.rx_rules.specs.After.{challenged, counted, finish_done, given_body, is_ok_end, is_zero, owing_abort}
 use Rattle.rx_rules.specs.After.{owing_ackall, owing_again, read_done, served_code, settled, stopped_all, taken_at, taken_data, taken_heard, taken_over}
 use Rattle.rx_rules.specs.After.{taken_stopped, taken_unserved, told_code, turned_away, with_first}
 use Rattle.rx_model.specs.Body.{Body}
 use Rattle.rx_model.specs.Body as bodies
 use Rattle.rx_rules.specs.CallLooks.{after_shut}
-use Rattle.rx_rules.specs.Judging.{opened}
-use Rattle.rx_rules.specs.Life.{Life, after_code, after_finish, after_later, is_calling}
-use Rattle.rx_rules.specs.Life as lives
-use Rattle.rx_rules.specs.Looks.{CallRecord, ChannelLooks, ConnLooks, Looks, call_at, changed_at, channel_at, conn_at, fresh_channel, is_call}
-use Rattle.rx_rules.specs.Looks.{is_proved, latest_name, on_call, on_channel, on_conn, on_life, on_looks}
+use Rattle.rx_rules.specs.Life.{Life, after_code, after_finish, is_calling}
+use Rattle.rx_rules.specs.Looks.{CallRecord, ChannelLooks, ConnLooks, Looks, call_at, changed_at, conn_at, fresh_channel, is_call}
+use Rattle.rx_rules.specs.Looks.{is_proved, on_call, on_channel, on_conn, on_life, on_looks}
 use Rattle.rx_model.specs.Message.{Message}
 use Rattle.rx_model.specs.Names.{Connection, Channel, channel_of, connection_of, same_connection}
-use Rattle.rx_model.specs.Reading.{reading_of}
-use Rattle.rx_rules.specs.Records.{started, started_later, used}
-use Rattle.rx_rules.specs.Setup.{Setup, is_client, named}
-use Rattle.rx_model.specs.Strays.{is_stray}
+use Rattle.rx_rules.specs.Records.{started, used}
+use Rattle.rx_rules.specs.Setup.{Setup, is_client}
 use Rattle.rx_rules.proofs.ConnsLaws.{KeepsConns, conn_if, conn_at-on_conn}
 use Rattle.rx_rules.proofs.EveryLaws.{Every}
 

@@ -1,13 +1,11 @@
 -- A server with room for one connection forgets one, in a world whose datagrams are never old: the law with times isn't
 -- empty.
-use Rattle.std.proofs.Common.{◌≡◌, ◌≢◌, ◌+◌, ◌<◌, ◌≤◌, ℕ, zero, suc, List, [], ◌∷◌, codes, Some, None, Ok, refl, inl, inr, arith}
+use Rattle.std.proofs.Common.{◌≡◌, ◌≢◌, ℕ, zero, suc, List, [], ◌∷◌, codes, Some, None, Ok, refl, inl, inr, arith}
 use Rattle.std.specs.Prelude.{IfSome, slice_get}
 use Rattle.rx_rules.specs.Rules.{Legal}
 use Rattle.rx_model.specs.declared.answers.Took.TheVariants as tooks
 use Rattle.rx_model.specs.declared.event.Event.TheVariants as events
 use Rattle.rx_model.specs.declared.event.Noted.{Noted}
-use Rattle.rx_model.specs.declared.wire.TheConstants.{SKEW_MS}
-use Rattle.rx_model.specs.Names.{Connection}
 use Rattle.rx_rules.proofs.Replay.{unhex}
 use Rattle.rx_rules.specs.After.{looks}
 use Rattle.rx_rules.specs.Classes.{null}
@@ -129,16 +127,55 @@ a_world =
 a_timely : Timely nodes happened
 a_timely =
     record {
-      fresh = (record { node = 1; sender = refl; gave = inl (record { node_is = refl; gives = (refl, refl); lately = omega arith }) }, (tt, (tt, (tt, (tt, (tt, (tt,
-          (record { node = 1; sender = refl; gave = inl (record { node_is = refl; gives = (refl, refl); lately = omega arith }) }, (tt, (tt, (tt, (tt, (tt, tt)))))))))))));
+      fresh = (
+        record { node = 1; sender = refl; gave = inl (record { node_is = refl; gives = (refl, refl); lately = omega arith }) },
+        (
+          tt,
+          (
+            tt,
+            (
+              tt,
+              (
+                tt,
+                (
+                  tt,
+                  (
+                    tt,
+                    (record { node = 1; sender = refl; gave = inl (record { node_is = refl; gives = (refl, refl); lately = omega arith }) }, (tt, (tt, (tt, (tt, (tt, tt)))))),
+                  ),
+                ),
+              ),
+            ),
+          ),
+        ),
+      );
       alike = alike;
     }
   where
     alike : (k : ℕ) → IfSome (slice_get nodes (suc k)) (λ n. GoAlike 0 (suc k) happened)
     alike zero =
-        stand-alike 0 1 happened
-        (λ acts. refl, (λ acts. refl, (λ acts. refl, (λ acts. refl, (λ acts. absurd (let no_act = acts.1 in cc (no_act)), (λ acts. absurd (let away = acts.0 in omega arith), (λ acts. refl,
-        (λ acts. refl, (λ acts. refl, (λ acts. refl, (λ acts. refl, (λ acts. refl, (λ acts. refl, tt)))))))))))))
+        stand-alike 0 1 happened (
+          λ acts. refl,
+          (
+            λ acts. refl,
+            (
+              λ acts. refl,
+              (
+                λ acts. refl,
+                (
+                  λ acts. absurd (let no_act = acts.1 in cc (no_act)),
+                  (
+                    λ acts. absurd (let away = acts.0 in omega arith),
+                    (
+                      λ acts. refl,
+                      (λ acts. refl, (λ acts. refl, (λ acts. refl, (λ acts. refl, (λ acts. refl, (λ acts. refl, tt)))))),
+                    ),
+                  ),
+                ),
+              ),
+            ),
+          ),
+        )
     alike (suc k) = tt
 
 -- so its calls have the law, though a record was forgotten

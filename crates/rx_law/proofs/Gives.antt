@@ -1,33 +1,30 @@
 -- A server's poll: what it gives with the name of a call is of a number that the channel knows, and is a use of the call.
-use Rattle.std.proofs.Common.{◌≡◌, ◌⊎◌, ◌==◌, ◌<◌, ◌≤◌, ◌+◌, ◌-◌, ◌%◌, ◌^◌, ℕ, suc, cond, if◌then◌else◌, is_some, Bool, true, false, List, []}
-use Rattle.std.proofs.Common.{◌∷◌, drop, Option, Some, None, Result, Ok, Err, refl, ◌∙◌, ap, sym, subst, inl, inr, arith}
+use Rattle.std.proofs.Common.{◌≡◌, ◌⊎◌, ◌<◌, ◌≤◌, ◌+◌, ◌-◌, ◌%◌, ◌^◌, ℕ, suc, is_some, true, false, List, []}
+use Rattle.std.proofs.Common.{◌∷◌, Option, Some, None, Result, Ok, refl, ◌∙◌, ap, sym, subst, inl, inr, arith}
 use Rattle.rx_model.specs.declared.answers.BadMsg.{BadMsg}
 use Rattle.rx_model.specs.declared.names.CallName.{CallName}
 use Rattle.rx_model.specs.declared.names.Host.{Host}
 use Rattle.rx_model.specs.declared.stray.Stray.{Stray}
-use Rattle.rx_rules.specs.After.{counted, given_body, given_by, given_message}
-use Rattle.rx_model.specs.Body.{Body}
-use Rattle.rx_model.specs.Body as bodies
-use Rattle.rx_rules.specs.Items.{Item, datagram_for, datagram_on, message_on, next_item, poll_answer, poll_with}
-use Rattle.rx_rules.specs.Looks.{CallRecord, ChannelLooks, ConnLooks, Looks, call_at, channel_at, conn_at, fresh_channel}
+use Rattle.rx_rules.specs.After.{counted, given_body}
+use Rattle.rx_rules.specs.Items.{Item, datagram_for, datagram_on, message_on, next_item, poll_with}
+use Rattle.rx_rules.specs.Looks.{CallRecord, ConnLooks, Looks, call_at, channel_at, conn_at, fresh_channel}
 use Rattle.rx_model.specs.Message.{Message}
 use Rattle.rx_model.specs.Names.{Channel, Connection, channel_of, connection_of, name_of, same_connection, same_name}
 use Rattle.rx_model.specs.Reading.{reading_of}
-use Rattle.rx_rules.specs.Records.{silenced}
 use Rattle.rx_rules.specs.Setup.{Setup, Kind, Server, Client, IsServer, named}
 use Rattle.rx_model.specs.Spelling.{made}
-use Rattle.rx_model.specs.Strays.{is_stray, stray_message}
+use Rattle.rx_model.specs.Strays.{stray_message}
 use Rattle.std.specs.Prelude.{option_and_then, slice_get, unwrap_or}
-use Rattle.rx_rules.proofs.ConnsLaws.{channel_number, number_in, number_of}
+use Rattle.rx_rules.proofs.ConnsLaws.{channel_number, number_of}
 use Rattle.rx_rules.proofs.FindLaws.{find_passes}
-use Rattle.rx_rules.proofs.KeepsLaws.{Keeps, keeps-refl, keeps-trans}
-use Rattle.rx_model.proofs.NameLaws.{connection_is, name_is, name_itself, same_number}
+use Rattle.rx_rules.proofs.KeepsLaws.{Keeps, keeps-trans}
+use Rattle.rx_model.proofs.NameLaws.{connection_is, name_itself}
 use Rattle.rx_law.proofs.Client.{channel-fits}
 use Rattle.rx_law.proofs.Conns.{Conns, FitsConnection, OfKind, found-good}
 use Rattle.rx_law.proofs.Data.{some_pair}
 use Rattle.rx_law.proofs.Due.{IsDue, made-header, next-due}
-use Rattle.rx_law.proofs.Firm.{Firm, busy_of, firm-body, firm-counted, firm-same, firm-trans, young-now}
-use Rattle.rx_law.proofs.GivenLaws.{keeps-body, keeps-counted, keeps-silenced}
+use Rattle.rx_law.proofs.Firm.{Firm, busy_of, firm-body, firm-counted, firm-trans, young-now}
+use Rattle.rx_law.proofs.GivenLaws.{keeps-body, keeps-counted}
 use Rattle.rx_law.proofs.Joint.{server-name}
 use Rattle.rx_law.proofs.Recalls.{Recalls, lives-some, recalls-keeps}
 

@@ -19,7 +19,7 @@ use Rattle.rx_model.specs.Names.{channel_of, connection_of, same_connection, sam
 use Rattle.rx_rules.specs.Records.{started, started_later}
 use Rattle.rx_rules.specs.Setup.{Setup, is_client}
 use Rattle.rx_rules.specs.Slots.{node_view}
-use Rattle.rx_rules.proofs.CallsLaws.{KeepsNames, changed_if, changed_if-name, call_at-on_calls, call_at-on_call}
+use Rattle.rx_rules.proofs.CallsLaws.{KeepsNames, changed_if, changed_if-name, call_at-on_calls}
 use Rattle.rx_model.proofs.NameLaws.{name_is}
 use Rattle.rx_rules.proofs.StartLaws.{call_at-other}
 use Rattle.rx_law.proofs.Calls.{call-changed}

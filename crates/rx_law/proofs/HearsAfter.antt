@@ -1,6 +1,6 @@
 -- A client's call is heard by its start and by what comes of it alone, and its DATA is given only while it is heard.
-use Rattle.std.proofs.Common.{◌≡◌, ◌&&◌, ◌<◌, ◌+◌, ◌-◌, ◌^◌, ℕ, cond, if◌then◌else◌, nat_le, Bool, true, false, List, drop}
-use Rattle.std.proofs.Common.{Option, Some, None, option_map, Result, Ok, Err, refl, ◌∙◌, ap, sym, subst, inl, inr, arith}
+use Rattle.std.proofs.Common.{◌≡◌, ◌&&◌, ◌<◌, ◌+◌, ◌-◌, ℕ, cond, if◌then◌else◌, nat_le, Bool, true, false, List, drop}
+use Rattle.std.proofs.Common.{Option, Some, None, Result, Ok, Err, refl, ◌∙◌, ap, sym, subst, inl, inr, arith}
 use Rattle.std.proofs.lemmas.Bool.Decides.{nat_tests}
 use Rattle.rx_model.specs.declared.answers.BadMsg.{BadMsg}
 use Rattle.rx_model.specs.declared.answers.Took.{Took}
@@ -9,7 +9,7 @@ use Rattle.rx_model.specs.declared.event.Event.TheVariants as events
 use Rattle.rx_model.specs.declared.names.CallName.{CallName}
 use Rattle.rx_model.specs.declared.names.Host.{Host}
 use Rattle.rx_model.specs.declared.wire.TheConstants.{SILENCE_MS}
-use Rattle.rx_rules.specs.After.{acknowledged, after, counted, given_body, given_by, given_message, is_end, linked, prepared, read_done}
+use Rattle.rx_rules.specs.After.{acknowledged, after, counted, given_body, given_by, given_message, is_end, linked, prepared}
 use Rattle.rx_rules.specs.After.{taken_behind, taken_message, taken_with, turned_away}
 use Rattle.rx_model.specs.Body.{Body}
 use Rattle.rx_model.specs.Body as bodies
@@ -18,7 +18,7 @@ use Rattle.rx_rules.specs.Items.{poll_answer}
 use Rattle.rx_rules.specs.Judging.{outer_row}
 use Rattle.rx_rules.specs.Life.{after_cancel, after_end, after_silence, is_active}
 use Rattle.rx_rules.specs.Life as lives
-use Rattle.rx_rules.specs.Looks.{CallRecord, Looks, call_at, conn_at, on_life, on_looks}
+use Rattle.rx_rules.specs.Looks.{CallRecord, Looks, call_at, conn_at, on_looks}
 use Rattle.rx_model.specs.Message.{Message}
 use Rattle.rx_model.specs.Names.{connection_of, same_name}
 use Rattle.rx_model.specs.Reading.{reading_of}

@@ -1,5 +1,5 @@
 -- What comes on a joined connection was given.
-use Rattle.std.proofs.Common.{◌≡◌, ℕ, true, List, [], ◌∷◌, Option, Some, None, ◌∙◌, ap, sym, subst, inl, inr}
+use Rattle.std.proofs.Common.{◌≡◌, ℕ, true, List, [], ◌∷◌, ◌∙◌, ap, sym, subst, inl, inr}
 use Rattle.std.specs.Prelude.{IfSome}
 use Rattle.rx_model.specs.declared.answers.Took.TheVariants as tooks
 use Rattle.rx_model.specs.declared.event.Event.{Event}
@@ -8,13 +8,12 @@ use Rattle.rx_model.specs.declared.event.Noted.{Noted}
 use Rattle.rx_model.specs.declared.names.CallName.{CallName}
 use Rattle.rx_model.specs.declared.names.Host.{Host}
 use Rattle.rx_rules.specs.Judging.{outer_row, is_peer}
-use Rattle.rx_rules.specs.Looks.{ConnLooks, Looks, conn_at}
+use Rattle.rx_rules.specs.Looks.{Looks, conn_at}
 use Rattle.rx_model.specs.Names.{Connection, connection_of, name_of}
 use Rattle.rx_law.specs.Promises.{LawOn, at_client, at_server}
 use Rattle.rx_rules.specs.Setup.{Setup, Kind, Client, IsServer}
 use Rattle.rx_law.specs.Sides.{side}
 use Rattle.rx_law.specs.Worlds.{CarriedOn, ComesOn, Gave, TwoEnds}
-use Rattle.rx_model.proofs.NameLaws.{host_is}
 use Rattle.rx_law.proofs.Joint.{Came, CameOn, DataCame, client-name, server-name}
 use Rattle.rx_law.proofs.Law.{law-on}
 use Rattle.rx_law.proofs.Numbers.{client-known}

@@ -1,19 +1,19 @@
 -- A server's judging of a message: what it knows of a call stays, and a call that starts is used by it.
-use Rattle.std.proofs.Common.{◌≡◌, ◌⊎◌, ◌&&◌, ◌==◌, ◌<◌, ◌≤◌, ◌+◌, ◌^◌, ℕ, zero, suc, cond, if◌then◌else◌, nat_lt, is_some, Bool, true, false, List}
+use Rattle.std.proofs.Common.{◌≡◌, ◌⊎◌, ◌<◌, ◌≤◌, ◌+◌, ◌^◌, ℕ, zero, suc, cond, if◌then◌else◌, nat_lt, is_some, Bool, true, false, List}
 use Rattle.std.proofs.Common.{[], ◌∷◌, Option, Some, None, option_map, refl, ◌∙◌, ap, sym, subst, inl, inr, arith}
 use Rattle.std.proofs.lemmas.Bool.Decides.{nat_tests}
 use Rattle.rx_model.specs.declared.answers.Took.{Took}
 use Rattle.rx_model.specs.declared.answers.Took.TheVariants as tooks
 use Rattle.rx_model.specs.declared.names.CallName.{CallName}
 use Rattle.rx_model.specs.declared.wire.TheConstants.{IDLE_MS, RX_CALL_DEAD}
-use Rattle.rx_rules.specs.After.{enters, owing_busy, taken_at, taken_data, taken_heard, taken_with}
+use Rattle.rx_rules.specs.After.{owing_busy, taken_at, taken_data, taken_with}
 use Rattle.rx_rules.specs.CallLooks.{after_taken}
 use Rattle.rx_rules.specs.Judging.{opened}
 use Rattle.rx_rules.specs.Life.{after_code, after_later}
 use Rattle.rx_rules.specs.Life as lives
 use Rattle.rx_rules.specs.Looks.{ChannelLooks, ConnLooks, Looks, call_at, changed_at, channel_at, conn_at, fresh_channel, latest_name, on_channel, on_life}
 use Rattle.rx_model.specs.Message.{Message}
-use Rattle.rx_model.specs.Names.{Channel, Connection, channel_of, connection_of, same_connection, same_name}
+use Rattle.rx_model.specs.Names.{Connection, channel_of, connection_of, same_connection, same_name}
 use Rattle.rx_rules.specs.Records.{started, started_later}
 use Rattle.rx_rules.specs.Setup.{Setup}
 use Rattle.rx_rules.specs.Slots.{node_view}
@@ -21,7 +21,7 @@ use Rattle.rx_rules.proofs.ConnsLaws.{channel_number, conn_if, conn_at-on_conn, 
 use Rattle.rx_rules.proofs.FindLaws.{find_passes}
 use Rattle.rx_rules.proofs.KeepsLaws.{Keeps, keeps-on_channel, keeps-on_life, keeps-on_looks, keeps-refl, keeps-trans}
 use Rattle.rx_rules.proofs.LifeLaws.{code_waits, later_waits}
-use Rattle.rx_model.proofs.NameLaws.{connection_is, name_is}
+use Rattle.rx_model.proofs.NameLaws.{connection_is}
 use Rattle.rx_rules.proofs.StartLaws.{fours-start, keeps-started, number-started}
 use Rattle.rx_law.proofs.Asks.{waits}
 use Rattle.rx_law.proofs.Firm.{Firm, Young, busy_in, busy_of, firm-data, firm-heard, firm-over, firm-same, firm-started, firm-stopped, firm-trans, young-map}
@@ -144,7 +144,7 @@ busy-at l y d n k is =
                 | inl before ↦ inl before
                 | inr now ↦ inr (
                   sym (connection_is r.connection (connection_of d) same)
-                  ∙ connection_is r.connection y (find_passes (λ q. same_connection q.connection y) l.conns r there),
+                      ∙ connection_is r.connection y (find_passes (λ q. same_connection q.connection y) l.conns r there),
                   now.0,
                   now.1,
                 )
@@ -187,7 +187,7 @@ recalls-waits s tooks.Busy c d m l u is fits none old =
     let broken : Looks = on_life (latest_name l (channel_of d)) (after_code RX_CALL_DEAD) l in
     let keeps = keeps-on_life c (latest_name l (channel_of d)) (after_code RX_CALL_DEAD) l (code_waits RX_CALL_DEAD) in (
       recalls-owing c d broken u fits (λ same. lives-none (call_at l c) (call_at broken c) keeps.calls (none same))
-      (recalls-keeps c l broken u keeps (firm-same c l broken refl refl) old),
+          (recalls-keeps c l broken u keeps (firm-same c l broken refl refl) old),
       λ there. lives-some (call_at l c) (call_at broken c) keeps.calls there,
     )
 recalls-waits s tooks.NoRoom c d m l u is fits none old = (recalls-owing c d l u fits none old, λ there. there)

@@ -1,23 +1,20 @@
 -- What is known of the times of a connection: what comes was given a short while ago, and the clocks of its ends go alike.
-use Rattle.std.proofs.Common.{◌≡◌, ◌≢◌, ◌⊎◌, ◌==◌, ◌<◌, ◌≤◌, ◌+◌, ℕ, cond, nat_lt, is_some, Bool, true, false, List, [], ◌∷◌, Option, Some, None}
-use Rattle.std.proofs.Common.{Ok, refl, ◌∙◌, ap, sym, subst, inl, inr, arith}
-use Rattle.std.proofs.lemmas.Bool.Decides.{nat_tests}
-use Rattle.rx_model.specs.declared.answers.Took.{Took}
+use Rattle.std.proofs.Common.{◌≡◌, ◌≢◌, ◌⊎◌, ◌==◌, ◌<◌, ◌≤◌, ◌+◌, ℕ, is_some, true, List, [], ◌∷◌, Option, Some, None}
+use Rattle.std.proofs.Common.{Ok, refl, inl, inr, arith}
 use Rattle.rx_model.specs.declared.event.Event.{Event}
 use Rattle.rx_model.specs.declared.event.Event.TheVariants as events
 use Rattle.rx_model.specs.declared.event.Noted.{Noted}
 use Rattle.rx_model.specs.declared.names.CallName.{CallName}
-use Rattle.rx_model.specs.declared.names.Host.{Host}
-use Rattle.rx_model.specs.declared.wire.TheConstants.{SKEW_MS, IDLE_MS, LIFETIME_MS}
+use Rattle.rx_model.specs.declared.wire.TheConstants.{SKEW_MS, LIFETIME_MS}
 use Rattle.rx_rules.specs.After.{enters}
 use Rattle.rx_model.specs.Body as bodies
 use Rattle.rx_rules.specs.Judging.{outer_row}
-use Rattle.rx_rules.specs.Looks.{Looks, call_at, channel_at, conn_at}
+use Rattle.rx_rules.specs.Looks.{Looks, call_at}
 use Rattle.rx_model.specs.Message.{Message}
-use Rattle.rx_model.specs.Names.{Connection, channel_of, connection_of}
+use Rattle.rx_model.specs.Names.{Connection, connection_of}
 use Rattle.rx_model.specs.Reading.{reading_of}
 use Rattle.rx_rules.specs.Rules.{Legal}
-use Rattle.rx_rules.specs.Setup.{Setup, Kind, Client, FitsSetup, IsServer, named}
+use Rattle.rx_rules.specs.Setup.{Setup, Client, FitsSetup, IsServer, named}
 use Rattle.rx_law.specs.Promises.{at_client, at_server}
 use Rattle.rx_law.specs.Sides.{moment, side}
 use Rattle.rx_law.specs.Times.{Acts, AdvancesAlike, GaveLately, GoAlike}

@@ -1,55 +1,43 @@
 -- What a server knows of a call behind each event, where no DATA of a call that was used long ago comes.
-use Rattle.std.proofs.Common.{◌≡◌, ◌⊎◌, ◌==◌, ◌<◌, ◌≤◌, ◌+◌, ◌%◌, ◌^◌, ℕ, cond, if◌then◌else◌, nat_lt, is_some, Bool, true, false, List, [], ◌∷◌, drop}
-use Rattle.std.proofs.Common.{Option, Some, None, Result, Ok, Err, refl, ◌∙◌, ap, sym, subst, inl, inr, arith}
-use Rattle.std.proofs.lemmas.Bool.Decides.{nat_tests}
+use Rattle.std.proofs.Common.{◌≡◌, ◌⊎◌, ◌<◌, ◌≤◌, ◌^◌, ℕ, if◌then◌else◌, nat_lt, is_some, Bool, true, false, List, drop}
+use Rattle.std.proofs.Common.{Option, Some, None, Result, Ok, Err, refl, ◌∙◌, ap, sym, subst, inl, arith}
 use Rattle.rx_model.specs.declared.answers.BadMsg.{BadMsg}
 use Rattle.rx_model.specs.declared.answers.Took.{Took}
 use Rattle.rx_model.specs.declared.answers.Took.TheVariants as tooks
-use Rattle.rx_model.specs.declared.answers.ReadGot.TheVariants as readers
-use Rattle.rx_model.specs.declared.answers.WroteGot.TheVariants as writers
 use Rattle.rx_model.specs.declared.event.Event.{Event}
 use Rattle.rx_model.specs.declared.event.Event.TheVariants as events
 use Rattle.rx_model.specs.declared.names.CallName.{CallName}
 use Rattle.rx_model.specs.declared.names.Host.{Host}
-use Rattle.rx_model.specs.declared.wire.TheConstants.{IDLE_MS}
-use Rattle.rx_rules.specs.After.{after, counted, enters, given_body, given_by, given_message, is_end, prepared, taken_behind, taken_data, taken_message, taken_with, turned_away}
+use Rattle.rx_rules.specs.After.{after, counted, enters, given_body, given_by, given_message, is_end, prepared, taken_behind, taken_message, turned_away}
 use Rattle.rx_model.specs.Body.{Body}
 use Rattle.rx_model.specs.Body as bodies
 use Rattle.rx_rules.specs.CallLooks.{after_write}
 use Rattle.rx_rules.specs.Items.{poll_answer}
-use Rattle.rx_rules.specs.Judging.{is_data, opened, outer_row, took_of, took_reading}
+use Rattle.rx_rules.specs.Judging.{outer_row, took_of, took_reading}
 use Rattle.rx_rules.specs.Life.{after_accept}
-use Rattle.rx_rules.specs.Looks.{CallRecord, ConnLooks, Looks, call_at, channel_at, conn_at, on_life, on_looks}
+use Rattle.rx_rules.specs.Looks.{Looks, call_at, channel_at, conn_at, on_life, on_looks}
 use Rattle.rx_model.specs.Message.{IsBytes, Message}
 use Rattle.rx_model.specs.Names.{channel_of, connection_of, same_name}
 use Rattle.rx_model.specs.Reading.{reading_of}
-use Rattle.rx_rules.specs.Records.{silenced, started_later}
+use Rattle.rx_rules.specs.Records.{silenced}
 use Rattle.rx_rules.specs.Rules.{AllowedServer}
 use Rattle.rx_rules.specs.Setup.{Setup, IsServer, named}
 use Rattle.rx_law.specs.Sides.{GivesTo}
 use Rattle.rx_model.specs.Strays.{is_stray}
-use Rattle.rx_rules.proofs.ConnsLaws.{channel_number, number_of}
-use Rattle.rx_rules.proofs.KeepsLaws.{Keeps, keeps-on_life, keeps-on_looks, keeps-refl, keeps-trans}
+use Rattle.rx_rules.proofs.ConnsLaws.{number_of}
+use Rattle.rx_rules.proofs.KeepsLaws.{Keeps, keeps-on_life, keeps-on_looks, keeps-refl}
 use Rattle.rx_rules.proofs.LifeLaws.{accept_waits}
 use Rattle.rx_model.proofs.NameLaws.{name_is, same_number}
 use Rattle.rx_model.proofs.SpelledLaws.{spelled}
-use Rattle.rx_law.proofs.Asks.{asks-data, data-is, waits, waits-above}
 use Rattle.rx_law.proofs.Conns.{Conns}
 use Rattle.rx_law.proofs.Data.{some_pair}
-use Rattle.rx_law.proofs.Enters.{above-prepared, recalls-prepared, young-prepared}
-use Rattle.rx_law.proofs.Events.{call-by, calls-prepared}
-use Rattle.rx_law.proofs.Firm.{Firm, Young, firm-body, firm-counted, firm-data, firm-finish, firm-read, firm-same, firm-turned, busy_of}
+use Rattle.rx_law.proofs.Firm.{Firm, firm-finish, firm-read, firm-same, firm-turned, busy_of}
 use Rattle.rx_law.proofs.GivenLaws.{keeps-finish, keeps-read, keeps-silenced}
 use Rattle.rx_law.proofs.Gives.{Given, none-given, other-given, own-given, poll-tells}
 use Rattle.rx_law.proofs.Joint.{gives-at}
-use Rattle.rx_law.proofs.Judges.{firm-with, keeps-with, recalls-started, recalls-waits, starts}
 use Rattle.rx_law.proofs.MessageTaken.{turned-keeps}
-use Rattle.rx_law.proofs.Moments.{now-prepared}
-use Rattle.rx_law.proofs.Numbers.{there-prepared}
 use Rattle.rx_law.proofs.Recalls.{Recalls, lives-some, recalls-clock, recalls-keeps}
-use Rattle.rx_law.proofs.TakenLaws.{keeps-data}
-
-use Rattle.rx_law.proofs.Knows.{AsksFor, AsksNew, AskedFor, Judged, above-before, asked, judged-keeps, judged-with}
+use Rattle.rx_law.proofs.Knows.{AsksFor, AsksNew, Judged, above-before, asked, judged-keeps, judged-with}
 use Rattle.rx_law.specs.Starts.{StartsBy, StartsNew}
 
 -- what the server knows of a call behind an event: it was used at a moment that is later or the same; where it came by the

@@ -1,27 +1,19 @@
 -- What a server still knows of a call: while its channel's number isn't below the call's own, or its connection was idle
 -- for long since the call's last use.
-use Rattle.std.proofs.Common.{◌≡◌, ◌⊎◌, ◌&&◌, ◌<◌, ◌≤◌, ◌+◌, ◌-◌, ◌^◌, ℕ, zero, suc, cond, if◌then◌else◌, not, nat_le, is_some}
-use Rattle.std.proofs.Common.{Bool, true, false, List, [], ◌∷◌, ◌++◌, map, filter, Option, Some, None, refl, ◌∙◌, ap, sym, subst, inl, inr, arith}
+use Rattle.std.proofs.Common.{◌≡◌, ◌⊎◌, ◌<◌, ◌≤◌, ◌+◌, ◌-◌, ◌^◌, ℕ, not, nat_le, is_some}
+use Rattle.std.proofs.Common.{true, List, [], ◌∷◌, filter, Option, Some, None, refl, inl, inr, arith}
 use Rattle.std.proofs.lemmas.Bool.Decides.{nat_tests}
-use Rattle.std.specs.List.{find}
-use Rattle.rx_model.specs.declared.answers.Took.{Took}
 use Rattle.rx_model.specs.declared.names.CallName.{CallName}
 use Rattle.rx_model.specs.declared.wire.TheConstants.{IDLE_MS}
-use Rattle.rx_rules.specs.After.{enters, prepared}
-use Rattle.rx_rules.specs.Least.{least_by}
-use Rattle.rx_rules.specs.Looks.{CallRecord, ChannelLooks, ConnLooks, Looks, call_at, conn_at}
+use Rattle.rx_rules.specs.Looks.{CallRecord, ConnLooks, Looks, call_at, conn_at}
 use Rattle.rx_model.specs.Names.{Connection, connection_of, same_connection}
-use Rattle.rx_rules.specs.Records.{entered, fresh_conn, has_live, idle_conn, is_full, is_idle, placed, used, with_conn}
-use Rattle.rx_rules.specs.Setup.{Setup, Kind, Server, Client}
+use Rattle.rx_rules.specs.Records.{has_live, idle_conn, is_idle}
 use Rattle.rx_rules.proofs.ConnsLaws.{number_of}
-use Rattle.rx_rules.proofs.EnterLaws.{fresh_channels, keeps-used}
 use Rattle.rx_rules.proofs.EveryLaws.{Every, every-filter, filter-passes}
 use Rattle.rx_rules.proofs.KeepsLaws.{Fours, Keeps, Lives}
 use Rattle.rx_rules.proofs.LeastLaws.{least-keeps}
 use Rattle.rx_model.proofs.NameLaws.{both}
-use Rattle.rx_law.proofs.Firm.{Firm, Young, busy_in, busy_of, firm-used, young-now}
-use Rattle.rx_law.proofs.Moments.{now-placed}
-use Rattle.rx_law.proofs.Places.{Apart, OnlyNew, find-only, found-placed, instead, is_none, keeps-placed, only-fours}
+use Rattle.rx_law.proofs.Firm.{Firm, Young, busy_of}
 
 -- what a server knows of a call that was last used at this moment
 pub record Recalls (l : Looks) (c : CallName) (u : ℕ) : Type 0 where

@@ -1,6 +1,6 @@
 -- Where nothing that comes is old, a server starts no call of a connection while it has a record.
-use Rattle.std.proofs.Common.{◌≡◌, ◌⊎◌, ◌==◌, ◌≤◌, ◌+◌, ℕ, zero, suc, cond, nat_lt, is_some, Bool, true, false, List, [], ◌∷◌, Option, Some, None}
-use Rattle.std.proofs.Common.{Ok, refl, ◌∙◌, ap, sym, subst, inl, inr, arith}
+use Rattle.std.proofs.Common.{◌≡◌, ◌⊎◌, ◌==◌, ◌≤◌, ◌+◌, ℕ, zero, suc, cond, nat_lt, is_some, Bool, true, false, List, [], ◌∷◌}
+use Rattle.std.proofs.Common.{refl, subst, inl, inr, arith}
 use Rattle.std.proofs.lemmas.Bool.Decides.{nat_tests}
 use Rattle.rx_model.specs.declared.answers.Took.TheVariants as tooks
 use Rattle.rx_model.specs.declared.event.Event.{Event}
@@ -10,15 +10,13 @@ use Rattle.rx_model.specs.declared.names.CallName.{CallName}
 use Rattle.rx_model.specs.declared.names.Host.{Host}
 use Rattle.rx_model.specs.declared.wire.TheConstants.{LIFETIME_MS}
 use Rattle.rx_rules.specs.After.{looks}
-use Rattle.rx_rules.specs.Looks.{Looks, call_at, channel_at, conn_at}
-use Rattle.rx_model.specs.Message.{Message}
-use Rattle.rx_model.specs.Names.{channel_of, connection_of}
+use Rattle.rx_rules.specs.Looks.{Looks}
+use Rattle.rx_model.specs.Names.{connection_of}
 use Rattle.rx_rules.specs.Rules.{AllowedAt, AllowedClient, Legal}
 use Rattle.rx_rules.specs.Setup.{Setup, Kind, Client}
 use Rattle.rx_law.specs.Promises.{at_client, at_server}
 use Rattle.rx_law.specs.Sides.{moment, side, with_clock}
 use Rattle.rx_law.specs.Starts.{StartsNew, StartsOnce}
-use Rattle.rx_law.specs.Times.{GaveLately}
 use Rattle.rx_law.specs.Worlds.{TwoEnds}
 use Rattle.rx_model.proofs.NameLaws.{number_itself, same_number}
 use Rattle.rx_law.proofs.ClientHistory.{client-calls}

@@ -1,6 +1,6 @@
 -- What holds of the times of a call goes on with each event of its two ends.
-use Rattle.std.proofs.Common.{◌≡◌, ◌≢◌, ◌⊎◌, ◌==◌, ◌<◌, ◌≤◌, ◌+◌, ◌^◌, ℕ, cond, nat_lt, is_some, Bool, true, false, List, [], ◌∷◌, Option, Some, None}
-use Rattle.std.proofs.Common.{Result, Ok, Err, refl, ◌∙◌, ap, sym, subst, inl, inr, arith}
+use Rattle.std.proofs.Common.{◌≡◌, ◌≢◌, ◌⊎◌, ◌<◌, ◌≤◌, ◌+◌, ℕ, nat_lt, is_some, true, false, List, ◌∷◌, Option, Some, None}
+use Rattle.std.proofs.Common.{Ok, Err, refl, ◌∙◌, ap, sym, subst, inl, inr, arith}
 use Rattle.std.proofs.lemmas.Bool.Decides.{nat_tests}
 use Rattle.rx_model.specs.declared.answers.Took.{Took}
 use Rattle.rx_model.specs.declared.event.Event.{Event}
@@ -8,7 +8,7 @@ use Rattle.rx_model.specs.declared.event.Event.TheVariants as events
 use Rattle.rx_model.specs.declared.event.Noted.{Noted}
 use Rattle.rx_model.specs.declared.names.CallName.{CallName}
 use Rattle.rx_model.specs.declared.names.Host.{Host}
-use Rattle.rx_model.specs.declared.wire.TheConstants.{SKEW_MS, SILENCE_MS, IDLE_MS, LIFETIME_MS}
+use Rattle.rx_model.specs.declared.wire.TheConstants.{LIFETIME_MS}
 use Rattle.rx_rules.specs.After.{after}
 use Rattle.rx_model.specs.Body as bodies
 use Rattle.rx_rules.specs.Items.{poll_answer}
@@ -17,7 +17,7 @@ use Rattle.rx_model.specs.Message.{Message}
 use Rattle.rx_model.specs.Names.{Connection, channel_of, connection_of, name_of}
 use Rattle.rx_model.specs.Reading.{reading_of}
 use Rattle.rx_rules.specs.Rules.{AllowedClient, AllowedServer}
-use Rattle.rx_rules.specs.Setup.{Setup, Kind, Client, FitsSetup, IsServer, named}
+use Rattle.rx_rules.specs.Setup.{Setup, Client, FitsSetup, IsServer, named}
 use Rattle.rx_law.specs.Sides.{GivesTo, moment, with_clock}
 use Rattle.rx_law.specs.Times.{Acts, AdvancesAlike, GaveLately, is_clock}
 use Rattle.rx_law.specs.Worlds.{TwoEnds}
@@ -27,9 +27,8 @@ use Rattle.rx_law.proofs.Hears.{Hears, heard_at, heard_by}
 use Rattle.rx_law.proofs.HearsAfter.{HeardFrom, HeardIn, gives-heard, hears-client}
 use Rattle.rx_law.proofs.Joint.{client-name, gives-at, server-name}
 use Rattle.rx_law.proofs.Knows.{AskedFor, AsksFor, AsksNew}
-use Rattle.rx_law.proofs.Late.{LateAny, LateData, Since, Timed, alike-since, soon}
+use Rattle.rx_law.proofs.Late.{LateAny, LateData, Timed, alike-since, soon}
 use Rattle.rx_law.proofs.Learns.{server-next}
-use Rattle.rx_law.proofs.Recalls.{Recalls}
 use Rattle.rx_law.proofs.Server.{Standing}
 use Rattle.rx_law.proofs.SoundLaws.{Sound}
 

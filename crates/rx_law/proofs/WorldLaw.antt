@@ -15,18 +15,18 @@ use Rattle.rx_model.specs.Body as bodies
 use Rattle.rx_law.specs.Counts.{Once, times, times_accepted, times_finished}
 use Rattle.rx_model.specs.declared.wire.TheConstants.{CLIENT_INITIATED}
 use Rattle.rx_rules.specs.Judging.{is_for_servers, outer_row, took_of, took_reading}
-use Rattle.rx_rules.specs.Looks.{CallRecord, Looks, call_at, channel_at, conn_at}
+use Rattle.rx_rules.specs.Looks.{CallRecord, Looks, call_at, channel_at}
 use Rattle.rx_model.specs.Message.{Message, has_flag}
-use Rattle.rx_model.specs.Names.{Connection, channel_of, connection_of}
+use Rattle.rx_model.specs.Names.{channel_of, connection_of}
 use Rattle.rx_model.specs.Reading.{reading_of}
-use Rattle.rx_rules.specs.Rules.{AllowedAt, AllowedServer, Legal}
-use Rattle.rx_rules.specs.Setup.{Setup, Kind, Server, Client, FitsSetup, IsServer, is_client, named}
-use Rattle.rx_law.specs.Promises.{LawIn, ServerForgotNone, at_server, ends_in}
+use Rattle.rx_rules.specs.Rules.{AllowedServer, Legal}
+use Rattle.rx_rules.specs.Setup.{Kind, Server, Client, FitsSetup, IsServer, is_client, named}
+use Rattle.rx_law.specs.Promises.{LawIn, ServerForgotNone, ends_in}
 use Rattle.rx_law.specs.Sides.{Node, IsClientAt, moment, side}
 use Rattle.rx_law.specs.Starts.{StartsBy, StartsNew, StartsOnce}
 use Rattle.rx_law.specs.Times.{AreFresh, GoAlike, IsFresh, Timely}
 use Rattle.rx_law.specs.Worlds.{AreApart, AreNodes, World}
-use Rattle.rx_rules.proofs.ConnsLaws.{channel_number, number_of}
+use Rattle.rx_rules.proofs.ConnsLaws.{channel_number}
 use Rattle.rx_model.proofs.NameLaws.{same_number}
 use Rattle.rx_law.proofs.Asks.{asks-data, data-is}
 use Rattle.rx_law.proofs.Data.{OwnName}

@@ -1,24 +1,18 @@
 -- A world whose datagrams are never old: every call of every client has the law, whatever its server forgets.
-use Rattle.std.proofs.Common.{◌≡◌, ◌≢◌, ◌⊎◌, ◌==◌, ◌≤◌, ℕ, zero, suc, cond, nat_lt, Bool, true, false, List, [], ◌∷◌, Option, Some, None}
-use Rattle.std.proofs.Common.{Ok, refl, ◌∙◌, ap, sym, subst, inl, inr, arith}
-use Rattle.std.proofs.lemmas.Bool.Decides.{nat_tests}
+use Rattle.std.proofs.Common.{◌≡◌, ◌≢◌, ◌==◌, ℕ, zero, suc, cond, Bool, true, List, [], ◌∷◌, Option, Some, None}
+use Rattle.std.proofs.Common.{refl, ◌∙◌, ap, sym, subst, inl, inr}
 use Rattle.std.specs.Prelude.{IfSome, IsSomeAnd, slice_get}
-use Rattle.rx_model.specs.declared.answers.Took.{Took}
-use Rattle.rx_model.specs.declared.answers.Took.TheVariants as tooks
 use Rattle.rx_model.specs.declared.event.Event.{Event}
 use Rattle.rx_model.specs.declared.event.Event.TheVariants as events
 use Rattle.rx_model.specs.declared.event.Noted.{Noted}
-use Rattle.rx_model.specs.declared.names.CallName.{CallName}
 use Rattle.rx_model.specs.declared.names.Host.{Host}
-use Rattle.rx_rules.specs.After.{looks}
-use Rattle.rx_model.specs.Body as bodies
 use Rattle.rx_rules.specs.Looks.{Looks}
-use Rattle.rx_model.specs.Names.{Connection, connection_of}
+use Rattle.rx_model.specs.Names.{Connection}
 use Rattle.rx_rules.specs.Rules.{Legal}
-use Rattle.rx_rules.specs.Setup.{Setup, Client, FitsSetup, IsServer}
+use Rattle.rx_rules.specs.Setup.{Client, FitsSetup}
 use Rattle.rx_law.specs.Promises.{at_client, at_server, ends_in}
 use Rattle.rx_law.specs.Sides.{Node, moment, side}
-use Rattle.rx_law.specs.Times.{AreFresh, CameLately, GaveLately, GoAlike, IsFresh}
+use Rattle.rx_law.specs.Times.{AreFresh, GaveLately, GoAlike, IsFresh}
 use Rattle.rx_law.specs.Worlds.{AreApart, AreNodes, Gave}
 use Rattle.rx_model.proofs.NameLaws.{number_itself}
 use Rattle.rx_law.proofs.Joint.{legal-before}
