@@ -23,7 +23,8 @@ use Rattle.rx_law.proofs.Client.{channel-fits}
 use Rattle.rx_law.proofs.Conns.{Conns, FitsConnection, OfKind, found-good}
 use Rattle.rx_law.proofs.Data.{some_pair}
 use Rattle.rx_law.proofs.Due.{IsDue, made-header, next-due}
-use Rattle.rx_law.proofs.Firm.{Firm, busy_of, firm-body, firm-counted, firm-trans, young-now}
+use Rattle.rx_law.proofs.Firm.{Firm, busy_of, firm-counted, firm-trans, young-now}
+use Rattle.rx_law.proofs.FirmAfter.{firm-body}
 use Rattle.rx_law.proofs.GivenLaws.{keeps-body, keeps-counted}
 use Rattle.rx_law.proofs.Joint.{server-name}
 use Rattle.rx_law.proofs.Recalls.{Recalls, lives-some, recalls-keeps}
@@ -123,6 +124,7 @@ pub record Given (s : Setup) (l m : Looks) (got : Option (Host × List ℕ)) (c 
   pub told : (to : Host) (bytes : List ℕ) (n : Message) → got ≡ Some (to, bytes) → reading_of bytes ≡ Ok n → named s to n ≡ c → used ≡ l.now
 
 module _ (s : Setup) (c : CallName) where
+  -- no datagram
   pub none-given : (l : Looks) (u : ℕ) → Recalls l c u → Given s l l None c u
   none-given l u old =
       record { used = u; later = omega arith; recalls = old; begins = λ is. is; told = λ to bytes n is. absurd cc }

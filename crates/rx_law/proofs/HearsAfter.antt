@@ -32,7 +32,8 @@ use Rattle.rx_law.proofs.Client.{fresh-call}
 use Rattle.rx_law.proofs.Conns.{Conns}
 use Rattle.rx_law.proofs.Data.{poll-gives}
 use Rattle.rx_law.proofs.Events.{call-by, calls-prepared, calls-turned}
-use Rattle.rx_law.proofs.Hears.{HeardBy, Hears, heard_at, heard_by, heard-on_calls, heard-on_life, heard-on_looks, hears, hears-started, hears-with}
+use Rattle.rx_law.proofs.Hears.{Hears, heard_at, heard_by, heard-on_calls, heard-on_life, heard-on_looks, hears}
+use Rattle.rx_law.proofs.HearsTaken.{HeardBy, hears-started, hears-with}
 use Rattle.rx_law.proofs.Moments.{now-prepared}
 use Rattle.rx_law.proofs.Server.{Standing, good-silenced}
 use Rattle.rx_law.proofs.SoundLaws.{Below, Sound}

@@ -24,8 +24,10 @@ use Rattle.rx_model.proofs.NameLaws.{name_is}
 use Rattle.rx_law.proofs.Asks.{asks-data, data-is, waits, waits-above}
 use Rattle.rx_law.proofs.Enters.{above-prepared, recalls-prepared, young-prepared}
 use Rattle.rx_law.proofs.Events.{call-by, calls-prepared}
-use Rattle.rx_law.proofs.Firm.{Firm, Young, firm-data}
-use Rattle.rx_law.proofs.Judges.{firm-with, keeps-with, recalls-started, recalls-waits, starts}
+use Rattle.rx_law.proofs.Firm.{Firm, Young}
+use Rattle.rx_law.proofs.FirmAfter.{firm-data}
+use Rattle.rx_law.proofs.Judges.{firm-with, keeps-with, recalls-started, starts}
+use Rattle.rx_law.proofs.Waits.{recalls-waits}
 use Rattle.rx_law.proofs.Moments.{now-prepared}
 use Rattle.rx_law.proofs.Numbers.{there-prepared}
 use Rattle.rx_law.proofs.Recalls.{Recalls, lives-some, recalls-keeps}
@@ -59,6 +61,7 @@ pub record Judged (s : Setup) (l m : Looks) (from : Host) (bytes : List ℕ) (go
   pub recalls : Recalls m c used
   pub begins : is_some (call_at m c) ≡ true → (is_some (call_at l c) ≡ true) ⊎ ((used ≡ l.now) × AskedFor s l from bytes got c)
 
+-- a change that starts no call
 pub judged-keeps : (s : Setup) (l m : Looks) (from : Host) (bytes : List ℕ) (got : Took) (c : CallName) (u : ℕ) → Keeps c l m → Firm c l m
     → Recalls l c u → Judged s l m from bytes got c u
 judged-keeps s l m from bytes got c u keeps firm old =
@@ -72,9 +75,11 @@ judged-keeps s l m from bytes got c u keeps firm old =
 module _ (s : Setup) (l : Looks) (from : Host) (bytes : List ℕ) (got : Took) (m : Message) (c : CallName) (u : ℕ) (server : IsServer s.kind)
     (answer : got ≡ took_reading s l from (Ok m)) (reads : reading_of bytes ≡ Ok m) (front : outer_row s s.kind l from m ≡ None)
     (fits : m.number < 2 ^ 32) (new : AsksNew s l (events.Taken from bytes got) c) (old : Recalls l c u) where
+  -- the call of the message
   abbrev pub d : CallName
   d = named s from m
 
+  -- where it is judged
   abbrev pub ready : Looks
   ready = prepared s got (connection_of d) l
 

@@ -29,6 +29,7 @@ lives-some None None lives is = is
 lives-some None (Some b) lives is = absurd lives
 lives-some (Some a) b lives is = refl
 
+-- none goes
 pub lives-none : (a b : Option CallRecord) → Lives a b → a ≡ None → b ≡ None
 lives-none None None lives is = refl
 lives-none None (Some b) lives is = absurd lives

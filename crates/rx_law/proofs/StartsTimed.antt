@@ -27,7 +27,8 @@ use Rattle.rx_law.proofs.Learns.{starts-new}
 use Rattle.rx_law.proofs.Moments.{now-side}
 use Rattle.rx_law.proofs.OnceLaw.{served}
 use Rattle.rx_law.proofs.ServerHistory.{server-stands}
-use Rattle.rx_law.proofs.TimedSteps.{asks-new, client-timed, server-timed}
+use Rattle.rx_law.proofs.TimedClient.{client-timed}
+use Rattle.rx_law.proofs.TimedServer.{asks-new, server-timed}
 
 -- what holds of the times of a call after a joint history
 abbrev pub TimedAt : TwoEnds → CallName → List Noted → Type 0
