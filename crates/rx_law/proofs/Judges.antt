@@ -5,7 +5,7 @@ use Rattle.std.proofs.lemmas.Bool.Decides.{nat_tests}
 use Rattle.rx_model.specs.declared.answers.Took.{Took}
 use Rattle.rx_model.specs.declared.answers.Took.TheVariants as tooks
 use Rattle.rx_model.specs.declared.names.CallName.{CallName}
-use Rattle.rx_rules.specs.After.{taken_at, taken_data, taken_with}
+use Rattle.rx_rules.specs.After.{enters, taken_at, taken_data, taken_with}
 use Rattle.rx_rules.specs.CallLooks.{after_taken}
 use Rattle.rx_rules.specs.Judging.{opened}
 use Rattle.rx_rules.specs.Life.{after_code, after_later}
@@ -32,6 +32,19 @@ abbrev pub starts : Took → Bool
 starts tooks.Kept = true
 starts tooks.NoSlot = true
 starts _ = false
+
+-- they enter a connection
+pub starts-enters : (got : Took) → starts got ≡ true → enters got ≡ true
+starts-enters tooks.Kept is = refl
+starts-enters tooks.NoSlot is = refl
+starts-enters _ is = absurd cc
+
+-- and judge the packet where its call has opened
+pub with-starts : (s : Setup) (got : Took) (d : CallName) (m : Message) (l : Looks) → starts got ≡ true
+    → taken_with s got d m l ≡ taken_data s got d m (opened s d l)
+with-starts s tooks.Kept d m l is = refl
+with-starts s tooks.NoSlot d m l is = refl
+with-starts s _ d m l is = absurd cc
 
 -- ---- another call starts
 

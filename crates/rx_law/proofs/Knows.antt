@@ -26,7 +26,7 @@ use Rattle.rx_law.proofs.Enters.{above-prepared, recalls-prepared, young-prepare
 use Rattle.rx_law.proofs.Events.{call-by, calls-prepared}
 use Rattle.rx_law.proofs.Firm.{Firm, Young}
 use Rattle.rx_law.proofs.FirmAfter.{firm-data}
-use Rattle.rx_law.proofs.Judges.{firm-with, keeps-with, recalls-started, starts}
+use Rattle.rx_law.proofs.Judges.{firm-with, keeps-with, recalls-started, starts, starts-enters, with-starts}
 use Rattle.rx_law.proofs.Waits.{recalls-waits}
 use Rattle.rx_law.proofs.Moments.{now-prepared}
 use Rattle.rx_law.proofs.Numbers.{there-prepared}
@@ -174,16 +174,6 @@ module _ (s : Setup) (l : Looks) (from : Host) (bytes : List ℕ) (got : Took) (
             })
       ]) refl
 
-  with-starts : (got : Took) (d : CallName) (l : Looks) → starts got ≡ true → taken_with s got d m l ≡ taken_data s got d m (opened s d l)
-  with-starts tooks.Kept d l is = refl
-  with-starts tooks.NoSlot d l is = refl
-  with-starts _ d l is = absurd cc
-
-  starts-enters : (got : Took) → starts got ≡ true → enters got ≡ true
-  starts-enters tooks.Kept is = refl
-  starts-enters tooks.NoSlot is = refl
-  starts-enters _ is = absurd cc
-
   -- by the answer
   pub judged-with : Judged s l (taken_with s got d m ready) from bytes got c u
   judged-with =
@@ -196,7 +186,7 @@ module _ (s : Setup) (l : Looks) (from : Host) (bytes : List ℕ) (got : Took) (
                     | true ↦ λ same. (
                         let is : c ≡ d = name_is c d same in
                         subst (λ (n : Looks). Judged s l n from bytes got c u)
-                        (ap (λ (n : CallName). taken_data s got n m (opened s n ready)) is ∙ sym (with-starts got d ready start))
+                        (ap (λ (n : CallName). taken_data s got n m (opened s n ready)) is ∙ sym (with-starts s got d m ready start))
                         (own (sym is) start (starts-enters got start)))
                     | false ↦ λ other. plain (λ start. other) rests
                   ]) refl
