@@ -63,7 +63,7 @@ all_read (x ∷ xs) (z ∷ zs) r n =
     let rest = all_read xs zs (r.0, t) (omega arith) in
     λ i. first i ∷ rest i
 
-none_left : (n : ℕ) (xs : List ℕ) → drop n xs ≡ [] → length xs ≤ n
+pub none_left : (n : ℕ) (xs : List ℕ) → drop n xs ≡ [] → length xs ≤ n
 none_left n xs h = (let e : length (drop n xs) ≡ 0 = ap length h in omega (arith, length-drop n xs))
 
 -- an end moves, where what it keeps is a piece

@@ -179,7 +179,7 @@ no-response s (Client h e) host epoch l from m bytes is body front =
 
 -- ---- the rules of a client
 
-own-is : (l : Looks) (c d : CallName) (k : CallRecord) → same_name c d ≡ true → call_at l c ≡ Some k
+pub own-is : (l : Looks) (c d : CallName) (k : CallRecord) → same_name c d ≡ true → call_at l c ≡ Some k
     → (own_call l d ≡ Some k) ⊎ (own_call l d ≡ None)
 own-is l c d k same there =
     let at : call_at l d ≡ Some k = subst (λ (n : CallName). call_at l n ≡ Some k) (name_is c d same) there in
@@ -214,7 +214,7 @@ write-facts s l k o offered got bytes (inr none) is has =
 abbrev unknown : ReadAns × List ℕ
 unknown = (answers.Unknown, [])
 
-reads-client : (k : CallRecord) (o : Option CallRecord) (max : ℕ) (got : ReadAns) (bytes : List ℕ) → (o ≡ Some k) ⊎ (o ≡ None)
+pub reads-client : (k : CallRecord) (o : Option CallRecord) (max : ℕ) (got : ReadAns) (bytes : List ℕ) → (o ≡ Some k) ⊎ (o ≡ None)
     → (is_ok_end k.life ≡ true → k.looks.received.ended ≡ true)
     → ◌≡◌ {A = ReadAns × List ℕ} (got, bytes) (client_read o max) → ReadFacts k (is_end (readers.Client got)) bytes
 reads-client k o max got bytes (inl own) fine is =

@@ -39,16 +39,16 @@ use Rattle.rx_law.proofs.Takes.{OpensBy, TakenWhy, with-turn}
 
 -- ---- the rows in front and the record of the connection change no call
 
-calls-placed : (new : ConnLooks) (o : Option ConnLooks) (l : Looks) → (placed new o l).calls ≡ l.calls
+pub calls-placed : (new : ConnLooks) (o : Option ConnLooks) (l : Looks) → (placed new o l).calls ≡ l.calls
 calls-placed new None l = refl
 calls-placed new (Some old) l = refl
 
-calls-with_conn : (s : Setup) (kind : Kind) (x : Connection) (l : Looks) → (with_conn s kind x l).calls ≡ l.calls
+pub calls-with_conn : (s : Setup) (kind : Kind) (x : Connection) (l : Looks) → (with_conn s kind x l).calls ≡ l.calls
 calls-with_conn s (Server service nonces) x l =
     calls-placed (fresh_conn x x.host service 1 l) (if is_full s l then idle_conn l else None) l
 calls-with_conn s (Client host epoch) x l = refl
 
-calls-entered : (s : Setup) (x : Connection) (l : Looks) → (entered s x l).calls ≡ l.calls
+pub calls-entered : (s : Setup) (x : Connection) (l : Looks) → (entered s x l).calls ≡ l.calls
 calls-entered s x l =
     (elim (is_some (conn_at l x)) as (λ b. (cond b l (with_conn s s.kind x l)).calls ≡ l.calls) [
       | true ↦ refl

@@ -62,3 +62,21 @@ mod WorldLaw
 mod ForgetsExample
 mod Clocks
 mod Due
+mod Reaches
+mod UsedLaws
+pub mod WholeLaws
+mod HeldNumbers
+mod HeldLaws
+pub mod LifeFalls
+pub mod Differ
+pub mod Tight
+mod Roomy
+mod RowsInFront
+mod RowsKept
+mod TightKept
+mod Openings
+mod RoomStarts
+mod RoomTaken
+mod RoomEvents
+mod RoomShut
+mod Suffice

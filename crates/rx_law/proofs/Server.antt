@@ -173,7 +173,7 @@ serve-facts Safe s l k _ ended offered got bytes unshut is has =
 abbrev no_read : ServeRead × List ℕ
 no_read = (reads.NotOpen, [])
 
-read-server : (k : CallRecord) (max : ℕ) (got : ServeRead) (bytes : List ℕ)
+pub read-server : (k : CallRecord) (max : ℕ) (got : ServeRead) (bytes : List ℕ)
     → ◌≡◌ {A = ServeRead × List ℕ} (got, bytes) (served_read_by k.life (read_of k.looks.received max))
     → ReadFacts k (is_end (readers.Server got)) bytes
 read-server k max got bytes is =

@@ -70,7 +70,7 @@ opens-by Safe c l d _ opens = tt
 
 -- ---- what a data packet leaves
 
-chunk-ends : (v : NodeView) (m : Message) (body : Body) (k : CallLooks)
+pub chunk-ends : (v : NodeView) (m : Message) (body : Body) (k : CallLooks)
     → (ends_in (after_chunk v tooks.Repeat m body k) ≡ ends_in k)
     × (ends_in (after_chunk v tooks.Beyond m body k) ≡ ends_in k)
     × (ends_in (after_chunk v tooks.Clash m body k) ≡ ends_in k)

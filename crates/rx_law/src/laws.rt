@@ -8,7 +8,7 @@ ghost use Rattle.rx_rules.specs.After.{looks};
 ghost use Rattle.rx_model.specs.Body as bodies;
 ghost use Rattle.rx_rules.specs.CallLooks.{packet_of};
 ghost use Rattle.rx_model.specs.Message.{Message};
-ghost use Rattle.rx_law.specs.Promises.{EnteredOnlyWhenProved, LawOn, OnceUnderForgery, WorldLaw};
+ghost use Rattle.rx_law.specs.Promises.{EnteredOnlyWhenProved, LawOn, OnceUnderForgery, SlotsSuffice, WorldLaw};
 ghost use Rattle.rx_model.specs.Reading.{reading_of};
 ghost use Rattle.rx_rules.specs.Rules.{Legal};
 ghost use Rattle.rx_rules.specs.Setup.{Setup, Client, FitsSetup, IsServer, is_client, named};
@@ -77,4 +77,10 @@ pub fn legal_events_are_told()
 /// history, go alike between the client's own events, which is all that the laws ask.
 pub fn clocks_go_alike()
     ensures { (server client : ℕ) (h : List Noted) → GoAlways server client h → GoAlike server client h }
+{}
+
+/// Whatever bytes came to a node, and whatever its application asked, its calls never hold more slots beside one of
+/// their own than are shared: none lacks a slot other than by NoSlot or by the room of a write.
+pub fn slots_suffice()
+    ensures { SlotsSuffice }
 {}

@@ -1,0 +1,5 @@
+use Rattle.rx_law.proofs.Suffice.{slots_suffice}
+use Rattle.rx_law.proofs.laws.slots_suffice.Goals as goal
+
+pub returns : goal.returns
+returns c = slots_suffice
