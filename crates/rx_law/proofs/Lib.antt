@@ -80,3 +80,18 @@ mod RoomTaken
 mod RoomEvents
 mod RoomShut
 mod Suffice
+mod Pairwise
+mod Dims
+mod DimsLeave
+mod DimsTaken
+mod DimsEvents
+mod Orderly
+mod OrderlyMore
+mod OrderlyEnter
+mod OrderlyStart
+mod OrderlyOpens
+mod OrderlyTaken
+mod OrderlyClient
+mod OrderlyHistory
+pub mod OneCall
+pub mod NodeFacts

@@ -104,15 +104,15 @@ keeps-stopped c d (bodies.Ack a) l = keeps-refl c l
 keeps-stopped c d bodies.AckAll l = keeps-refl c l
 keeps-stopped c d (bodies.Challenge bytes) l = keeps-refl c l
 
-ackall-number : (owes : Bool) (q : ChannelLooks) → (owing_ackall owes q).number ≡ q.number
+pub ackall-number : (owes : Bool) (q : ChannelLooks) → (owing_ackall owes q).number ≡ q.number
 ackall-number true q = refl
 ackall-number false q = refl
 
-abort-number : (code : Option ℤ) (q : ChannelLooks) → (owing_abort code q).number ≡ q.number
+pub abort-number : (code : Option ℤ) (q : ChannelLooks) → (owing_abort code q).number ≡ q.number
 abort-number None q = refl
 abort-number (Some code) q = refl
 
-again-number : (body : Body) (life : Life) (q : ChannelLooks) → (owing_again body life q).number ≡ q.number
+pub again-number : (body : Body) (life : Life) (q : ChannelLooks) → (owing_again body life q).number ≡ q.number
 again-number (bodies.Chunk payload) life q =
     ackall-number (is_ok_end life) (owing_abort (told_code life) q) ∙ abort-number (told_code life) q
 again-number (bodies.Ack a) life q = abort-number (served_code life) q
