@@ -1,0 +1,73 @@
+ghost use Rattle.std.specs.Prelude.{◌≡◌, ◌≤◌, nat_lt};
+ghost use Rattle.rx_rules.specs.Rates.{first_cwnd, after_acked, after_timeout};
+
+use rx_model::wire::{FIRST_CWND, MIN_SSTHRESH};
+use std::marker::Model;
+
+/// The congestion window of a call: how many pieces may be in flight.
+#[derive(Debug, Drop)]
+pub struct Cwnd {
+    window: u32,
+    /// Slow start lasts while the window is below this threshold.
+    ssthresh: u32,
+    /// The node's own window, which the window never passes.
+    most: u32,
+}
+
+impl Model for Cwnd {
+    ghost use Rattle.std.specs.Prelude.{◌≤◌};
+    ghost use Rattle.rx_rules.specs.Rates.{Cwnd as CwndLooks};
+    ghost use Rattle.rx_model.specs.declared.wire.TheConstants.{MIN_WINDOW, MAX_WINDOW};
+
+    ghost Value = { CwndLooks };
+
+    ghost view = { λ c. record { window = c.window; ssthresh = c.ssthresh; most = c.most } };
+
+    ghost invariant = { λ c. (c.window ≤ c.most) × (MIN_WINDOW ≤ c.most) × (c.most ≤ MAX_WINDOW) };
+}
+
+impl Cwnd {
+    ghost use Rattle.rx_model.specs.declared.wire.TheConstants.{MIN_WINDOW, MAX_WINDOW};
+
+    /// Of a call that starts, at a node with a window of so many packets: slow start from 2 on.
+    pub fn new(window: u32) -> Cwnd
+        requires least { MIN_WINDOW ≤ window }
+        requires most { window ≤ MAX_WINDOW }
+        ensures { result ≡ first_cwnd window }
+    {
+        Cwnd {
+            window: FIRST_CWND,
+            ssthresh: window,
+            most: window,
+        }
+    }
+
+    /// An ACK newly acknowledged n pieces.
+    pub fn acked(&mut self, n: u32)
+        ensures { self.new ≡ after_acked n self.old }
+    {
+        let growth = if n == 0 {
+            0
+        } else if self.window < self.ssthresh {
+            n
+        } else {
+            1
+        };
+        self.window = self.window.saturating_add(growth).min(self.most);
+    }
+
+    /// A piece had to be sent again: slow start begins anew.
+    pub fn timed_out(&mut self)
+        ensures { self.new ≡ after_timeout self.old }
+    {
+        self.ssthresh = (self.window / 2).max(MIN_SSTHRESH);
+        self.window = 1;
+    }
+
+    /// Whether another piece may be sent where so many are in flight.
+    pub fn room(&self, in_flight: u32) -> bool
+        ensures { result ≡ nat_lt in_flight self.now.window }
+    {
+        in_flight < self.window
+    }
+}

@@ -1,0 +1,76 @@
+use crate::{Cwnd, Rtt};
+use std::process::Abort;
+use std::test::*;
+
+#[test]
+fn round_trips_give_the_time_to_wait(rt: HostRuntime) -> Result<(), Fail> {
+    let mut rtt = Rtt::new();
+    assert_eq!(rt; rtt.rto(), 1000);
+    for (ms, rto) in [(100, 350), (180, 350), (900, 1171)] {
+        rtt.sample(ms);
+        assert_eq!(rt; rtt.rto(), rto);
+    }
+    Ok(())
+}
+
+#[test]
+fn a_first_round_trip_counts_three_times(rt: HostRuntime) -> Result<(), Fail> {
+    for (ms, rto) in [
+        (0, 350),
+        (116, 350),
+        (117, 351),
+        (1333, 3999),
+        (1334, 4000),
+        (60_001, 4000),
+        (u64::MAX, 4000),
+    ] {
+        let mut rtt = Rtt::new();
+        rtt.sample(ms);
+        assert_eq!(rt; rtt.rto(), rto);
+    }
+    Ok(())
+}
+
+#[test]
+fn each_resend_doubles_the_time_to_wait(rt: HostRuntime) -> Result<(), Fail> {
+    let mut rtt = Rtt::new();
+    for rto in [2000, 4000, 4000] {
+        rtt.backoff();
+        assert_eq!(rt; rtt.rto(), rto);
+    }
+    Ok(())
+}
+
+/// The window is so wide: one piece more fits where one less is in flight.
+fn is_wide(cwnd: &Cwnd, window: u32) -> bool {
+    cwnd.room(window.saturating_sub(1)) && !cwnd.room(window)
+}
+
+#[test]
+fn round_trips_widen_the_window_and_a_resend_closes_it(rt: HostRuntime) -> Result<(), Fail> {
+    let mut cwnd = Cwnd::new(32);
+    assert!(rt; is_wide(&cwnd, 2));
+    for (n, window) in [(2, 4), (4, 8)] {
+        cwnd.acked(n);
+        assert!(rt; is_wide(&cwnd, window));
+    }
+    cwnd.timed_out();
+    assert!(rt; is_wide(&cwnd, 1));
+    for (n, window) in [(0, 1), (1, 2), (2, 4), (4, 5)] {
+        cwnd.acked(n);
+        assert!(rt; is_wide(&cwnd, window));
+    }
+    Ok(())
+}
+
+#[test]
+fn the_window_ends_at_the_nodes_own(rt: HostRuntime) -> Result<(), Fail> {
+    for most in [32, 255] {
+        let mut cwnd = Cwnd::new(most);
+        cwnd.acked(most);
+        assert!(rt; is_wide(&cwnd, most));
+        cwnd.acked(u32::MAX);
+        assert!(rt; is_wide(&cwnd, most));
+    }
+    Ok(())
+}

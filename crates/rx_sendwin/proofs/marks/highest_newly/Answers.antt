@@ -1,0 +1,36 @@
+use Rattle.std.proofs.Common.{◌<◌, ◌∙◌, sym, arith}
+use Rattle.rx_sendwin.specs.Marks.{is_known}
+use Rattle.rx_sendwin.proofs.Acks.{highest_none, highest_down, highest_here}
+use Rattle.rx_sendwin.proofs.marks.highest_newly.Goals as goal
+
+pub loop-seq-preserved : goal.loop-seq-preserved
+loop-seq-preserved c =
+    let so = c.loop-seq.invariant in
+    let before = is_known c.args.acked c.args.soft.now in
+    let after = is_known c.args.now_acked c.args.marks.now in
+    let some : 0 < c.loop-seq.seq = omega (arith, c.loop-seq-test.true) in
+    record {
+      least = omega (arith, c.loop-seq-test.true);
+      most = omega (arith, so.most);
+      so_far =
+          so.so_far
+          ∙ highest_down before after c.loop-seq.seq c.is_acked-before.result c.is_acked-after.result some
+          c.is_acked-before.ensures c.is_acked-after.ensures (sym c.is_new.ensures ∙ c.if-is_new.false);
+    }
+
+pub returns-then-is_new-clause-value : goal.returns-then-is_new-clause-value
+returns-then-is_new-clause-value c =
+    let so = c.loop-seq.invariant in
+    let before = is_known c.args.acked c.args.soft.now in
+    let after = is_known c.args.now_acked c.args.marks.now in
+    let some : 0 < c.loop-seq.seq = omega (arith, c.loop-seq-test.true) in
+    sym (so.so_far
+    ∙ highest_here before after c.loop-seq.seq c.is_acked-before.result c.is_acked-after.result some
+    c.is_acked-before.ensures c.is_acked-after.ensures (sym c.is_new.ensures ∙ c.if-is_new.true))
+
+pub returns-clause-value : goal.returns-clause-value
+returns-clause-value c =
+    let so = c.loop-seq.invariant in
+    let after = is_known c.args.now_acked c.args.marks.now in
+    sym (so.so_far
+    ∙ highest_none after c.args.acked c.args.soft.now c.loop-seq.seq (omega (arith, c.loop-seq-test.false)))

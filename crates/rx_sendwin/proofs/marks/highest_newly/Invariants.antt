@@ -1,0 +1,14 @@
+use Rattle.std.proofs.Common.{◌≡◌, ◌≤◌, ◌-◌}
+use Rattle.rx_sendwin.specs.Marks.{is_known, highest_by}
+use Rattle.rx_sendwin.proofs.marks.highest_newly.Given as goal
+
+abbrev pub invariant-loop-seq : goal.invariant-loop-seq
+invariant-loop-seq l = record {
+  least : l.acked ≤ l.seq;
+  most : l.seq ≤ l.given;
+  so_far : highest_by (is_known l.acked l.soft) (is_known l.now_acked l.marks) l.given
+      ≡ highest_by (is_known l.acked l.soft) (is_known l.now_acked l.marks) l.seq;
+}
+
+abbrev pub decreases-loop-seq : goal.decreases-loop-seq
+decreases-loop-seq l = l.seq - l.acked

@@ -1,0 +1,71 @@
+use Rattle.std.proofs.Common.{◌≡◌, ◌∙◌, ◌+◌, ◌-◌, ◌<◌, ◌≤◌, ap, sym, subst, arith, rules, length, take, drop, min}
+use Rattle.std.proofs.Common.{false, ℕ, List}
+use Rattle.std.proofs.lemmas.List.{length-drop, length-take-le}
+use Rattle.rx_rules.specs.Sent.{Sent}
+use Rattle.rx_sendwin.specs.Marks.{is_known, is_valid_ack, leading_marks}
+use Rattle.rx_sendwin.specs.Pieces.{slots_in}
+use Rattle.rx_sendwin.specs.Window.{SendWindow, StandsSent, piece_slots}
+use Rattle.rx_sendwin.proofs.Acks.{leading_most, makes_sense}
+use Rattle.rx_sendwin.proofs.PieceLaws.{slots_drop, last_drop}
+use Rattle.rx_sendwin.proofs.Acknowledging.{stale_newly, fresh_newly, stale_ack, ack_stands, ack_tied, marks_alike}
+use Rattle.rx_sendwin.proofs.window.SendWin.on_ack.Goals as goal
+
+pub returns-then-first-self-clause-newly : goal.returns-then-first-self-clause-newly
+returns-then-first-self-clause-newly c =
+    rw (← c.self.view_is) (λ s st. stale_newly s c.args.now c.args.first c.args.marks.now
+    (let acked = st.acked in omega (arith, acked, c.if-first-self.true)))
+
+pub overflow_cast-self : goal.overflow_cast-self
+overflow_cast-self c =
+    let marks = c.args.marks.now in
+    let soft = c.set_marks.new.soft.items in
+    let few = ap length c.set_marks.ensures ∙ length-take-le (min (length marks) 255) marks (omega arith) in
+    let most = leading_most soft in
+    let is : c.leading.result ≡ leading_marks soft = c.leading.ensures ∙ ap leading_marks c.as_slice.ensures.value in
+    omega (arith, most, is, few)
+
+pub invariant_of-self : goal.invariant_of-self
+invariant_of-self c =
+    let valid = (rw (← c.self.view_is) at c.requires.valid) in
+    let hs = c.self.inside.pieces.items in
+    let n = c.args.first - 1 - c.self.inside.acked in
+    let soft = c.set_marks.new.soft.items in
+    let low : c.leading.result ≡ leading_marks soft = c.leading.ensures ∙ ap leading_marks c.as_slice.ensures.value in (
+      search rules,
+      ack_tied _ c.self.inside.low c.self.inside.flight c.args.first c.args.marks.now soft c.free_front.new.pieces.items
+          c.leading.result c.count_in_flight-self-inside.result c.peer_window-self-inside.result c.self.invariant.1
+          valid
+          c.if-first-self.false c.free_front.ensures.rest c.set_marks.ensures low
+          c.count_in_flight-self-inside.ensures.value c.peer_window-self-inside.ensures.most
+          (λ lt. last_drop n hs (omega (arith, length-drop n hs, lt))),
+    )
+
+pub returns-clause-newly : goal.returns-clause-newly
+returns-clause-newly c =
+    let w = c.args.self.now in
+    let n = c.newly-newly in
+    let some = (makes_sense w.given c.args.first c.args.marks.now c.requires.valid).some in
+    let le : w.acked ≤ c.args.first - 1 = (
+    subst (λ (w : SendWindow). w.acked ≤ c.args.first - 1) c.self.view_is c.if-first-self.false) in
+    λ s st. fresh_newly c.args.pool.now w s c.args.now c.args.first n.result.count c.args.marks.now n.result.sample st
+    some
+    le n.ensures.count (n.ensures.sample c.args.pool.now s st)
+
+pub returns-clause-stands : goal.returns-clause-stands
+returns-clause-stands c =
+    let some = (makes_sense c.args.self.now.given c.args.first c.args.marks.now c.requires.valid).some in
+    let valid = (rw (← c.self.view_is) at c.requires.valid) in
+    let soft = c.set_marks.new.soft.items in
+    let alike = (
+    marks_alike _ c.self.inside.low c.self.inside.flight c.args.first c.args.marks.now soft c.self.invariant.1 valid
+    c.if-first-self.false c.set_marks.ensures) in
+    rw (← c.self.view_is) (λ s st. ack_stands c.args.pool.now c.free_front.new.pool _ s c.args.first
+    c.peer_window-self-inside.result c.args.marks.now soft c.args.window c.free_front.new.pieces.items st some
+    c.if-first-self.false c.free_front.ensures.bytes c.free_front.ensures.rest alike
+    c.peer_window-self-inside.ensures.value)
+
+pub returns-clause-slots : goal.returns-clause-slots
+returns-clause-slots c =
+    ap slots_in c.free_front.ensures.rest
+    ∙ slots_drop (c.args.first - 1 - c.self.inside.acked) c.self.inside.pieces.items
+    ∙ ap (λ (w : SendWindow). drop (c.args.first - 1 - w.acked) (piece_slots w)) c.self.view_is

@@ -1,0 +1,4 @@
+pub mod Pieces
+pub mod Marks
+pub mod Window
+pub mod Next

@@ -1,0 +1,32 @@
+ghost use Rattle.std.specs.Prelude.{◌≡◌, ◌≤◌, take};
+ghost use Rattle.rx_model.specs.declared.wire.TheConstants.{PAYLOAD_BYTES};
+ghost use Rattle.rx_pool.specs.Pool.{IsOf, bytes_at};
+
+use rx_pool::{Pool, Slot};
+
+/// When a piece was last given, in milliseconds, and whether it was given before that.
+#[derive(Clone, Copy, Debug, PartialEq, Eq)]
+pub struct LastGiving {
+    pub moment: u64,
+    pub again: bool,
+}
+
+/// A piece that isn't hard acknowledged: its slot, how many bytes it has there, and its last giving.
+#[derive(Debug, Drop)]
+pub struct HeldPiece {
+    pub slot: Slot,
+    pub size: u32,
+    pub given: Option<LastGiving>,
+}
+
+impl HeldPiece {
+    /// The piece's bytes.
+    pub fn payload<'a>(&self, pool: &'a Pool) -> &'a [u8]
+        requires of { IsOf pool.now self.now.slot }
+        requires size { self.now.size ≤ PAYLOAD_BYTES }
+        ensures { result.now ≡ take self.now.size (bytes_at pool.now self.now.slot) }
+    {
+        let (payload, _room) = pool.bytes(&self.slot).split_at(self.size as usize);
+        payload
+    }
+}
