@@ -1,6 +1,6 @@
 -- A data packet: its row, and what it makes of the window.
 use Rattle.std.proofs.Common.{◌≡◌, ◌⊎◌, inl, inr, ◌<◌, ◌≤◌, ◌+◌, ◌-◌, ◌^◌, ◌&&◌, ◌||◌, ◌==◌, nat_lt, nat_le, max, cond}
-use Rattle.std.proofs.Common.{is_some, map, Bool, true, false, ℕ, suc, zero, List, [], ◌∷◌, ◌++◌, length, set, Option}
+use Rattle.std.proofs.Common.{is_some, map, Bool, true, false, ℕ, suc, ◌∷◌, length, set, Option}
 use Rattle.std.proofs.Common.{Some}
 use Rattle.std.proofs.Common.{None, refl, sym, ap, subst, ◌∙◌, arith}
 use Rattle.std.proofs.lemmas.Bool.{cases_lt, cases_eq, cases_Bool, false≢true}
@@ -11,14 +11,14 @@ use Rattle.rx_model.specs.declared.answers.BadMsg.{BadMsg}
 use Rattle.rx_model.specs.declared.answers.Took.{Took}
 use Rattle.rx_model.specs.declared.answers.Took.TheVariants as tooks
 use Rattle.rx_rules.specs.Received.{Piece, Packet, Received, packet_at, payload_of, greatest, last_seq, front_of}
-use Rattle.rx_rules.specs.Received.{end_of, is_done}
+use Rattle.rx_rules.specs.Received.{is_done}
 use Rattle.rx_rules.specs.Received.{is_done_by, is_no_seq, used_of, count_above, Arrival, is_above, has_slot}
 use Rattle.rx_rules.specs.Received.{arrival_row}
 use Rattle.rx_rules.specs.Received.{arrival_of, after_packet}
 use Rattle.rx_recvwin.proofs.Lookups.{at_own, at_other, end_below, front_all}
 use Rattle.rx_pool.specs.Pool.{Slots}
-use Rattle.rx_recvwin.specs.Places.{place_at, leading, count_in, seen_at}
-use Rattle.rx_recvwin.specs.Window.{RecvWindow, Window, seen, Near, Stands, IsSound, IsOnce, after_put, arrival_at}
+use Rattle.rx_recvwin.specs.Places.{place_at, leading, seen_at}
+use Rattle.rx_recvwin.specs.Window.{RecvWindow, Window, seen, Near, Stands, IsSound, after_put, arrival_at}
 use Rattle.rx_recvwin.specs.Window.{slot_behind}
 use Rattle.rx_recvwin.proofs.PlaceLaws.{some_same, place_set_own, place_set_other, count_put, place_seen, some_seen}
 use Rattle.rx_recvwin.proofs.PlaceLaws.{leading_seen}

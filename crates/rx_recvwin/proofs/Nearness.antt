@@ -1,15 +1,15 @@
 -- A window and what it stands for: what its numbers say, and the step of a packet that is used.
-use Rattle.std.proofs.Common.{◌≡◌, ◌⊎◌, inl, inr, ◌<◌, ◌≤◌, ◌+◌, ◌-◌, ◌^◌, ◌&&◌, ◌||◌, ◌==◌, not, nat_lt, nat_le, max}
-use Rattle.std.proofs.Common.{cond, is_some, Bool, true, false, ℕ, suc, zero, List, [], ◌∷◌, ◌++◌, length, get_or, set}
-use Rattle.std.proofs.Common.{drop, take, Option, Some, None, refl, sym, ap, subst, ◌∙◌, arith, length-append, add-one}
-use Rattle.std.proofs.lemmas.Bool.{cases_lt, cases_eq, cases_Bool, false≢true}
+use Rattle.std.proofs.Common.{◌≡◌, inl, inr, ◌<◌, ◌≤◌, ◌+◌, ◌-◌, ◌||◌, ◌==◌, nat_lt, nat_le}
+use Rattle.std.proofs.Common.{cond, is_some, Bool, true, false, ℕ, suc, List, [], ◌∷◌, ◌++◌, length}
+use Rattle.std.proofs.Common.{drop, Option, Some, None, refl, sym, ap, ◌∙◌, arith, length-append}
+use Rattle.std.proofs.lemmas.Bool.{cases_lt, cases_eq, false≢true}
 use Rattle.std.proofs.lemmas.Bool.Decides.{nat_tests}
-use Rattle.std.proofs.lemmas.List.{length-set, length-drop}
-use Rattle.rx_rules.specs.Received.{Piece, Packet, Received, packet_at, payload_of, greatest, last_seq, front_of}
+use Rattle.std.proofs.lemmas.List.{length-drop}
+use Rattle.rx_rules.specs.Received.{Piece, Packet, Received, packet_at, payload_of, front_of}
 use Rattle.rx_rules.specs.Received.{end_of, is_done, is_done_by, used_of, count_above}
 use Rattle.rx_recvwin.proofs.Lookups.{front_only, used_only, done_kept}
 use Rattle.rx_recvwin.specs.Places.{place_at, leading, count_in, is_place_done}
-use Rattle.rx_recvwin.specs.Window.{Window, Near, Stands, IsSound, IsOnce, after_use}
+use Rattle.rx_recvwin.specs.Window.{Window, Near, Stands, IsOnce, after_use}
 use Rattle.rx_recvwin.proofs.PlaceLaws.{leading_all, leading_stops, place_next, count_turned}
 
 count_past : (kept : List Packet) (u : ℕ) → packet_at kept (suc u) ≡ None →

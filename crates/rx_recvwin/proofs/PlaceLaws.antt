@@ -1,16 +1,14 @@
 -- Places, what lies in them, and the slots that they hold.
-use Rattle.std.proofs.Common.{◌≡◌, ◌≢◌, ◌⊎◌, inl, inr, ◌<◌, ◌≤◌, ◌+◌, ◌-◌, ◌^◌, ◌==◌, ◌||◌, is_some, map, replicate}
-use Rattle.std.proofs.Common.{Bool, true, false, ℕ, suc, zero, List, [], ◌∷◌, ◌++◌, length, get_or, set, drop, take}
+use Rattle.std.proofs.Common.{◌≡◌, inl, inr, ◌<◌, ◌≤◌, ◌+◌, ◌-◌, ◌^◌, ◌==◌, ◌||◌, is_some, map, replicate}
+use Rattle.std.proofs.Common.{true, false, ℕ, suc, zero, List, [], ◌∷◌, ◌++◌, length, get_or, set, drop, take}
 use Rattle.std.proofs.Common.{Option, Some, None, refl, sym, ap, subst, ◌∙◌, arith, add-one, append_assoc}
-use Rattle.std.proofs.lemmas.List.{length-drop, drop-drop, replicate_more, get_or-set_other, get_or-set_same, map-set}
-use Rattle.std.proofs.lemmas.List.{length-append, take_at}
+use Rattle.std.proofs.lemmas.List.{length-drop, drop-drop, replicate_more}
 use Rattle.std.proofs.lemmas.Bool.{cases_lt, cases_eq, false≢true}
-use Rattle.rx_rules.specs.Received.{Piece}
-use Rattle.rx_pool.specs.Pool.{Slots, IsOf, Takes, has, HasNoRepeat, bytes_at, overwrite}
+use Rattle.rx_pool.specs.Pool.{Slots, IsOf, Takes, has, HasNoRepeat, bytes_at}
 use Rattle.rx_model.specs.declared.wire.TheConstants.{PAYLOAD_BYTES}
 use Rattle.rx_pool.specs.Held.{Holds, Keeps}
-use Rattle.rx_pool.proofs.Holding.{keeps_same, keeps_given, keeps_got, keeps_put, keeps_then, keeps_order}
-use Rattle.rx_pool.proofs.Numbers.{has_first, has_rest, has_later, not_first, not_later, not_has, two}
+use Rattle.rx_pool.proofs.Holding.{keeps_same, keeps_given}
+use Rattle.rx_pool.proofs.Numbers.{has_first, has_later, not_first, not_later, not_has}
 use Rattle.rx_recvwin.specs.declared.packet.KeptPacket.{KeptPacket}
 use Rattle.rx_recvwin.specs.Places.{place_at, leading, count_in, slots_in, seen_at, HasSeqs, HasSizes}
 

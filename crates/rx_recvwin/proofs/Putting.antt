@@ -1,15 +1,14 @@
 -- A packet put into a free slot and the slot into a place; and a window with nothing in its places.
-use Rattle.std.proofs.Common.{◌≡◌, ◌⊎◌, inl, inr, ◌<◌, ◌≤◌, ◌+◌, ◌-◌, ◌^◌, is_some, map, min, max, cond, replicate}
+use Rattle.std.proofs.Common.{◌≡◌, ◌<◌, ◌≤◌, ◌+◌, ◌-◌, ◌^◌, is_some, map, min, max, cond, replicate}
 use Rattle.std.proofs.Common.{Bool}
-use Rattle.std.proofs.Common.{true, false, ℕ, suc, zero, List, [], ◌∷◌, ◌++◌, length, get_or, set, drop, take, Option}
+use Rattle.std.proofs.Common.{true, false, ℕ, suc, zero, List, [], ◌∷◌, ◌++◌, length, get_or, set, take, Option}
 use Rattle.std.proofs.Common.{Some}
-use Rattle.std.proofs.Common.{None, refl, sym, ap, subst, ◌∙◌, arith, add-one}
+use Rattle.std.proofs.Common.{None, refl, sym, ap, ◌∙◌, arith, add-one}
 use Rattle.std.proofs.lemmas.Bool.{false≢true}
 use Rattle.std.proofs.lemmas.List.{get_or-set_other, get_or-set_same, map-set, length-replicate, length-take-le}
 use Rattle.rx_model.specs.declared.wire.TheConstants.{PAYLOAD_BYTES, MIN_WINDOW, MAX_WINDOW}
-use Rattle.rx_rules.specs.Received.{Piece, Packet, Received, nothing_received, packet_at, used_of, marks_from, marks_of}
+use Rattle.rx_rules.specs.Received.{Piece, Received, nothing_received, packet_at, used_of, marks_from, marks_of}
 use Rattle.rx_rules.specs.Received.{greatest}
-use Rattle.rx_rules.specs.Received.{payload_of}
 use Rattle.rx_pool.specs.Pool.{Slots, Takes, has, bytes_at, overwrite}
 use Rattle.rx_pool.specs.Held.{Holds, Keeps}
 use Rattle.rx_pool.proofs.Numbers.{has_first, two}
@@ -18,7 +17,7 @@ use Rattle.rx_pool.proofs.Holding.{keeps_got, keeps_put, keeps_then, keeps_order
 use Rattle.rx_recvwin.specs.declared.packet.KeptPacket.{KeptPacket}
 use Rattle.rx_recvwin.specs.Places.{place_at, leading, count_in, slots_in, seen_at, HasSizes, is_open_done}
 use Rattle.rx_recvwin.specs.Places.{is_place_done}
-use Rattle.rx_recvwin.specs.Window.{RecvWindow, Window, seen, Stands, IsTied, after_put, as_packet}
+use Rattle.rx_recvwin.specs.Window.{RecvWindow, seen, Stands, IsTied, after_put, as_packet}
 use Rattle.rx_recvwin.proofs.PlaceLaws.{fits_put, sized_put, slots_put, no_repeat_put, slots_count, count_put}
 use Rattle.rx_recvwin.proofs.PlaceLaws.{seen_same}
 use Rattle.rx_recvwin.proofs.PlaceLaws.{place_seen, some_seen}

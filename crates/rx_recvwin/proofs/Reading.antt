@@ -10,7 +10,6 @@ use Rattle.rx_model.specs.declared.answers.CallRead.TheVariants as reads
 use Rattle.rx_rules.specs.Received.{Piece, Packet, Received, packet_at, payload_of, greatest, last_seq, front_of}
 use Rattle.rx_rules.specs.Received.{bytes_to, end_of, heard_of, is_done_by, unread_of, is_within, read_from, read_of}
 use Rattle.rx_rules.specs.Received.{after_read}
-use Rattle.rx_pool.specs.Pool.{Slots}
 use Rattle.rx_recvwin.specs.Places.{place_at, leading}
 use Rattle.rx_recvwin.specs.Window.{Window, Near, Stands, FirstRead, AllRead, SomeRead, read_more}
 use Rattle.rx_recvwin.proofs.Lookups.{front_stops, front_only, done_kept, bytes_split, above_greatest, end_is}

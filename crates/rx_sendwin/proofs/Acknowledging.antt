@@ -1,7 +1,7 @@
 -- Pieces are hard acknowledged: what is left stands for what is left of the stream.
-use Rattle.std.proofs.Common.{◌≡◌, ◌<◌, ◌≤◌, ◌+◌, ◌-◌, ◌*◌, cond, nat_lt, min, map, Bool, true, false, ℕ, suc, zero}
+use Rattle.std.proofs.Common.{◌≡◌, ◌<◌, ◌≤◌, ◌+◌, ◌-◌, cond, nat_lt, min, map, Bool, true, false, ℕ, suc, zero}
 use Rattle.std.proofs.Common.{List, []}
-use Rattle.std.proofs.Common.{◌∷◌, length, get_or, take, drop, Option, Some, None, refl, sym, ap, subst, ◌∙◌, arith}
+use Rattle.std.proofs.Common.{◌∷◌, length, get_or, take, drop, Option, None, refl, sym, ap, subst, ◌∙◌, arith}
 use Rattle.std.proofs.lemmas.Bool.Decides.{nat_tests}
 use Rattle.std.proofs.lemmas.List.{length-drop, drop-map, get_or-drop, length-take-le}
 use Rattle.rx_model.specs.declared.wire.TheConstants.{MAX_WINDOW}

@@ -1,11 +1,11 @@
 -- What acknowledgements say of the pieces.
 use Rattle.std.proofs.Common.{◌==◌, ◌≡◌, inl, inr, ◌<◌, ◌≤◌, ◌+◌, ◌-◌, cond, not, ◌&&◌, ◌||◌, nat_lt, nat_le, min, Bool}
 use Rattle.std.proofs.Common.{true}
-use Rattle.std.proofs.Common.{false, ℕ, suc, zero, List, [], ◌∷◌, length, get_or, take, Option, Some, None, refl, sym}
+use Rattle.std.proofs.Common.{false, ℕ, suc, zero, List, [], ◌∷◌, length, get_or, take, Some, None, refl, sym}
 use Rattle.std.proofs.Common.{ap, ◌∙◌}
 use Rattle.std.proofs.Common.{arith}
 use Rattle.std.proofs.lemmas.Bool.Decides.{nat_tests}
-use Rattle.std.proofs.lemmas.Bool.{cases_lt, cases_Bool, false≢true}
+use Rattle.std.proofs.lemmas.Bool.{cases_lt, false≢true}
 use Rattle.rx_rules.specs.Received.{reach}
 use Rattle.rx_rules.specs.Sent.{count_to, highest_to, is_marked, marks_past}
 use Rattle.rx_sendwin.proofs.Reach.{reach_only}

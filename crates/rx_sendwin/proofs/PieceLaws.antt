@@ -1,12 +1,12 @@
 -- The pieces that a window holds, what lies in their slots, and the slots.
-use Rattle.std.proofs.Common.{◌≡◌, ◌≢◌, ◌⊎◌, inl, inr, ◌<◌, ◌≤◌, ◌+◌, ◌-◌, ◌^◌, ◌==◌, ◌||◌, map, Bool, true, false, ℕ}
-use Rattle.std.proofs.Common.{suc, zero, List, [], ◌∷◌, ◌++◌, length, get_or, set, drop, take, Option, Some, None, refl}
-use Rattle.std.proofs.Common.{sym, ap, subst, ◌∙◌, arith, add-one}
-use Rattle.std.proofs.lemmas.Bool.{cases_lt, false≢true}
+use Rattle.std.proofs.Common.{◌≡◌, ◌<◌, ◌≤◌, ◌+◌, ◌-◌, map, true, ℕ}
+use Rattle.std.proofs.Common.{suc, zero, List, [], ◌∷◌, ◌++◌, length, get_or, set, drop, take, Option, refl}
+use Rattle.std.proofs.Common.{sym, ap, subst, ◌∙◌, arith}
+use Rattle.std.proofs.lemmas.Bool.{false≢true}
 use Rattle.std.proofs.lemmas.List.{map_push, length_push, length-take-le, get_or-set_other, get_or-set_same, drop-drop}
 use Rattle.std.proofs.lemmas.List.{length-set}
 use Rattle.rx_model.specs.declared.wire.TheConstants.{PAYLOAD_BYTES}
-use Rattle.rx_pool.specs.Pool.{Slots, IsOf, Takes, has, HasNoRepeat, bytes_at, overwrite}
+use Rattle.rx_pool.specs.Pool.{Slots, IsOf, Takes, has, bytes_at, overwrite}
 use Rattle.rx_pool.specs.Held.{Holds, Keeps}
 use Rattle.rx_pool.proofs.Numbers.{has_first, has_later, has_push, no_repeat_push, two}
 use Rattle.rx_pool.proofs.Written.{length-overwrite, take-overwrite}

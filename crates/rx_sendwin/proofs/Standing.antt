@@ -1,5 +1,5 @@
 -- A window and what it stands for: what its numbers say; bytes are accepted; a piece is given.
-use Rattle.std.proofs.Common.{◌==◌, ◌≡◌, inl, inr, ◌<◌, ◌≤◌, ◌+◌, ◌-◌, ◌*◌, ◌/◌, ◌%◌, cond, not, ◌&&◌, ◌||◌, nat_lt}
+use Rattle.std.proofs.Common.{◌==◌, ◌≡◌, inl, inr, ◌<◌, ◌≤◌, ◌+◌, ◌-◌, ◌*◌, ◌%◌, not, ◌&&◌, ◌||◌, nat_lt}
 use Rattle.std.proofs.Common.{nat_le}
 use Rattle.std.proofs.Common.{max, is_some, map, Bool, true, false, ℕ, suc, zero, List, [], ◌∷◌, ◌++◌, length, get_or}
 use Rattle.std.proofs.Common.{set}
@@ -19,8 +19,8 @@ use Rattle.rx_pool.specs.Pool.{Slots, bytes_at}
 use Rattle.rx_sendwin.specs.declared.piece.HeldPiece.{HeldPiece}
 use Rattle.rx_sendwin.specs.declared.piece.LastGiving.{LastGiving}
 use Rattle.rx_sendwin.specs.Marks.{is_known, flight_by}
-use Rattle.rx_sendwin.specs.Pieces.{seen_at, payload_in, giving_in, giving_at, as_giving, last_size, IsTimed}
-use Rattle.rx_sendwin.specs.Window.{SendWindow, StandsSent, IsTied, CanBeSent}
+use Rattle.rx_sendwin.specs.Pieces.{seen_at, giving_in, giving_at, as_giving, IsTimed}
+use Rattle.rx_sendwin.specs.Window.{SendWindow, StandsSent, IsTied}
 use Rattle.rx_sendwin.proofs.Acks.{known_low, known_high, flight_next}
 use Rattle.rx_sendwin.proofs.Payloads.{pushed, filled, none_behind, take_join}
 use Rattle.rx_sendwin.proofs.PieceLaws.{sized_at, sized_set, timed_set, last_set_same}

@@ -1,5 +1,5 @@
 -- The piece that is due, among the items that the rules know of a call. Public clauses cite this module.
-use Rattle.std.specs.Prelude.{nat_le, filter, ℕ, suc, Option, Some, None, option_map, option_and_then}
+use Rattle.std.specs.Prelude.{nat_le, filter, ℕ, Option, Some, None, option_map, option_and_then}
 use Rattle.rx_rules.specs.CallItems.{CallItem, Sending, piece_items, asks}
 use Rattle.rx_rules.specs.CallItems as items
 use Rattle.rx_rules.specs.Least.{least_by}

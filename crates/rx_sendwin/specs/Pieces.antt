@@ -1,6 +1,6 @@
 -- The pieces that a window holds, in the order of their seqs, and what lies in their slots. Public clauses cite this
 -- module.
-use Rattle.std.specs.Prelude.{◌≡◌, ◌<◌, ◌≤◌, ◌^◌, map, slice_index_or, ℕ, List, [], ◌∷◌, take, Option, Some, None}
+use Rattle.std.specs.Prelude.{◌<◌, ◌≤◌, ◌^◌, map, slice_index_or, ℕ, List, [], ◌∷◌, take, Option, Some, None}
 use Rattle.rx_model.specs.declared.wire.TheConstants.{PAYLOAD_BYTES}
 use Rattle.rx_rules.specs.Sent as rules
 use Rattle.rx_pool.specs.Pool.{Slots, bytes_at}

@@ -1,4 +1,4 @@
-use Rattle.std.proofs.Common.{◌≤◌, arith, length}
+use Rattle.std.proofs.Common.{arith}
 use Rattle.rx_recvwin.proofs.PlaceLaws as laws
 use Rattle.rx_recvwin.proofs.places.leading_from.Goals as goal
 

@@ -3,7 +3,7 @@ use Rattle.rx_recvwin.specs.Window.{packet_slots}
 use Rattle.rx_recvwin.proofs.tests.each_row_answers_its_packet.Given as goal
 
 abbrev pub invariant-loop-seq : goal.invariant-loop-seq
-invariant-loop-seq l = Holds l.pool (packet_slots l.win)
+invariant-loop-seq g l = Holds l.pool (packet_slots l.win)
 
 abbrev pub invariant-loop-seq-2 : goal.invariant-loop-seq-2
-invariant-loop-seq-2 l = Holds l.pool (packet_slots l.win)
+invariant-loop-seq-2 g l = Holds l.pool (packet_slots l.win)

@@ -3,4 +3,4 @@ use Rattle.rx_recvwin.specs.Window.{packet_slots}
 use Rattle.rx_recvwin.proofs.tests.slots_are_for_the_next_packet_before_others.Given as goal
 
 abbrev pub invariant-loop-seq : goal.invariant-loop-seq
-invariant-loop-seq l = Holds l.pool (packet_slots l.win)
+invariant-loop-seq g l = Holds l.pool (packet_slots l.win)

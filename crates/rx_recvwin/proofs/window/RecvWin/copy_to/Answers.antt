@@ -1,4 +1,4 @@
-use Rattle.std.proofs.Common.{◌≡◌, ◌<◌, ◌+◌, ◌∙◌, arith, rules, length, length-append}
+use Rattle.std.proofs.Common.{◌<◌, ◌∙◌, arith, length, length-append}
 use Rattle.rx_pool.proofs.Holding.{keeps_then}
 use Rattle.rx_recvwin.specs.Window.{seen, packet_slots}
 use Rattle.rx_recvwin.proofs.Reading.{some_next, some_end, some_all, rest_next}

@@ -1,4 +1,4 @@
-use Rattle.std.proofs.Common.{◌≡◌, ◌∙◌, sym, ap, subst}
+use Rattle.std.proofs.Common.{◌≡◌, ◌∙◌, sym, ap}
 use Rattle.rx_recvwin.specs.Places.{count_in}
 use Rattle.rx_recvwin.specs.Window.{RecvWindow, seen}
 use Rattle.rx_recvwin.proofs.PlaceLaws.{count_seen, slots_count}

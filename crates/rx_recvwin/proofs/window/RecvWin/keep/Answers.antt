@@ -1,10 +1,9 @@
-use Rattle.std.proofs.Common.{◌≡◌, ◌∙◌, ◌+◌, subst, sym, ap}
+use Rattle.std.proofs.Common.{◌∙◌, ◌+◌, subst, sym}
 use Rattle.rx_model.specs.declared.answers.Took.{Took}
-use Rattle.rx_model.specs.declared.answers.Took.TheVariants as tooks
-use Rattle.rx_rules.specs.Received.{Packet, Received, after_packet}
+use Rattle.rx_rules.specs.Received.{Received, after_packet}
 use Rattle.rx_pool.proofs.Holding.{keeps_same}
 use Rattle.rx_recvwin.specs.Places.{leading}
-use Rattle.rx_recvwin.specs.Window.{RecvWindow, Stands, StandsReceived, seen, as_packet, slot_behind, packet_slots}
+use Rattle.rx_recvwin.specs.Window.{StandsReceived, seen, as_packet, slot_behind, packet_slots}
 use Rattle.rx_recvwin.proofs.Coming.{row_is, kept_stands, noted_stands, changes_nothing}
 use Rattle.rx_recvwin.proofs.window.RecvWin.keep.Goals as goal
 

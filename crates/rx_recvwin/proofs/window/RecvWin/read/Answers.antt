@@ -1,4 +1,4 @@
-use Rattle.std.proofs.Common.{◌≡◌, ◌+◌, ◌∙◌, true, sym, ap, length, subst}
+use Rattle.std.proofs.Common.{◌+◌, ◌∙◌, true, sym, ap, length, subst}
 use Rattle.rx_rules.specs.Received.{Received, is_within}
 use Rattle.rx_recvwin.specs.Window.{RecvWindow, Near, Stands, seen}
 use Rattle.rx_recvwin.proofs.PlaceLaws.{leading_seen}

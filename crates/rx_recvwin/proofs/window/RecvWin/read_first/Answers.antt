@@ -1,4 +1,4 @@
-use Rattle.std.proofs.Common.{◌≡◌, ◌+◌, ◌∙◌, subst, sym, ap, drop, Option}
+use Rattle.std.proofs.Common.{◌+◌, ◌∙◌, subst, sym, ap, drop, Option}
 use Rattle.rx_rules.specs.Received.{Piece, Received, payload_of}
 use Rattle.rx_recvwin.specs.Window.{RecvWindow, Near, Stands, seen}
 use Rattle.rx_recvwin.proofs.PlaceLaws.{place_seen}

@@ -1,6 +1,6 @@
-use Rattle.std.proofs.Common.{◌+◌, ◌-◌, ◌<◌, ◌≡◌, ◌∙◌, suc, true, is_some, sym, ap, subst, arith, rules, length}
+use Rattle.std.proofs.Common.{◌+◌, ◌≡◌, ◌∙◌, suc, true, is_some, sym, ap, subst, arith, rules}
 use Rattle.rx_recvwin.specs.Places.{place_at, count_in, leading, HasSeqs, HasSizes}
-use Rattle.rx_recvwin.specs.Window.{RecvWindow, IsTied}
+use Rattle.rx_recvwin.specs.Window.{RecvWindow}
 use Rattle.rx_recvwin.proofs.PlaceLaws.{leading_turned, count_turned, sized_turned, fits_moved}
 use Rattle.rx_recvwin.proofs.window.RecvWin.step.Goals as goal
 

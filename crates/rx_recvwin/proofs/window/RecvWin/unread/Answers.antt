@@ -1,4 +1,4 @@
-use Rattle.std.proofs.Common.{◌≡◌, ◌<◌, ◌∙◌, subst, sym, arith, length, true, Some}
+use Rattle.std.proofs.Common.{◌≡◌, ◌∙◌, subst, sym, arith, length, true, Some}
 use Rattle.rx_pool.specs.Pool.{has}
 use Rattle.rx_recvwin.specs.Places.{place_at}
 use Rattle.rx_recvwin.specs.Window.{RecvWindow, packet_slots}

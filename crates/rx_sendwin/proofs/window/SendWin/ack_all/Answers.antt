@@ -1,6 +1,4 @@
-use Rattle.std.proofs.Common.{◌≡◌, ◌∙◌, ap, sym, subst, rules, drop, length}
-use Rattle.rx_rules.specs.Sent.{pieces_by}
-use Rattle.rx_sendwin.specs.Window.{SendWindow}
+use Rattle.std.proofs.Common.{◌≡◌, ◌∙◌, ap, rules, drop, length}
 use Rattle.rx_sendwin.proofs.Acknowledging.{all_tied, all_stands}
 use Rattle.rx_sendwin.proofs.window.SendWin.ack_all.Goals as goal
 

@@ -1,7 +1,6 @@
-use Rattle.std.proofs.Common.{◌≡◌, ◌<◌, ◌≤◌, ◌+◌, ◌-◌, ◌*◌, ◌/◌, ◌%◌, ◌∙◌, suc, length, sym, ap, arith, false, true}
+use Rattle.std.proofs.Common.{◌≡◌, ◌≤◌, ◌+◌, ◌-◌, ◌/◌, ◌∙◌, length, ap, arith}
 use Rattle.std.proofs.Common.{deque_len, subst, Bool}
-use Rattle.rx_rules.specs.Sent.{opened, pieces_by, counting_by, Sent, after_write}
-use Rattle.rx_sendwin.specs.Window.{SendWindow, StandsSent}
+use Rattle.rx_rules.specs.Sent.{pieces_by, counting_by}
 use Rattle.rx_sendwin.proofs.PieceLaws.{slots_count}
 use Rattle.rx_sendwin.proofs.Standing.{push_stands, fill_stands}
 use Rattle.rx_sendwin.proofs.window.SendWin.append.Goals as goal

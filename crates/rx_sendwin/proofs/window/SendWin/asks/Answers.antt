@@ -1,4 +1,4 @@
-use Rattle.std.proofs.Common.{◌≡◌, ◌+◌, ◌∙◌, ◌||◌, ◌==◌, not, nat_lt, ap, sym, subst, arith, suc}
+use Rattle.std.proofs.Common.{◌≡◌, ◌+◌, ◌∙◌, ◌||◌, ◌==◌, not, nat_lt, ap, subst, arith}
 use Rattle.rx_rules.specs.Sent.{piece_at}
 use Rattle.rx_sendwin.specs.Marks.{is_known, flight_by}
 use Rattle.rx_sendwin.specs.Window.{SendWindow, IsTied}

@@ -1,4 +1,4 @@
-use Rattle.std.proofs.Common.{◌≡◌, ◌+◌, ◌∙◌, ◌&&◌, nat_lt, nat_le, ap, sym, subst, cond}
+use Rattle.std.proofs.Common.{◌≡◌, ◌+◌, ◌∙◌, ◌&&◌, nat_lt, nat_le, ap, subst}
 use Rattle.rx_rules.specs.Sent.{counting_by}
 use Rattle.rx_sendwin.specs.Window.{SendWindow, IsTied}
 use Rattle.rx_sendwin.proofs.Standing.{can_give_is}

@@ -1,4 +1,4 @@
-use Rattle.std.proofs.Common.{◌≡◌, ◌∙◌, sym, refl}
+use Rattle.std.proofs.Common.{◌∙◌, sym, refl}
 use Rattle.rx_sendwin.proofs.Nexts.{rank_fresh, rank_later}
 use Rattle.rx_sendwin.proofs.window.SendWin.due.Goals as goal
 

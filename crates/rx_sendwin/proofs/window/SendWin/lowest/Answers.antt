@@ -1,8 +1,8 @@
-use Rattle.std.proofs.Common.{◌≡◌, ◌+◌, ◌∙◌, ap, sym, subst, arith, suc, length, None}
+use Rattle.std.proofs.Common.{◌∙◌, ap, sym, subst, arith, suc}
 use Rattle.rx_sendwin.specs.Pieces.{as_giving, IsTimed}
 use Rattle.rx_sendwin.proofs.PieceLaws.{timed_at}
 use Rattle.rx_sendwin.proofs.Standing.{given_within, giving_read}
-use Rattle.rx_sendwin.proofs.Lowest.{again_is, lowest_is, low_within, lowest_may, past_given, low_held}
+use Rattle.rx_sendwin.proofs.Lowest.{again_is, lowest_is, low_within, past_given, low_held}
 use Rattle.rx_sendwin.proofs.window.SendWin.lowest.Goals as goal
 
 pub overflow_add-before : goal.overflow_add-before

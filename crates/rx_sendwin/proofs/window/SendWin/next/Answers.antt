@@ -1,4 +1,4 @@
-use Rattle.std.proofs.Common.{◌≡◌, ◌+◌, ◌∙◌, ap, sym, refl}
+use Rattle.std.proofs.Common.{◌+◌, ◌∙◌, ap, sym, refl}
 use Rattle.rx_sendwin.specs.Window.{SendWindow}
 use Rattle.rx_sendwin.proofs.Nexts.{next_fresh, next_due, next_waits, next_none}
 use Rattle.rx_sendwin.proofs.window.SendWin.next.Goals as goal

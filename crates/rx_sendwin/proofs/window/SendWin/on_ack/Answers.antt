@@ -1,13 +1,11 @@
-use Rattle.std.proofs.Common.{◌≡◌, ◌∙◌, ◌+◌, ◌-◌, ◌<◌, ◌≤◌, ap, sym, subst, arith, rules, length, take, drop, min}
-use Rattle.std.proofs.Common.{false, ℕ, List}
+use Rattle.std.proofs.Common.{◌≡◌, ◌∙◌, ◌-◌, ◌≤◌, ap, subst, arith, rules, length, drop, min}
 use Rattle.std.proofs.lemmas.List.{length-drop, length-take-le}
-use Rattle.rx_rules.specs.Sent.{Sent}
-use Rattle.rx_sendwin.specs.Marks.{is_known, is_valid_ack, leading_marks}
+use Rattle.rx_sendwin.specs.Marks.{leading_marks}
 use Rattle.rx_sendwin.specs.Pieces.{slots_in}
-use Rattle.rx_sendwin.specs.Window.{SendWindow, StandsSent, piece_slots}
+use Rattle.rx_sendwin.specs.Window.{SendWindow, piece_slots}
 use Rattle.rx_sendwin.proofs.Acks.{leading_most, makes_sense}
 use Rattle.rx_sendwin.proofs.PieceLaws.{slots_drop, last_drop}
-use Rattle.rx_sendwin.proofs.Acknowledging.{stale_newly, fresh_newly, stale_ack, ack_stands, ack_tied, marks_alike}
+use Rattle.rx_sendwin.proofs.Acknowledging.{stale_newly, fresh_newly, ack_stands, ack_tied, marks_alike}
 use Rattle.rx_sendwin.proofs.window.SendWin.on_ack.Goals as goal
 
 pub returns-then-first-self-clause-newly : goal.returns-then-first-self-clause-newly

@@ -1,6 +1,5 @@
-use Rattle.std.proofs.Common.{◌≡◌, ◌+◌, ◌∙◌, length, sym, ap}
+use Rattle.std.proofs.Common.{◌≡◌, ◌+◌, ◌∙◌, length, ap}
 use Rattle.rx_rules.specs.Sent.{opened, pieces_by}
-use Rattle.rx_sendwin.specs.Window.{SendWindow, piece_slots}
 use Rattle.rx_sendwin.proofs.PieceLaws.{slots_count}
 use Rattle.rx_sendwin.proofs.window.SendWin.room.Goals as goal
 

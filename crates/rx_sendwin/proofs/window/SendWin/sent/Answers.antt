@@ -1,7 +1,7 @@
-use Rattle.std.proofs.Common.{◌≡◌, ◌<◌, ◌≤◌, ◌+◌, ◌-◌, ◌∙◌, is_some, ap, sym, arith, rules, length, suc, refl, Bool}
+use Rattle.std.proofs.Common.{◌≡◌, ◌<◌, ◌+◌, ◌-◌, ◌∙◌, is_some, ap, sym, arith, rules, length, suc, refl}
 use Rattle.rx_sendwin.specs.declared.piece.HeldPiece.{HeldPiece}
 use Rattle.rx_sendwin.specs.Marks.{is_known, flight_by}
-use Rattle.rx_sendwin.specs.Window.{SendWindow, CanBeSent, piece_slots}
+use Rattle.rx_sendwin.specs.Window.{piece_slots}
 use Rattle.rx_sendwin.proofs.Acks.{flight_most, flight_next}
 use Rattle.rx_sendwin.proofs.PieceLaws.{same_at, slots_set}
 use Rattle.rx_sendwin.proofs.Standing.{given_within, given_now, sent_stands, sent_tied}

@@ -1,4 +1,4 @@
-use Rattle.std.proofs.Common.{◌≡◌, ◌≤◌, ◌+◌, ◌∙◌, arith, length, refl, subst}
+use Rattle.std.proofs.Common.{◌≡◌, ◌+◌, ◌∙◌, arith, length, refl, subst}
 use Rattle.rx_rules.specs.Sent.{opened}
 use Rattle.rx_pool.proofs.Holding.{keeps_same, keeps_then}
 use Rattle.rx_sendwin.specs.Window.{piece_slots}
