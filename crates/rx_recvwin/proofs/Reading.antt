@@ -100,6 +100,9 @@ read_most w d near =
           omega (arith, size, before, short, empty))
     ]
 
+no_rest : (n : ℕ) (xs : List ℕ) → xs ≡ [] → drop n xs ++ [] ≡ []
+no_rest n xs is = append-nil (drop n xs) ∙ past n xs (omega (arith, ap length is))
+
 -- they begin with what is left of the first packet
 pub first_unread : (w : Window) (d : Received) → Near w d →
     (rest : List ℕ) × (unread_of d ≡ drop w.offset (payload_of (packet_at d.kept (suc w.used))) ++ rest)
@@ -122,12 +125,8 @@ first_unread w d near =
           let empty : here ≡ [] = no_payload (packet_at d.kept (suc w.used)) none in
           let size : length (heard_of d.kept) ≡ length (bytes_to d.kept w.used) = (
           ap (λ k. length (bytes_to d.kept k)) at) in
-          let nothing_left : drop w.offset [] ++ [] ≡ [] =
-          append-nil (drop w.offset []) ∙ past w.offset [] (omega arith) in (
-            [],
-            past (length d.read) (heard_of d.kept) (omega (arith, size, start))
-                ∙ sym (ap (λ (p : List ℕ). drop w.offset p ++ []) empty ∙ nothing_left),
-          ))
+          let none_left = past (length d.read) (heard_of d.kept) (omega (arith, size, start)) in
+          ([], none_left ∙ sym (no_rest w.offset here empty)))
     ]
 
 -- where nothing of the first packet is left, nothing is

@@ -5,7 +5,7 @@ use Rattle.std.proofs.Common.{false, ℕ, suc, zero, List, [], ◌∷◌, length
 use Rattle.std.proofs.Common.{ap, ◌∙◌}
 use Rattle.std.proofs.Common.{arith}
 use Rattle.std.proofs.lemmas.Bool.Decides.{nat_tests}
-use Rattle.std.proofs.lemmas.Bool.{cases_lt, false≢true}
+use Rattle.std.proofs.lemmas.Bool.{cases_lt, cases_eq, false≢true}
 use Rattle.rx_rules.specs.Received.{reach}
 use Rattle.rx_rules.specs.Sent.{count_to, highest_to, is_marked, marks_past}
 use Rattle.rx_sendwin.proofs.Reach.{reach_only}
@@ -49,6 +49,64 @@ count_most test (suc n) =
       | true ↦ omega (arith, rest)
       | false ↦ omega (arith, rest)
     ]
+
+-- what no test passes behind u isn't counted
+count_cut : (test : ℕ → Bool) (u n : ℕ) → u ≤ n → ((k : ℕ) → u < k → k ≤ n → test k ≡ false) →
+    count_to test n ≡ count_to test u
+count_cut test u zero le fails = (let is : zero ≡ u = omega (arith, le) in ap (count_to test) is)
+count_cut test u (suc n) le fails =
+    elim (cases_eq u (suc n)) as (λ _. count_to test (suc n) ≡ count_to test u) [
+      | inl e ↦ ap (count_to test) (sym e)
+      | inr apart ↦ (
+          let up : u ≤ n = omega (arith, le, apart) in
+          rw (fails (suc n) (omega (arith, up)) (omega arith))
+          (count_cut test u n up (λ k lt most. fails k lt (omega (arith, most)))))
+    ]
+
+highest_cut : (test : ℕ → Bool) (u n : ℕ) → u ≤ n → ((k : ℕ) → u < k → k ≤ n → test k ≡ false) →
+    highest_to test n ≡ highest_to test u
+highest_cut test u zero le fails = (let is : zero ≡ u = omega (arith, le) in ap (highest_to test) is)
+highest_cut test u (suc n) le fails =
+    elim (cases_eq u (suc n)) as (λ _. highest_to test (suc n) ≡ highest_to test u) [
+      | inl e ↦ ap (highest_to test) (sym e)
+      | inr apart ↦ (
+          let up : u ≤ n = omega (arith, le, apart) in
+          rw (fails (suc n) (omega (arith, up)) (omega arith))
+          (highest_cut test u n up (λ k lt most. fails k lt (omega (arith, most)))))
+    ]
+
+-- behind u all are in flight
+pub flight_cut : (known : ℕ → Bool) (u n : ℕ) → u ≤ n → ((k : ℕ) → u < k → k ≤ n → known k ≡ false) →
+    flight_by known n ≡ flight_by known u + (n - u)
+flight_cut known u zero le none =
+    let is : zero ≡ u = omega (arith, le) in
+    let same : flight_by known zero ≡ flight_by known u = ap (flight_by known) is in
+    same ∙ omega (arith, le)
+flight_cut known u (suc n) le none =
+    elim (cases_eq u (suc n)) as (λ _. flight_by known (suc n) ≡ flight_by known u + (suc n - u)) [
+      | inl e ↦ (
+          let same : flight_by known (suc n) ≡ flight_by known u = ap (flight_by known) (sym e) in
+          same ∙ omega (arith, e))
+      | inr apart ↦ (
+          let up : u ≤ n = omega (arith, le, apart) in
+          let rest = flight_cut known u n up (λ k lt most. none k lt (omega (arith, most))) in
+          rw (none (suc n) (omega (arith, up)) (omega arith)) (omega (arith, rest, up)))
+    ]
+
+and_false : (a b : Bool) → b ≡ false → (a && b) ≡ false
+and_false true b h = h
+and_false false b h = refl
+
+-- a piece that isn't acknowledged isn't new
+pub newly_cut : (before after : ℕ → Bool) (u n : ℕ) → u ≤ n → ((k : ℕ) → u < k → k ≤ n → after k ≡ false) →
+    newly_by before after n ≡ newly_by before after u
+newly_cut before after u n le none =
+    count_cut (is_new_by before after) u n le (λ k lt most. and_false (not (before k)) (after k) (none k lt most))
+
+pub new_highest_cut : (before after : ℕ → Bool) (u n : ℕ) → u ≤ n →
+    ((k : ℕ) → u < k → k ≤ n → after k ≡ false) → highest_by before after n ≡ highest_by before after u
+new_highest_cut before after u n le none =
+    highest_cut (is_new_by before after) u n le (λ k lt most. and_false (not (before k)) (after k) (none k lt most))
 
 -- a piece that was hard acknowledged isn't new
 not_new : (after : ℕ → Bool) (acked : ℕ) (soft : List Bool) (k : ℕ) → k ≤ acked →
@@ -206,6 +264,18 @@ flight_next acked given soft le quiet =
     ∙ quiet (given - acked) (omega (arith, le))) in
     ap (λ b. cond (not b) (suc (flight_by (is_known acked soft) given)) (flight_by (is_known acked soft) given)) gone
 
+past_end : {X : Type 0} (xs : List X) (i : ℕ) (d : X) → length xs ≤ i → get_or xs i d ≡ d
+past_end [] i d le = refl
+past_end (x ∷ xs) zero d le = absurd (omega (arith, le))
+past_end (x ∷ xs) (suc i) d le = past_end xs i d (omega (arith, le))
+
+-- behind the marks nothing is acknowledged
+pub known_past : (acked : ℕ) (marks : List Bool) (k : ℕ) → acked + length marks < k → is_known acked marks k ≡ false
+known_past acked marks k lt =
+    let gone : nat_le k acked ≡ false = grind (arith, nat_tests, lt) in
+    let none = past_end marks (k - suc acked) false (omega (arith, lt)) in
+    (λ j. gone j || none j)
+
 -- ---- the marks that are kept
 
 taken_at : {X : Type 0} (xs : List X) (n i : ℕ) (d : X) → i < n → get_or (take n xs) i d ≡ get_or xs i d
@@ -219,11 +289,6 @@ taken_past xs zero i d le = refl
 taken_past [] (suc n) i d le = refl
 taken_past (x ∷ xs) (suc n) zero d le = absurd (omega (arith, le))
 taken_past (x ∷ xs) (suc n) (suc i) d le = taken_past xs n i d (omega (arith, le))
-
-past_end : {X : Type 0} (xs : List X) (i : ℕ) (d : X) → length xs ≤ i → get_or xs i d ≡ d
-past_end [] i d le = refl
-past_end (x ∷ xs) zero d le = absurd (omega (arith, le))
-past_end (x ∷ xs) (suc i) d le = past_end xs i d (omega (arith, le))
 
 -- where no mark past so many is set, those up to there say all
 pub kept_alike : (soft marks : List Bool) (most : ℕ) → soft ≡ take (min (length marks) most) marks →

@@ -1,4 +1,4 @@
-ghost use Rattle.std.specs.Prelude.{not, nat_lt, nat_le, ◌&&◌, ◌||◌, IfSome, ◌≡◌, ◌≤◌, ◌<◌, ◌+◌, ◌-◌, length, take};
+ghost use Rattle.std.specs.Prelude.{ℕ, not, nat_lt, nat_le, ◌&&◌, ◌||◌, IfSome, ◌≡◌, ◌≤◌, ◌<◌, ◌+◌, ◌-◌, length, take};
 ghost use Rattle.std.specs.Prelude.{min};
 ghost use Rattle.std.specs.Prelude.{slice_index_or, Option, Some, None, false, option_and_then};
 ghost use Rattle.rx_model.specs.declared.wire.TheConstants.{MAX_WINDOW};
@@ -41,14 +41,25 @@ pub fn is_acked(acked: u32, marks: &[bool], seq: u32) -> bool
     mark_at(marks, (seq - acked - 1) as usize)
 }
 
+/// The last of the pieces given that an acknowledgement speaks of: none behind it is acknowledged.
+fn last_known(acked: u32, marks: &[bool], given: u32) -> u32
+    requires { acked ≤ given }
+    ensures least { acked ≤ result }
+    ensures most { result ≤ given }
+    ensures past { (k : ℕ) → result < k → k ≤ given → is_known acked marks.now k ≡ false }
+{
+    (acked as u64 + marks.len() as u64).min(given as u64) as u32
+}
+
 /// How many of the pieces given are not acknowledged.
 pub fn count_in_flight(acked: u32, marks: &[bool], given: u32) -> u32
     requires { acked ≤ given }
     ensures value { result ≡ flight_by (is_known acked marks.now) given }
     ensures most { acked + result ≤ given }
 {
-    let mut n = 0;
-    for i in 0..given - acked {
+    let known = last_known(acked, marks, given);
+    let mut n = given - known;
+    for i in 0..known - acked {
         if !is_acked(acked, marks, acked + i + 1) {
             n += 1;
         }
@@ -88,8 +99,9 @@ pub fn count_newly(acked: u32, soft: &[bool], now_acked: u32, marks: &[bool], gi
     requires { (acked ≤ now_acked) × (now_acked ≤ given) }
     ensures { result ≡ newly_by (is_known acked soft.now) (is_known now_acked marks.now) given }
 {
+    let known = last_known(now_acked, marks, given);
     let mut n = 0;
-    for i in 0..given - acked {
+    for i in 0..known - acked {
         let seq = acked + i + 1;
         let before = is_acked(acked, soft, seq);
         let after = is_acked(now_acked, marks, seq);
@@ -113,7 +125,7 @@ pub fn highest_newly(
     ensures above { IfSome result (λ k. acked < k) }
     ensures within { IfSome result (λ k. k ≤ given) }
 {
-    let mut seq = given;
+    let mut seq = last_known(now_acked, marks, given);
     while seq > acked {
         let before = is_acked(acked, soft, seq);
         let after = is_acked(now_acked, marks, seq);

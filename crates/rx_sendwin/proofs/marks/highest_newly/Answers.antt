@@ -1,7 +1,19 @@
 use Rattle.std.proofs.Common.{◌<◌, ◌∙◌, sym, arith}
 use Rattle.rx_sendwin.specs.Marks.{is_known}
-use Rattle.rx_sendwin.proofs.Acks.{highest_none, highest_down, highest_here}
+use Rattle.rx_sendwin.proofs.Acks.{highest_none, highest_down, highest_here, new_highest_cut}
 use Rattle.rx_sendwin.proofs.marks.highest_newly.Goals as goal
+
+pub loop-seq-init : goal.loop-seq-init
+loop-seq-init c =
+    let before = is_known c.args.acked c.args.soft.now in
+    let after = is_known c.args.now_acked c.args.marks.now in
+    let upto = c.last_known-seq.result in
+    let ensured = c.last_known-seq.ensures in
+    record {
+      least = omega (arith, ensured.least, c.requires);
+      most = ensured.most;
+      so_far = new_highest_cut before after upto c.args.given ensured.most ensured.past;
+    }
 
 pub loop-seq-preserved : goal.loop-seq-preserved
 loop-seq-preserved c =
