@@ -3,7 +3,7 @@
 use Rattle.std.proofs.Common.{◌≡◌, ◌⊎◌, inl, inr, Bool, true, false, ℕ, List, []}
 use Rattle.std.proofs.Common.{◌∷◌, ◌++◌, sym, ap, ◌∙◌, arith, length-append}
 use Rattle.std.proofs.lemmas.Bool.{cases_Bool, false≢true}
-use Rattle.rx_pool.specs.Pool.{Slots, IsOf, has, HasNoRepeat, bytes_at}
+use Rattle.rx_pool.specs.Pool.{Slots, IsSlotOf, has, HasNoRepeat, bytes_at}
 use Rattle.rx_pool.specs.Held.{Holds, Keeps, Stays}
 use Rattle.rx_pool.proofs.Numbers.{has_first, has_later, has_cases}
 use Rattle.rx_pool.proofs.Holding.{or_left, or_right, or_cases}
@@ -90,7 +90,7 @@ pub holds_both : (pool : Slots) (xs ys : List ℕ) → Holds pool xs → Holds p
     Holds pool (xs ++ ys)
 holds_both pool xs ys h k d =
     record {
-      of = λ s t. (elim (has_either s xs ys t) as (λ _. IsOf pool s) [
+      of = λ s t. (elim (has_either s xs ys t) as (λ _. IsSlotOf pool s) [
         | inl l ↦ h.of s l
         | inr r ↦ k.of s r
       ]);

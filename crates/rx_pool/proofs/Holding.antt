@@ -4,7 +4,7 @@ use Rattle.std.proofs.Common.{List, [], ◌∷◌, length, get_or, set, refl, sy
 use Rattle.std.proofs.lemmas.Bool.{cases_eq, cases_Bool, false≢true}
 use Rattle.std.proofs.lemmas.List.{get_or-set_other, get_or-set_same, length-set}
 use Rattle.rx_pool.specs.declared.pool.TheConstants.{SLOT_BYTES}
-use Rattle.rx_pool.specs.Pool.{Slots, IsOf, Takes, has, HasNoRepeat, bytes_at}
+use Rattle.rx_pool.specs.Pool.{Slots, IsSlotOf, Takes, has, HasNoRepeat, bytes_at}
 use Rattle.rx_pool.specs.Held.{Holds, Keeps, Stays}
 use Rattle.rx_pool.proofs.Numbers.{has_rest, has_cases, has_later, not_first, not_later, not_has, two}
 
@@ -72,8 +72,8 @@ keeps_order a b p q r k same apart size =
 pub keeps_got : (old new : Slots) (s : ℕ) (held : List ℕ) → Takes old new s → Holds old held →
     Keeps old new held (s ∷ held)
 keeps_got old new s held t h =
-    let apart : (u : ℕ) → IsOf old u → s ≢ u = (λ u of. two s u old.free t.free of.held) in
-    let still : (u : ℕ) → IsOf old u → IsOf new u = (λ u of.
+    let apart : (u : ℕ) → IsSlotOf old u → s ≢ u = (λ u of. two s u old.free t.free of.held) in
+    let still : (u : ℕ) → IsSlotOf old u → IsSlotOf new u = (λ u of.
     record {
       within = subst (λ (bs : List (List ℕ)). u < length bs) (sym t.bytes) of.within;
       held = t.others u (λ e. apart u of (sym e)) ∙ of.held;
@@ -83,8 +83,8 @@ keeps_got old new s held t h =
     record {
       holds = record {
         of = λ u y. (
-            elim (has_cases s u held y) as (λ _. IsOf new u) [
-              | inl e ↦ subst (λ v. IsOf new v) e t.of
+            elim (has_cases s u held y) as (λ _. IsSlotOf new u) [
+              | inl e ↦ subst (λ v. IsSlotOf new v) e t.of
               | inr z ↦ still u (h.of u z)
             ]);
         apart = (
@@ -114,7 +114,7 @@ pub keeps_given : (old new : Slots) (s : ℕ) (held : List ℕ) → Takes new ol
     Keeps old new (s ∷ held) held
 keeps_given old new s held t h =
     let count = t.count in
-    let still : (u : ℕ) → s ≢ u → IsOf old u → IsOf new u = (λ u apart of.
+    let still : (u : ℕ) → s ≢ u → IsSlotOf old u → IsSlotOf new u = (λ u apart of.
     record {
       within = subst (λ (bs : List (List ℕ)). u < length bs) t.bytes of.within;
       held = sym (t.others u (λ e. apart (sym e))) ∙ of.held;
@@ -144,8 +144,9 @@ keeps_given old new s held t h =
     }
 
 -- a slot is written: each that is of the pool stays so
-pub still_put : (old : Slots) (s : ℕ) (bytes : List ℕ) → length bytes ≡ SLOT_BYTES → IsOf old s → (u : ℕ) → IsOf old u →
-    IsOf (record old { bytes = set old.bytes s bytes }) u
+pub still_put : (old : Slots) (s : ℕ) (bytes : List ℕ) → length bytes ≡ SLOT_BYTES → IsSlotOf old s → (u : ℕ) →
+    IsSlotOf old u →
+    IsSlotOf (record old { bytes = set old.bytes s bytes }) u
 still_put old s bytes wide here u of =
     record {
       within = subst (λ n. u < n) (sym (length-set old.bytes s bytes)) of.within;

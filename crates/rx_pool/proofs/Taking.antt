@@ -4,7 +4,7 @@ use Rattle.std.proofs.Common.{◌++◌, length, refl, sym, ap, ◌∙◌, arith,
 use Rattle.std.proofs.lemmas.List.{length_push, get_or_append_left, get_or_push}
 use Rattle.std.proofs.lemmas.Bool.{cases_lt}
 use Rattle.rx_pool.specs.declared.pool.TheConstants.{SLOT_BYTES}
-use Rattle.rx_pool.specs.Pool.{IsOf, Takes, has, HasNoRepeat, AllBelow, HasFullSlots}
+use Rattle.rx_pool.specs.Pool.{IsSlotOf, Takes, has, HasNoRepeat, AllBelow, HasFullSlots}
 use Rattle.rx_pool.proofs.Numbers.{has_first, has_rest, has_push, no_repeat_last, below_last}
 
 pub popped : (bytes : List (List ℕ)) (before after : List ℕ) (s : ℕ) → before ≡ after ++ s ∷ [] → HasNoRepeat before →
@@ -25,7 +25,7 @@ popped bytes before after s is apart below cut =
     }
 
 pub pushed : (bytes : List (List ℕ)) (before after : List ℕ) (s : ℕ) → after ≡ before ++ s ∷ [] →
-    IsOf (record { bytes = bytes; free = before }) s →
+    IsSlotOf (record { bytes = bytes; free = before }) s →
     Takes (record { bytes = bytes; free = after }) (record { bytes = bytes; free = before }) s
 pushed bytes before after s is of =
     let size : length after ≡ length before + 1 = ap length is ∙ length_push before s in

@@ -28,7 +28,7 @@ abbrev pub bytes_at : Slots → ℕ → List ℕ
 bytes_at pool s = slice_index_or pool.bytes s []
 
 -- a slot is of a pool: it is there, and isn't free; it has as many bytes as each slot
-pub record IsOf (pool : Slots) (s : ℕ) : Type 0 where
+pub record IsSlotOf (pool : Slots) (s : ℕ) : Type 0 where
   pub within : s < length pool.bytes
   pub held : has s pool.free ≡ false
   pub size : length (bytes_at pool s) ≡ SLOT_BYTES
@@ -39,7 +39,7 @@ overwrite old at new = take at old ++ new ++ drop (at + length new) old
 
 -- slot s was free and is taken; nothing else changes
 pub record Takes (old new : Slots) (s : ℕ) : Type 0 where
-  pub of : IsOf new s
+  pub of : IsSlotOf new s
   pub free : has s old.free ≡ true
   pub others : (t : ℕ) → t ≢ s → has t new.free ≡ has t old.free
   pub count : length old.free ≡ suc (length new.free)

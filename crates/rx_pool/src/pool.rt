@@ -1,6 +1,6 @@
 ghost use Rattle.std.specs.Prelude.{◌≡◌, ◌≤◌, ◌<◌, ◌+◌, ◌^◌, nat_lt, ℕ, List, [], ◌∷◌, length, set, Some, None, IfOk};
 ghost use Rattle.std.specs.Prelude.{MatchOption, true, false};
-ghost use Rattle.rx_pool.specs.Pool.{Slots, IsOf, Takes, HasNoRepeat, AllBelow, bytes_at, overwrite, has};
+ghost use Rattle.rx_pool.specs.Pool.{Slots, IsSlotOf, Takes, HasNoRepeat, AllBelow, bytes_at, overwrite, has};
 
 use crate::slot::Slot;
 use std::alloc::{AllocError, Global};
@@ -62,7 +62,7 @@ impl Pool {
 
     /// The bytes of a slot, all 1,444.
     pub fn bytes(&self, slot: &Slot) -> &[u8]
-        requires { IsOf self.now slot.now }
+        requires { IsSlotOf self.now slot.now }
         ensures value { result.now ≡ bytes_at self.now slot.now }
         ensures size { length result.now ≡ SLOT_BYTES }
     {
@@ -71,12 +71,12 @@ impl Pool {
 
     /// Writes into a slot, from byte `at` of it on. Nothing else changes.
     pub fn put(&mut self, slot: &Slot, at: u32, bytes: &[u8])
-        requires of { IsOf self.old slot.now }
+        requires of { IsSlotOf self.old slot.now }
         requires fits { at + length bytes.now ≤ SLOT_BYTES }
         ensures written { self.new ≡ record self.old {
           bytes = set self.old.bytes slot.now (overwrite (bytes_at self.old slot.now) at bytes.now);
         } }
-        ensures of { (s : ℕ) → IsOf self.old s → IsOf self.new s }
+        ensures of { (s : ℕ) → IsSlotOf self.old s → IsSlotOf self.new s }
     {
         let room = &mut self.slots[slot.number() as usize];
         room[at as usize..at as usize + bytes.len()].copy_from_slice(bytes);
@@ -84,7 +84,7 @@ impl Pool {
 
     /// The slot is free again; its bytes stay until it is written anew.
     pub fn give(&mut self, slot: Slot)
-        requires { IsOf self.old slot }
+        requires { IsSlotOf self.old slot }
         ensures given { Takes self.new self.old slot }
         ensures bytes { self.new.bytes ≡ self.old.bytes }
     {

@@ -1,5 +1,5 @@
 ghost use Rattle.std.specs.Prelude.{◌≡◌, ◌<◌, ◌≤◌, length};
-ghost use Rattle.rx_pool.specs.Pool.{IsOf};
+ghost use Rattle.rx_pool.specs.Pool.{IsSlotOf};
 
 use crate::{Pool, Slot};
 use std::process::Abort;
@@ -7,7 +7,7 @@ use std::test::*;
 
 /// The byte of a slot at a place.
 fn byte_at(pool: &Pool, slot: &Slot, at: usize) -> u8
-    requires of { IsOf pool.now slot.now }
+    requires of { IsSlotOf pool.now slot.now }
     requires within { at < 1444 }
 {
     pool.bytes(slot)[at]

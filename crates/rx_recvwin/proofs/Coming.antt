@@ -18,7 +18,7 @@ use Rattle.rx_rules.specs.Received.{arrival_of, after_packet}
 use Rattle.rx_recvwin.proofs.Lookups.{at_own, at_other, end_below, front_all}
 use Rattle.rx_pool.specs.Pool.{Slots}
 use Rattle.rx_recvwin.specs.Places.{place_at, leading, seen_at}
-use Rattle.rx_recvwin.specs.Window.{RecvWindow, Window, seen, Near, Stands, IsSound, after_put, arrival_at}
+use Rattle.rx_recvwin.specs.Window.{RecvWindow, Window, window_of, Near, StandsFor, IsReceivable, after_put, arrival_at}
 use Rattle.rx_recvwin.specs.Window.{slot_behind}
 use Rattle.rx_recvwin.proofs.PlaceLaws.{some_same, place_set_own, place_set_other, count_put, place_seen, some_seen}
 use Rattle.rx_recvwin.proofs.PlaceLaws.{leading_seen}
@@ -40,8 +40,8 @@ not_above l m seq e h =
     let t : nat_lt m seq ≡ false = ap (λ o. is_above o seq) (sym e) ∙ h in grind (arith, nat_tests, t)
 
 -- what holds of all that is received holds behind a packet that is kept
-pub sound_more : (w : Window) (d : Received) (p : Packet) → IsSound d → CanCome w d p →
-    IsSound (after_packet tooks.Kept p d)
+pub sound_more : (w : Window) (d : Received) (p : Packet) → IsReceivable d → CanCome w d p →
+    IsReceivable (after_packet tooks.Kept p d)
 sound_more w d p sound can =
     let seq = p.seq in
     let last = p.piece.last in
@@ -159,7 +159,7 @@ arrival_in w slot seq last =
     }
 
 pub arrival_seen : (pool : Slots) (w : RecvWindow) (slot : Bool) (seq : ℕ) (last : Bool) →
-    arrival_at w slot seq last ≡ arrival_in (seen pool w) slot seq last
+    arrival_at w slot seq last ≡ arrival_in (window_of pool w) slot seq last
 arrival_seen pool w slot seq last =
     let j = seq - suc w.used in
     let some : is_some (place_at w.places j) ≡ is_some (place_at (map (seen_at pool) w.places) j) = (
@@ -172,7 +172,7 @@ arrival_seen pool w slot seq last =
       has_slot = slot;
     }
 
-pub arrival_is : (w : Window) (d : Received) (slot : Bool) (p : Packet) → Stands w d →
+pub arrival_is : (w : Window) (d : Received) (slot : Bool) (p : Packet) → StandsFor w d →
     arrival_in w slot p.seq p.piece.last ≡ arrival_of w.width slot p d
 arrival_is w d slot p s =
     let seq = p.seq in
@@ -200,11 +200,12 @@ arrival_is w d slot p s =
     }
 
 -- the slot that the window finds is the rules'
-pub slot_is : (pool : Slots) (w : RecvWindow) (d : Received) (leadless : Bool) (left seq : ℕ) → Stands (seen pool w) d →
+pub slot_is : (pool : Slots) (w : RecvWindow) (d : Received) (leadless : Bool) (left seq : ℕ) →
+    StandsFor (window_of pool w) d →
     slot_behind leadless left seq (w.used + leading w.places) ≡ has_slot leadless left seq d
 slot_is pool w d leadless left seq s =
     let front : w.used + leading w.places ≡ front_of d.kept = (
-    ap (λ n. w.used + n) (sym (leading_seen pool w.places)) ∙ sym (front_is (seen pool w) d s.near)) in
+    ap (λ n. w.used + n) (sym (leading_seen pool w.places)) ∙ sym (front_is (window_of pool w) d s.near)) in
     ap (slot_behind leadless left seq) front
 
 -- what a packet that is kept isn't
@@ -264,7 +265,7 @@ pub has_free : (left free front seq : ℕ) (leadless : Bool) → slot_behind lea
 has_free left free front seq true h le = omega (arith, le)
 has_free left free front seq false h le = let some : nat_lt 0 left ≡ true = h in grind (arith, nat_tests, some, le)
 
-pub can_come : (w : Window) (d : Received) (slot : Bool) (p : Packet) → Stands w d → w.used < p.seq →
+pub can_come : (w : Window) (d : Received) (slot : Bool) (p : Packet) → StandsFor w d → w.used < p.seq →
     p.seq ≤ w.used + w.width → p.seq < 2 ^ 32 - 1 → arrival_row (arrival_in w slot p.seq p.piece.last) ≡ tooks.Kept →
     CanCome w d p
 can_come w d slot p s above within fits h =
@@ -285,28 +286,29 @@ can_come w d slot p s above within fits h =
 -- the row that the window finds is the rules'
 pub row_is : (pool : Slots) (w : RecvWindow) (d : Received) (leadless : Bool) (left : ℕ) (p : Packet) (took : Took) →
     took ≡ arrival_row (arrival_at w (slot_behind leadless left p.seq (w.used + leading w.places)) p.seq p.piece.last) →
-    Stands (seen pool w) d → took ≡ arrival_row (arrival_of w.width (has_slot leadless left p.seq d) p d)
+    StandsFor (window_of pool w) d → took ≡ arrival_row (arrival_of w.width (has_slot leadless left p.seq d) p d)
 row_is pool w d leadless left p took judge s =
     judge
     ∙ ap (λ slot. arrival_row (arrival_at w slot p.seq p.piece.last)) (slot_is pool w d leadless left p.seq s)
     ∙ ap arrival_row
     (arrival_seen pool w (has_slot leadless left p.seq d) p.seq p.piece.last
-    ∙ arrival_is (seen pool w) d (has_slot leadless left p.seq d) p s)
+    ∙ arrival_is (window_of pool w) d (has_slot leadless left p.seq d) p s)
 
 -- a packet that is kept
 pub kept_stands : (pool : Slots) (old : RecvWindow) (put new : Window) (d : Received) (slot : Bool) (p : Packet) →
-    arrival_row (arrival_at old slot p.seq p.piece.last) ≡ tooks.Kept → put ≡ after_put p (seen pool old) →
-    ((r : Received) → Near put r → Stands new r) → Stands (seen pool old) d → Stands new (after_packet tooks.Kept p d)
+    arrival_row (arrival_at old slot p.seq p.piece.last) ≡ tooks.Kept → put ≡ after_put p (window_of pool old) →
+    ((r : Received) → Near put r → StandsFor new r) → StandsFor (window_of pool old) d →
+    StandsFor new (after_packet tooks.Kept p d)
 kept_stands pool old put new d slot p row e settled s =
     let at = has_place old slot p.seq p.piece.last row in
     let seen_row = ap arrival_row (sym (arrival_seen pool old slot p.seq p.piece.last)) ∙ row in
-    let can = can_come (seen pool old) d slot p s at.above at.within at.fits seen_row in
-    let near = put_near (seen pool old) d p s.near can in
+    let can = can_come (window_of pool old) d slot p s at.above at.within at.fits seen_row in
+    let near = put_near (window_of pool old) d p s.near can in
     settled (after_packet tooks.Kept p d) (subst (λ (w : Window). Near w (after_packet tooks.Kept p d)) (sym e) near)
 
 -- one that is refused, and counts as the latest
-pub noted : (w : Window) (d : Received) (seq : ℕ) → Stands w d →
-    Stands (record w { previous = seq }) (record d { previous = seq })
+pub noted : (w : Window) (d : Received) (seq : ℕ) → StandsFor w d →
+    StandsFor (record w { previous = seq }) (record d { previous = seq })
 noted w d seq s =
     let sound = s.near.sound in
     let near = s.near in
@@ -351,11 +353,11 @@ counts r p took is =
 
 -- one that is refused so stands for what was received with it
 pub noted_stands : (pool : Slots) (w : RecvWindow) (r : Received) (p : Packet) (took : Took) →
-    (took ≡ tooks.Repeat) ⊎ ((took ≡ tooks.Beyond) ⊎ (took ≡ tooks.NoSlot)) → Stands (seen pool w) r →
-    Stands (seen pool (record w { previous = p.seq })) (after_packet took p r)
+    (took ≡ tooks.Repeat) ⊎ ((took ≡ tooks.Beyond) ⊎ (took ≡ tooks.NoSlot)) → StandsFor (window_of pool w) r →
+    StandsFor (window_of pool (record w { previous = p.seq })) (after_packet took p r)
 noted_stands pool w r p took is s =
-    let new = seen pool (record w { previous = p.seq }) in
-    subst (λ (q : Received). Stands new q) (sym (counts r p took is)) (noted (seen pool w) r p.seq s)
+    let new = window_of pool (record w { previous = p.seq }) in
+    subst (λ (q : Received). StandsFor new q) (sym (counts r p took is)) (noted (window_of pool w) r p.seq s)
 
 either : {A B C : Type 0} → (A → C) → (B → C) → A ⊎ B → C
 either {A} {B} {C} f g s = elim s as (λ _. C) [ inl a ↦ f a | inr b ↦ g b ]

@@ -9,7 +9,7 @@ use Rattle.rx_rules.specs.Received.{Piece, Packet, Received, packet_at, payload_
 use Rattle.rx_rules.specs.Received.{end_of, is_done, is_done_by, used_of, count_above}
 use Rattle.rx_recvwin.proofs.Lookups.{front_only, used_only, done_kept}
 use Rattle.rx_recvwin.specs.Places.{place_at, leading, count_in, is_place_done}
-use Rattle.rx_recvwin.specs.Window.{Window, Near, Stands, IsOnce, after_use}
+use Rattle.rx_recvwin.specs.Window.{Window, Near, StandsFor, IsOnce, after_use}
 use Rattle.rx_recvwin.proofs.PlaceLaws.{leading_all, leading_stops, place_next, count_turned}
 
 count_past : (kept : List Packet) (u : ℕ) → packet_at kept (suc u) ≡ None →
@@ -76,7 +76,7 @@ done_is w d near =
     (λ i. is_place_done (first i) w.offset (near.ended i))
     ∙ done_of o (end_of d.kept w.used) w.offset (length d.read) d.ended near.offset
 
-pub used_is : (w : Window) (d : Received) → Stands w d → used_of d ≡ w.used
+pub used_is : (w : Window) (d : Received) → StandsFor w d → used_of d ≡ w.used
 used_is w d s = used_only d w.used s.near.done s.stops
 
 pub front_is : (w : Window) (d : Received) → Near w d → front_of d.kept ≡ w.used + leading w.ahead
@@ -168,9 +168,9 @@ step_near w d near h =
 
 -- ---- what a window tells
 
-pub held_is : (w : Window) (d : Received) → Stands w d → count_in w.ahead ≡ count_above (used_of d) d.kept
+pub held_is : (w : Window) (d : Received) → StandsFor w d → count_in w.ahead ≡ count_above (used_of d) d.kept
 held_is w d s = s.near.count ∙ ap (λ u. count_above u d.kept) (sym (used_is w d s))
 
-pub lead_is : (w : Window) (d : Received) → Stands w d →
+pub lead_is : (w : Window) (d : Received) → StandsFor w d →
     nat_lt w.used (w.used + leading w.ahead) ≡ nat_lt (used_of d) (front_of d.kept)
 lead_is w d s = λ i. nat_lt (sym (used_is w d s) i) (sym (front_is w d s.near) i)

@@ -4,7 +4,7 @@ use Rattle.std.proofs.Common.{true, false, ℕ, suc, zero, List, [], ◌∷◌, 
 use Rattle.std.proofs.Common.{Option, Some, None, refl, sym, ap, subst, ◌∙◌, arith, add-one, append_assoc}
 use Rattle.std.proofs.lemmas.List.{length-drop, drop-drop, replicate_more}
 use Rattle.std.proofs.lemmas.Bool.{cases_lt, cases_eq, false≢true}
-use Rattle.rx_pool.specs.Pool.{Slots, IsOf, Takes, has, HasNoRepeat, bytes_at}
+use Rattle.rx_pool.specs.Pool.{Slots, IsSlotOf, Takes, has, HasNoRepeat, bytes_at}
 use Rattle.rx_model.specs.declared.wire.TheConstants.{PAYLOAD_BYTES}
 use Rattle.rx_pool.specs.Held.{Holds, Keeps}
 use Rattle.rx_pool.proofs.Holding.{keeps_same, keeps_given}
@@ -274,7 +274,7 @@ seen_same old new (Some h ∷ hs) same =
 -- ---- a turn
 
 pub turn_of : (pool : Slots) (old rest : List (Option KeptPacket)) (h : KeptPacket) → old ≡ Some h ∷ rest →
-    Holds pool (slots_in old) → IsOf pool h.slot
+    Holds pool (slots_in old) → IsSlotOf pool h.slot
 turn_of pool old rest h is holds =
     holds.of h.slot (ap (λ hs. has h.slot (slots_in hs)) is ∙ has_first h.slot (slots_in rest))
 

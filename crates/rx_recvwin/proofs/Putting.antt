@@ -17,7 +17,7 @@ use Rattle.rx_pool.proofs.Holding.{keeps_got, keeps_put, keeps_then, keeps_order
 use Rattle.rx_recvwin.specs.declared.packet.KeptPacket.{KeptPacket}
 use Rattle.rx_recvwin.specs.Places.{place_at, leading, count_in, slots_in, seen_at, HasSizes, is_open_done}
 use Rattle.rx_recvwin.specs.Places.{is_place_done}
-use Rattle.rx_recvwin.specs.Window.{RecvWindow, seen, Stands, IsTied, after_put, as_packet}
+use Rattle.rx_recvwin.specs.Window.{RecvWindow, window_of, StandsFor, IsTied, after_put, as_packet}
 use Rattle.rx_recvwin.proofs.PlaceLaws.{fits_put, sized_put, slots_put, no_repeat_put, slots_count, count_put}
 use Rattle.rx_recvwin.proofs.PlaceLaws.{seen_same}
 use Rattle.rx_recvwin.proofs.PlaceLaws.{place_seen, some_seen}
@@ -121,7 +121,7 @@ empty_window width places =
     }
 
 pub empty_stands : (pool : Slots) (width : ℕ) (places : List (Option KeptPacket)) → places ≡ replicate width None →
-    MIN_WINDOW ≤ width → Stands (seen pool (empty_window width places)) nothing_received
+    MIN_WINDOW ≤ width → StandsFor (window_of pool (empty_window width places)) nothing_received
 empty_stands pool width places is least =
     let all : map (seen_at pool) places ≡ replicate width None = ap (map (seen_at pool)) is ∙ seen_none pool width in
     record {
@@ -171,10 +171,11 @@ item_is (x ∷ xs) zero o e lt = sym e
 item_is (x ∷ xs) (suc i) o e lt = item_is xs i o e (omega (arith, lt))
 
 pub marks_next : (pool : Slots) (w : RecvWindow) (r : Received) (i : ℕ) (o : Option KeptPacket) (marks : List Bool) →
-    Stands (seen pool w) r → o ≡ get_or w.places i o → i < length w.places → marks ≡ marks_from r.kept (used_of r) i →
+    StandsFor (window_of pool w) r → o ≡ get_or w.places i o → i < length w.places → marks
+    ≡ marks_from r.kept (used_of r) i →
     marks ++ is_some o ∷ [] ≡ marks_from r.kept (used_of r) (i + 1)
 marks_next pool w r i o marks s read lt so_far =
-    let used = used_is (seen pool w) r s in
+    let used = used_is (window_of pool w) r s in
     let at : place_at w.places i ≡ o = item_is w.places i o read lt in
     let here : is_some o ≡ is_some (packet_at r.kept (used_of r + suc i)) = (
     ap is_some (sym at) ∙ sym (some_seen pool (place_at w.places i))
@@ -182,10 +183,11 @@ marks_next pool w r i o marks s read lt so_far =
     ∙ ap (λ k. is_some (packet_at r.kept k)) (omega (arith, used))) in
     (λ j. so_far j ++ here j ∷ []) ∙ sym (ap (marks_from r.kept (used_of r)) (add-one i))
 
-pub marks_end : (pool : Slots) (w : RecvWindow) (r : Received) (i : ℕ) (marks : List Bool) → Stands (seen pool w) r →
+pub marks_end : (pool : Slots) (w : RecvWindow) (r : Received) (i : ℕ) (marks : List Bool) →
+    StandsFor (window_of pool w) r →
     i ≡ min (w.greatest - w.used) w.width → marks ≡ marks_from r.kept (used_of r) i → marks ≡ marks_of r
 marks_end pool w r i marks s end so_far =
-    let used = used_is (seen pool w) r s in
+    let used = used_is (window_of pool w) r s in
     let top = s.near.greatest in
     let within = s.near.within in
     let count : i ≡ greatest r.kept - used_of r = omega (arith, end, top, within, used) in
@@ -215,8 +217,8 @@ pub put_window : (old got new : Slots) (w : RecvWindow) (seq slot j : ℕ) (byte
     (latest : Option ℕ) (most : ℕ) → new ≡ written got slot bytes → Takes old got slot → Holds old (slots_in w.places) →
     length bytes ≤ PAYLOAD_BYTES → j ≡ seq - suc w.used → latest ≡ cond last (Some seq) w.last →
     most ≡ max w.greatest seq →
-    seen new (with_place w seq j (packet_in slot bytes last) latest most)
-    ≡ after_put (as_packet seq bytes last) (seen old w)
+    window_of new (with_place w seq j (packet_in slot bytes last) latest most)
+    ≡ after_put (as_packet seq bytes last) (window_of old w)
 put_window old got new w seq slot j bytes last latest most is t holds small at l g =
     let h = packet_in slot bytes last in
     let piece : Piece = record { payload = bytes; last = last } in

@@ -11,7 +11,7 @@ use Rattle.rx_rules.specs.Received.{Piece, Packet, Received, packet_at, payload_
 use Rattle.rx_rules.specs.Received.{bytes_to, end_of, heard_of, is_done_by, unread_of, is_within, read_from, read_of}
 use Rattle.rx_rules.specs.Received.{after_read}
 use Rattle.rx_recvwin.specs.Places.{place_at, leading}
-use Rattle.rx_recvwin.specs.Window.{Window, Near, Stands, FirstRead, AllRead, SomeRead, read_more}
+use Rattle.rx_recvwin.specs.Window.{Window, Near, StandsFor, FirstRead, AllRead, SomeRead, read_more}
 use Rattle.rx_recvwin.proofs.Lookups.{front_stops, front_only, done_kept, bytes_split, above_greatest, end_is}
 use Rattle.rx_recvwin.proofs.Reach.{reach_within}
 use Rattle.rx_recvwin.proofs.Nearness.{front_is, first_is}
@@ -130,7 +130,7 @@ first_unread w d near =
     ]
 
 -- where nothing of the first packet is left, nothing is
-pub first_empty : (w : Window) (d : Received) → Stands w d →
+pub first_empty : (w : Window) (d : Received) → StandsFor w d →
     length (drop w.offset (payload_of (packet_at d.kept (suc w.used)))) ≡ 0 → unread_of d ≡ []
 first_empty w d s h =
     let near = s.near in
@@ -179,7 +179,7 @@ done_more (Some b) ended end read more le h =
       | false ↦ λ h. grind (arith, nat_tests, h, le)
     ]) h
 
-pub read_near : (w : Window) (d : Received) (bytes : List ℕ) → Stands w d →
+pub read_near : (w : Window) (d : Received) (bytes : List ℕ) → StandsFor w d →
     length bytes ≤ length (drop w.offset (payload_of (packet_at d.kept (suc w.used)))) →
     length bytes ≤ length (unread_of d) → Near (record w { offset = w.offset + length bytes }) (read_more bytes d)
 read_near w d bytes s fits left =
@@ -223,7 +223,8 @@ pub first_read : (w new : Window) (d : Received) (n : ℕ) (from old to : List �
     length to ≡ length old → from ≡ drop w.offset (payload_of (place_at w.ahead 0)) → n
     ≡ min (length old) (length from) →
     take n to ≡ take (length old) from →
-    ((d : Received) → Near (record w { offset = w.offset + n }) d → Stands new d) → Stands w d → FirstRead new d n to
+    ((d : Received) → Near (record w { offset = w.offset + n }) d → StandsFor new d) → StandsFor w d →
+    FirstRead new d n to
 first_read w new d n from old to room wide is count bytes settled s =
     let near = s.near in
     let first = first_is w d near in
@@ -251,7 +252,7 @@ first_read w new d n from old to room wide is count bytes settled s =
 
 -- ---- the end
 
-pub end_near : (w : Window) (d : Received) → Stands w d → unread_of d ≡ [] →
+pub end_near : (w : Window) (d : Received) → StandsFor w d → unread_of d ≡ [] →
     is_within (last_seq d.kept) (front_of d.kept) ≡ true → Near (record w { ended = true }) (record d { ended = true })
 end_near w d s none whole =
     let near = s.near in
@@ -311,11 +312,11 @@ take_front (x ∷ given) rest (suc at) n e =
     ap (λ m. take m (x ∷ given ++ rest)) is ∙ ap (λ ys. x ∷ ys) (take_front given rest at n (omega (arith, e)))
 
 -- more was read behind what was read
-read_on : (w : Window) (d : Received) (a b c : List ℕ) → c ≡ a ++ b → Stands w (read_more b (read_more a d)) →
-    Stands w (read_more c d)
+read_on : (w : Window) (d : Received) (a b c : List ℕ) → c ≡ a ++ b → StandsFor w (read_more b (read_more a d)) →
+    StandsFor w (read_more c d)
 read_on w d a b c is s =
     let same : (d.read ++ a) ++ b ≡ d.read ++ c = append_assoc d.read a b ∙ ap (λ xs. d.read ++ xs) (sym is) in
-    subst (λ (bytes : List ℕ). Stands w (record d { read = bytes })) same s
+    subst (λ (bytes : List ℕ). StandsFor w (record d { read = bytes })) same s
 
 pub some_next : (w new : Window) (d : Received) (at n : ℕ) (to given rest : List ℕ) → length given ≡ at →
     given ≡ take at to → SomeRead w d at to → FirstRead new (read_more (take at to) d) n rest →
@@ -378,12 +379,12 @@ read_got w d room n to lt all =
 
 -- nothing was unread
 pub stood : (w : Window) (d : Received) (room n : ℕ) (to : List ℕ) → 0 < room → n ≤ 0 → AllRead w d room n to →
-    (unread_of d ≡ []) × Stands w (read_more [] d)
+    (unread_of d ≡ []) × StandsFor w (read_more [] d)
 stood w d room n to positive le all =
     let count = all.count in
     let zero : n ≡ 0 = omega (arith, le) in (
       nothing (unread_of d) (omega (arith, count, le, positive)),
-      subst (λ m. Stands w (read_more (take m to) d)) zero all.some.stands,
+      subst (λ m. StandsFor w (read_more (take m to) d)) zero all.some.stands,
     )
 
 unread_again : (d : Received) → unread_of (read_more [] d) ≡ unread_of d
@@ -391,8 +392,8 @@ unread_again d = ap (λ bytes. drop (length bytes) (heard_of d.kept)) (append-ni
 
 pub read_end : (w new : Window) (d : Received) (room n : ℕ) (to : List ℕ) → 0 < room → n ≤ 0 →
     is_within w.last (w.used + leading w.ahead) ≡ true →
-    ((d : Received) → Near (record w { ended = true }) d → Stands new d) → AllRead w d room n to →
-    ((reads.End, take 0 to) ≡ read_of d room) × Stands new (after_read true (take 0 to) d)
+    ((d : Received) → Near (record w { ended = true }) d → StandsFor new d) → AllRead w d room n to →
+    ((reads.End, take 0 to) ≡ read_of d room) × StandsFor new (after_read true (take 0 to) d)
 read_end w new d room n to positive le whole settled all =
     let facts = stood w d room n to positive le all in
     let near = facts.1.near in
@@ -404,7 +405,7 @@ read_end w new d room n to positive le whole settled all =
 
 pub read_not_yet : (w : Window) (d : Received) (room n : ℕ) (to : List ℕ) → 0 < room → n ≤ 0 →
     is_within w.last (w.used + leading w.ahead) ≡ false → AllRead w d room n to →
-    ((reads.NotYet, take 0 to) ≡ read_of d room) × Stands w (after_read false (take 0 to) d)
+    ((reads.NotYet, take 0 to) ≡ read_of d room) × StandsFor w (after_read false (take 0 to) d)
 read_not_yet w d room n to positive le whole all =
     let facts = stood w d room n to positive le all in
     let near = facts.1.near in

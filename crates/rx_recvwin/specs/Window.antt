@@ -52,8 +52,8 @@ pub record Window : Type 0 where
   pub previous : ℕ
 
 -- what a window is, given the bytes of its pool
-abbrev pub seen : Slots → RecvWindow → Window
-seen pool w =
+abbrev pub window_of : Slots → RecvWindow → Window
+window_of pool w =
     record {
       width = w.width;
       used = w.used;
@@ -94,7 +94,7 @@ pub record IsOver (r : Received) : Type 0 where
 
 -- what holds of all that can be received: seqs from 1 on below 2^32-1, none twice, none above the last packet; and the
 -- end was read only where nothing was missing
-pub record IsSound (r : Received) : Type 0 where
+pub record IsReceivable (r : Received) : Type 0 where
   pub fits : greatest r.kept < 2 ^ 32 - 1
   pub zero : packet_at r.kept 0 ≡ None
   pub once : IsOnce r.kept
@@ -105,7 +105,7 @@ pub record IsSound (r : Received) : Type 0 where
 
 -- the window has what its `used` leaves, though more of it may be done with
 pub record Near (w : Window) (r : Received) : Type 0 where
-  pub sound : IsSound r
+  pub sound : IsReceivable r
   pub done : (k : ℕ) → k < w.used → is_done r (suc k) ≡ true
   pub some : 0 < w.width
   pub size : length w.ahead ≡ w.width
@@ -120,13 +120,13 @@ pub record Near (w : Window) (r : Received) : Type 0 where
   pub previous : w.previous ≡ r.previous
 
 -- nothing more is done with
-pub record Stands (w : Window) (r : Received) : Type 0 where
+pub record StandsFor (w : Window) (r : Received) : Type 0 where
   pub near : Near w r
   pub stops : is_done r (suc w.used) ≡ false
 
 -- with the bytes of its pool, a window stands for what was received
 abbrev pub StandsReceived : Slots → RecvWindow → Received → Type 0
-StandsReceived pool w r = Stands (seen pool w) r
+StandsReceived pool w r = StandsFor (window_of pool w) r
 
 -- ---- a packet comes
 
@@ -152,10 +152,10 @@ arrival_at w slot seq last =
 -- ---- a read
 
 -- how many bytes a read gave
-abbrev pub given_count : CallRead → ℕ
-given_count (reads.Got n) = n
-given_count reads.End = 0
-given_count reads.NotYet = 0
+abbrev pub read_count : CallRead → ℕ
+read_count (reads.Got n) = n
+read_count reads.End = 0
+read_count reads.NotYet = 0
 
 -- whether it told the end
 abbrev pub tells_end : CallRead → Bool
@@ -169,7 +169,7 @@ read_more bytes r = record r { read = r.read ++ bytes }
 
 -- the first n of the unread bytes were given
 pub record SomeRead (w : Window) (r : Received) (n : ℕ) (to : List ℕ) : Type 0 where
-  pub stands : Stands w (read_more (take n to) r)
+  pub stands : StandsFor w (read_more (take n to) r)
   pub bytes : take n to ≡ take n (unread_of r)
   pub most : n ≤ length (unread_of r)
   pub fits : n ≤ length to

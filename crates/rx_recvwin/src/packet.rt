@@ -1,6 +1,6 @@
 ghost use Rattle.std.specs.Prelude.{◌≡◌, ◌≤◌, drop, take};
 ghost use Rattle.rx_model.specs.declared.wire.TheConstants.{PAYLOAD_BYTES};
-ghost use Rattle.rx_pool.specs.Pool.{IsOf, bytes_at};
+ghost use Rattle.rx_pool.specs.Pool.{IsSlotOf, bytes_at};
 ghost use Rattle.rx_recvwin.specs.Places.{is_packet_done};
 
 use rx_pool::{Pool, Slot};
@@ -26,7 +26,7 @@ impl KeptPacket {
 
     /// The packet's bytes behind the first `offset`.
     pub fn unread<'a>(&self, pool: &'a Pool, offset: u32) -> &'a [u8]
-        requires of { IsOf pool.now self.now.slot }
+        requires of { IsSlotOf pool.now self.now.slot }
         requires size { self.now.size ≤ PAYLOAD_BYTES }
         ensures { result.now ≡ drop offset (take self.now.size (bytes_at pool.now self.now.slot)) }
     {

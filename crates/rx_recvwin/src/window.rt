@@ -4,7 +4,7 @@ ghost use Rattle.rx_rules.specs.Received.{Received, nothing_received, front_of, 
 ghost use Rattle.rx_pool.specs.Pool.{Slots};
 ghost use Rattle.rx_pool.specs.Held.{Holds, Keeps};
 ghost use Rattle.rx_recvwin.specs.Places.{place_at, count_in, is_open_done, HasSizes};
-ghost use Rattle.rx_recvwin.specs.Window.{RecvWindow, packet_slots, seen, Near, Stands, StandsReceived, after_use};
+ghost use Rattle.rx_recvwin.specs.Window.{RecvWindow, packet_slots, window_of, Near, StandsReceived, after_use};
 
 use crate::ack_view::AckView;
 use crate::packet::KeptPacket;
@@ -150,7 +150,7 @@ impl RecvWin {
     pub(crate) fn step(&mut self, pool: &mut Pool)
         requires taken { is_some (place_at self.old.places 0) ≡ true }
         requires holds { Holds pool.old (packet_slots self.old) }
-        ensures after_use { seen pool.new self.new ≡ after_use (seen pool.old self.old) }
+        ensures after_use { window_of pool.new self.new ≡ after_use (window_of pool.old self.old) }
         ensures keeps { Keeps pool.old pool.new (packet_slots self.old) (packet_slots self.new) }
         ensures count { suc (count_in self.new.places) ≡ count_in self.old.places }
     {
@@ -174,7 +174,7 @@ impl RecvWin {
     /// Frees what is done with.
     pub(crate) fn settle(&mut self, pool: &mut Pool)
         requires { Holds pool.old (packet_slots self.old) }
-        ensures settled { (r : Received) → Near (seen pool.old self.old) r → Stands (seen pool.new self.new) r }
+        ensures settled { (r : Received) → Near (window_of pool.old self.old) r → StandsReceived pool.new self.new r }
         ensures keeps { Keeps pool.old pool.new (packet_slots self.old) (packet_slots self.new) }
         ensures width { self.new.width ≡ self.old.width }
     {

@@ -10,7 +10,7 @@ use Rattle.rx_rules.specs.Sent.{with_window, after_ack, after_all, newly_of}
 use Rattle.rx_rules.specs.Sent as rules
 use Rattle.rx_pool.specs.Pool.{Slots}
 use Rattle.rx_sendwin.specs.declared.piece.HeldPiece.{HeldPiece}
-use Rattle.rx_sendwin.specs.Marks.{is_known, flight_by, newly_by, highest_by, trip_at, is_valid_ack, leading_marks}
+use Rattle.rx_sendwin.specs.Marks.{is_acked_by, flight_by, newly_by, highest_by, trip_at, is_valid_ack, leading_marks}
 use Rattle.rx_sendwin.specs.Pieces.{seen_at, payload_in, giving_in, giving_at, last_size, AllSized, AllTimed}
 use Rattle.rx_sendwin.specs.Window.{SendWindow, StandsSent, IsTied}
 use Rattle.rx_sendwin.proofs.Acks.{newly_same, highest_same, flight_none, marked_at, past_quiet, kept_alike}
@@ -96,8 +96,8 @@ stale_newly s now first marks lt =
 
 pub fresh_newly : (pool : Slots) (w : SendWindow) (s : Sent) (now first count : ℕ) (marks : List Bool)
     (sample : Option ℕ) → StandsSent pool w s → 0 < first → w.acked ≤ first - 1 →
-    count ≡ newly_by (is_known w.acked w.soft) (is_known (first - 1) marks) w.given →
-    sample ≡ trip_at now s.givings (highest_by (is_known w.acked w.soft) (is_known (first - 1) marks) w.given) →
+    count ≡ newly_by (is_acked_by w.acked w.soft) (is_acked_by (first - 1) marks) w.given →
+    sample ≡ trip_at now s.givings (highest_by (is_acked_by w.acked w.soft) (is_acked_by (first - 1) marks) w.given) →
     ◌≡◌ {A = rules.Newly} (record { count = count; sample = sample }) (newly_of now first marks s)
 fresh_newly pool w s now first count marks sample st some le is trip =
     let acked = st.acked in
@@ -142,7 +142,7 @@ ack_stands old new w s first peer marks soft window pieces st some le same is so
 pub ack_tied : (w : SendWindow) (low flight first : ℕ) (marks soft : List Bool) (pieces : List HeldPiece)
     (low2 flight2 peer : ℕ) → IsTied w low flight → is_valid_ack w.given first marks ≡ true → w.acked ≤ first - 1 →
     pieces ≡ drop (first - 1 - w.acked) w.pieces → soft ≡ take (min (length marks) MAX_WINDOW) marks →
-    low2 ≡ leading_marks soft → flight2 ≡ flight_by (is_known (first - 1) marks) w.given → peer ≤ MAX_WINDOW →
+    low2 ≡ leading_marks soft → flight2 ≡ flight_by (is_acked_by (first - 1) marks) w.given → peer ≤ MAX_WINDOW →
     (0 < length (drop (first - 1 - w.acked) w.pieces) →
     last_size (drop (first - 1 - w.acked) w.pieces) ≡ last_size w.pieces) →
     IsTied (record w { acked = first - 1; soft = soft; peer_window = peer; pieces = pieces }) low2 flight2

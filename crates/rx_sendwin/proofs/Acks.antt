@@ -9,14 +9,14 @@ use Rattle.std.proofs.lemmas.Bool.{cases_lt, cases_eq, false≢true}
 use Rattle.rx_rules.specs.Received.{reach}
 use Rattle.rx_rules.specs.Sent.{count_to, highest_to, is_marked, marks_past}
 use Rattle.rx_sendwin.proofs.Reach.{reach_only}
-use Rattle.rx_sendwin.specs.Marks.{is_known, flight_by, newly_by, highest_by, is_new_by, is_valid_ack, leading_marks}
+use Rattle.rx_sendwin.specs.Marks.{is_acked_by, flight_by, newly_by, highest_by, is_new_by, is_valid_ack, leading_marks}
 
-pub known_low : (acked : ℕ) (soft : List Bool) (k : ℕ) → k ≤ acked → is_known acked soft k ≡ true
+pub known_low : (acked : ℕ) (soft : List Bool) (k : ℕ) → k ≤ acked → is_acked_by acked soft k ≡ true
 known_low acked soft k le =
     let yes : nat_le k acked ≡ true = grind (arith, nat_tests, le) in
     rw yes refl
 
-pub known_high : (acked : ℕ) (soft : List Bool) (i : ℕ) → is_known acked soft (suc (acked + i)) ≡ get_or soft i false
+pub known_high : (acked : ℕ) (soft : List Bool) (i : ℕ) → is_acked_by acked soft (suc (acked + i)) ≡ get_or soft i false
 known_high acked soft i =
     let gone : nat_le (suc (acked + i)) acked ≡ false = grind (arith, nat_tests) in
     let at : suc (acked + i) - suc acked ≡ i = omega arith in
@@ -24,7 +24,7 @@ known_high acked soft i =
 
 -- marks that are alike at each place say the same
 pub known_alike : (acked : ℕ) (a b : List Bool) → ((i : ℕ) → get_or a i false ≡ get_or b i false) →
-    is_known acked a ≡ is_known acked b
+    is_acked_by acked a ≡ is_acked_by acked b
 known_alike acked a b same = λ j k. nat_le k acked || same (k - suc acked) j
 
 -- ---- counts
@@ -110,19 +110,19 @@ new_highest_cut before after u n le none =
 
 -- a piece that was hard acknowledged isn't new
 not_new : (after : ℕ → Bool) (acked : ℕ) (soft : List Bool) (k : ℕ) → k ≤ acked →
-    is_new_by (is_known acked soft) after k ≡ false
+    is_new_by (is_acked_by acked soft) after k ≡ false
 not_new after acked soft k le = rw (known_low acked soft k le) refl
 
 pub newly_none : (after : ℕ → Bool) (acked : ℕ) (soft : List Bool) (n : ℕ) → n ≤ acked →
-    newly_by (is_known acked soft) after n ≡ 0
+    newly_by (is_acked_by acked soft) after n ≡ 0
 newly_none after acked soft n le =
-    count_nothing (is_new_by (is_known acked soft) after) n
+    count_nothing (is_new_by (is_acked_by acked soft) after) n
     (λ k lt. not_new after acked soft (suc k) (omega (arith, le, lt)))
 
 pub highest_none : (after : ℕ → Bool) (acked : ℕ) (soft : List Bool) (n : ℕ) → n ≤ acked →
-    highest_by (is_known acked soft) after n ≡ None
+    highest_by (is_acked_by acked soft) after n ≡ None
 highest_none after acked soft n le =
-    highest_nothing (is_new_by (is_known acked soft) after) n
+    highest_nothing (is_new_by (is_acked_by acked soft) after) n
     (λ k lt. not_new after acked soft (suc k) (omega (arith, le, lt)))
 
 same_not_new : (b : Bool) → (not b && b) ≡ false
@@ -151,9 +151,9 @@ highest_here before after (suc n) b a lt eb ea new =
     let test : (not (before (suc n)) && after (suc n)) ≡ true = (λ i. not (sym eb i) && sym ea i) ∙ new in
     ap (λ t. cond t (Some (suc n)) (highest_by before after n)) test
 
-pub flight_none : (acked : ℕ) (soft : List Bool) (n : ℕ) → n ≤ acked → flight_by (is_known acked soft) n ≡ 0
+pub flight_none : (acked : ℕ) (soft : List Bool) (n : ℕ) → n ≤ acked → flight_by (is_acked_by acked soft) n ≡ 0
 flight_none acked soft n le =
-    count_nothing (λ k. not (is_known acked soft k)) n
+    count_nothing (λ k. not (is_acked_by acked soft k)) n
     (λ k lt. ap not (known_low acked soft (suc k) (omega (arith, le, lt))))
 
 pub flight_most : (known : ℕ → Bool) (n : ℕ) → flight_by known n ≤ n
@@ -240,15 +240,15 @@ makes_sense given first marks valid =
 
 pub lowest_reach : (acked given : ℕ) (soft : List Bool) → acked ≤ given →
     ((i : ℕ) → given ≤ acked + i → get_or soft i false ≡ false) →
-    reach (is_known acked soft) given ≡ acked + leading_marks soft
+    reach (is_acked_by acked soft) given ≡ acked + leading_marks soft
 lowest_reach acked given soft le quiet =
-    reach_only (is_known acked soft) given (acked + leading_marks soft) (leading_within acked given soft le quiet)
-    (λ k lt. elim (cases_lt k acked) as (λ _. is_known acked soft (suc k) ≡ true) [
+    reach_only (is_acked_by acked soft) given (acked + leading_marks soft) (leading_within acked given soft le quiet)
+    (λ k lt. elim (cases_lt k acked) as (λ _. is_acked_by acked soft (suc k) ≡ true) [
       | inl below ↦ known_low acked soft (suc k) (omega (arith, below))
       | inr past ↦ (
           let back : acked + (k - acked) ≡ k = omega (arith, past) in
           let marked = leading_all soft (k - acked) (omega (arith, lt, past)) in
-          ap (λ j. is_known acked soft (suc j)) (sym back) ∙ known_high acked soft (k - acked) ∙ marked)
+          ap (λ j. is_acked_by acked soft (suc j)) (sym back) ∙ known_high acked soft (k - acked) ∙ marked)
     ])
     (λ _. known_high acked soft (leading_marks soft) ∙ leading_stops soft)
 
@@ -256,13 +256,14 @@ lowest_reach acked given soft le quiet =
 
 pub flight_next : (acked given : ℕ) (soft : List Bool) → acked ≤ given →
     ((i : ℕ) → given ≤ acked + i → get_or soft i false ≡ false) →
-    flight_by (is_known acked soft) (suc given) ≡ suc (flight_by (is_known acked soft) given)
+    flight_by (is_acked_by acked soft) (suc given) ≡ suc (flight_by (is_acked_by acked soft) given)
 flight_next acked given soft le quiet =
     let back : acked + (given - acked) ≡ given = omega (arith, le) in
-    let gone : is_known acked soft (suc given) ≡ false = (
-    ap (λ j. is_known acked soft (suc j)) (sym back) ∙ known_high acked soft (given - acked)
+    let gone : is_acked_by acked soft (suc given) ≡ false = (
+    ap (λ j. is_acked_by acked soft (suc j)) (sym back) ∙ known_high acked soft (given - acked)
     ∙ quiet (given - acked) (omega (arith, le))) in
-    ap (λ b. cond (not b) (suc (flight_by (is_known acked soft) given)) (flight_by (is_known acked soft) given)) gone
+    ap (λ b. cond (not b) (suc (flight_by (is_acked_by acked soft) given)) (flight_by (is_acked_by acked soft) given))
+    gone
 
 past_end : {X : Type 0} (xs : List X) (i : ℕ) (d : X) → length xs ≤ i → get_or xs i d ≡ d
 past_end [] i d le = refl
@@ -270,7 +271,7 @@ past_end (x ∷ xs) zero d le = absurd (omega (arith, le))
 past_end (x ∷ xs) (suc i) d le = past_end xs i d (omega (arith, le))
 
 -- behind the marks nothing is acknowledged
-pub known_past : (acked : ℕ) (marks : List Bool) (k : ℕ) → acked + length marks < k → is_known acked marks k ≡ false
+pub known_past : (acked : ℕ) (marks : List Bool) (k : ℕ) → acked + length marks < k → is_acked_by acked marks k ≡ false
 known_past acked marks k lt =
     let gone : nat_le k acked ≡ false = grind (arith, nat_tests, lt) in
     let none = past_end marks (k - suc acked) false (omega (arith, lt)) in

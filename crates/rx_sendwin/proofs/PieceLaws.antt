@@ -6,7 +6,7 @@ use Rattle.std.proofs.lemmas.Bool.{false≢true}
 use Rattle.std.proofs.lemmas.List.{map_push, length_push, length-take-le, get_or-set_other, get_or-set_same, drop-drop}
 use Rattle.std.proofs.lemmas.List.{length-set}
 use Rattle.rx_model.specs.declared.wire.TheConstants.{PAYLOAD_BYTES}
-use Rattle.rx_pool.specs.Pool.{Slots, IsOf, Takes, has, bytes_at, overwrite}
+use Rattle.rx_pool.specs.Pool.{Slots, IsSlotOf, Takes, has, bytes_at, overwrite}
 use Rattle.rx_pool.specs.Held.{Holds, Keeps}
 use Rattle.rx_pool.proofs.Numbers.{has_first, has_later, has_push, no_repeat_push, two}
 use Rattle.rx_pool.proofs.Written.{length-overwrite, take-overwrite}
@@ -259,7 +259,7 @@ pub front_of_list : (old rest : List HeldPiece) (h : HeldPiece) (n : ℕ) (all :
 front_of_list old rest h n all is at = ap (drop 1) (sym is ∙ at) ∙ drop-drop 1 n all
 
 pub gives_of : (pool : Slots) (old rest : List HeldPiece) (h : HeldPiece) → old ≡ h ∷ rest → Holds pool (slots_in old) →
-    IsOf pool h.slot
+    IsSlotOf pool h.slot
 gives_of pool old rest h is holds =
     holds.of h.slot (ap (λ hs. has h.slot (slots_in hs)) is ∙ has_first h.slot (slots_in rest))
 

@@ -18,7 +18,7 @@ use Rattle.rx_rules.specs.Sent as rules
 use Rattle.rx_pool.specs.Pool.{Slots, bytes_at}
 use Rattle.rx_sendwin.specs.declared.piece.HeldPiece.{HeldPiece}
 use Rattle.rx_sendwin.specs.declared.piece.LastGiving.{LastGiving}
-use Rattle.rx_sendwin.specs.Marks.{is_known, flight_by}
+use Rattle.rx_sendwin.specs.Marks.{is_acked_by, flight_by}
 use Rattle.rx_sendwin.specs.Pieces.{seen_at, giving_in, giving_at, as_giving, IsTimed}
 use Rattle.rx_sendwin.specs.Window.{SendWindow, StandsSent, IsTied}
 use Rattle.rx_sendwin.proofs.Acks.{known_low, known_high, flight_next}
@@ -28,13 +28,13 @@ use Rattle.rx_sendwin.proofs.PieceLaws.{sized_at, sized_set, timed_set, last_set
 -- ---- which pieces are acknowledged
 
 known_at : (acked : ℕ) (soft : List Bool) (s : Sent) → acked ≡ s.acked →
-    ((i : ℕ) → get_or soft i false ≡ s.soft (suc (acked + i))) → (k : ℕ) → is_known acked soft k ≡ is_acked s k
+    ((i : ℕ) → get_or soft i false ≡ s.soft (suc (acked + i))) → (k : ℕ) → is_acked_by acked soft k ≡ is_acked s k
 known_at acked soft s is marks k =
-    elim (cases_lt acked k) as (λ _. is_known acked soft k ≡ is_acked s k) [
+    elim (cases_lt acked k) as (λ _. is_acked_by acked soft k ≡ is_acked s k) [
       | inl lt ↦ (
           let back : suc (acked + (k - suc acked)) ≡ k = omega (arith, lt) in
           let gone : nat_le k s.acked ≡ false = grind (arith, nat_tests, lt, is) in
-          ap (is_known acked soft) (sym back) ∙ known_high acked soft (k - suc acked) ∙ marks (k - suc acked)
+          ap (is_acked_by acked soft) (sym back) ∙ known_high acked soft (k - suc acked) ∙ marks (k - suc acked)
           ∙ ap s.soft back ∙ sym (λ j. gone j || s.soft k))
       | inr le ↦ (
           let yes : nat_le k s.acked ≡ true = grind (arith, nat_tests, le, is) in
@@ -42,10 +42,11 @@ known_at acked soft s is marks k =
     ]
 
 pub known_of : (acked : ℕ) (soft : List Bool) (s : Sent) → acked ≡ s.acked →
-    ((i : ℕ) → get_or soft i false ≡ s.soft (suc (acked + i))) → is_known acked soft ≡ is_acked s
+    ((i : ℕ) → get_or soft i false ≡ s.soft (suc (acked + i))) → is_acked_by acked soft ≡ is_acked s
 known_of acked soft s is marks = λ i k. known_at acked soft s is marks k i
 
-pub known_is : (pool : Slots) (w : SendWindow) (s : Sent) → StandsSent pool w s → is_known w.acked w.soft ≡ is_acked s
+pub known_is : (pool : Slots) (w : SendWindow) (s : Sent) → StandsSent pool w s →
+    is_acked_by w.acked w.soft ≡ is_acked s
 known_is pool w s st = known_of w.acked w.soft s st.acked st.soft
 
 pub flight_is : (pool : Slots) (w : SendWindow) (s : Sent) (low flight : ℕ) → StandsSent pool w s →
@@ -252,7 +253,7 @@ sent_stands pool w s seq now place most again h st above at within read before i
 
 pub sent_tied : (w : SendWindow) (low flight place most flight2 : ℕ) (h g : HeldPiece) → IsTied w low flight →
     h ≡ get_or w.pieces place h → place < length w.pieces → g.size ≡ h.size → IsTimed g.given → w.given ≤ most →
-    most ≤ counting_by w.total w.shut → flight2 ≡ flight_by (is_known w.acked w.soft) most →
+    most ≤ counting_by w.total w.shut → flight2 ≡ flight_by (is_acked_by w.acked w.soft) most →
     IsTied (record w { given = most; pieces = set w.pieces place g }) low flight2
 sent_tied w low flight place most flight2 h g tied read within same timed more counts is =
     let size : length (set w.pieces place g) ≡ length w.pieces = length-set w.pieces place g in

@@ -5,8 +5,8 @@ use Rattle.std.specs.Prelude.{List, [], ◌∷◌, Option, option_and_then}
 use Rattle.rx_rules.specs.Sent.{Giving, count_to, highest_to, last_giving, round_trip, marks_past}
 
 -- a piece is acknowledged where so many are hard acknowledged, and these marks stand for those behind them
-abbrev pub is_known : ℕ → List Bool → ℕ → Bool
-is_known acked soft k = nat_le k acked || slice_index_or soft (k - suc acked) false
+abbrev pub is_acked_by : ℕ → List Bool → ℕ → Bool
+is_acked_by acked soft k = nat_le k acked || slice_index_or soft (k - suc acked) false
 
 -- how many of 1 to n aren't
 abbrev pub flight_by : (ℕ → Bool) → ℕ → ℕ

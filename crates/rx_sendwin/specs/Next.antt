@@ -8,8 +8,8 @@ use Rattle.rx_rules.specs.Sent.{Sent, LastGiving, last_giving, lowest_of}
 use Rattle.rx_sendwin.specs.declared.next.NextPiece.{NextPiece}
 
 -- the DATA item of least rank of those due at a moment
-abbrev pub next_item : ℕ → ℕ → Cwnd → Sent → Option CallItem
-next_item now rto c s = least_by (λ i. i.rank) (filter (λ i. nat_le i.rank now) (piece_items rto c s))
+abbrev pub next_piece_item : ℕ → ℕ → Cwnd → Sent → Option CallItem
+next_piece_item now rto c s = least_by (λ i. i.rank) (filter (λ i. nat_le i.rank now) (piece_items rto c s))
 
 -- the piece that an item is of, and whether it asks for an acknowledgement
 abbrev pub piece_of : Cwnd → Sent → Sending → Option NextPiece
@@ -18,7 +18,7 @@ piece_of c s (items.Ack reason serial) = None
 
 -- the piece that is due at a moment
 abbrev pub next_piece : ℕ → ℕ → Cwnd → Sent → Option NextPiece
-next_piece now rto c s = option_and_then (λ i. piece_of c s i.sending) (next_item now rto c s)
+next_piece now rto c s = option_and_then (λ i. piece_of c s i.sending) (next_piece_item now rto c s)
 
 -- the rank of the DATA item of least rank
 abbrev pub least_rank : ℕ → Cwnd → Sent → Option ℕ

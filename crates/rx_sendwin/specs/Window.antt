@@ -6,7 +6,7 @@ use Rattle.rx_rules.specs.Sent as rules
 use Rattle.rx_pool.specs.Pool.{Slots}
 use Rattle.rx_sendwin.specs.declared.newly.Newly.{Newly}
 use Rattle.rx_sendwin.specs.declared.piece.HeldPiece.{HeldPiece}
-use Rattle.rx_sendwin.specs.Marks.{is_known, flight_by, leading_marks}
+use Rattle.rx_sendwin.specs.Marks.{is_acked_by, flight_by, leading_marks}
 use Rattle.rx_sendwin.specs.Pieces.{slots_in, payload_in, giving_in, last_size, AllSized, AllTimed}
 
 -- the window's width; how many bytes were accepted; whether the stream is shut; how many pieces are hard acknowledged;
@@ -38,7 +38,7 @@ pub record IsTied (w : SendWindow) (low flight : ℕ) : Type 0 where
   pub acked_most : w.acked ≤ w.given
   pub quiet : (i : ℕ) → w.given ≤ w.acked + i → slice_index_or w.soft i false ≡ false
   pub lowest : low ≡ leading_marks w.soft
-  pub in_flight : flight ≡ flight_by (is_known w.acked w.soft) w.given
+  pub in_flight : flight ≡ flight_by (is_acked_by w.acked w.soft) w.given
   pub sized : AllSized w.pieces
   pub timed : AllTimed w.pieces
   pub marks : length w.soft ≤ MAX_WINDOW

@@ -3,7 +3,7 @@ ghost use Rattle.std.specs.Prelude.{min};
 ghost use Rattle.std.specs.Prelude.{slice_index_or, Option, Some, None, false, option_and_then};
 ghost use Rattle.rx_model.specs.declared.wire.TheConstants.{MAX_WINDOW};
 ghost use Rattle.rx_rules.specs.Sent.{marks_past, with_window, round_trip};
-ghost use Rattle.rx_sendwin.specs.Marks.{is_known, flight_by, newly_by, highest_by, leading_marks};
+ghost use Rattle.rx_sendwin.specs.Marks.{is_acked_by, flight_by, newly_by, highest_by, leading_marks};
 ghost use Rattle.rx_sendwin.specs.Pieces.{as_giving};
 
 use crate::piece::LastGiving;
@@ -33,7 +33,7 @@ pub fn leading(marks: &[bool]) -> usize
 
 /// Whether a piece is acknowledged: it is among the first ones, or marked.
 pub fn is_acked(acked: u32, marks: &[bool], seq: u32) -> bool
-    ensures { result ≡ is_known acked marks.now seq }
+    ensures { result ≡ is_acked_by acked marks.now seq }
 {
     if seq <= acked {
         return true;
@@ -46,7 +46,7 @@ fn last_known(acked: u32, marks: &[bool], given: u32) -> u32
     requires { acked ≤ given }
     ensures least { acked ≤ result }
     ensures most { result ≤ given }
-    ensures past { (k : ℕ) → result < k → k ≤ given → is_known acked marks.now k ≡ false }
+    ensures past { (k : ℕ) → result < k → k ≤ given → is_acked_by acked marks.now k ≡ false }
 {
     (acked as u64 + marks.len() as u64).min(given as u64) as u32
 }
@@ -54,7 +54,7 @@ fn last_known(acked: u32, marks: &[bool], given: u32) -> u32
 /// How many of the pieces given are not acknowledged.
 pub fn count_in_flight(acked: u32, marks: &[bool], given: u32) -> u32
     requires { acked ≤ given }
-    ensures value { result ≡ flight_by (is_known acked marks.now) given }
+    ensures value { result ≡ flight_by (is_acked_by acked marks.now) given }
     ensures most { acked + result ≤ given }
 {
     let known = last_known(acked, marks, given);
@@ -97,7 +97,7 @@ pub fn trip(now: u64, given: Option<LastGiving>) -> Option<u64>
 /// How many of the pieces given are newly acknowledged, where so many were hard acknowledged and others are now.
 pub fn count_newly(acked: u32, soft: &[bool], now_acked: u32, marks: &[bool], given: u32) -> u32
     requires { (acked ≤ now_acked) × (now_acked ≤ given) }
-    ensures { result ≡ newly_by (is_known acked soft.now) (is_known now_acked marks.now) given }
+    ensures { result ≡ newly_by (is_acked_by acked soft.now) (is_acked_by now_acked marks.now) given }
 {
     let known = last_known(now_acked, marks, given);
     let mut n = 0;
@@ -121,7 +121,7 @@ pub fn highest_newly(
     given: u32,
 ) -> Option<u32>
     requires { (acked ≤ now_acked) × (now_acked ≤ given) }
-    ensures value { result ≡ highest_by (is_known acked soft.now) (is_known now_acked marks.now) given }
+    ensures value { result ≡ highest_by (is_acked_by acked soft.now) (is_acked_by now_acked marks.now) given }
     ensures above { IfSome result (λ k. acked < k) }
     ensures within { IfSome result (λ k. k ≤ given) }
 {

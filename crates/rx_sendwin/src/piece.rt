@@ -1,6 +1,6 @@
 ghost use Rattle.std.specs.Prelude.{◌≡◌, ◌≤◌, take};
 ghost use Rattle.rx_model.specs.declared.wire.TheConstants.{PAYLOAD_BYTES};
-ghost use Rattle.rx_pool.specs.Pool.{IsOf, bytes_at};
+ghost use Rattle.rx_pool.specs.Pool.{IsSlotOf, bytes_at};
 
 use rx_pool::{Pool, Slot};
 
@@ -22,7 +22,7 @@ pub struct HeldPiece {
 impl HeldPiece {
     /// The piece's bytes.
     pub fn payload<'a>(&self, pool: &'a Pool) -> &'a [u8]
-        requires of { IsOf pool.now self.now.slot }
+        requires of { IsSlotOf pool.now self.now.slot }
         requires size { self.now.size ≤ PAYLOAD_BYTES }
         ensures { result.now ≡ take self.now.size (bytes_at pool.now self.now.slot) }
     {

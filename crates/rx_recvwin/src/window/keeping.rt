@@ -3,7 +3,7 @@ ghost use Rattle.std.specs.Prelude.{if◌then◌else◌, Some, None, true};
 ghost use Rattle.rx_rules.specs.Received.{Received, arrival_row, arrival_of, has_slot, after_packet, is_above};
 ghost use Rattle.rx_pool.specs.Held.{Holds, Keeps};
 ghost use Rattle.rx_recvwin.specs.Places.{place_at, leading};
-ghost use Rattle.rx_recvwin.specs.Window.{packet_slots, seen, StandsReceived, after_put, as_packet, arrival_at};
+ghost use Rattle.rx_recvwin.specs.Window.{packet_slots, window_of, StandsReceived, after_put, as_packet, arrival_at};
 ghost use Rattle.rx_recvwin.specs.Window.{slot_behind};
 
 use crate::packet::KeptPacket;
@@ -69,7 +69,8 @@ impl RecvWin {
         requires empty { place_at self.old.places (seq - suc self.old.used) ≡ None }
         requires free { 0 < length pool.old.free }
         requires holds { Holds pool.old (packet_slots self.old) }
-        ensures put { seen pool.new self.new ≡ after_put (as_packet seq bytes.now last) (seen pool.old self.old) }
+        ensures put { window_of pool.new self.new
+            ≡ after_put (as_packet seq bytes.now last) (window_of pool.old self.old) }
         ensures keeps { Keeps pool.old pool.new (packet_slots self.old) (packet_slots self.new) }
     {
         let slot = pool.get().unwrap();

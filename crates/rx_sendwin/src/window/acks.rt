@@ -2,7 +2,7 @@ ghost use Rattle.std.specs.Prelude.{not, ◌≡◌, ◌≤◌, ◌<◌, ◌-◌,
 ghost use Rattle.rx_rules.specs.Sent.{Sent, pieces_by, is_strange_ack, newly_of, after_ack, after_all};
 ghost use Rattle.rx_pool.specs.Pool.{Slots};
 ghost use Rattle.rx_pool.specs.Held.{Holds, Keeps};
-ghost use Rattle.rx_sendwin.specs.Marks.{is_known, newly_by, highest_by, trip_at, is_valid_ack};
+ghost use Rattle.rx_sendwin.specs.Marks.{is_acked_by, newly_by, highest_by, trip_at, is_valid_ack};
 ghost use Rattle.rx_sendwin.specs.Window.{piece_slots, StandsSent, as_newly};
 
 use crate::marks::{
@@ -30,10 +30,10 @@ impl SendWin {
         requires fresh { self.now.acked ≤ first - 1 }
         requires first { (0 < first) × (first - 1 ≤ self.now.given) }
         ensures count { result.count
-            ≡ newly_by (is_known self.now.acked self.now.soft) (is_known (first - 1) marks.now) self.now.given }
+            ≡ newly_by (is_acked_by self.now.acked self.now.soft) (is_acked_by (first - 1) marks.now) self.now.given }
         ensures sample { (pool : Slots) (s : Sent) → StandsSent pool self.now s →
             result.sample ≡ trip_at now s.givings
-            (highest_by (is_known self.now.acked self.now.soft) (is_known (first - 1) marks.now) self.now.given) }
+            (highest_by (is_acked_by self.now.acked self.now.soft) (is_acked_by (first - 1) marks.now) self.now.given) }
     {
         let soft = self.soft.as_slice();
         let count = count_newly(self.acked, soft, first - 1, marks, self.given);

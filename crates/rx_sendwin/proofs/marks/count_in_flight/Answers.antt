@@ -1,5 +1,5 @@
 use Rattle.std.proofs.Common.{◌≡◌, ◌+◌, ◌-◌, ◌∙◌, sym, ap, arith}
-use Rattle.rx_sendwin.specs.Marks.{is_known, flight_by}
+use Rattle.rx_sendwin.specs.Marks.{is_acked_by, flight_by}
 use Rattle.rx_sendwin.proofs.Acks.{flight_none, flight_cut}
 use Rattle.rx_sendwin.proofs.marks.count_in_flight.Goals as goal
 
@@ -10,7 +10,7 @@ loop-i-init c =
 
 pub returns-clause-value : goal.returns-clause-value
 returns-clause-value c =
-    let known = is_known c.args.acked c.args.marks.now in
+    let known = is_acked_by c.args.acked c.args.marks.now in
     let upto = c.last_known-known.result in
     let ensured = c.last_known-known.ensures in
     let end : c.args.acked + c.loop-i.i ≡ upto = (

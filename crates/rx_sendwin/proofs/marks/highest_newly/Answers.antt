@@ -1,12 +1,12 @@
 use Rattle.std.proofs.Common.{◌<◌, ◌∙◌, sym, arith}
-use Rattle.rx_sendwin.specs.Marks.{is_known}
+use Rattle.rx_sendwin.specs.Marks.{is_acked_by}
 use Rattle.rx_sendwin.proofs.Acks.{highest_none, highest_down, highest_here, new_highest_cut}
 use Rattle.rx_sendwin.proofs.marks.highest_newly.Goals as goal
 
 pub loop-seq-init : goal.loop-seq-init
 loop-seq-init c =
-    let before = is_known c.args.acked c.args.soft.now in
-    let after = is_known c.args.now_acked c.args.marks.now in
+    let before = is_acked_by c.args.acked c.args.soft.now in
+    let after = is_acked_by c.args.now_acked c.args.marks.now in
     let upto = c.last_known-seq.result in
     let ensured = c.last_known-seq.ensures in
     record {
@@ -18,8 +18,8 @@ loop-seq-init c =
 pub loop-seq-preserved : goal.loop-seq-preserved
 loop-seq-preserved c =
     let so = c.loop-seq.invariant in
-    let before = is_known c.args.acked c.args.soft.now in
-    let after = is_known c.args.now_acked c.args.marks.now in
+    let before = is_acked_by c.args.acked c.args.soft.now in
+    let after = is_acked_by c.args.now_acked c.args.marks.now in
     let some : 0 < c.loop-seq.seq = omega (arith, c.loop-seq-test.true) in
     record {
       least = omega (arith, c.loop-seq-test.true);
@@ -33,8 +33,8 @@ loop-seq-preserved c =
 pub returns-then-is_new-clause-value : goal.returns-then-is_new-clause-value
 returns-then-is_new-clause-value c =
     let so = c.loop-seq.invariant in
-    let before = is_known c.args.acked c.args.soft.now in
-    let after = is_known c.args.now_acked c.args.marks.now in
+    let before = is_acked_by c.args.acked c.args.soft.now in
+    let after = is_acked_by c.args.now_acked c.args.marks.now in
     let some : 0 < c.loop-seq.seq = omega (arith, c.loop-seq-test.true) in
     sym (so.so_far
     ∙ highest_here before after c.loop-seq.seq c.is_acked-before.result c.is_acked-after.result some
@@ -43,6 +43,6 @@ returns-then-is_new-clause-value c =
 pub returns-clause-value : goal.returns-clause-value
 returns-clause-value c =
     let so = c.loop-seq.invariant in
-    let after = is_known c.args.now_acked c.args.marks.now in
+    let after = is_acked_by c.args.now_acked c.args.marks.now in
     sym (so.so_far
     ∙ highest_none after c.args.acked c.args.soft.now c.loop-seq.seq (omega (arith, c.loop-seq-test.false)))

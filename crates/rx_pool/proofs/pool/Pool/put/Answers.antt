@@ -1,6 +1,6 @@
 use Rattle.std.proofs.Common.{◌≡◌, ◌≤◌, ◌+◌, ◌∙◌, length, arith, rules, sym, subst}
 use Rattle.std.proofs.lemmas.Grind.{common_steps}
-use Rattle.rx_pool.specs.Pool.{Slots, IsOf, bytes_at, overwrite}
+use Rattle.rx_pool.specs.Pool.{Slots, IsSlotOf, bytes_at, overwrite}
 use Rattle.rx_pool.proofs.Holding.{still_put}
 use Rattle.rx_pool.proofs.Written.{length-overwrite}
 use Rattle.rx_pool.proofs.pool.Pool.put.Goals as goal
@@ -17,5 +17,5 @@ returns-clause-of c =
     let old = bytes_at pool slot in
     let within : c.args.at + length c.args.bytes.now ≤ length old = omega (arith, size, c.requires.fits) in
     let full : length written ≡ 1444 = length-overwrite old c.args.at c.args.bytes.now within ∙ size in
-    λ s of. subst (λ (new : Slots). IsOf new s) (sym (returns-clause-written c))
+    λ s of. subst (λ (new : Slots). IsSlotOf new s) (sym (returns-clause-written c))
     (still_put pool slot written full c.requires.of s of)

@@ -1,5 +1,5 @@
 use Rattle.std.proofs.Common.{◌++◌, ◌∷◌, [], ◌+◌, ◌-◌, ◌<◌, ◌≡◌, ◌∙◌, sym, ap, subst, arith, rules, length, min}
-use Rattle.rx_recvwin.specs.Window.{RecvWindow, seen, Stands}
+use Rattle.rx_recvwin.specs.Window.{RecvWindow, window_of, StandsFor}
 use Rattle.rx_recvwin.proofs.Putting.{marks_next, marks_end}
 use Rattle.rx_recvwin.proofs.Nearness.{used_is}
 use Rattle.rx_recvwin.proofs.window.RecvWin.ack_view.Goals as goal
@@ -16,13 +16,13 @@ loop-i-preserved c =
       so_far =
           rw (← c.self.view_is) (λ pool r s. push ∙ marks_next pool _ r c.loop-i.i c.index.result.now
           c.loop-i.marks.items s c.index.ensures less (c.loop-i.invariant.so_far pool r
-          (subst (λ (w : RecvWindow). Stands (seen pool w) r) c.self.view_is s)));
+          (subst (λ (w : RecvWindow). StandsFor (window_of pool w) r) c.self.view_is s)));
     }
 
 pub returns-clause-first : goal.returns-clause-first
 returns-clause-first c =
     let used : c.self.inside.used ≡ c.args.self.now.used = ap (λ (w : RecvWindow). w.used) c.self.view_is in
-    λ pool r s. ap (λ n. n + 1) (used ∙ sym (used_is (seen pool c.args.self.now) r s))
+    λ pool r s. ap (λ n. n + 1) (used ∙ sym (used_is (window_of pool c.args.self.now) r s))
 
 pub returns-clause-marks : goal.returns-clause-marks
 returns-clause-marks c =

@@ -1,6 +1,6 @@
 use Rattle.std.proofs.Common.{◌<◌, ◌∙◌, arith, length, length-append}
 use Rattle.rx_pool.proofs.Holding.{keeps_then}
-use Rattle.rx_recvwin.specs.Window.{seen, packet_slots}
+use Rattle.rx_recvwin.specs.Window.{window_of, packet_slots}
 use Rattle.rx_recvwin.proofs.Reading.{some_next, some_end, some_all, rest_next}
 use Rattle.rx_recvwin.proofs.window.RecvWin.copy_to.Goals as goal
 
@@ -11,7 +11,8 @@ returns-then-n-eq0-clause-answered c =
     let at = c.loop-at.at in
     let so = c.loop-at.invariant.so_far in
     let more : at < length c.args.to.now = omega (arith, c.loop-at-test.true, c.loop-at.auto.to) in
-    λ r s. some_end (seen c.loop-at.pool c.loop-at.self) (seen c.read_first-n.new.pool c.read_first-n.new.self) r
+    λ r s. some_end (window_of c.loop-at.pool c.loop-at.self)
+    (window_of c.read_first-n.new.pool c.read_first-n.new.self) r
     (length c.args.to.now) at c.read_first-n.result c.loop-at.to given c.read_first-n.new.to more c.if-n-eq0.true
     split.front_len split.front (so r s) (c.read_first-n.ensures.answered _ (so r s).stands)
 
@@ -20,7 +21,7 @@ returns-clause-answered c =
     let at = c.loop-at.at in
     let so = c.loop-at.invariant in
     let room = length c.args.to.now in
-    λ r s. some_all (seen c.loop-at.pool c.loop-at.self) r room at c.loop-at.to
+    λ r s. some_all (window_of c.loop-at.pool c.loop-at.self) r room at c.loop-at.to
     (omega (arith, c.loop-at-test.false, c.loop-at.auto.to)) (omega (arith, so.within, c.loop-at.auto.to))
     (so.so_far r s)
 
@@ -34,7 +35,9 @@ loop-at-preserved c =
     let size = length-append given next.new.to in
     record {
       within = omega (arith, split.front_len, split.back_len, next.ensures.within, so.within, size, next.auto.to);
-      so_far = λ r s. some_next (seen c.loop-at.pool c.loop-at.self) (seen next.new.pool next.new.self) r at next.result
+      so_far =
+          λ r s. some_next (window_of c.loop-at.pool c.loop-at.self) (window_of next.new.pool next.new.self) r at
+          next.result
           c.loop-at.to given next.new.to split.front_len split.front (so.so_far r s)
           (next.ensures.answered _ (so.so_far r s).stands);
       keeps =

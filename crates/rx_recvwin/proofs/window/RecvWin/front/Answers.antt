@@ -1,6 +1,6 @@
 use Rattle.std.proofs.Common.{◌+◌, ◌≡◌, ◌∙◌, sym, ap}
 use Rattle.rx_recvwin.specs.Places.{leading}
-use Rattle.rx_recvwin.specs.Window.{RecvWindow, seen}
+use Rattle.rx_recvwin.specs.Window.{RecvWindow, window_of}
 use Rattle.rx_recvwin.proofs.PlaceLaws.{leading_seen}
 use Rattle.rx_recvwin.proofs.Nearness.{front_is}
 use Rattle.rx_recvwin.proofs.window.RecvWin.front.Goals as goal
@@ -12,5 +12,5 @@ returns c =
     c.self.invariant.2.upto ∙ ap (λ (w : RecvWindow). w.used + leading w.places) c.self.view_is) in
     record {
       answered = λ pool r s.
-          upto ∙ ap (λ n. w.used + n) (sym (leading_seen pool w.places)) ∙ sym (front_is (seen pool w) r s.near);
+          upto ∙ ap (λ n. w.used + n) (sym (leading_seen pool w.places)) ∙ sym (front_is (window_of pool w) r s.near);
     }

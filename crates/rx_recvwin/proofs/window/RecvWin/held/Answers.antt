@@ -1,6 +1,6 @@
 use Rattle.std.proofs.Common.{◌≡◌, ◌∙◌, sym, ap}
 use Rattle.rx_recvwin.specs.Places.{count_in}
-use Rattle.rx_recvwin.specs.Window.{RecvWindow, seen}
+use Rattle.rx_recvwin.specs.Window.{RecvWindow, window_of}
 use Rattle.rx_recvwin.proofs.PlaceLaws.{count_seen, slots_count}
 use Rattle.rx_recvwin.proofs.Nearness.{held_is}
 use Rattle.rx_recvwin.proofs.window.RecvWin.held.Goals as goal
@@ -15,4 +15,4 @@ pub returns-clause-answered : goal.returns-clause-answered
 returns-clause-answered c =
     let count : c.self.inside.held ≡ count_in c.args.self.now.places = (
     c.self.invariant.2.count ∙ ap (λ (w : RecvWindow). count_in w.places) c.self.view_is) in
-    λ pool r s. count ∙ sym (count_seen pool c.args.self.now.places) ∙ held_is (seen pool c.args.self.now) r s
+    λ pool r s. count ∙ sym (count_seen pool c.args.self.now.places) ∙ held_is (window_of pool c.args.self.now) r s

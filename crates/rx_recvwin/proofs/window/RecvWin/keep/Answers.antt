@@ -3,7 +3,7 @@ use Rattle.rx_model.specs.declared.answers.Took.{Took}
 use Rattle.rx_rules.specs.Received.{Received, after_packet}
 use Rattle.rx_pool.proofs.Holding.{keeps_same}
 use Rattle.rx_recvwin.specs.Places.{leading}
-use Rattle.rx_recvwin.specs.Window.{StandsReceived, seen, as_packet, slot_behind, packet_slots}
+use Rattle.rx_recvwin.specs.Window.{StandsReceived, window_of, as_packet, slot_behind, packet_slots}
 use Rattle.rx_recvwin.proofs.Coming.{row_is, kept_stands, noted_stands, changes_nothing}
 use Rattle.rx_recvwin.proofs.window.RecvWin.keep.Goals as goal
 
@@ -20,7 +20,8 @@ returns-in-Kept-clause-stands c =
     let slot = slot_behind c.args.lead c.args.common c.args.seq (w.used + leading w.places) in
     λ r s. subst (λ (took : Took). StandsReceived c.settle.new.pool c.settle.new.self (after_packet took p r))
     (sym c.in-Kept.is)
-    (kept_stands c.args.pool.now w (seen c.put.new.pool c.put.new.self) (seen c.settle.new.pool c.settle.new.self) r
+    (kept_stands c.args.pool.now w (window_of c.put.new.pool c.put.new.self)
+    (window_of c.settle.new.pool c.settle.new.self) r
     slot p
     (sym c.judge-took.ensures ∙ c.in-Kept.is) c.put.ensures.put c.settle.ensures.settled s)
 

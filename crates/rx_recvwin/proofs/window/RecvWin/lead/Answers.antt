@@ -1,6 +1,6 @@
 use Rattle.std.proofs.Common.{◌+◌, ◌≡◌, ◌∙◌, nat_lt, sym, ap}
 use Rattle.rx_recvwin.specs.Places.{leading}
-use Rattle.rx_recvwin.specs.Window.{RecvWindow, seen}
+use Rattle.rx_recvwin.specs.Window.{RecvWindow, window_of}
 use Rattle.rx_recvwin.proofs.PlaceLaws.{leading_seen}
 use Rattle.rx_recvwin.proofs.Nearness.{lead_is}
 use Rattle.rx_recvwin.proofs.window.RecvWin.lead.Goals as goal
@@ -13,5 +13,6 @@ returns c =
     ∙ ap (λ (w : RecvWindow). nat_lt w.used (w.used + leading w.places)) c.self.view_is) in
     record {
       answered = λ pool r s.
-          upto ∙ ap (λ n. nat_lt w.used (w.used + n)) (sym (leading_seen pool w.places)) ∙ lead_is (seen pool w) r s;
+          upto ∙ ap (λ n. nat_lt w.used (w.used + n)) (sym (leading_seen pool w.places))
+          ∙ lead_is (window_of pool w) r s;
     }

@@ -6,7 +6,7 @@ use Rattle.rx_pool.specs.Pool.{Slots, Takes}
 use Rattle.rx_pool.specs.Held.{Holds, Keeps}
 use Rattle.rx_recvwin.specs.declared.packet.KeptPacket.{KeptPacket}
 use Rattle.rx_recvwin.specs.Places.{place_at, leading, slots_in}
-use Rattle.rx_recvwin.specs.Window.{RecvWindow, seen, after_put, as_packet, packet_slots}
+use Rattle.rx_recvwin.specs.Window.{RecvWindow, window_of, after_put, as_packet, packet_slots}
 use Rattle.rx_recvwin.proofs.PlaceLaws.{leading_put, leading_most, leading_fits, fits_put, count_most}
 use Rattle.rx_recvwin.proofs.Putting.{packet_in, tied_put, put_window, put_keeps}
 use Rattle.rx_recvwin.proofs.window.RecvWin.put.Goals as goal
@@ -113,7 +113,7 @@ returns-clause-put c =
     put_window pool c.get.new.self c.put.new.self before c.args.seq slot j c.args.bytes.now c.args.last
     c.last_with-self-inside.result c.max-self-inside.result c.put.ensures.written t holds c.requires.size (omega arith)
     c.last_with-self-inside.ensures c.max-self-inside.ensures
-    ∙ ap (λ (w : RecvWindow). after_put (as_packet c.args.seq c.args.bytes.now c.args.last) (seen pool w))
+    ∙ ap (λ (w : RecvWindow). after_put (as_packet c.args.seq c.args.bytes.now c.args.last) (window_of pool w))
     c.self.view_is
 
 pub returns-clause-keeps : goal.returns-clause-keeps

@@ -1,7 +1,7 @@
 use Rattle.std.proofs.Common.{◌≡◌, ◌∙◌, subst, sym, ap, true, false}
 use Rattle.rx_pool.proofs.Holding.{keeps_then}
 use Rattle.rx_recvwin.specs.Places.{is_place_done, place_at}
-use Rattle.rx_recvwin.specs.Window.{Window, Near, seen, packet_slots}
+use Rattle.rx_recvwin.specs.Window.{Window, Near, window_of, packet_slots}
 use Rattle.rx_recvwin.proofs.Nearness.{done_is, step_near}
 use Rattle.rx_recvwin.proofs.Putting.{done_seen}
 use Rattle.rx_recvwin.proofs.window.RecvWin.settle.Goals as goal
@@ -9,7 +9,7 @@ use Rattle.rx_recvwin.proofs.window.RecvWin.settle.Goals as goal
 pub loop-self-preserved : goal.loop-self-preserved
 loop-self-preserved c =
     let so = c.loop-self.invariant in
-    let w = seen c.loop-self.pool c.loop-self.self in
+    let w = window_of c.loop-self.pool c.loop-self.self in
     let done : is_place_done (place_at w.ahead 0) w.offset w.ended ≡ true =
     sym (done_seen c.loop-self.pool c.loop-self.self.places c.loop-self.self.offset c.loop-self.self.ended
     c.is_next_done.ensures.sized so.keeps.holds) ∙ sym c.is_next_done.ensures.done ∙ c.loop-self-test.true in
@@ -24,7 +24,7 @@ loop-self-preserved c =
 pub returns-clause-settled : goal.returns-clause-settled
 returns-clause-settled c =
     let so = c.loop-self.invariant in
-    let w = seen c.loop-self.pool c.loop-self.self in
+    let w = window_of c.loop-self.pool c.loop-self.self in
     let done : is_place_done (place_at w.ahead 0) w.offset w.ended ≡ false =
     sym (done_seen c.loop-self.pool c.loop-self.self.places c.loop-self.self.offset c.loop-self.self.ended
     c.is_next_done.ensures.sized so.keeps.holds) ∙ sym c.is_next_done.ensures.done ∙ c.loop-self-test.false in

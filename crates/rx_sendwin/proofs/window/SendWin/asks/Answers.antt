@@ -1,6 +1,6 @@
 use Rattle.std.proofs.Common.{◌≡◌, ◌+◌, ◌∙◌, ◌||◌, ◌==◌, not, nat_lt, ap, subst, arith}
 use Rattle.rx_rules.specs.Sent.{piece_at}
-use Rattle.rx_sendwin.specs.Marks.{is_known, flight_by}
+use Rattle.rx_sendwin.specs.Marks.{is_acked_by, flight_by}
 use Rattle.rx_sendwin.specs.Window.{SendWindow, IsTied}
 use Rattle.rx_sendwin.proofs.Acks.{flight_most}
 use Rattle.rx_sendwin.proofs.Standing.{given_within, asks_is}
@@ -8,7 +8,7 @@ use Rattle.rx_sendwin.proofs.window.SendWin.asks.Goals as goal
 
 pub overflow_add-self-inside : goal.overflow_add-self-inside
 overflow_add-self-inside c =
-    let known = is_known c.self.inside.acked c.self.inside.soft.items in
+    let known = is_acked_by c.self.inside.acked c.self.inside.soft.items in
     let most = flight_most known c.self.inside.given in
     let is : c.self.inside.flight ≡ flight_by known c.self.inside.given = c.self.invariant.1.in_flight in
     let given = given_within _ c.self.inside.low c.self.inside.flight c.self.invariant.1 in

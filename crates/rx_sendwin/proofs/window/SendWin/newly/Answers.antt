@@ -2,7 +2,7 @@ use Rattle.std.proofs.Common.{◌≡◌, ◌<◌, ◌+◌, ◌-◌, ◌∙◌, a
 use Rattle.std.specs.Prelude.{option_and_then}
 use Rattle.rx_rules.specs.Sent.{last_giving, round_trip, pieces_by}
 use Rattle.rx_rules.specs.Sent as rules
-use Rattle.rx_sendwin.specs.Marks.{is_known, highest_by, trip_at}
+use Rattle.rx_sendwin.specs.Marks.{is_acked_by, highest_by, trip_at}
 use Rattle.rx_sendwin.proofs.Standing.{giving_read, counting_most}
 use Rattle.rx_sendwin.proofs.window.SendWin.newly.Goals as goal
 
@@ -20,9 +20,9 @@ returns-in-Some-clause-sample c =
     let less : place < length hs = (
     omega (arith, c.in-Some.ensures.above, c.in-Some.ensures.within, held, most, counted)) in
     let here : suc (acked + place) ≡ seq = omega (arith, c.in-Some.ensures.above) in
-    let after = is_known (c.args.first - 1) c.args.marks.now in
-    let top : highest_by (is_known acked c.self.inside.soft.items) after given ≡ Some seq = (
-    ap (λ (soft : List Bool). highest_by (is_known acked soft) after given) (sym c.as_slice-soft.ensures.value)
+    let after = is_acked_by (c.args.first - 1) c.args.marks.now in
+    let top : highest_by (is_acked_by acked c.self.inside.soft.items) after given ≡ Some seq = (
+    ap (λ (soft : List Bool). highest_by (is_acked_by acked soft) after given) (sym c.as_slice-soft.ensures.value)
     ∙ sym c.highest_newly.ensures.value ∙ c.in-Some.is) in
     let read = giving_read hs place c.index.result.now c.index.ensures less in
     rw (← c.self.view_is) (λ pool s st. c.trip-sample.ensures

@@ -1,6 +1,6 @@
 use Rattle.std.proofs.Common.{◌≡◌, ◌<◌, ◌+◌, ◌-◌, ◌∙◌, is_some, ap, sym, arith, rules, length, suc, refl}
 use Rattle.rx_sendwin.specs.declared.piece.HeldPiece.{HeldPiece}
-use Rattle.rx_sendwin.specs.Marks.{is_known, flight_by}
+use Rattle.rx_sendwin.specs.Marks.{is_acked_by, flight_by}
 use Rattle.rx_sendwin.specs.Window.{piece_slots}
 use Rattle.rx_sendwin.proofs.Acks.{flight_most, flight_next}
 use Rattle.rx_sendwin.proofs.PieceLaws.{same_at, slots_set}
@@ -9,7 +9,7 @@ use Rattle.rx_sendwin.proofs.window.SendWin.sent.Goals as goal
 
 pub overflow_add-self : goal.overflow_add-self
 overflow_add-self c =
-    let known = is_known c.self.inside.acked c.self.inside.soft.items in
+    let known = is_acked_by c.self.inside.acked c.self.inside.soft.items in
     let most = flight_most known c.self.inside.given in
     let is : c.self.inside.flight ≡ flight_by known c.self.inside.given = c.self.invariant.1.in_flight in
     let given = given_within _ c.self.inside.low c.self.inside.flight c.self.invariant.1 in
@@ -29,10 +29,10 @@ invariant_of-self c =
     let acked = c.self.inside.acked in
     let soft = c.self.inside.soft.items in
     let next : c.args.seq ≡ suc c.self.inside.given = omega (arith, before, c.if-self-seq.true) in
-    let flight : c.self.inside.flight + 1 ≡ flight_by (is_known acked soft) c.args.seq = (
+    let flight : c.self.inside.flight + 1 ≡ flight_by (is_acked_by acked soft) c.args.seq = (
     omega arith ∙ ap suc tied.in_flight ∙ sym (flight_next acked c.self.inside.given soft tied.acked_most
     tied.quiet)
-    ∙ ap (flight_by (is_known acked soft)) (sym next)) in (
+    ∙ ap (flight_by (is_acked_by acked soft)) (sym next)) in (
       search rules,
       sent_tied _ c.self.inside.low c.self.inside.flight place c.args.seq (c.self.inside.flight + 1) h g tied
           c.index_mut.ensures.value less refl c.requires.now (omega (arith, next)) may.counts flight,
