@@ -152,10 +152,10 @@ arrival_at w slot seq last =
 -- ---- a read
 
 -- how many bytes a read gave
-abbrev pub read_count : CallRead → ℕ
-read_count (reads.Got n) = n
-read_count reads.End = 0
-read_count reads.NotYet = 0
+abbrev pub given_count : CallRead → ℕ
+given_count (reads.Got n) = n
+given_count reads.End = 0
+given_count reads.NotYet = 0
 
 -- whether it told the end
 abbrev pub tells_end : CallRead → Bool

@@ -2,7 +2,7 @@ ghost use Rattle.std.specs.Prelude.{◌≡◌, ◌≤◌, ◌<◌, ◌+◌, ◌=
 ghost use Rattle.rx_rules.specs.Received.{Received, payload_of, read_of, after_read, is_within};
 ghost use Rattle.rx_pool.specs.Held.{Holds, Keeps};
 ghost use Rattle.rx_recvwin.specs.Places.{place_at, leading, seen_at};
-ghost use Rattle.rx_recvwin.specs.Window.{packet_slots, window_of, StandsReceived, FirstRead, AllRead, read_count};
+ghost use Rattle.rx_recvwin.specs.Window.{packet_slots, window_of, StandsReceived, FirstRead, AllRead, given_count};
 ghost use Rattle.rx_recvwin.specs.Window.{tells_end};
 
 use crate::copy::copy_front;
@@ -80,12 +80,12 @@ impl RecvWin {
         requires some { 0 < length to.old }
         requires holds { Holds pool.old (packet_slots self.old) }
         ensures answered { (r : Received) → StandsReceived pool.old self.old r →
-            (result, take (read_count result) to.new) ≡ read_of r (length to.old) }
+            (result, take (given_count result) to.new) ≡ read_of r (length to.old) }
         ensures stands { (r : Received) → StandsReceived pool.old self.old r →
-            StandsReceived pool.new self.new (after_read (tells_end result) (take (read_count result) to.new) r) }
+            StandsReceived pool.new self.new (after_read (tells_end result) (take (given_count result) to.new) r) }
         ensures keeps { Keeps pool.old pool.new (packet_slots self.old) (packet_slots self.new) }
         ensures width { self.new.width ≡ self.old.width }
-        ensures rest { drop (read_count result) to.new ≡ drop (read_count result) to.old }
+        ensures rest { drop (given_count result) to.new ≡ drop (given_count result) to.old }
     {
         let n = self.copy_to(pool, to);
         if n > 0 {
