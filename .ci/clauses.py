@@ -15,7 +15,7 @@ def clauses_of(crate):
             name = re.match(r"\w+", part)[0]
             contract = re.split(r"^ *\{\}?$", part, flags=re.M)[0]
             found.add((name, None))
-            found.update((name, label) for label in re.findall(r"\bensures (\w+) \{", contract))
+            found.update((name, label) for label in re.findall(r"\bensures\*? (\w+) \{", contract))
     return found
 
 
