@@ -93,7 +93,7 @@ forgot-client s host epoch l (events.Finished d code got) kind allowed = absurd 
 
 -- ---- its connections
 
-cid-fits : (s : Setup) (l : Looks) (cid : ℕ) → FitsSetup s → ◌≡◌ {A = Result ℕ ConnFull} (Ok cid) (connect_answer s l)
+pub cid-fits : (s : Setup) (l : Looks) (cid : ℕ) → FitsSetup s → ◌≡◌ {A = Result ℕ ConnFull} (Ok cid) (connect_answer s l)
     → (cid % 4 ≡ 0) × (cid + 4 ≤ 2 ^ 32)
 cid-fits s l cid fits is = of (nat_le s.limits.conns (length l.conns)) refl is
   where

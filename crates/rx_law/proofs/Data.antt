@@ -215,11 +215,11 @@ module _ (s : Setup) (l : Looks) (good : (c : CallName) → GoodCall s l c) wher
   -- ---- of a call
 
   -- its piece counts
-  abbrev Sound : CallRecord → Sending → Type 0
+  abbrev pub Sound : CallRecord → Sending → Type 0
   Sound k (sendings.Piece seq again) = (j : ℕ) × (seq ≡ suc j) × (suc j ≤ counting_of k.looks.sent)
   Sound k (sendings.Ack reason serial) = Unit {0}
 
-  flags-low : (kind : Kind) (asks last : Bool) → side_flag kind + flags_of asks last < 8
+  pub flags-low : (kind : Kind) (asks last : Bool) → side_flag kind + flags_of asks last < 8
   flags-low (Server service nonces) true true = omega arith
   flags-low (Server service nonces) true false = omega arith
   flags-low (Server service nonces) false true = omega arith
@@ -312,7 +312,7 @@ module _ (s : Setup) (l : Looks) (good : (c : CallName) → GoodCall s l c) wher
   pings-sound k true spoke = (tt, tt)
   pings-sound k false spoke = tt
 
-  call-sound : (k : CallRecord) (client : Bool) → SendsOf (ends_of (Some k)) → Every (λ i. Sound k i.sending) (call_items client k.looks)
+  pub call-sound : (k : CallRecord) (client : Bool) → SendsOf (ends_of (Some k)) → Every (λ i. Sound k i.sending) (call_items client k.looks)
   call-sound k client sends =
       every-append (λ i. Sound k i.sending) (piece_items k.looks.rtt.rto k.looks.cwnd k.looks.sent)
       (ack_items k.looks.owed_ack ++ ping_items client k.looks.spoke) (pieces-sound k sends)
@@ -366,12 +366,12 @@ pub record GivesPiece (s : Setup) (l : Looks) (to : Host) (m : Message) (payload
   pub active : is_active call.life ≡ true
   pub awake : is_silent l.now call ≡ false
 
-counting-low : (shut : Bool) (n : ℕ) → n ≤ 1412 * 4294967294 → counting shut n < 2 ^ 32
+pub counting-low : (shut : Bool) (n : ℕ) → n ≤ 1412 * 4294967294 → counting shut n < 2 ^ 32
 counting-low true n low = omega arith
 counting-low false n low = omega arith
 
 -- its name is the item's
-name-again : (s : Setup) (r : ConnLooks) (i : Item) → OfKind s.kind r → r.connection ≡ connection_of i.name → GoodName s i.name
+pub name-again : (s : Setup) (r : ConnLooks) (i : Item) → OfKind s.kind r → r.connection ≡ connection_of i.name → GoodName s i.name
     → named s r.peer (message_on s i r) ≡ i.name
 name-again s r i kind own name =
     let split = name.split in

@@ -95,3 +95,23 @@ mod OrderlyClient
 mod OrderlyHistory
 pub mod OneCall
 pub mod NodeFacts
+pub mod FitValues
+pub mod FitCall
+pub mod FitCalls
+pub mod FitTaken
+pub mod FitChannels
+pub mod FitConns
+pub mod FitConnTaken
+pub mod EventFacts
+pub mod FitEvents
+pub mod RowsAborting
+pub mod FitConnEvents
+pub mod FitStrays
+pub mod FitHistory
+pub mod PlainBodies
+pub mod OwnChannels
+pub mod PlainCalls
+pub mod PlainItems
+pub mod FitFacts
+pub mod Givings
+pub mod GivingItems

@@ -36,7 +36,7 @@ use Rattle.rx_law.proofs.RoomStarts.{RoomyAt, roomy_by, roomy_life, roomy_opened
 
 -- ---- data
 
-challenged-calls : (s : Setup) (c : CallName) (l : Looks) → (challenged s c l).calls ≡ l.calls
+pub challenged-calls : (s : Setup) (c : CallName) (l : Looks) → (challenged s c l).calls ≡ l.calls
 challenged-calls s c l = of (not (is_client s.kind) && (s.class.challenges && not (is_proved l (connection_of c))))
   where
     of : (b : Bool) → (if b then on_channel (channel_of c) (λ q. record q { owed_challenge = true }) l else l).calls
@@ -44,7 +44,7 @@ challenged-calls s c l = of (not (is_client s.kind) && (s.class.challenges && no
     of true = refl
     of false = refl
 
-data-calls : (s : Setup) (got : Took) (c : CallName) (m : Message) (l : Looks)
+pub data-calls : (s : Setup) (got : Took) (c : CallName) (m : Message) (l : Looks)
     → (taken_data s got c m l).calls ≡ (taken_at s got c m l).calls
 data-calls s got c m l = challenged-calls s c (record (taken_at s got c m l) { firsts = _ })
 

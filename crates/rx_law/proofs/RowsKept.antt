@@ -1,5 +1,6 @@
 -- What the row of a call says where a packet is kept.
-use Rattle.std.proofs.Common.{◌≡◌, ◌<◌, ◌&&◌, ◌||◌, ◌+◌, ℕ, if◌then◌else◌, not, nat_le, is_some, Bool, true, false}
+use Rattle.std.proofs.Common.{◌≡◌, ◌<◌, ◌&&◌, ◌||◌, ◌+◌, ℕ, if◌then◌else◌, not, nat_le, nat_lt, is_some, Bool, true}
+use Rattle.std.proofs.Common.{false}
 use Rattle.std.proofs.Common.{List, Option, Some, None, refl, ap, subst, arith}
 use Rattle.std.proofs.lemmas.Bool.Decides.{nat_tests}
 use Rattle.rx_model.specs.declared.answers.Took.{Took}
@@ -19,8 +20,11 @@ use Rattle.rx_model.proofs.NameLaws.{both, neither}
 use Rattle.rx_law.proofs.HeldLaws.{Slotted}
 use Rattle.rx_law.proofs.RowsInFront.{may_start, past}
 
--- the packet has a slot, lies below no last packet, and comes to a client whose own stream is shut
+-- the packet has a seq, within the window, and a slot, lies below no last packet, and comes to a client whose own stream
+-- is shut
 pub record Keepable (v : NodeView) (p : Packet) (k : CallLooks) : Type 0 where
+  pub numbered : is_no_seq p.seq ≡ false
+  pub within : nat_lt (used_of k.received + v.window) p.seq ≡ false
   pub slotted : Slotted v p k
   pub below : is_above (last_seq k.received.kept) p.seq ≡ false
   pub shut : v.client ≡ true → k.sent.shut ≡ true
@@ -34,6 +38,7 @@ pub record KeptBy (v : NodeView) (m : Message) (body : Body) (k : CallLooks) : T
 record Fits (a : Arrival) : Type 0 where
   fine : a.is_strange ≡ false
   new : a.is_repeat ≡ false
+  within : a.is_beyond ≡ false
   below : a.is_clash ≡ false
   slot : a.has_slot ≡ true
 
@@ -43,7 +48,7 @@ arrival-kept a is =
     let d = past a.is_repeat tooks.Repeat _ tooks.Kept refl refl b.1 in
     let e = past a.is_beyond tooks.Beyond _ tooks.Kept refl refl d.1 in
     let g = past a.is_clash tooks.Clash _ tooks.Kept refl refl e.1 in
-    record { fine = b.0; new = d.0; below = g.0; slot = of a.has_slot g.1 }
+    record { fine = b.0; new = d.0; within = e.0; below = g.0; slot = of a.has_slot g.1 }
   where
     of : (b : Bool) → (if b then tooks.Kept else tooks.NoSlot) ≡ tooks.Kept → b ≡ true
     of true is = refl
@@ -71,6 +76,8 @@ chunk-kept v p k is =
     let new = neither (nat_le p.seq (used_of k.received)) (is_some (packet_at k.received.kept p.seq)) f.new in
     let below = neither (is_above (last_seq k.received.kept) p.seq) _ f.below in
     record {
+      numbered = (neither (is_no_seq p.seq) _ f.fine).0;
+      within = f.within;
       slotted = record { above = above-by p.seq (used_of k.received) new.0; away = new.1; slot = f.slot };
       below = below.0;
       shut = λ client. given-shut v.client p k client f.fine;

@@ -52,7 +52,7 @@ strays-with_conn : (s : Setup) (kind : Kind) (x : Connection) (l : Looks) → (w
 strays-with_conn s (Server service nonces) x l = strays-placed (fresh_conn x x.host service 1 l) (if is_full s l then idle_conn l else None) l
 strays-with_conn s (Client host epoch) x l = refl
 
-strays-prepared : (s : Setup) (got : Took) (x : Connection) (l : Looks) → (prepared s got x l).strays ≡ l.strays
+pub strays-prepared : (s : Setup) (got : Took) (x : Connection) (l : Looks) → (prepared s got x l).strays ≡ l.strays
 strays-prepared s got x l = of (enters got)
   where
     entering : (b : Bool) → (if b then l else with_conn s s.kind x l).strays ≡ l.strays

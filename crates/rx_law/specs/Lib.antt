@@ -7,3 +7,4 @@ pub mod Promises
 pub mod Pieces
 pub mod Starts
 pub mod Premises
+pub mod Givings

@@ -1,4 +1,4 @@
-ghost use Rattle.std.specs.Prelude.{◌≡◌, not, ℕ, List, Ok};
+ghost use Rattle.std.specs.Prelude.{◌≡◌, ◌⊎◌, not, ℕ, false, List, Ok, Some};
 ghost use Rattle.std.specs.List.{All};
 ghost use Rattle.rx_model.specs.Telling.{FitsEvent, IsTold};
 ghost use Rattle.rx_model.specs.declared.event.Event.{Event};
@@ -9,6 +9,9 @@ ghost use Rattle.rx_model.specs.Body as bodies;
 ghost use Rattle.rx_rules.specs.CallLooks.{packet_of};
 ghost use Rattle.rx_model.specs.Message.{Message};
 ghost use Rattle.rx_law.specs.Promises.{EnteredOnlyWhenProved, LawOn, OnceUnderForgery, SlotsSuffice, WorldLaw};
+ghost use Rattle.rx_model.specs.Names.{channel_of};
+ghost use Rattle.rx_model.specs.Strays.{is_stray};
+ghost use Rattle.rx_rules.specs.Looks.{latest_name};
 ghost use Rattle.rx_model.specs.Reading.{reading_of};
 ghost use Rattle.rx_rules.specs.Rules.{Legal};
 ghost use Rattle.rx_rules.specs.Setup.{Setup, Client, FitsSetup, IsServer, is_client, named};
@@ -16,6 +19,8 @@ ghost use Rattle.rx_law.specs.Sides.{Node};
 ghost use Rattle.rx_law.specs.Streams.{is_shut, said};
 ghost use Rattle.rx_law.specs.Worlds.{Gave, TwoEnds, World};
 ghost use Rattle.rx_law.specs.Times.{GoAlike, GoAlways};
+ghost use Rattle.rx_law.specs.Givings.{GivesItem, GivesPlain};
+ghost use Rattle.rx_rules.specs.Items.{poll_answer};
 ghost use Rattle.rx_law.specs.Pieces.{IsAt};
 ghost use Rattle.rx_law.specs.Premises.{ConnectionLaw, HeldOnce};
 ghost use Rattle.rx_law.specs.Starts.{StartsOnce};
@@ -83,4 +88,20 @@ pub fn clocks_go_alike()
 /// their own than are shared: none lacks a slot other than by NoSlot or by the room of a write.
 pub fn slots_suffice()
     ensures { SlotsSuffice }
+{}
+
+/// Whatever bytes came to a node, and whatever its application asked, each datagram that a poll gives is the written form
+/// of one message that is owed, a stray abort or the next item, each number of which fits its field: it is read as that
+/// message. An item's datagram is read as no stray abort, and speaks of the item's call, which is the latest of its
+/// channel unless it is told to wait.
+pub fn polls_give_plain_messages()
+    ensures plain { (s : Setup) (h : List Event) (to : Host) (bytes : List ℕ) → FitsSetup s → Legal s h
+        → poll_answer s (looks s h) ≡ Some (to, bytes) → GivesPlain s (looks s h) to bytes }
+    ensures apart { (s : Setup) (h : List Event) (to : Host) (m : Message) → FitsSetup s → Legal s h
+        → GivesItem s (looks s h) to m → is_stray m m.body ≡ false }
+    ensures named { (s : Setup) (h : List Event) (to : Host) (m : Message) → FitsSetup s → Legal s h
+        → (g : GivesItem s (looks s h) to m) → named s to m ≡ g.item.name }
+    ensures latest { (s : Setup) (h : List Event) (to : Host) (m : Message) → FitsSetup s → Legal s h
+        → (g : GivesItem s (looks s h) to m)
+        → (g.item.body ≡ bodies.Busy) ⊎ (g.item.name ≡ latest_name (looks s h) (channel_of g.item.name)) }
 {}

@@ -5,5 +5,6 @@ mod laws;
 
 pub use laws::{
     accepts_once, client_gives_pieces, clocks_go_alike, connection_law, connection_law_once,
-    enters_when_proved, legal_events_are_told, server_gives_pieces, slots_suffice, world_law,
+    enters_when_proved, legal_events_are_told, polls_give_plain_messages, server_gives_pieces,
+    slots_suffice, world_law,
 };
