@@ -1,4 +1,5 @@
--- What answers of a server tell of the message: a call that starts, or waits, was asked for by DATA above its channel's number.
+-- What answers of a server tell of the message: a call that starts, or waits, was asked for by DATA above its
+-- channel's number.
 use Rattle.std.proofs.Common.{◌≡◌, ◌&&◌, if◌then◌else◌, not, nat_lt, is_some, ℕ, Bool, true, false, List, Option, Some, None, Ok, refl, ◌∙◌, ap, subst}
 use Rattle.rx_model.specs.declared.answers.Took.{Took}
 use Rattle.rx_model.specs.declared.answers.Took.TheVariants as tooks
@@ -52,11 +53,14 @@ call-waits v m (bodies.Abort code) k = refl
 call-waits v m (bodies.Challenge bytes) k = refl
 call-waits v m (bodies.Response bytes) k = refl
 
-live-waits : (s : Setup) (l : Looks) (k : CallRecord) (m : Message) (body : Body) → waits (live_row s l k m body) ≡ false
+live-waits : (s : Setup) (l : Looks) (k : CallRecord) (m : Message) (body : Body) → waits (live_row s l k m body)
+    ≡ false
 live-waits s l k m (bodies.Response bytes) =
-    waits-if (is_right s l k.name bytes) tooks.Heard (if is_proved l (connection_of k.name) then tooks.Strange else tooks.Stopped) refl
+    waits-if (is_right s l k.name bytes) tooks.Heard (if is_proved l
+    (connection_of k.name) then tooks.Strange else tooks.Stopped) refl
     (waits-if (is_proved l (connection_of k.name)) tooks.Strange tooks.Stopped refl refl)
-live-waits s l k m (bodies.Challenge bytes) = waits-if (is_some (s.class.respond k.name bytes)) tooks.Heard tooks.Strange refl refl
+live-waits s l k m (bodies.Challenge bytes) = waits-if (is_some
+    (s.class.respond k.name bytes)) tooks.Heard tooks.Strange refl refl
 live-waits s l k m (bodies.Chunk payload) = call-waits (node_view s l) m m.body k.looks
 live-waits s l k m bodies.Busy = call-waits (node_view s l) m m.body k.looks
 live-waits s l k m (bodies.Ack a) = call-waits (node_view s l) m m.body k.looks
@@ -71,7 +75,8 @@ row-waits s l (Some k) m = live-waits s l k m m.body
 
 row-starts : (f : Facts) (call : Took) → enters (server_row f call) ≡ true → f.is_above ≡ true → f.can_start ≡ true
 row-starts f call is above =
-    of (not f.is_known && not (f.can_start && f.has_number)) (not f.is_known && not f.has_place) f.stops_all (not f.has_number) f.is_below
+    of (not f.is_known && not (f.can_start && f.has_number)) (not f.is_known && not f.has_place) f.stops_all
+    (not f.has_number) f.is_below
     f.is_above f.can_start _ is above
   where
     of : (a b c d e up start : Bool) (rest : Took)
@@ -88,7 +93,8 @@ row-starts f call is above =
 
 row-above : (f : Facts) (call : Took) → waits call ≡ false → waits (server_row f call) ≡ true → f.is_above ≡ true
 row-above f call own is =
-    of (not f.is_known && not (f.can_start && f.has_number)) (not f.is_known && not f.has_place) f.stops_all (not f.has_number) f.is_below
+    of (not f.is_known && not (f.can_start && f.has_number)) (not f.is_known && not f.has_place) f.stops_all
+    (not f.has_number) f.is_below
     f.is_above (not f.can_start) f.is_handled (not f.is_live && f.is_crowded) (not f.is_active) is
   where
     of : (a b c d e up start handled crowded active : Bool)
@@ -104,35 +110,43 @@ row-above f call own is =
     of false false false false false false start handled crowded true is = absurd cc
     of false false false false false false start handled crowded false is = absurd cc (own, is)
 
-server-row : (s : Setup) (kind : Kind) (f : Facts) (call : Took) → IsServer kind → side_row kind f call ≡ server_row f call
+server-row : (s : Setup) (kind : Kind) (f : Facts) (call : Took) → IsServer kind → side_row kind f call
+    ≡ server_row f call
 server-row s (Server service nonces) f call server = refl
 server-row s (Client host epoch) f call server = absurd server
 
 -- the answer to a message that no row in front answers
-named-row : (s : Setup) (l : Looks) (from : Host) (m : Message) (got : Took) → IsServer s.kind → got ≡ took_reading s l from (Ok m)
+named-row : (s : Setup) (l : Looks) (from : Host) (m : Message) (got : Took) → IsServer s.kind → got
+    ≡ took_reading s l from (Ok m)
     → outer_row s s.kind l from m ≡ None
     → got ≡ server_row (facts_of s l (named s from m) m) (own_row s (opened s (named s from m) l) (named s from m) m)
 named-row s l from m got server is front =
     is ∙ ap (λ (o : Option Took). else_row o (took_named s l (named s from m) m)) front
-    ∙ server-row s s.kind (facts_of s l (named s from m) m) (own_row s (opened s (named s from m) l) (named s from m) m) server
+    ∙ server-row s s.kind (facts_of s l (named s from m) m) (own_row s (opened s (named s from m) l)
+    (named s from m) m) server
 
 -- above its channel's number it was DATA
-pub asks-data : (s : Setup) (l : Looks) (from : Host) (m : Message) (got : Took) → IsServer s.kind → got ≡ took_reading s l from (Ok m)
+pub asks-data : (s : Setup) (l : Looks) (from : Host) (m : Message) (got : Took) → IsServer s.kind → got
+    ≡ took_reading s l from (Ok m)
     → outer_row s s.kind l from m ≡ None → enters got ≡ true
     → nat_lt (channel_at l (channel_of (named s from m))).number m.number ≡ true → is_data m.body ≡ true
 asks-data s l from m got server is front enters' above =
     let d : CallName = named s from m in
     let row = named-row s l from m got server is front in
     (both (is_data m.body) _
-    (row-starts (facts_of s l d m) (own_row s (opened s d l) d m) (subst (λ (t : Took). enters t ≡ true) row enters') above)).0
+    (row-starts (facts_of s l d m) (own_row s (opened s d l) d m)
+    (subst (λ (t : Took). enters t ≡ true) row enters') above)).0
 
 -- where it waits it is above
-pub waits-above : (s : Setup) (l : Looks) (from : Host) (m : Message) (got : Took) → IsServer s.kind → got ≡ took_reading s l from (Ok m)
-    → outer_row s s.kind l from m ≡ None → waits got ≡ true → nat_lt (channel_at l (channel_of (named s from m))).number m.number ≡ true
+pub waits-above : (s : Setup) (l : Looks) (from : Host) (m : Message) (got : Took) → IsServer s.kind → got
+    ≡ took_reading s l from (Ok m)
+    → outer_row s s.kind l from m ≡ None → waits got ≡ true → nat_lt
+    (channel_at l (channel_of (named s from m))).number m.number ≡ true
 waits-above s l from m got server is front waits' =
     let d : CallName = named s from m in
     let row = named-row s l from m got server is front in
-    row-above (facts_of s l d m) (own_row s (opened s d l) d m) (row-waits s (opened s d l) (call_at (opened s d l) d) m)
+    row-above (facts_of s l d m) (own_row s (opened s d l) d m)
+    (row-waits s (opened s d l) (call_at (opened s d l) d) m)
     (subst (λ (t : Took). waits t ≡ true) row waits')
 
 -- DATA has a payload

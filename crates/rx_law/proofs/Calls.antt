@@ -40,7 +40,8 @@ pub calls-refl : (Cause : End → Type 0) (o : Option CallRecord) → Calls Caus
 calls-refl Cause None = tt
 calls-refl Cause (Some k) = quiet-refl Cause k
 
-pub calls-trans : (Cause : End → Type 0) (a b c : Option CallRecord) → Calls Cause a b → Calls Cause b c → Calls Cause a c
+pub calls-trans : (Cause : End → Type 0) (a b c : Option CallRecord) → Calls Cause a b → Calls Cause b c
+    → Calls Cause a c
 calls-trans Cause None None None p q = tt
 calls-trans Cause None None (Some c) p q = q
 calls-trans Cause None (Some b) c p q = absurd p
@@ -61,18 +62,21 @@ calls-map : (Cause : End → Type 0) (change : CallRecord → CallRecord) (o : O
 calls-map Cause change None quiet = tt
 calls-map Cause change (Some k) quiet = quiet k
 
-pub calls-on_calls : (Cause : End → Type 0) (c : CallName) (change : CallRecord → CallRecord) (l : Looks) → KeepsNames change
+pub calls-on_calls : (Cause : End → Type 0) (c : CallName) (change : CallRecord → CallRecord) (l : Looks)
+    → KeepsNames change
     → ((k : CallRecord) → Quiet Cause k (change k)) → Calls Cause (call_at l c) (call_at (on_calls change l) c)
 calls-on_calls Cause c change l names quiet =
     subst (λ (o : Option CallRecord). Calls Cause (call_at l c) o) (sym (call_at-on_calls c change l names))
     (calls-map Cause change (call_at l c) quiet)
 
-quiet-if : (Cause : End → Type 0) (test : Bool) (change : CallRecord → CallRecord) (k : CallRecord) → Quiet Cause k (change k)
+quiet-if : (Cause : End → Type 0) (test : Bool) (change : CallRecord → CallRecord) (k : CallRecord)
+    → Quiet Cause k (change k)
     → Quiet Cause k (cond test (change k) k)
 quiet-if Cause true change k quiet = quiet
 quiet-if Cause false change k quiet = quiet-refl Cause k
 
-pub calls-on_call : (Cause : End → Type 0) (c d : CallName) (change : CallRecord → CallRecord) (l : Looks) → KeepsNames change
+pub calls-on_call : (Cause : End → Type 0) (c d : CallName) (change : CallRecord → CallRecord) (l : Looks)
+    → KeepsNames change
     → ((k : CallRecord) → Quiet Cause k (change k)) → Calls Cause (call_at l c) (call_at (on_call d change l) c)
 calls-on_call Cause c d change l names quiet =
     calls-on_calls Cause c (changed_if d change) l (λ k. changed_if-name (same_name k.name d) change k (names k))
@@ -128,7 +132,8 @@ calls-challenged Cause s c d l =
 settled-quiet : (Cause : End → Type 0) (k : CallRecord) → Quiet Cause k (settled k)
 settled-quiet Cause k = record { streams = refl; life = acks-moves Cause (is_all_acked k.looks.sent) k.life }
 
-calls-settled : (Cause : End → Type 0) (c d : CallName) (l : Looks) → Calls Cause (call_at l c) (call_at (on_call d settled l) c)
+calls-settled : (Cause : End → Type 0) (c d : CallName) (l : Looks)
+    → Calls Cause (call_at l c) (call_at (on_call d settled l) c)
 calls-settled Cause c d l = calls-on_call Cause c d settled l (λ k. refl) (settled-quiet Cause)
 
 pub calls-heard : (Cause : End → Type 0) (s : Setup) (c d : CallName) (body : Body) (l : Looks)
@@ -155,7 +160,8 @@ abbrev pub coded : ℤ → CallRecord → CallRecord
 coded code k = record k { life = after_code code k.life }
 
 pub calls-coded : (Cause : End → Type 0) (c d : CallName) (code : ℤ) (l : Looks)
-    → (same_name c d ≡ true → Cause (ends.Abort code)) → Calls Cause (call_at l c) (call_at (on_life d (after_code code) l) c)
+    → (same_name c d ≡ true → Cause (ends.Abort code)) → Calls Cause (call_at l c)
+    (call_at (on_life d (after_code code) l) c)
 calls-coded Cause c d code l cause =
     subst (λ (o : Option CallRecord). Calls Cause (call_at l c) o)
     (sym (call-changed c d (coded code) l (λ k. refl))) (of (same_name c d) (call_at l c) cause)
@@ -175,7 +181,8 @@ pub calls-stopped_all : (Cause : End → Type 0) (c : CallName) (x : Connection)
     → Calls Cause (call_at l c) (call_at (stopped_all x code l) c)
 calls-stopped_all Cause c x code l cause =
     subst (λ (o : Option CallRecord). Calls Cause (call_at l c) o)
-    (sym (call_at-on_calls c (coded_on x code) l (λ k. coded-name (same_connection (connection_of k.name) x) code k))) (of (call_at l c) refl)
+    (sym (call_at-on_calls c (coded_on x code) l (λ k. coded-name (same_connection (connection_of k.name) x) code k)))
+    (of (call_at l c) refl)
   where
     of : (o : Option CallRecord) → call_at l c ≡ o
         → Calls Cause o (option_map (coded_on x code) o)
@@ -212,14 +219,19 @@ calls-silenced Cause c l cause =
     of (Some k) is =
         (elim (is_silent l.now k) as (λ b. is_silent l.now k ≡ b
         → Quiet Cause k (cond b (record k { life = after_silence (silence_of l.now k) k.life }) k)) [
-          | true ↦ λ silent. record { streams = refl; life = silence-moves Cause (silence_of l.now k) k.life (cause k is silent) }
+          | true ↦ λ silent. record {
+            streams = refl;
+            life = silence-moves Cause (silence_of l.now k) k.life
+                (cause k is silent);
+          }
           | false ↦ λ heard. quiet-refl Cause k
         ]) refl
 
 -- ---- what a message changes at its call
 
 acked-said : (test : Bool) (s t : Sent) → t.said ≡ s.said → t.shut ≡ s.shut → t.givings ≡ s.givings
-    → ((if test then s else t).said ≡ s.said) × ((if test then s else t).shut ≡ s.shut) × ((if test then s else t).givings ≡ s.givings)
+    → ((if test then s else t).said ≡ s.said) × ((if test then s else t).shut ≡ s.shut)
+    × ((if test then s else t).givings ≡ s.givings)
 acked-said true s t a b c = (refl, refl, refl)
 acked-said false s t a b c = (a, b, c)
 

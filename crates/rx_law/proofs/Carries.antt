@@ -18,7 +18,8 @@ pub nothing_carried : Carries [] false no_ends
 nothing_carried = record { pieces = tt; read = ([], refl); ended = λ y. absurd (cc (y)) }
 
 -- the sender goes on
-pub sender_step : (old new : List ℕ) (was is : Bool) (x : Ends) → Grows old was new is → Carries old was x → Carries new is x
+pub sender_step : (old new : List ℕ) (was is : Bool) (x : Ends) → Grows old was new is → Carries old was x
+    → Carries new is x
 sender_step old new was is x g k =
     record {
       pieces = pieces_grow old new was is x.kept g k.pieces;
@@ -37,7 +38,8 @@ goes_on : (read heard bytes : List ℕ) (n : ℕ) → Begins read bytes → Begi
     → Begins (read ++ take n (drop (length read) heard)) bytes
 goes_on [] heard bytes n r a = (
   drop n heard ++ a.0,
-  sym (append_assoc (take n heard) (drop n heard) a.0) ∙ ap (λ (xs : List ℕ). xs ++ a.0) (take-append-drop n heard) ∙ a.1,
+  sym (append_assoc (take n heard) (drop n heard) a.0) ∙ ap (λ (xs : List ℕ). xs ++ a.0) (take-append-drop n heard)
+      ∙ a.1,
 )
 goes_on (x ∷ xs) [] bytes zero r a = (r.0, ap (λ (ys : List ℕ). (x ∷ ys) ++ r.0) (append-nil xs) ∙ r.1)
 goes_on (x ∷ xs) [] bytes (suc n) r a = (r.0, ap (λ (ys : List ℕ). (x ∷ ys) ++ r.0) (append-nil xs) ∙ r.1)
@@ -78,7 +80,8 @@ receiver_step bytes shut Comes x y m arrives k =
       pieces =
           (elim m.kept as (λ t. ArePieces bytes shut y.kept) [
             | inl same ↦ subst (λ (ps : List Packet). ArePieces bytes shut ps) (sym same) k.pieces
-            | inr one ↦ subst (λ (ps : List Packet). ArePieces bytes shut ps) (sym one.is) (arrives one.packet one.comes, k.pieces)
+            | inr one ↦ subst (λ (ps : List Packet). ArePieces bytes shut ps) (sym one.is)
+                (arrives one.packet one.comes, k.pieces)
           ]);
       read = next;
       ended = λ is.
@@ -90,7 +93,8 @@ receiver_step bytes shut Comes x y m arrives k =
             | inr now ↦ (
                 let w = heard_whole bytes shut x.kept k.pieces now.1 in
                 let size : length (heard_of x.kept) ≡ length bytes = ap length w.1 in
-                let read : length (heard_of x.kept) ≤ length x.read = none_left (length x.read) (heard_of x.kept) now.0 in
+                let read : length (heard_of x.kept) ≤ length x.read = none_left (length x.read)
+                (heard_of x.kept) now.0 in
                 (w.0, all_read y.read bytes next (omega (arith, length-append x.read (take m.count (left_of x))))))
           ]);
     }

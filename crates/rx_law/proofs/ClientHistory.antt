@@ -41,14 +41,16 @@ use Rattle.rx_law.proofs.Turns.{Fine, Turn}
 
 -- ---- a client forgets nothing
 
-entered-client : (s : Setup) (host : Host) (epoch : ℕ) (x : Connection) (l : Looks) → s.kind ≡ Client host epoch → (entered s x l).forgotten ≡ l.forgotten
+entered-client : (s : Setup) (host : Host) (epoch : ℕ) (x : Connection) (l : Looks) → s.kind ≡ Client host epoch
+    → (entered s x l).forgotten ≡ l.forgotten
 entered-client s host epoch x l kind =
     (elim (is_some (conn_at l x)) as (λ b. (cond b l (with_conn s s.kind x l)).forgotten ≡ l.forgotten) [
       | true ↦ refl
       | false ↦ ap (λ (k : Kind). (with_conn s k x l).forgotten) kind
     ])
 
-prepared-client : (s : Setup) (host : Host) (epoch : ℕ) (got : Took) (x : Connection) (l : Looks) → s.kind ≡ Client host epoch
+prepared-client : (s : Setup) (host : Host) (epoch : ℕ) (got : Took) (x : Connection) (l : Looks) → s.kind
+    ≡ Client host epoch
     → (prepared s got x l).forgotten ≡ l.forgotten
 prepared-client s host epoch got x l kind = of (enters got)
   where
@@ -56,7 +58,8 @@ prepared-client s host epoch got x l kind = of (enters got)
     of true = entered-client s host epoch x l kind
     of false = refl
 
-message-client : (s : Setup) (host : Host) (epoch : ℕ) (from : Host) (reading : Result Message BadMsg) (got : Took) (l : Looks)
+message-client : (s : Setup) (host : Host) (epoch : ℕ) (from : Host) (reading : Result Message BadMsg) (got : Took)
+    (l : Looks)
     → s.kind ≡ Client host epoch → (taken_message s from reading got l).forgotten ≡ l.forgotten
 message-client s host epoch from (Err bad) got l kind = refl
 message-client s host epoch from (Ok m) got l kind = of (outer_row s s.kind l from m)
@@ -66,15 +69,19 @@ message-client s host epoch from (Ok m) got l kind = of (outer_row s s.kind l fr
 
     of : (row : Option Took) → (taken_behind s row from d m got l).forgotten ≡ l.forgotten
     of (Some row) = forgot-turned row from m l
-    of None = with-forgotten s got d m (prepared s got (connection_of d) l) ∙ prepared-client s host epoch got (connection_of d) l kind
+    of None = with-forgotten s got d m (prepared s got (connection_of d) l)
+        ∙ prepared-client s host epoch got (connection_of d) l kind
 
-linked-client : (kind : Kind) (to : Host) (service first cid : ℕ) (l : Looks) → (linked kind to service first cid l).forgotten ≡ l.forgotten
+linked-client : (kind : Kind) (to : Host) (service first cid : ℕ) (l : Looks)
+    → (linked kind to service first cid l).forgotten ≡ l.forgotten
 linked-client (Client host epoch) to service first cid l = refl
 linked-client (Server service nonces) to other first cid l = refl
 
-forgot-client : (s : Setup) (host : Host) (epoch : ℕ) (l : Looks) (e : Event) → s.kind ≡ Client host epoch → AllowedClient s host epoch l e
+forgot-client : (s : Setup) (host : Host) (epoch : ℕ) (l : Looks) (e : Event) → s.kind ≡ Client host epoch
+    → AllowedClient s host epoch l e
     → (after s e l).forgotten ≡ l.forgotten
-forgot-client s host epoch l (events.Linked to service first (Ok cid)) kind allowed = linked-client s.kind to service first cid l
+forgot-client s host epoch l (events.Linked to service first
+    (Ok cid)) kind allowed = linked-client s.kind to service first cid l
 forgot-client s host epoch l (events.Linked to service first (Err full)) kind allowed = refl
 forgot-client s host epoch l (events.Called cid (Ok d)) kind allowed = refl
 forgot-client s host epoch l (events.Called cid (Err refused)) kind allowed = refl
@@ -85,7 +92,8 @@ forgot-client s host epoch l (events.HasRead d max got bytes) kind allowed = ref
 forgot-client s host epoch l (events.Ended d got) kind allowed = refl
 forgot-client s host epoch l (events.Cancelled d code (Ok done)) kind allowed = refl
 forgot-client s host epoch l (events.Cancelled d code (Err closed)) kind allowed = refl
-forgot-client s host epoch l (events.Taken from bytes got) kind allowed = message-client s host epoch from (reading_of bytes) got l kind
+forgot-client s host epoch l (events.Taken from bytes got) kind allowed = message-client s host epoch from
+    (reading_of bytes) got l kind
 forgot-client s host epoch l (events.Polled got) kind allowed = forgot-polled s got l
 forgot-client s host epoch l (events.Clocked now) kind allowed = refl
 forgot-client s host epoch l (events.Accepted got) kind allowed = absurd allowed
@@ -93,7 +101,8 @@ forgot-client s host epoch l (events.Finished d code got) kind allowed = absurd 
 
 -- ---- its connections
 
-pub cid-fits : (s : Setup) (l : Looks) (cid : ℕ) → FitsSetup s → ◌≡◌ {A = Result ℕ ConnFull} (Ok cid) (connect_answer s l)
+pub cid-fits : (s : Setup) (l : Looks) (cid : ℕ) → FitsSetup s
+    → ◌≡◌ {A = Result ℕ ConnFull} (Ok cid) (connect_answer s l)
     → (cid % 4 ≡ 0) × (cid + 4 ≤ 2 ^ 32)
 cid-fits s l cid fits is = of (nat_le s.limits.conns (length l.conns)) refl is
   where
@@ -101,7 +110,8 @@ cid-fits s l cid fits is = of (nat_le s.limits.conns (length l.conns)) refl is
     same a b is = cc
 
     of : (full : Bool) → nat_le s.limits.conns (length l.conns) ≡ full
-        → ◌≡◌ {A = Result ℕ ConnFull} (Ok cid) (if full then Err (record {}) else Ok (4 * length l.conns + 4)) → (cid % 4 ≡ 0) × (cid + 4 ≤ 2 ^ 32)
+        → ◌≡◌ {A = Result ℕ ConnFull} (Ok cid) (if full then Err (record {}) else Ok (4 * length l.conns + 4))
+        → (cid % 4 ≡ 0) × (cid + 4 ≤ 2 ^ 32)
     of true test is = absurd cc
     of false test is =
         let cid_is = same cid (4 * length l.conns + 4) is in
@@ -122,9 +132,11 @@ client-conns s host epoch l (events.Called cid (Err refused)) kind fits allowed 
 client-conns s host epoch l (events.Wrote d offered got bytes) kind fits allowed conns = conns
 client-conns s host epoch l (events.Shut d (Ok done)) kind fits allowed conns = conns
 client-conns s host epoch l (events.Shut d (Err closed)) kind fits allowed conns = conns
-client-conns s host epoch l (events.HasRead d max got bytes) kind fits allowed conns = good-read s d (is_end got) bytes l conns
+client-conns s host epoch l (events.HasRead d max got bytes) kind fits allowed conns = good-read s d
+    (is_end got) bytes l conns
 client-conns s host epoch l (events.Ended d got) kind fits allowed conns = conns
-client-conns s host epoch l (events.Cancelled d code (Ok done)) kind fits allowed conns = good-cancelled s d code l conns
+client-conns s host epoch l
+    (events.Cancelled d code (Ok done)) kind fits allowed conns = good-cancelled s d code l conns
 client-conns s host epoch l (events.Cancelled d code (Err closed)) kind fits allowed conns = conns
 client-conns s host epoch l (events.Taken from bytes got) kind fits allowed conns =
     good-message s from (reading_of bytes) got l fits
@@ -145,7 +157,8 @@ sound-new s c l f sound =
     record {
       counted = subst (λ (o : Option CallRecord). Counted o 0) (sym is) ((λ waits. refl), (omega arith));
       below =
-          subst (λ (o : Option CallRecord). Below o c.number (number_of (conn_at (started s lives.Calling c l) (connection_of c)) c.chan))
+          subst (λ (o : Option CallRecord). Below o c.number
+          (number_of (conn_at (started s lives.Calling c l) (connection_of c)) c.chan))
           (sym is) (omega arith);
       fours = fours-start s lives.Calling c l (connection_of c) sound.fours;
     }
@@ -155,7 +168,8 @@ sound-new s c l f sound =
     no-record None below above = refl
     no-record (Some k) below above = absurd (omega arith)
 
-sound-called : (s : Setup) (c d : CallName) (l : Looks) → Fresh s l d → Sound l c 0 → Sound (started s lives.Calling d l) c 0
+sound-called : (s : Setup) (c d : CallName) (l : Looks) → Fresh s l d → Sound l c 0
+    → Sound (started s lives.Calling d l) c 0
 sound-called s c d l f sound =
     (elim (same_name c d) as (λ b. same_name c d ≡ b → Sound (started s lives.Calling d l) c 0) [
       | true ↦ λ same.
@@ -166,15 +180,18 @@ sound-called s c d l f sound =
           (keeps-started s lives.Calling c d l other (let low = f.above in omega arith)) sound
     ]) refl
 
-sound-linked : (kind : Kind) (to : Host) (service first cid : ℕ) (c : CallName) (l : Looks) → Sound l c 0 → Sound (linked kind to service first cid l) c 0
+sound-linked : (kind : Kind) (to : Host) (service first cid : ℕ) (c : CallName) (l : Looks) → Sound l c 0
+    → Sound (linked kind to service first cid l) c 0
 sound-linked (Server service nonces) to other first cid c l sound = sound
 sound-linked (Client host epoch) to service first cid c l sound =
     let x : Connection = record { host = host; epoch = epoch; cid = cid } in
     let new : ConnLooks = fresh_conn x to service first l in
     sound-keeps c l (placed new None l) 0 (keeps-placed c x new None l refl (λ y. absurd cc) refl tt) sound
 
-sound-client : (s : Setup) (host : Host) (epoch : ℕ) (l : Looks) (e : Event) (c : CallName) → s.kind ≡ Client host epoch → FitsSetup s
-    → AllowedClient s host epoch l e → Conns s l → Spared (connection_of c) (after s e l) → Sound l c 0 → Sound (after s e l) c 0
+sound-client : (s : Setup) (host : Host) (epoch : ℕ) (l : Looks) (e : Event) (c : CallName) → s.kind
+    ≡ Client host epoch → FitsSetup s
+    → AllowedClient s host epoch l e → Conns s l → Spared (connection_of c) (after s e l) → Sound l c 0
+    → Sound (after s e l) c 0
 sound-client s host epoch l (events.Linked to service first (Ok cid)) c kind fits allowed conns spared sound =
     sound-linked s.kind to service first cid c l sound
 sound-client s host epoch l (events.Linked to service first (Err full)) c kind fits allowed conns spared sound = sound
@@ -222,19 +239,24 @@ pub record Called (s : Setup) (h : List Event) : Type 0 where
   pub fine : (c : CallName) → Fine (call_at (looks s h) c)
   pub spared : (x : Connection) → Spared x (looks s h)
 
-clients : (kind : Kind) (s : Setup) (host : Host) (epoch : ℕ) (l : Looks) (e : Event) → kind ≡ Client host epoch → AllowedAt kind s l e
+clients : (kind : Kind) (s : Setup) (host : Host) (epoch : ℕ) (l : Looks) (e : Event) → kind ≡ Client host epoch
+    → AllowedAt kind s l e
     → AllowedClient s host epoch l e
 clients kind s host epoch l e is allowed = subst (λ (k : Kind). AllowedAt k s l e) is allowed
 
-pub called-turn : (s : Setup) (host : Host) (epoch : ℕ) (e : Event) (h : List Event) (c : CallName) → s.kind ≡ Client host epoch → FitsSetup s
+pub called-turn : (s : Setup) (host : Host) (epoch : ℕ) (e : Event) (h : List Event) (c : CallName) → s.kind
+    ≡ Client host epoch → FitsSetup s
     → Legal s (e ∷ h) → Called s h
-    → Turn (Unit {0}) ⊥ (GoodName s c) (CauseBy s (looks s h) e c) (Arrives s (looks s h) e c) (call_at (looks s h) c) (call_at (looks s (e ∷ h)) c)
+    → Turn (Unit {0}) ⊥ (GoodName s c) (CauseBy s (looks s h) e c) (Arrives s (looks s h) e c) (call_at (looks s h) c)
+    (call_at (looks s (e ∷ h)) c)
 called-turn s host epoch e h c kind fits legal old =
     let allowed = clients s.kind s host epoch (looks s h) e kind legal.0 in
     client-turn c s host epoch kind fits (looks s h) old.standing e allowed (old.sound c) (old.fine c)
-    (spared-as (connection_of c) (after s e (looks s h)) (looks s h) (sym (forgot-client s host epoch (looks s h) e kind allowed)) (old.spared (connection_of c)))
+    (spared-as (connection_of c) (after s e (looks s h)) (looks s h)
+    (sym (forgot-client s host epoch (looks s h) e kind allowed)) (old.spared (connection_of c)))
 
-pub client-calls : (s : Setup) (host : Host) (epoch : ℕ) (h : List Event) → s.kind ≡ Client host epoch → FitsSetup s → Legal s h → Called s h
+pub client-calls : (s : Setup) (host : Host) (epoch : ℕ) (h : List Event) → s.kind ≡ Client host epoch → FitsSetup s
+    → Legal s h → Called s h
 client-calls s host epoch [] kind fits legal =
     record {
       standing = none-yet s;
@@ -246,16 +268,19 @@ client-calls s host epoch (e ∷ h) kind fits legal =
     let allowed = clients s.kind s host epoch (looks s h) e kind legal.0 in
     let old = client-calls s host epoch h kind fits legal.1 in
     let spared : (x : Connection) → Spared x (after s e (looks s h)) =
-    λ x. spared-as x (after s e (looks s h)) (looks s h) (sym (forgot-client s host epoch (looks s h) e kind allowed)) (old.spared x) in
+    λ x. spared-as x (after s e (looks s h)) (looks s h) (sym (forgot-client s host epoch (looks s h) e kind allowed))
+    (old.spared x) in
     record {
       standing =
           record {
             conns = client-conns s host epoch (looks s h) e kind fits allowed old.standing.conns;
             calls = λ c.
-                good-turn (Unit {0}) ⊥ (CauseBy s (looks s h) e c) (Arrives s (looks s h) e c) s (looks s h) (after s e (looks s h)) c
+                good-turn (Unit {0}) ⊥ (CauseBy s (looks s h) e c) (Arrives s (looks s h) e c) s (looks s h)
+                (after s e (looks s h)) c
                 (called-turn s host epoch e h c kind fits legal old) (old.standing.calls c);
           };
-      sound = λ c. sound-client s host epoch (looks s h) e c kind fits allowed old.standing.conns (spared (connection_of c)) (old.sound c);
+      sound = λ c. sound-client s host epoch (looks s h) e c kind fits allowed old.standing.conns
+          (spared (connection_of c)) (old.sound c);
       fine = λ c. (called-turn s host epoch e h c kind fits legal old).fine tt (old.fine c);
       spared = spared;
     }

@@ -28,7 +28,8 @@ moment-stays n e h is = of (e.node == n)
     of true = clock-stays e.event (moment n h) is
     of false = refl
 
-advances : (server client : ℕ) (h : List Noted) (now own : ℕ) → AdvancesAlways server client h now own → AdvancesAlike server client h now own
+advances : (server client : ℕ) (h : List Noted) (now own : ℕ) → AdvancesAlways server client h now own
+    → AdvancesAlike server client h now own
 advances server client [] now own always = tt
 advances server client (e ∷ h) now own always = (
   λ acts. (

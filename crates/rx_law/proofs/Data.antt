@@ -99,7 +99,8 @@ five false false false false false f g h i j x y is = same_ok x y is
 chunk-kind : (kind flags : ℕ) (rest : List ℕ) (body : Body) (payload : List ℕ) → body_reading kind flags rest ≡ Ok body
     → body ≡ bodies.Chunk payload → (kind == 1) ≡ true
 chunk-kind kind flags rest body payload is chunk =
-    let e = five ((kind == 0) || nat_lt 7 kind) ((kind == 1) && has_flag 32 flags) (carries_payload kind && nat_lt 1444 (length rest))
+    let e = five ((kind == 0) || nat_lt 7 kind) ((kind == 1) && has_flag 32 flags)
+    (carries_payload kind && nat_lt 1444 (length rest))
     ((kind == 2) && is_short_ack rest) ((kind == 4) && nat_lt (length rest) 4) (faults.Kind kind) faults.Jumbo
     (faults.TooLong (length rest)) faults.AckShort faults.AbortShort (body_in kind rest) body is in
     chunk-in kind rest payload (e ∙ chunk)
@@ -110,7 +111,8 @@ with-body-is bytes (Ok body) m is =
     (let same : message_with bytes body ≡ m = same_message (message_with bytes body) m is in
     ap (λ (x : Message). Ok x.body) same)
 
-pub long-enough : (test : Bool) (bad : BadMsg) (rest : Result Message BadMsg) (m : Message) → (if test then Err bad else rest) ≡ Ok m → rest ≡ Ok m
+pub long-enough : (test : Bool) (bad : BadMsg) (rest : Result Message BadMsg) (m : Message)
+    → (if test then Err bad else rest) ≡ Ok m → rest ≡ Ok m
 long-enough true bad rest m is = absurd cc
 long-enough false bad rest m is = is
 
@@ -127,7 +129,10 @@ is-chunk (bodies.Response bytes) is = absurd cc
 pub made-chunk : (n m : Message) (payload : List ℕ) → reading_of (made n) ≡ Ok m → m.body ≡ bodies.Chunk payload
     → (p : List ℕ) × (n.body ≡ bodies.Chunk p)
 made-chunk n m payload reads chunk =
-    let body = with-body-is (made n) (body_reading (slice_index (made n) 20) (slice_index (made n) 21) (drop 28 (made n))) m (long-enough (nat_lt (length (made n)) 28) (faults.Short (length (made n))) (with_body (made n) (body_reading (slice_index (made n) 20) (slice_index (made n) 21) (drop 28 (made n)))) m reads) in
+    let body = with-body-is (made n) (body_reading (slice_index (made n) 20) (slice_index (made n) 21)
+    (drop 28 (made n))) m (long-enough (nat_lt (length (made n)) 28) (faults.Short (length (made n)))
+    (with_body (made n) (body_reading (slice_index (made n) 20) (slice_index (made n) 21)
+    (drop 28 (made n)))) m reads) in
     is-chunk n.body (chunk-kind (kind_of n.body) (slice_index (made n) 21) (drop 28 (made n)) m.body payload body chunk)
 
 -- ---- the items
@@ -175,7 +180,8 @@ module _ (s : Setup) (l : Looks) (good : (c : CallName) → GoodCall s l c) wher
   flags-none (Server service nonces) = refl
   flags-none (Client host epoch) = refl
 
-  flags-side : (kind : Kind) (asks last : Bool) → has_flag CLIENT_INITIATED (bit_and (side_flag kind + flags_of asks last) 7) ≡ is_client kind
+  flags-side : (kind : Kind) (asks last : Bool) → has_flag CLIENT_INITIATED
+      (bit_and (side_flag kind + flags_of asks last) 7) ≡ is_client kind
   flags-side (Server service nonces) true true = refl
   flags-side (Server service nonces) true false = refl
   flags-side (Server service nonces) false true = refl
@@ -207,7 +213,8 @@ module _ (s : Setup) (l : Looks) (good : (c : CallName) → GoodCall s l c) wher
 
   class-says : (c : CallName) (q : ChannelLooks) (living : Bool) → Every (Says s l) (class_items s l c q living)
   class-says c q true =
-      every-append (Says s l) (owed_item c (challenge_body s l c q.owed_challenge)) (owed_item c (option_map bodies.Response q.owed_response))
+      every-append (Says s l) (owed_item c (challenge_body s l c q.owed_challenge))
+      (owed_item c (option_map bodies.Response q.owed_response))
       (owed-says c (challenge_body s l c q.owed_challenge) (where-no _ _ tt))
       (owed-says c (option_map bodies.Response q.owed_response) (response-no q.owed_response))
   class-says c q false = tt
@@ -242,25 +249,30 @@ module _ (s : Setup) (l : Looks) (good : (c : CallName) → GoodCall s l c) wher
   chunk_is : (a b : List ℕ) → bodies.Chunk a ≡ bodies.Chunk b → a ≡ b
   chunk_is a b is = cc
 
-  item-says : (k : CallRecord) (i : CallItem) → call_at l k.name ≡ Some k → (is_active k.life && not (is_silent l.now k)) ≡ true
+  item-says : (k : CallRecord) (i : CallItem) → call_at l k.name ≡ Some k
+      → (is_active k.life && not (is_silent l.now k)) ≡ true
       → Sound k i.sending → Says s l (item_of s k i)
   item-says k i there speaks sound = (side i.sending, of i.sending sound)
     where
       side : (sending : Sending) → Flagged s (item_of s k (record { rank = i.rank; sending = sending }))
-      side (sendings.Piece seq again) = flags-side s.kind (asks k.looks.cwnd k.looks.sent seq again) (piece_at k.looks.sent seq).last
+      side (sendings.Piece seq again) = flags-side s.kind (asks k.looks.cwnd k.looks.sent seq again)
+          (piece_at k.looks.sent seq).last
       side (sendings.Ack reason serial) = flags-side s.kind (reason == ACK_PING) false
 
-      of : (sending : Sending) → Sound k sending → (payload : List ℕ) → (item_of s k (record { rank = i.rank; sending = sending })).body ≡ bodies.Chunk payload
+      of : (sending : Sending) → Sound k sending → (payload : List ℕ)
+          → (item_of s k (record { rank = i.rank; sending = sending })).body ≡ bodies.Chunk payload
           → SaysPiece s l (item_of s k (record { rank = i.rank; sending = sending })) payload
       of (sendings.Piece seq again) sound payload is =
-          let at : piece_at k.looks.sent seq ≡ piece_at k.looks.sent (suc sound.0) = ap (piece_at k.looks.sent) sound.1 in
+          let at : piece_at k.looks.sent seq ≡ piece_at k.looks.sent (suc sound.0) = ap
+          (piece_at k.looks.sent) sound.1 in
           record {
             call = k;
             there = there;
             behind = sound.0;
             seq = sound.1;
             counts = sound.2;
-            payload_is = sym (chunk_is (piece_at k.looks.sent seq).payload payload is) ∙ ap (λ (p : Piece). p.payload) at;
+            payload_is = sym (chunk_is (piece_at k.looks.sent seq).payload payload is)
+                ∙ ap (λ (p : Piece). p.payload) at;
             last =
                 flags-last s.kind (asks k.looks.cwnd k.looks.sent seq again) (piece_at k.looks.sent seq).last
                 ∙ ap (λ (p : Piece). p.last) at;
@@ -270,7 +282,8 @@ module _ (s : Setup) (l : Looks) (good : (c : CallName) → GoodCall s l c) wher
           }
       of (sendings.Ack reason serial) sound payload is = absurd cc
 
-  map-says : (k : CallRecord) (is : List CallItem) → call_at l k.name ≡ Some k → (is_active k.life && not (is_silent l.now k)) ≡ true
+  map-says : (k : CallRecord) (is : List CallItem) → call_at l k.name ≡ Some k
+      → (is_active k.life && not (is_silent l.now k)) ≡ true
       → Every (λ i. Sound k i.sending) is → Every (Says s l) (map (item_of s k) is)
   map-says k [] there speaks all = tt
   map-says k (i ∷ is) there speaks all = (item-says k i there speaks all.0, map-says k is there speaks all.1)
@@ -281,15 +294,19 @@ module _ (s : Setup) (l : Looks) (good : (c : CallName) → GoodCall s l c) wher
   fresh-sound : (k : CallRecord) → Every (λ i. Sound k i.sending) (fresh_items k.looks.cwnd k.looks.sent)
   fresh-sound k =
       (elim (can_give k.looks.cwnd k.looks.sent) as (λ b. can_give k.looks.cwnd k.looks.sent ≡ b
-      → Every (λ i. Sound k i.sending) (if b then item_at 0 (sendings.Piece (suc (given_of k.looks.sent)) false) else [])) [
+      → Every (λ i. Sound k i.sending) (if b then item_at 0 (sendings.Piece
+      (suc (given_of k.looks.sent)) false) else [])) [
         | true ↦ λ may. (
-            let counts = below-is (given_of k.looks.sent) (counting_of k.looks.sent) (both (nat_lt (given_of k.looks.sent) (counting_of k.looks.sent)) _ may).0 in
+            let counts = below-is (given_of k.looks.sent) (counting_of k.looks.sent)
+            (both (nat_lt (given_of k.looks.sent) (counting_of k.looks.sent)) _ may).0 in
             ((given_of k.looks.sent, refl, omega arith), tt))
         | false ↦ λ non. tt
       ]) refl
 
-  again-sound : (k : CallRecord) (rto below : ℕ) (o : Option LastGiving) → given_of k.looks.sent ≤ counting_of k.looks.sent
-      → last_giving k.looks.sent.givings (suc below) ≡ o → Every (λ i. Sound k i.sending) (again_items rto (suc below) o)
+  again-sound : (k : CallRecord) (rto below : ℕ) (o : Option LastGiving)
+      → given_of k.looks.sent ≤ counting_of k.looks.sent
+      → last_giving k.looks.sent.givings (suc below) ≡ o → Every (λ i. Sound k i.sending)
+      (again_items rto (suc below) o)
   again-sound k rto below None counts is = tt
   again-sound k rto below (Some g) counts is =
       let high : suc below ≤ given_of k.looks.sent = given-within k.looks.sent.givings (suc below) g is in
@@ -312,7 +329,8 @@ module _ (s : Setup) (l : Looks) (good : (c : CallName) → GoodCall s l c) wher
   pings-sound k true spoke = (tt, tt)
   pings-sound k false spoke = tt
 
-  pub call-sound : (k : CallRecord) (client : Bool) → SendsOf (ends_of (Some k)) → Every (λ i. Sound k i.sending) (call_items client k.looks)
+  pub call-sound : (k : CallRecord) (client : Bool) → SendsOf (ends_of (Some k))
+      → Every (λ i. Sound k i.sending) (call_items client k.looks)
   call-sound k client sends =
       every-append (λ i. Sound k i.sending) (piece_items k.looks.rtt.rto k.looks.cwnd k.looks.sent)
       (ack_items k.looks.owed_ack ++ ping_items client k.looks.spoke) (pieces-sound k sends)
@@ -324,10 +342,13 @@ module _ (s : Setup) (l : Looks) (good : (c : CallName) → GoodCall s l c) wher
   of-says name (Some k) is =
       let named : k.name ≡ name = name_is k.name name (find_passes (λ j. same_name j.name name) l.calls k is) in
       let there : call_at l k.name ≡ Some k = subst (λ (n : CallName). call_at l n ≡ Some k) (sym named) is in
-      let sends : SendsOf (ends_of (Some k)) = subst (λ (o : Option CallRecord). SendsOf (ends_of o)) is (good name).sends in
+      let sends : SendsOf (ends_of (Some k)) = subst (λ (o : Option CallRecord). SendsOf (ends_of o)) is
+      (good name).sends in
       (elim (is_active k.life && not (is_silent l.now k))
-      as (λ b. (is_active k.life && not (is_silent l.now k)) ≡ b → Every (Says s l) (if b then map (item_of s k) (call_items (is_client s.kind) k.looks) else [])) [
-        | true ↦ λ speaks. map-says k (call_items (is_client s.kind) k.looks) there speaks (call-sound k (is_client s.kind) sends)
+      as (λ b. (is_active k.life && not (is_silent l.now k)) ≡ b
+      → Every (Says s l) (if b then map (item_of s k) (call_items (is_client s.kind) k.looks) else [])) [
+        | true ↦ λ speaks. map-says k (call_items (is_client s.kind) k.looks) there speaks
+            (call-sound k (is_client s.kind) sends)
         | false ↦ λ rests. tt
       ]) refl
 
@@ -336,7 +357,8 @@ module _ (s : Setup) (l : Looks) (good : (c : CallName) → GoodCall s l c) wher
       let q : ChannelLooks = channel_at l ch in
       let c : CallName = call_named ch q.number in
       let living : Bool = is_call (λ k. is_live k.life) (latest l ch) in
-      every-append (Says s l) (owed_item c (option_map bodies.Abort q.owed_abort)) _ (owed-says c (option_map bodies.Abort q.owed_abort) (abort-no q.owed_abort))
+      every-append (Says s l) (owed_item c (option_map bodies.Abort q.owed_abort)) _
+      (owed-says c (option_map bodies.Abort q.owed_abort) (abort-no q.owed_abort))
       (every-append (Says s l) (busy_items ch q.owed_busy) _ (busy-says ch q.owed_busy)
       (every-append (Says s l) (class_items s l c q living) _ (class-says c q living)
       (every-append (Says s l) (owed_item c (where_owed q.owed_ackall bodies.AckAll)) (items_of s l (latest l ch))
@@ -371,7 +393,8 @@ counting-low true n low = omega arith
 counting-low false n low = omega arith
 
 -- its name is the item's
-pub name-again : (s : Setup) (r : ConnLooks) (i : Item) → OfKind s.kind r → r.connection ≡ connection_of i.name → GoodName s i.name
+pub name-again : (s : Setup) (r : ConnLooks) (i : Item) → OfKind s.kind r → r.connection ≡ connection_of i.name
+    → GoodName s i.name
     → named s r.peer (message_on s i r) ≡ i.name
 name-again s r i kind own name =
     let split = name.split in
@@ -386,9 +409,11 @@ name-again s r i kind own name =
 pub some_pair : (a b : Host × List ℕ) → Some a ≡ Some b → a ≡ b
 some_pair a b is = cc
 
-item-gives : (s : Setup) (l : Looks) (i : Item) (o : Option ConnLooks) (to : Host) (bytes : List ℕ) (m : Message) (payload : List ℕ)
+item-gives : (s : Setup) (l : Looks) (i : Item) (o : Option ConnLooks) (to : Host) (bytes : List ℕ) (m : Message)
+    (payload : List ℕ)
     → FitsSetup s → Conns s l → ((c : CallName) → GoodCall s l c) → conn_at l (connection_of i.name) ≡ o → Says s l i
-    → datagram_on s i o ≡ Some (to, bytes) → reading_of bytes ≡ Ok m → m.body ≡ bodies.Chunk payload → GivesPiece s l to m payload
+    → datagram_on s i o ≡ Some (to, bytes) → reading_of bytes ≡ Ok m → m.body ≡ bodies.Chunk payload
+    → GivesPiece s l to m payload
 item-gives s l i None to bytes m payload fits conns good there says is reads chunk = absurd cc
 item-gives s l i (Some r) to bytes m payload fits conns good there says is reads chunk =
     let both_are = some_pair (r.peer, made (message_on s i r)) (to, bytes) is in
@@ -398,9 +423,11 @@ item-gives s l i (Some r) to bytes m payload fits conns good there says is reads
     let chunked = made-chunk (message_on s i r) m payload read chunk in
     let p = says.1 chunked.0 chunked.1 in
     let conn = found-good s (λ q. same_connection q.connection (connection_of i.name)) l.conns r conns there in
-    let own = connection_is r.connection (connection_of i.name) (find_passes (λ q. same_connection q.connection (connection_of i.name)) l.conns r there) in
+    let own = connection_is r.connection (connection_of i.name)
+    (find_passes (λ q. same_connection q.connection (connection_of i.name)) l.conns r there) in
     let name = (good i.name).named (rw p.there refl) in
-    let sends : SendsOf (ends_of (Some p.call)) = subst (λ (o : Option CallRecord). SendsOf (ends_of o)) p.there (good i.name).sends in
+    let sends : SendsOf (ends_of (Some p.call)) = subst (λ (o : Option CallRecord). SendsOf (ends_of o)) p.there
+    (good i.name).sends in
     let top = counting-low p.call.looks.sent.shut (length p.call.looks.sent.said) sends.fits in
     let plain : IsPlain (message_on s i r) =
     record {
@@ -414,12 +441,16 @@ item-gives s l i (Some r) to bytes m payload fits conns good there says is reads
       index = fits.class.index;
       spare = refl;
       service = conn.service;
-      body = subst IsPlainBody (sym chunked.1) (let is_payload = ap (λ (xs : List ℕ). length xs) p.payload_is in omega (arith, length-take 1412 (drop (1412 * p.behind) p.call.looks.sent.said)));
+      body = subst IsPlainBody (sym chunked.1) (let is_payload = ap (λ (xs : List ℕ). length xs) p.payload_is in omega
+          (arith, length-take 1412 (drop (1412 * p.behind) p.call.looks.sent.said)));
     } in
-    let same : message_on s i r ≡ m = same_message (message_on s i r) m (sym (reads_back (message_on s i r) plain) ∙ read) in
+    let same : message_on s i r ≡ m = same_message (message_on s i r) m
+    (sym (reads_back (message_on s i r) plain) ∙ read) in
     let again = name-again s r i conn.kind own name in
-    let named_is : named s to m ≡ i.name = ap (named s to) (sym same) ∙ ap (λ (h : Host). named s h (message_on s i r)) (sym peer) ∙ again in
-    let bytes_is : chunked.0 ≡ payload = chunk_same chunked.0 payload (sym chunked.1 ∙ ap (λ (x : Message). x.body) same ∙ chunk) in
+    let named_is : named s to m ≡ i.name = ap (named s to) (sym same)
+    ∙ ap (λ (h : Host). named s h (message_on s i r)) (sym peer) ∙ again in
+    let bytes_is : chunked.0 ≡ payload = chunk_same chunked.0 payload
+    (sym chunked.1 ∙ ap (λ (x : Message). x.body) same ∙ chunk) in
     let last_is : has_flag LAST_PACKET m.flags ≡ (piece_at p.call.looks.sent (suc p.behind)).last =
     ap (λ (x : Message). has_flag LAST_PACKET x.flags) (sym same) ∙ p.last in
     let payload_is : payload ≡ (piece_at p.call.looks.sent (suc p.behind)).payload = sym bytes_is ∙ p.payload_is in
@@ -441,28 +472,33 @@ no-stray : (x : Stray) (to : Host) (bytes : List ℕ) (m : Message) (payload : L
     → ◌≡◌ {A = Option (Host × List ℕ)} (Some (x.host, made (stray_message x))) (Some (to, bytes))
     → reading_of bytes ≡ Ok m → m.body ≡ bodies.Chunk payload → ⊥
 no-stray x to bytes m payload is reads chunk =
-    let text : made (stray_message x) ≡ bytes = ap (λ (p : Host × List ℕ). p.1) (some_pair (x.host, made (stray_message x)) (to, bytes) is) in
+    let text : made (stray_message x) ≡ bytes = ap (λ (p : Host × List ℕ). p.1)
+    (some_pair (x.host, made (stray_message x)) (to, bytes) is) in
     let chunked = made-chunk (stray_message x) m payload (ap reading_of text ∙ reads) chunk in
     absurd (let e = chunked.1 in cc (e))
 
 -- what a poll gives and is read as DATA is a piece of a call
-pub poll-gives : (s : Setup) (l : Looks) (strays : List Stray) (to : Host) (bytes : List ℕ) (m : Message) (payload : List ℕ)
+pub poll-gives : (s : Setup) (l : Looks) (strays : List Stray) (to : Host) (bytes : List ℕ) (m : Message)
+    (payload : List ℕ)
     → FitsSetup s → Conns s l → ((c : CallName) → GoodCall s l c) → poll_with s l strays ≡ Some (to, bytes)
     → reading_of bytes ≡ Ok m → m.body ≡ bodies.Chunk payload → GivesPiece s l to m payload
-poll-gives s l (x ∷ xs) to bytes m payload fits conns good is reads chunk = absurd (no-stray x to bytes m payload is reads chunk)
+poll-gives s l (x ∷ xs) to bytes m payload fits conns good is reads chunk = absurd
+    (no-stray x to bytes m payload is reads chunk)
 poll-gives s l [] to bytes m payload fits conns good is reads chunk = of (next_item s l) refl is
   where
     of : (o : Option Item) → next_item s l ≡ o → datagram_for s l o ≡ Some (to, bytes) → GivesPiece s l to m payload
     of None next is = absurd cc
     of (Some i) next is =
-        item-gives s l i (conn_at l (connection_of i.name)) to bytes m payload fits conns good refl (next-says s l good i next) is reads chunk
+        item-gives s l i (conn_at l (connection_of i.name)) to bytes m payload fits conns good refl
+        (next-says s l good i next) is reads chunk
 
 -- ---- whose it is
 
 reads-flags : (bytes : List ℕ) (m : Message) → reading_of bytes ≡ Ok m → m.flags ≡ slice_index bytes 21
 reads-flags bytes m reads =
     of (body_reading (slice_index bytes 20) (slice_index bytes 21) (drop 28 bytes))
-    (long-enough (nat_lt (length bytes) 28) (faults.Short (length bytes)) (with_body bytes (body_reading (slice_index bytes 20) (slice_index bytes 21) (drop 28 bytes))) m reads)
+    (long-enough (nat_lt (length bytes) 28) (faults.Short (length bytes))
+    (with_body bytes (body_reading (slice_index bytes 20) (slice_index bytes 21) (drop 28 bytes))) m reads)
   where
     of : (r : Result Body BadMsg) → with_body bytes r ≡ Ok m → m.flags ≡ slice_index bytes 21
     of (Err bad) is = absurd cc
@@ -472,11 +508,13 @@ made-flags : (n m : Message) (bytes : List ℕ) → made n ≡ bytes → reading
 made-flags n m bytes text reads = reads-flags (made n) m (ap reading_of text ∙ reads)
 
 -- what a poll gives has the flag of its node, where a client owes no stray abort
-pub poll-flag : (s : Setup) (l : Looks) (strays : List Stray) (to : Host) (bytes : List ℕ) (m : Message) → ((c : CallName) → GoodCall s l c)
+pub poll-flag : (s : Setup) (l : Looks) (strays : List Stray) (to : Host) (bytes : List ℕ) (m : Message)
+    → ((c : CallName) → GoodCall s l c)
     → (is_client s.kind ≡ true → strays ≡ []) → poll_with s l strays ≡ Some (to, bytes) → reading_of bytes ≡ Ok m
     → has_flag CLIENT_INITIATED m.flags ≡ is_client s.kind
 poll-flag s l (x ∷ xs) to bytes m good none is reads =
-    let text : made (stray_message x) ≡ bytes = ap (λ (p : Host × List ℕ). p.1) (some_pair (x.host, made (stray_message x)) (to, bytes) is) in
+    let text : made (stray_message x) ≡ bytes = ap (λ (p : Host × List ℕ). p.1)
+    (some_pair (x.host, made (stray_message x)) (to, bytes) is) in
     ap (has_flag CLIENT_INITIATED) (made-flags (stray_message x) m bytes text reads) ∙ of s.kind none
   where
     of : (k : Kind) → (is_client k ≡ true → x ∷ xs ≡ []) → false ≡ is_client k
@@ -484,12 +522,15 @@ poll-flag s l (x ∷ xs) to bytes m good none is reads =
     of (Client host epoch) none = absurd (let e = none refl in cc (e))
 poll-flag s l [] to bytes m good none is reads = of (next_item s l) refl is
   where
-    at : (i : Item) (o : Option ConnLooks) → Says s l i → datagram_on s i o ≡ Some (to, bytes) → has_flag CLIENT_INITIATED m.flags ≡ is_client s.kind
+    at : (i : Item) (o : Option ConnLooks) → Says s l i → datagram_on s i o ≡ Some (to, bytes)
+        → has_flag CLIENT_INITIATED m.flags ≡ is_client s.kind
     at i None says is = absurd cc
     at i (Some r) says is =
-        let text : made (message_on s i r) ≡ bytes = ap (λ (p : Host × List ℕ). p.1) (some_pair (r.peer, made (message_on s i r)) (to, bytes) is) in
+        let text : made (message_on s i r) ≡ bytes = ap (λ (p : Host × List ℕ). p.1)
+        (some_pair (r.peer, made (message_on s i r)) (to, bytes) is) in
         ap (has_flag CLIENT_INITIATED) (made-flags (message_on s i r) m bytes text reads) ∙ says.0
 
-    of : (o : Option Item) → next_item s l ≡ o → datagram_for s l o ≡ Some (to, bytes) → has_flag CLIENT_INITIATED m.flags ≡ is_client s.kind
+    of : (o : Option Item) → next_item s l ≡ o → datagram_for s l o ≡ Some (to, bytes)
+        → has_flag CLIENT_INITIATED m.flags ≡ is_client s.kind
     of None next is = absurd cc
     of (Some i) next is = at i (conn_at l (connection_of i.name)) (next-says s l good i next) is

@@ -28,7 +28,8 @@ use Rattle.rx_law.proofs.Data.{long-enough, same_message}
 -- the name is of its channel's latest call, or of one to which the channel owes a BUSY
 abbrev pub IsDue : Looks → CallName → Type 0
 IsDue l c =
-    (c.chan < 4) × ((c.number ≡ (channel_at l (channel_of c)).number) ⊎ ((channel_at l (channel_of c)).owed_busy ≡ Some c.number))
+    (c.chan < 4) × ((c.number ≡ (channel_at l (channel_of c)).number) ⊎
+    ((channel_at l (channel_of c)).owed_busy ≡ Some c.number))
 
 module _ (s : Setup) (l : Looks) where
   abbrev Due : Item → Type 0
@@ -40,8 +41,10 @@ module _ (s : Setup) (l : Looks) where
 
   class-due : (c : CallName) (q : ChannelLooks) (living : Bool) → IsDue l c → Every Due (class_items s l c q living)
   class-due c q true due =
-      every-append Due (owed_item c (challenge_body s l c q.owed_challenge)) (owed_item c (option_map bodies.Response q.owed_response))
-      (owed-due c (challenge_body s l c q.owed_challenge) due) (owed-due c (option_map bodies.Response q.owed_response) due)
+      every-append Due (owed_item c (challenge_body s l c q.owed_challenge))
+      (owed_item c (option_map bodies.Response q.owed_response))
+      (owed-due c (challenge_body s l c q.owed_challenge) due)
+      (owed-due c (option_map bodies.Response q.owed_response) due)
   class-due c q false due = tt
 
   busy-due : (ch : Channel) (o : Option ℕ) → ch.chan < 4 → (channel_at l ch).owed_busy ≡ o → Every Due (busy_items ch o)
@@ -68,7 +71,8 @@ module _ (s : Setup) (l : Looks) where
       let c : CallName = call_named ch q.number in
       let due : IsDue l c = (low, inl refl) in
       let living : Bool = is_call (λ k. is_live k.life) (latest l ch) in
-      every-append Due (owed_item c (option_map bodies.Abort q.owed_abort)) _ (owed-due c (option_map bodies.Abort q.owed_abort) due)
+      every-append Due (owed_item c (option_map bodies.Abort q.owed_abort)) _
+      (owed-due c (option_map bodies.Abort q.owed_abort) due)
       (every-append Due (busy_items ch q.owed_busy) _ (busy-due ch q.owed_busy low refl)
       (every-append Due (class_items s l c q living) _ (class-due c q living due)
       (every-append Due (owed_item c (where_owed q.owed_ackall bodies.AckAll)) (items_of s l (latest l ch))
@@ -77,7 +81,8 @@ module _ (s : Setup) (l : Looks) where
 
   on-due : (chs : List Channel) → Every (λ ch. ch.chan < 4) chs → Every Due (items_on s l chs)
   on-due [] low = tt
-  on-due (ch ∷ chs) low = every-append Due (channel_items s l ch) (items_on s l chs) (channel-due ch low.0) (on-due chs low.1)
+  on-due (ch ∷ chs) low = every-append Due (channel_items s l ch) (items_on s l chs) (channel-due ch low.0)
+      (on-due chs low.1)
 
   channels-low : (rs : List ConnLooks) → Every (λ ch. ch.chan < 4) (all_channels rs)
   channels-low [] = tt
@@ -89,7 +94,8 @@ module _ (s : Setup) (l : Looks) where
   pub next-due : (i : Item) → next_item s l ≡ Some i → IsDue l i.name
   next-due i is =
       least-keeps Due (λ i. i.rank) (filter (λ i. nat_le i.rank l.now) (items s l))
-      (every-filter Due (λ i. nat_le i.rank l.now) (items s l) (on-due (all_channels l.conns) (channels-low l.conns))) i is
+      (every-filter Due (λ i. nat_le i.rank l.now) (items s l)
+      (on-due (all_channels l.conns) (channels-low l.conns))) i is
 
 -- ---- its header
 
@@ -98,18 +104,24 @@ pub reads-header : (bytes : List ℕ) (m : Message) → reading_of bytes ≡ Ok 
     → (m.epoch ≡ number_at 4 0 bytes) × (m.cid ≡ number_at 4 4 bytes) × (m.number ≡ number_at 4 8 bytes)
 reads-header bytes m reads =
     of (body_reading (slice_index bytes 20) (slice_index bytes 21) (drop 28 bytes))
-    (long-enough (nat_lt (length bytes) 28) (faults.Short (length bytes)) (with_body bytes (body_reading (slice_index bytes 20) (slice_index bytes 21) (drop 28 bytes))) m reads)
+    (long-enough (nat_lt (length bytes) 28) (faults.Short (length bytes))
+    (with_body bytes (body_reading (slice_index bytes 20) (slice_index bytes 21) (drop 28 bytes))) m reads)
   where
     of : (r : Result Body BadMsg) → with_body bytes r ≡ Ok m
         → (m.epoch ≡ number_at 4 0 bytes) × (m.cid ≡ number_at 4 4 bytes) × (m.number ≡ number_at 4 8 bytes)
     of (Err bad) is = absurd cc
     of (Ok body) is =
-        (let same : message_with bytes body ≡ m = same_message (message_with bytes body) m is in
-        (ap (λ (x : Message). x.epoch) (sym same), ap (λ (x : Message). x.cid) (sym same), ap (λ (x : Message). x.number) (sym same)))
+        (let same : message_with bytes body ≡ m = same_message (message_with bytes body) m is in (
+          ap (λ (x : Message). x.epoch) (sym same),
+          ap (λ (x : Message). x.cid) (sym same),
+          ap
+              (λ (x : Message). x.number) (sym same),
+        ))
 
 -- the header of what was made is read back, where its numbers fit
 pub made-header : (n m : Message) → reading_of (made n) ≡ Ok m
-    → (n.epoch < 2 ^ 32 → m.epoch ≡ n.epoch) × (n.cid < 2 ^ 32 → m.cid ≡ n.cid) × (n.number < 2 ^ 32 → m.number ≡ n.number)
+    → (n.epoch < 2 ^ 32 → m.epoch ≡ n.epoch) × (n.cid < 2 ^ 32 → m.cid ≡ n.cid)
+    × (n.number < 2 ^ 32 → m.number ≡ n.number)
 made-header n m reads =
     let h = reads-header (made n) m reads in (
       λ fits. h.0 ∙ four n.epoch (drop 4 (made n)) fits,

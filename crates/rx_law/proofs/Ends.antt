@@ -124,7 +124,8 @@ given_moves Comes x gs =
     }
 
 -- a packet was kept
-pub kept_moves : (Comes : Packet → Type 0) (x : Ends) (p : Packet) → Comes p → Moves Comes x (record x { kept = p ∷ x.kept })
+pub kept_moves : (Comes : Packet → Type 0) (x : Ends) (p : Packet) → Comes p
+    → Moves Comes x (record x { kept = p ∷ x.kept })
 kept_moves Comes x p comes =
     record {
       grows = same_stream x.said x.shut;

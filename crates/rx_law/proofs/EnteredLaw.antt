@@ -28,7 +28,8 @@ use Rattle.rx_law.proofs.PlainGiven.{plain-finish, plain-polled}
 
 -- ---- a history
 
-shown-after : (s : Setup) (key : List ℕ) (c : CallName) (h : List Event) (e : Event) → IsServer s.kind → s.class ≡ token key
+shown-after : (s : Setup) (key : List ℕ) (c : CallName) (h : List Event) (e : Event) → IsServer s.kind → s.class
+    ≡ token key
     → AllowedServer s (looks s h) e → Shown s key c h (conn_at (looks s h) (connection_of c))
     → Shown s key c (e ∷ h) (conn_at (looks s (e ∷ h)) (connection_of c))
 shown-after s key c h (events.Taken from bytes got) server class allowed shown =
@@ -45,7 +46,8 @@ shown-after s key c h (events.HasRead d max got bytes) server class allowed show
     (let y : Connection = connection_of c in
     let l : Looks = looks s h in
     let owes : Bool = is_end got && is_call (λ k. is_calling k.life) (call_at l d) in
-    shown-fine s key c h (events.HasRead d max got bytes) (conn_at l y) (conn_at (on_channel (channel_of d) (owing_ackall owes) l) y)
+    shown-fine s key c h (events.HasRead d max got bytes) (conn_at l y)
+    (conn_at (on_channel (channel_of d) (owing_ackall owes) l) y)
     (plain-on_channel y (channel_of d) (owing_ackall owes) l) shown)
 shown-after s key c h (events.Wrote d offered got bytes) server class allowed shown =
     (let o = conn_at (looks s h) (connection_of c) in

@@ -78,7 +78,8 @@ call-by c l m same = ap (λ (ks : List CallRecord). find (λ k. same_name k.name
 pub record ReadFacts (k : CallRecord) (end : Bool) (bytes : List ℕ) : Type 0 where
   pub count : ℕ
   pub taken : bytes ≡ take count (left_of (ends_in k.looks))
-  pub ended : end ≡ true → (k.looks.received.ended ≡ true) ⊎ ((left_of (ends_in k.looks) ≡ []) × (whole_of (ends_in k.looks) ≡ true))
+  pub ended : end ≡ true → (k.looks.received.ended ≡ true) ⊎
+      ((left_of (ends_in k.looks) ≡ []) × (whole_of (ends_in k.looks) ≡ true))
 
 take_none : (xs : List ℕ) → [] ≡ take 0 xs
 take_none [] = refl
@@ -120,7 +121,8 @@ read-facts k max end is =
 
 -- of a client's call
 pub client-facts : (k : CallRecord) (life : Life) (max : ℕ) → (is_ok_end life ≡ true → k.looks.received.ended ≡ true)
-    → ReadFacts k (is_end (readers.Client (client_read_by life (read_of k.looks.received max)).0)) (client_read_by life (read_of k.looks.received max)).1
+    → ReadFacts k (is_end (readers.Client (client_read_by life (read_of k.looks.received max)).0))
+    (client_read_by life (read_of k.looks.received max)).1
 client-facts k (lives.Ended ends.Ok) max fine =
     record { count = 0; taken = take_none (left_of (ends_in k.looks)); ended = λ y. inl (fine refl) }
 client-facts k (lives.Ended (ends.Abort code)) max fine = nothing-read k [] refl
@@ -135,7 +137,8 @@ client-facts k (lives.Over code) max fine = read-facts k max _ (client-end (read
 
 -- of a server's
 pub server-facts : (k : CallRecord) (life : Life) (max : ℕ)
-    → ReadFacts k (is_end (readers.Server (served_read_by life (read_of k.looks.received max)).0)) (served_read_by life (read_of k.looks.received max)).1
+    → ReadFacts k (is_end (readers.Server (served_read_by life (read_of k.looks.received max)).0))
+    (served_read_by life (read_of k.looks.received max)).1
 server-facts k lives.Accepted max = read-facts k max _ (server-end (read_of k.looks.received max).0)
 server-facts k (lives.Broken code) max = nothing-read k [] refl
 server-facts k _ max = nothing-read k [] refl
@@ -156,12 +159,14 @@ module _ (Safe Served Good : Type 0) (Cause : End → Type 0) (Comes : Packet �
 
   pub turn-by : (l m : Looks) → m.calls ≡ l.calls → Turn Safe Served Good Cause Comes (call_at l c) (call_at m c)
   turn-by l m same =
-      subst (λ (o : Option CallRecord). Turn Safe Served Good Cause Comes (call_at l c) o) (sym (call-by c l m same)) (refl-turn (call_at l c))
+      subst (λ (o : Option CallRecord). Turn Safe Served Good Cause Comes (call_at l c) o) (sym (call-by c l m same))
+      (refl-turn (call_at l c))
 
   -- one call changes
   pub turn-changed : (d : CallName) (change : CallRecord → CallRecord) (l m : Looks)
       → call_at m c ≡ cond (same_name c d) (option_map change (call_at l c)) (call_at l c)
-      → ((k : CallRecord) → same_name c d ≡ true → call_at l c ≡ Some k → Turn Safe Served Good Cause Comes (Some k) (Some (change k)))
+      → ((k : CallRecord) → same_name c d ≡ true → call_at l c ≡ Some k
+      → Turn Safe Served Good Cause Comes (Some k) (Some (change k)))
       → Turn Safe Served Good Cause Comes (call_at l c) (call_at m c)
   turn-changed d change l m is turns =
       subst (λ (o : Option CallRecord). Turn Safe Served Good Cause Comes (call_at l c) o) (sym is)
@@ -185,7 +190,8 @@ module _ (Safe Served Good : Type 0) (Cause : End → Type 0) (Comes : Packet �
   -- ---- a taking
 
   pub behind-turn : (s : Setup) (row : Option Took) (from : Host) (d : CallName) (m : Message) (got : Took) (l : Looks)
-      → (row ≡ None → OpensBy Safe c (prepared s got (connection_of d) l) d got × (same_name c d ≡ true → Good) × TakenWhy Cause Comes c d m got)
+      → (row ≡ None → OpensBy Safe c (prepared s got (connection_of d) l) d got × (same_name c d ≡ true → Good)
+      × TakenWhy Cause Comes c d m got)
       → Turn Safe Served Good Cause Comes (call_at l c) (call_at (taken_behind s row from d m got l) c)
   behind-turn s (Some row) from d m got l why = turn-by l (turned_away row from m l) (calls-turned row from m l)
   behind-turn s None from d m got l why =
@@ -212,7 +218,8 @@ module _ (Safe Served Good : Type 0) (Cause : End → Type 0) (Comes : Packet �
       looks-turn d (after_piece l.now m.seq) l (λ k same is. piece-turn l.now m.seq k (counts payload k refl same is))
   given_body-turn d m (bodies.Ack a) l counts =
       looks-turn d (after_ack_given l.now) l
-      (λ k same is. streams-turn Safe Served Good Cause Comes k (record k { looks = after_ack_given l.now k.looks }) refl refl refl
+      (λ k same is. streams-turn Safe Served Good Cause Comes k
+      (record k { looks = after_ack_given l.now k.looks }) refl refl refl
       (λ safe. given_moves Comes (ends_in k.looks) k.looks.sent.givings) (λ sends. sends))
   given_body-turn d m _ l counts = refl-turn (call_at l c)
 
@@ -224,15 +231,18 @@ module _ (Safe Served Good : Type 0) (Cause : End → Type 0) (Comes : Packet �
   given_message-turn s to (Ok m) l counts = of (is_stray m m.body)
     where
       of : (b : Bool) → Turn Safe Served Good Cause Comes (call_at l c)
-          (call_at (if b then record l { strays = drop 1 l.strays } else given_body (named s to m) m m.body (counted (connection_of (named s to m)) l)) c)
+          (call_at (if b then record l { strays = drop 1 l.strays } else given_body (named s to m) m m.body
+          (counted (connection_of (named s to m)) l)) c)
       of true = refl-turn (call_at l c)
       of false =
           given_body-turn (named s to m) m m.body (counted (connection_of (named s to m)) l)
           (λ payload k body same is. counts m payload k refl body same is)
 
   pub given-turn : (s : Setup) (got : Option (Host × List ℕ)) (l : Looks)
-      → ((to : Host) (bytes : List ℕ) (m : Message) (payload : List ℕ) (k : CallRecord) → got ≡ Some (to, bytes) → reading_of bytes ≡ Ok m
-      → m.body ≡ bodies.Chunk payload → same_name c (named s to m) ≡ true → call_at l c ≡ Some k → m.seq ≤ counting_of k.looks.sent)
+      → ((to : Host) (bytes : List ℕ) (m : Message) (payload : List ℕ) (k : CallRecord) → got ≡ Some (to, bytes)
+      → reading_of bytes ≡ Ok m
+      → m.body ≡ bodies.Chunk payload → same_name c (named s to m) ≡ true → call_at l c ≡ Some k
+      → m.seq ≤ counting_of k.looks.sent)
       → Turn Safe Served Good Cause Comes (call_at l c) (call_at (given_by s got l) c)
   given-turn s None l counts = refl-turn (call_at l c)
   given-turn s (Some (to, bytes)) l counts =
@@ -242,7 +252,8 @@ module _ (Safe Served Good : Type 0) (Cause : End → Type 0) (Comes : Packet �
 
   pub wrote-turn : (d : CallName) (bytes : List ℕ) (l : Looks)
       → ((k : CallRecord) → same_name c d ≡ true → call_at l c ≡ Some k
-      → (Safe → k.looks.sent.shut ≡ true → bytes ≡ []) × (length k.looks.sent.said ≤ 1412 * 4294967294 → length k.looks.sent.said + length bytes ≤ 1412 * 4294967294))
+      → (Safe → k.looks.sent.shut ≡ true → bytes ≡ []) × (length k.looks.sent.said ≤ 1412 * 4294967294
+      → length k.looks.sent.said + length bytes ≤ 1412 * 4294967294))
       → Turn Safe Served Good Cause Comes (call_at l c) (call_at (on_looks d (after_write bytes) l) c)
   wrote-turn d bytes l facts =
       looks-turn d (after_write bytes) l (λ k same is. (
@@ -252,7 +263,8 @@ module _ (Safe Served Good : Type 0) (Cause : End → Type 0) (Comes : Packet �
       (λ sends. record {
         counts = (
             let old = sends.counts in
-            let more = larger k.looks.sent.shut (length k.looks.sent.said) (length (k.looks.sent.said ++ bytes)) (omega (arith, length-append k.looks.sent.said bytes)) in
+            let more = larger k.looks.sent.shut (length k.looks.sent.said) (length (k.looks.sent.said ++ bytes))
+            (omega (arith, length-append k.looks.sent.said bytes)) in
             omega arith);
         fits = (let room = f.1 sends.fits in omega (arith, length-append k.looks.sent.said bytes));
       })))
@@ -283,11 +295,13 @@ module _ (Safe Served Good : Type 0) (Cause : End → Type 0) (Comes : Packet �
   end-waits true (lives.Over code) is = is
   end-waits false x is = is
 
-  end-fine : (end old : Bool) (x : Life) → (is_ok_end x ≡ true → old ≡ true) → is_ok_end (after_end end x) ≡ true → (end || old) ≡ true
+  end-fine : (end old : Bool) (x : Life) → (is_ok_end x ≡ true → old ≡ true) → is_ok_end (after_end end x) ≡ true
+      → (end || old) ≡ true
   end-fine true old x fine is = refl
   end-fine false old x fine is = fine is
 
-  end-ends : (o : Bool) (x : Life) → Cause ends.Ok → (end : End) → end_of_life (after_end o x) ≡ Some end → (end_of_life x ≡ Some end) ⊎ Cause end
+  end-ends : (o : Bool) (x : Life) → Cause ends.Ok → (end : End) → end_of_life (after_end o x) ≡ Some end
+      → (end_of_life x ≡ Some end) ⊎ Cause end
   end-ends true lives.Calling cause end is = inr (subst Cause (some_is ends.Ok end is) cause)
     where
       some_is : (a b : End) → Some a ≡ Some b → a ≡ b
@@ -353,7 +367,8 @@ module _ (Safe Served Good : Type 0) (Cause : End → Type 0) (Comes : Packet �
         moves = λ safe. shut_moves Comes (ends_in k.looks);
         sends = λ sends.
             record {
-              counts = (let old = sends.counts in let more = shut-larger k.looks.sent.shut (length k.looks.sent.said) in omega arith);
+              counts = (let old = sends.counts in let more = shut-larger k.looks.sent.shut
+                  (length k.looks.sent.said) in omega arith);
               fits = sends.fits;
             };
         fine = λ safe f. f;
@@ -364,7 +379,8 @@ module _ (Safe Served Good : Type 0) (Cause : End → Type 0) (Comes : Packet �
 
   pub still-changed : (d : CallName) (change : CallRecord → CallRecord) (l m : Looks)
       → call_at m c ≡ cond (same_name c d) (option_map change (call_at l c)) (call_at l c)
-      → ((k : CallRecord) → same_name c d ≡ true → call_at l c ≡ Some k → Still Safe Served Good Cause (Some k) (Some (change k)))
+      → ((k : CallRecord) → same_name c d ≡ true → call_at l c ≡ Some k
+      → Still Safe Served Good Cause (Some k) (Some (change k)))
       → Still Safe Served Good Cause (call_at l c) (call_at m c)
   still-changed d change l m is stills =
       subst (λ (o : Option CallRecord). Still Safe Served Good Cause (call_at l c) o) (sym is)
@@ -379,10 +395,12 @@ module _ (Safe Served Good : Type 0) (Cause : End → Type 0) (Comes : Packet �
 
   pub life-changed : (d : CallName) (change : Life → Life) (l : Looks)
       → ((x : Life) → is_ok_end (change x) ≡ true → is_ok_end x ≡ true)
-      → ((x : Life) (end : End) → same_name c d ≡ true → end_of_life (change x) ≡ Some end → (end_of_life x ≡ Some end) ⊎ Cause end)
+      → ((x : Life) (end : End) → same_name c d ≡ true → end_of_life (change x) ≡ Some end
+      → (end_of_life x ≡ Some end) ⊎ Cause end)
       → (same_name c d ≡ true → Served → ⊥)
       → Still Safe Served Good Cause (call_at l c) (call_at (on_life d change l) c)
   life-changed d change l fine ends unserved =
       still-changed d (λ k. record k { life = change k.life }) l (on_life d change l)
       (call-changed c d (λ k. record k { life = change k.life }) l (λ k. refl))
-      (λ k same is. life-still Safe Served Good Cause k (change k.life) (fine k.life) (λ end. ends k.life end same) (unserved same))
+      (λ k same is. life-still Safe Served Good Cause k (change k.life) (fine k.life) (λ end. ends k.life end same)
+      (unserved same))

@@ -39,7 +39,15 @@ abbrev server : Node
 server = record { host = host 167772161 7000; setup = record { kind = Server 1 0; limits = record { conns = 1024; calls = 64; slots = 2048; window = 32 }; class = null } }
 
 abbrev client : Node
-client = record { host = host 167772162 7001; setup = record { kind = Client (host 167772162 7001) 1; limits = record { conns = 1024; calls = 64; slots = 2048; window = 32 }; class = null } }
+client = record {
+  host = host 167772162 7001;
+  setup = record {
+    kind = Client
+        (host 167772162 7001) 1;
+    limits = record { conns = 1024; calls = 64; slots = 2048; window = 32 };
+    class = null;
+  };
+}
 
 abbrev nodes : List Node
 nodes = server ∷ client ∷ []
@@ -47,18 +55,58 @@ nodes = server ∷ client ∷ []
 abbrev happened : List Noted
 happened =
     record { node = 1; event = events.Ended (name 167772162 7001 1 4 0 1) (askeds.Ended ends.Ok) }
-    ∷ record { node = 0; event = events.Taken (host 167772162 7001) (unhex (codes "00000001000000040000000100000000000000020501000000000001")) tooks.Heard }
-    ∷ record { node = 1; event = events.Polled (Some (host 167772161 7000, (unhex (codes "00000001000000040000000100000000000000020501000000000001")))) }
-    ∷ record { node = 1; event = events.Taken (host 167772161 7000) (unhex (codes "00000001000000040000000100000000000000020200000000000001000000000000000200000001000000010100000000000005a4000005a40000002000000001")) tooks.Over }
+    ∷ record {
+      node = 0;
+      event = events.Taken (host 167772162 7001)
+          (unhex (codes "00000001000000040000000100000000000000020501000000000001")) tooks.Heard;
+    }
+    ∷ record {
+      node = 1;
+      event = events.Polled (Some (
+        host 167772161 7000,
+        (unhex (codes "00000001000000040000000100000000000000020501000000000001")),
+      ));
+    }
+    ∷ record {
+      node = 1;
+      event = events.Taken (host 167772161 7000)
+          (unhex (codes "00000001000000040000000100000000000000020200000000000001000000000000000200000001000000010100000000000005a4000005a40000002000000001")) tooks.Over;
+    }
     ∷ record { node = 1; event = events.HasRead (name 167772162 7001 1 4 0 1) 16 (readers.Client answers.End) [] }
-    ∷ record { node = 1; event = events.Taken (host 167772161 7000) (unhex (codes "00000001000000040000000100000001000000010106000000000001")) tooks.Kept }
-    ∷ record { node = 0; event = events.Polled (Some (host 167772162 7001, (unhex (codes "00000001000000040000000100000000000000020200000000000001000000000000000200000001000000010100000000000005a4000005a40000002000000001")))) }
-    ∷ record { node = 0; event = events.Polled (Some (host 167772162 7001, (unhex (codes "00000001000000040000000100000001000000010106000000000001")))) }
+    ∷ record {
+      node = 1;
+      event = events.Taken (host 167772161 7000)
+          (unhex (codes "00000001000000040000000100000001000000010106000000000001")) tooks.Kept;
+    }
+    ∷ record {
+      node = 0;
+      event = events.Polled (Some (
+        host 167772162 7001,
+        (unhex (codes "00000001000000040000000100000000000000020200000000000001000000000000000200000001000000010100000000000005a4000005a40000002000000001")),
+      ));
+    }
+    ∷ record {
+      node = 0;
+      event = events.Polled (Some (
+        host 167772162 7001,
+        (unhex (codes "00000001000000040000000100000001000000010106000000000001")),
+      ));
+    }
     ∷ record { node = 0; event = events.Finished (name 167772162 7001 1 4 0 1) (pos 0) (Ok tt) }
     ∷ record { node = 0; event = events.HasRead (name 167772162 7001 1 4 0 1) 16 (readers.Server reads.End) [] }
     ∷ record { node = 0; event = events.Accepted (Some (name 167772162 7001 1 4 0 1)) }
-    ∷ record { node = 0; event = events.Taken (host 167772162 7001) (unhex (codes "00000001000000040000000100000001000000010107000000000001")) tooks.Kept }
-    ∷ record { node = 1; event = events.Polled (Some (host 167772161 7000, (unhex (codes "00000001000000040000000100000001000000010107000000000001")))) }
+    ∷ record {
+      node = 0;
+      event = events.Taken (host 167772162 7001)
+          (unhex (codes "00000001000000040000000100000001000000010107000000000001")) tooks.Kept;
+    }
+    ∷ record {
+      node = 1;
+      event = events.Polled (Some (
+        host 167772161 7000,
+        (unhex (codes "00000001000000040000000100000001000000010107000000000001")),
+      ));
+    }
     ∷ record { node = 1; event = events.Shut (name 167772162 7001 1 4 0 1) (Ok tt) }
     ∷ record { node = 1; event = events.Called 4 (Ok (name 167772162 7001 1 4 0 1)) }
     ∷ record { node = 1; event = events.Linked (host 167772161 7000) 1 1 (Ok 4) }
@@ -107,10 +155,61 @@ a_world =
                   clients = clients;
                   fits = fits;
                 };
-            events_are = (omega arith, (omega arith, (omega arith, (omega arith, (omega arith, (omega arith, (omega arith, (omega arith, (omega arith, (omega arith, (omega arith, (omega arith, (omega arith, (omega arith, (omega arith, (omega arith, tt))))))))))))))));
+            events_are = (
+              omega arith,
+              (
+                omega arith,
+                (
+                  omega arith,
+                  (
+                    omega arith,
+                    (
+                      omega arith,
+                      (
+                        omega arith,
+                        (
+                          omega arith,
+                          (
+                            omega arith,
+                            (
+                              omega arith,
+                              (
+                                omega arith,
+                                (
+                                  omega arith,
+                                  (omega arith, (omega arith, (omega arith, (omega arith, (omega arith, tt))))),
+                                ),
+                              ),
+                            ),
+                          ),
+                        ),
+                      ),
+                    ),
+                  ),
+                ),
+              ),
+            );
             legal = legal;
           };
-      carried = (tt, ((0, omega arith, refl), (tt, ((0, omega arith, refl), (tt, ((1, omega arith, refl), (tt, (tt, (tt, (tt, (tt, ((0, omega arith, refl), (tt, (tt, (tt, (tt, tt))))))))))))))));
+      carried = (
+        tt,
+        (
+          (0, omega arith, refl),
+          (
+            tt,
+            (
+              (0, omega arith, refl),
+              (
+                tt,
+                (
+                  (1, omega arith, refl),
+                  (tt, (tt, (tt, (tt, (tt, ((0, omega arith, refl), (tt, (tt, (tt, (tt, tt)))))))))),
+                ),
+              ),
+            ),
+          ),
+        ),
+      );
       apart = apart;
     }
   where
@@ -124,8 +223,46 @@ a_world =
     fits (suc (suc k)) = tt
 
     legal : (k : ℕ) → IfSome (slice_get nodes k) (λ n. Legal n.setup (side k happened))
-    legal zero = ((are_bytes (unhex (codes "00000001000000040000000100000000000000020501000000000001")) refl, refl), (refl, (refl, ((omega arith, refl), ((omega arith, refl), (refl, ((are_bytes (unhex (codes "00000001000000040000000100000001000000010107000000000001")) refl, refl), tt)))))))
-    legal (suc zero) = (refl, (refl, ((are_bytes (unhex (codes "00000001000000040000000100000000000000020200000000000001000000000000000200000001000000010100000000000005a4000005a40000002000000001")) refl, refl), ((omega arith, refl), ((are_bytes (unhex (codes "00000001000000040000000100000001000000010106000000000001")) refl, refl), (refl, (refl, (refl, ((omega arith, omega arith, omega arith, refl), tt)))))))))
+    legal zero = (
+      (are_bytes (unhex (codes "00000001000000040000000100000000000000020501000000000001")) refl, refl),
+      (
+        refl,
+        (
+          refl,
+          (
+            (omega arith, refl),
+            (
+              (omega arith, refl),
+              (
+                refl,
+                (
+                  (
+                    are_bytes (unhex
+                        (codes "00000001000000040000000100000001000000010107000000000001")) refl,
+                    refl,
+                  ),
+                  tt,
+                ),
+              ),
+            ),
+          ),
+        ),
+      ),
+    )
+    legal (suc zero) = (
+      refl,
+      (
+        refl,
+        (
+          (
+            are_bytes (unhex
+                (codes "00000001000000040000000100000000000000020200000000000001000000000000000200000001000000010100000000000005a4000005a40000002000000001")) refl,
+            refl,
+          ),
+          ((omega arith, refl), ((are_bytes (unhex (codes "00000001000000040000000100000001000000010106000000000001")) refl, refl), (refl, (refl, (refl, ((omega arith, omega arith, omega arith, refl), tt)))))),
+        ),
+      ),
+    )
     legal (suc (suc k)) = tt
 
     apart : (j k : ℕ) → j ≢ k
@@ -148,4 +285,5 @@ the-connection = record { host = host 167772162 7001; epoch = 1; cid = 4 }
 -- the call ended with Ok, and so it was entered once and read whole
 its-end : EndsOk (ends_in the-connection 1 client server) (name 167772162 7001 1 4 0 1) happened
 unfolding the-connection
-its-end = (its-law.connections the-connection 1 client server refl refl refl (name 167772162 7001 1 4 0 1) refl [] happened refl).ends ends.Ok refl
+its-end = (its-law.connections the-connection 1 client server refl refl refl
+    (name 167772162 7001 1 4 0 1) refl [] happened refl).ends ends.Ok refl

@@ -29,7 +29,8 @@ Young y u rs = Every (λ r. same_connection r.connection y ≡ true → u ≤ r.
 pub record Firm (c : CallName) (l m : Looks) : Type 0 where
   pub now : m.now ≡ l.now
   pub young : (u : ℕ) → u ≤ l.now → Young (connection_of c) u l.conns → Young (connection_of c) u m.conns
-  pub busy : (n : ℕ) → busy_of (conn_at m (connection_of c)) c.chan ≡ Some n → busy_of (conn_at l (connection_of c)) c.chan ≡ Some n
+  pub busy : (n : ℕ) → busy_of (conn_at m (connection_of c)) c.chan ≡ Some n
+      → busy_of (conn_at l (connection_of c)) c.chan ≡ Some n
 
 -- a change that leaves the connections
 pub firm-same : (c : CallName) (l m : Looks) → m.conns ≡ l.conns → m.now ≡ l.now → Firm c l m
@@ -37,7 +38,8 @@ firm-same c l m conns now =
     record {
       now = now;
       young = λ u low young. subst (λ (rs : List ConnLooks). Young (connection_of c) u rs) (sym conns) young;
-      busy = λ n is. subst (λ (rs : List ConnLooks). busy_of (find (λ r. same_connection r.connection (connection_of c)) rs) c.chan ≡ Some n) conns is;
+      busy = λ n is. subst (λ (rs : List ConnLooks). busy_of
+          (find (λ r. same_connection r.connection (connection_of c)) rs) c.chan ≡ Some n) conns is;
     }
 
 -- one behind the other
@@ -62,7 +64,8 @@ pub record Plain (now : ℕ) (f : ConnLooks → ConnLooks) : Type 0 where
 pub young-map : (x y : Connection) (f : ConnLooks → ConnLooks) (rs : List ConnLooks) (u : ℕ) → KeepsConns f
     → ((r : ConnLooks) → u ≤ r.last_use → u ≤ (f r).last_use) → Young y u rs → Young y u (map (conn_if x f) rs)
 young-map x y f [] u names uses young = tt
-young-map x y f (r ∷ rs) u names uses young = (one (same_connection r.connection x), young-map x y f rs u names uses young.1)
+young-map x y f (r ∷ rs) u names uses young =
+    (one (same_connection r.connection x), young-map x y f rs u names uses young.1)
   where
     one : (b : Bool) → same_connection (cond b (f r) r).connection y ≡ true → u ≤ (cond b (f r) r).last_use
     one true same = uses r (young.0 (subst (λ (z : Connection). same_connection z y ≡ true) (names r) same))
@@ -78,14 +81,17 @@ busy-map x f now (Some r) n k plain is = one (same_connection r.connection x) is
     one false is = is
 
 -- a change of one record
-pub firm-on_conn : (c : CallName) (x : Connection) (f : ConnLooks → ConnLooks) (l : Looks) → Plain l.now f → Firm c l (on_conn x f l)
+pub firm-on_conn : (c : CallName) (x : Connection) (f : ConnLooks → ConnLooks) (l : Looks) → Plain l.now f
+    → Firm c l (on_conn x f l)
 firm-on_conn c x f l plain =
     record {
       now = refl;
-      young = λ u low young. young-map x (connection_of c) f l.conns u plain.names (λ r is. plain.uses r u low is) young;
+      young = λ u low young. young-map x (connection_of c) f l.conns u plain.names
+          (λ r is. plain.uses r u low is) young;
       busy = λ n is.
           busy-map x f l.now (conn_at l (connection_of c)) c.chan n plain
-          (subst (λ (o : Option ConnLooks). busy_of o c.chan ≡ Some n) (conn_at-on_conn (connection_of c) x f l plain.names) is);
+          (subst (λ (o : Option ConnLooks). busy_of o c.chan ≡ Some n)
+          (conn_at-on_conn (connection_of c) x f l plain.names) is);
     }
 
 -- where each record of the connection is used, it is used now
@@ -94,7 +100,8 @@ pub young-now : (y : Connection) (f : ConnLooks → ConnLooks) (rs : List ConnLo
 young-now y f [] now names uses = tt
 young-now y f (r ∷ rs) now names uses = (one (same_connection r.connection y) refl, young-now y f rs now names uses)
   where
-    one : (b : Bool) → same_connection r.connection y ≡ b → same_connection (cond b (f r) r).connection y ≡ true → now ≤ (cond b (f r) r).last_use
+    one : (b : Bool) → same_connection r.connection y ≡ b → same_connection (cond b (f r) r).connection y ≡ true
+        → now ≤ (cond b (f r) r).last_use
     one true is same = (let at = uses r in omega arith)
     one false is same = absurd cc (is, same)
 

@@ -46,7 +46,8 @@ firm-data s got c d m l =
 -- a message is heard
 pub firm-heard : (s : Setup) (c d : CallName) (body : Body) (l : Looks) → Firm c l (taken_heard s d body l)
 firm-heard s c d (bodies.Ack a) l =
-    firm-trans c l (on_call d settled l) _ (firm-same c l (on_call d settled l) refl refl) (firm-challenged s c d (on_call d settled l))
+    firm-trans c l (on_call d settled l) _ (firm-same c l (on_call d settled l) refl refl)
+    (firm-challenged s c d (on_call d settled l))
 firm-heard s c d bodies.AckAll l = firm-same c l (on_call d settled l) refl refl
 firm-heard s c d (bodies.Response bytes) l =
     firm-on_conn c (connection_of d) (λ r. record r { proved = true }) l
@@ -55,7 +56,8 @@ firm-heard s c d (bodies.Challenge bytes) l =
     firm-on_channel c (channel_of d) (λ q. record q { owed_response = s.class.respond d bytes }) l (λ q k is. is)
 firm-heard s c d _ l = firm-same c l l refl refl
 
-firm-owing_abort : (c d : CallName) (code : Option ℤ) (l : Looks) → Firm c l (on_channel (channel_of d) (owing_abort code) l)
+firm-owing_abort : (c d : CallName) (code : Option ℤ) (l : Looks)
+    → Firm c l (on_channel (channel_of d) (owing_abort code) l)
 firm-owing_abort c d None l = firm-on_channel c (channel_of d) (owing_abort None) l (λ q k is. is)
 firm-owing_abort c d (Some code) l = firm-on_channel c (channel_of d) (owing_abort (Some code)) l (λ q k is. is)
 
@@ -80,7 +82,8 @@ abort-busy None q = refl
 abort-busy (Some code) q = refl
 
 again-busy : (body : Body) (life : Life) (q : ChannelLooks) → (owing_again body life q).owed_busy ≡ q.owed_busy
-again-busy (bodies.Chunk payload) life q = ackall-busy (is_ok_end life) (owing_abort (told_code life) q) ∙ abort-busy (told_code life) q
+again-busy (bodies.Chunk payload) life q = ackall-busy (is_ok_end life) (owing_abort (told_code life) q)
+    ∙ abort-busy (told_code life) q
 again-busy (bodies.Ack a) life q = abort-busy (served_code life) q
 again-busy _ life q = refl
 
@@ -91,7 +94,8 @@ firm-over c d body (Some k) l =
     firm-on_channel c (channel_of d) (owing_again body k.life) l (λ q n is. sym (again-busy body k.life q) ∙ is)
 
 -- a message that a row in front answers
-pub firm-turned : (c : CallName) (row : Took) (from : Host) (m : Message) (l : Looks) → Firm c l (turned_away row from m l)
+pub firm-turned : (c : CallName) (row : Took) (from : Host) (m : Message) (l : Looks)
+    → Firm c l (turned_away row from m l)
 firm-turned c tooks.Unserved from m l = of m.body
   where
     of : (body : Body) → Firm c l (taken_unserved from m body l)
@@ -105,11 +109,16 @@ firm-turned c _ from m l = firm-same c l l refl refl
 pub firm-body : (c d : CallName) (m : Message) (body : Body) (l : Looks) → Firm c l (given_body d m body l)
 firm-body c d m (bodies.Chunk payload) l = firm-same c l _ refl refl
 firm-body c d m (bodies.Ack a) l = firm-same c l _ refl refl
-firm-body c d m (bodies.Abort code) l = firm-on_channel c (channel_of d) (λ q. record q { owed_abort = None }) l (λ q k is. is)
-firm-body c d m bodies.Busy l = firm-on_channel c (channel_of d) (λ q. record q { owed_busy = None }) l (λ q k is. absurd cc)
-firm-body c d m (bodies.Challenge bytes) l = firm-on_channel c (channel_of d) (λ q. record q { owed_challenge = false }) l (λ q k is. is)
-firm-body c d m (bodies.Response bytes) l = firm-on_channel c (channel_of d) (λ q. record q { owed_response = None }) l (λ q k is. is)
-firm-body c d m bodies.AckAll l = firm-on_channel c (channel_of d) (λ q. record q { owed_ackall = false }) l (λ q k is. is)
+firm-body c d m (bodies.Abort code) l = firm-on_channel c (channel_of d) (λ q. record q { owed_abort = None }) l
+    (λ q k is. is)
+firm-body c d m bodies.Busy l = firm-on_channel c (channel_of d) (λ q. record q { owed_busy = None }) l
+    (λ q k is. absurd cc)
+firm-body c d m (bodies.Challenge bytes) l = firm-on_channel c (channel_of d)
+    (λ q. record q { owed_challenge = false }) l (λ q k is. is)
+firm-body c d m (bodies.Response bytes) l = firm-on_channel c (channel_of d) (λ q. record q { owed_response = None }) l
+    (λ q k is. is)
+firm-body c d m bodies.AckAll l = firm-on_channel c (channel_of d) (λ q. record q { owed_ackall = false }) l
+    (λ q k is. is)
 
 -- a read
 pub firm-read : (c d : CallName) (end : Bool) (bytes : List ℕ) (l : Looks) → Firm c l (read_done d end bytes l)
@@ -119,10 +128,12 @@ firm-read c d end bytes l =
     record { now = f.now; young = f.young; busy = f.busy }
 
 -- a finish
-pub firm-finish : (c d : CallName) (code : ℤ) (got : Result (Unit {0}) ServeRefused) (l : Looks) → Firm c l (finish_done d code got l)
+pub firm-finish : (c d : CallName) (code : ℤ) (got : Result (Unit {0}) ServeRefused) (l : Looks)
+    → Firm c l (finish_done d code got l)
 firm-finish c d code (Ok done) l = of (is_zero code)
   where
-    of : (b : Bool) → Firm c l (on_life d (λ x. after_finish b code x) (if b then on_looks d after_shut l else on_channel (channel_of d) (owing_abort (Some code)) l))
+    of : (b : Bool) → Firm c l (on_life d (λ x. after_finish b code x)
+        (if b then on_looks d after_shut l else on_channel (channel_of d) (owing_abort (Some code)) l))
     of true = firm-same c l _ refl refl
     of false =
         (let f = firm-on_channel c (channel_of d) (owing_abort (Some code)) l (λ q k is. is) in

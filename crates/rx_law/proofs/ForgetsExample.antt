@@ -23,15 +23,19 @@ abbrev StandAlike : ℕ → ℕ → List Noted → Type 0
 StandAlike server client [] = Unit {0}
 StandAlike server client (e ∷ h) = (Acts client e → moment server h ≡ moment client h) × StandAlike server client h
 
-stand-advance : (server client : ℕ) (h : List Noted) (now own : ℕ) → now ≡ own → StandAlike server client h → AdvancesAlike server client h now own
+stand-advance : (server client : ℕ) (h : List Noted) (now own : ℕ) → now ≡ own → StandAlike server client h
+    → AdvancesAlike server client h now own
 stand-advance server client [] now own same stand = tt
 stand-advance server client (e ∷ h) now own same stand =
     ((λ acts. (let at = stand.0 acts in omega arith)), stand-advance server client h now own same stand.1)
 
 stand-alike : (server client : ℕ) (h : List Noted) → StandAlike server client h → GoAlike server client h
 stand-alike server client [] stand = tt
-stand-alike server client (e ∷ h) stand =
-    ((λ acts. stand-advance server client h (moment server h) (moment client h) (stand.0 acts) stand.1), stand-alike server client h stand.1)
+stand-alike server client (e ∷ h) stand = (
+  (λ acts. stand-advance server client h (moment server h) (moment client h)
+      (stand.0 acts) stand.1),
+  stand-alike server client h stand.1,
+)
 
 -- ---- the history
 
@@ -39,7 +43,15 @@ abbrev server : Node
 server = record { host = host 167772161 7000; setup = record { kind = Server 1 0; limits = record { conns = 1; calls = 64; slots = 2048; window = 32 }; class = null } }
 
 abbrev client : Node
-client = record { host = host 167772162 7001; setup = record { kind = Client (host 167772162 7001) 1; limits = record { conns = 1024; calls = 64; slots = 2048; window = 32 }; class = null } }
+client = record {
+  host = host 167772162 7001;
+  setup = record {
+    kind = Client
+        (host 167772162 7001) 1;
+    limits = record { conns = 1024; calls = 64; slots = 2048; window = 32 };
+    class = null;
+  };
+}
 
 abbrev nodes : List Node
 nodes = server ∷ client ∷ []
@@ -69,7 +81,8 @@ happened =
     ∷ []
 
 -- the server forgot the first connection
-forgot-one : (looks server.setup (side 0 happened)).forgotten ≡ record { host = host 167772162 7001; epoch = 1; cid = 4 } ∷ []
+forgot-one : (looks server.setup (side 0 happened)).forgotten
+    ≡ record { host = host 167772162 7001; epoch = 1; cid = 4 } ∷ []
 forgot-one = refl
 
 one_fits : FitsLimits (record { conns = 1; calls = 64; slots = 2048; window = 32 })
@@ -92,10 +105,34 @@ a_world =
       sides =
           record {
             nodes_are = record { server = tt; clients = clients; fits = fits };
-            events_are = (omega arith, (omega arith, (omega arith, (omega arith, (omega arith, (omega arith, (omega arith, (omega arith, (omega arith, (omega arith, (omega arith, (omega arith, (omega arith, tt)))))))))))));
+            events_are = (
+              omega arith,
+              (
+                omega arith,
+                (
+                  omega arith,
+                  (
+                    omega arith,
+                    (
+                      omega arith,
+                      (
+                        omega arith,
+                        (
+                          omega arith,
+                          (omega arith, (omega arith, (omega arith, (omega arith, (omega arith, (omega arith, tt)))))),
+                        ),
+                      ),
+                    ),
+                  ),
+                ),
+              ),
+            );
             legal = legal;
           };
-      carried = ((0, omega arith, refl), (tt, (tt, (tt, (tt, (tt, (tt, ((0, omega arith, refl), (tt, (tt, (tt, (tt, (tt, tt)))))))))))));
+      carried = (
+        (0, omega arith, refl),
+        (tt, (tt, (tt, (tt, (tt, (tt, ((0, omega arith, refl), (tt, (tt, (tt, (tt, (tt, tt)))))))))))),
+      );
       apart = apart;
     }
   where
@@ -109,8 +146,38 @@ a_world =
     fits (suc (suc k)) = tt
 
     legal : (k : ℕ) → IfSome (slice_get nodes k) (λ n. Legal n.setup (side k happened))
-    legal zero = ((are_bytes second_data refl, refl), (refl, ((omega arith, omega arith), ((are_bytes first_data refl, refl), tt))))
-    legal (suc zero) = (refl, (refl, (refl, ((omega arith, omega arith), (refl, (refl, (refl, ((omega arith, omega arith, omega arith, refl), ((omega arith, omega arith, omega arith, refl), tt)))))))))
+    legal zero = (
+      (are_bytes second_data refl, refl),
+      (
+        refl,
+        ((omega arith, omega arith), ((are_bytes first_data refl, refl), tt)),
+      ),
+    )
+    legal (suc zero) = (
+      refl,
+      (
+        refl,
+        (
+          refl,
+          (
+            (omega arith, omega arith),
+            (
+              refl,
+              (
+                refl,
+                (
+                  refl,
+                  (
+                    (omega arith, omega arith, omega arith, refl),
+                    ((omega arith, omega arith, omega arith, refl), tt),
+                  ),
+                ),
+              ),
+            ),
+          ),
+        ),
+      ),
+    )
     legal (suc (suc k)) = tt
 
     apart : (j k : ℕ) → j ≢ k
@@ -128,7 +195,16 @@ a_timely : Timely nodes happened
 a_timely =
     record {
       fresh = (
-        record { node = 1; sender = refl; gave = inl (record { node_is = refl; gives = (refl, refl); lately = omega arith }) },
+        record {
+          node = 1;
+          sender = refl;
+          gave = inl (record {
+            node_is = refl;
+            gives =
+                (refl, refl);
+            lately = omega arith;
+          });
+        },
         (
           tt,
           (
@@ -141,7 +217,15 @@ a_timely =
                   tt,
                   (
                     tt,
-                    (record { node = 1; sender = refl; gave = inl (record { node_is = refl; gives = (refl, refl); lately = omega arith }) }, (tt, (tt, (tt, (tt, (tt, tt)))))),
+                    (
+                      record {
+                        node = 1;
+                        sender = refl;
+                        gave = inl
+                            (record { node_is = refl; gives = (refl, refl); lately = omega arith });
+                      },
+                      (tt, (tt, (tt, (tt, (tt, tt))))),
+                    ),
                   ),
                 ),
               ),
@@ -168,7 +252,16 @@ a_timely =
                     λ acts. absurd (let away = acts.0 in omega arith),
                     (
                       λ acts. refl,
-                      (λ acts. refl, (λ acts. refl, (λ acts. refl, (λ acts. refl, (λ acts. refl, (λ acts. refl, tt)))))),
+                      (
+                        λ acts. refl,
+                        (
+                          λ acts. refl,
+                          (
+                            λ acts. refl,
+                            (λ acts. refl, (λ acts. refl, (λ acts. refl, tt))),
+                          ),
+                        ),
+                      ),
                     ),
                   ),
                 ),

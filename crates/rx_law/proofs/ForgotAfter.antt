@@ -36,7 +36,8 @@ forgot-given s to (Ok m) l = of (is_stray m m.body) m.body
     x = connection_of (named s to m)
 
     of : (b : Bool) (body : Body)
-        → (if b then record l { strays = drop 1 l.strays } else given_body (named s to m) m body (counted x l)).forgotten
+        → (if b then record l { strays = drop 1 l.strays } else given_body (named s to m) m body
+        (counted x l)).forgotten
         ≡ l.forgotten
     of true body = refl
     of false (bodies.Chunk payload) = refl
@@ -52,7 +53,8 @@ pub forgot-polled : (s : Setup) (got : Option (Host × List ℕ)) (l : Looks)
 forgot-polled s None l = refl
 forgot-polled s (Some (to, bytes)) l = forgot-given s to (reading_of bytes) (silenced l)
 
-pub forgot-turned : (row : Took) (from : Host) (m : Message) (l : Looks) → (turned_away row from m l).forgotten ≡ l.forgotten
+pub forgot-turned : (row : Took) (from : Host) (m : Message) (l : Looks) → (turned_away row from m l).forgotten
+    ≡ l.forgotten
 forgot-turned tooks.Unserved from m l = of m.body
   where
     of : (body : Body) → (taken_unserved from m body l).forgotten ≡ l.forgotten
@@ -69,12 +71,14 @@ pub forgot-behind : (s : Setup) (row : Option Took) (from : Host) (d : CallName)
     → (taken_behind s row from d m got l).forgotten ≡ [] → l.forgotten ≡ []
 forgot-behind s (Some row) from d m got l none = sym (forgot-turned row from m l) ∙ none
 forgot-behind s None from d m got l none =
-    forgot-prepared s got (connection_of d) l (sym (with-forgotten s got d m (prepared s got (connection_of d) l)) ∙ none)
+    forgot-prepared s got (connection_of d) l (sym (with-forgotten s got d m (prepared s got (connection_of d) l))
+    ∙ none)
 
 pub forgot-message : (s : Setup) (from : Host) (reading : Result Message BadMsg) (got : Took) (l : Looks)
     → (taken_message s from reading got l).forgotten ≡ [] → l.forgotten ≡ []
 forgot-message s from (Err bad) got l none = none
-forgot-message s from (Ok m) got l none = forgot-behind s (outer_row s s.kind l from m) from (named s from m) m got l none
+forgot-message s from (Ok m) got l none = forgot-behind s (outer_row s s.kind l from m) from
+    (named s from m) m got l none
 
 pub forgot-finish : (d : CallName) (code : ℤ) (got : Result (Unit {0}) ServeRefused) (l : Looks)
     → (finish_done d code got l).forgotten ≡ l.forgotten

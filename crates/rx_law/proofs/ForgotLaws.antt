@@ -1,4 +1,5 @@
--- Behind the entering of its connection a taking forgets none, and leaves the stray aborts that are owed and the moment.
+-- Behind the entering of its connection a taking forgets none, and leaves the stray aborts that are owed and the
+-- moment.
 use Rattle.std.proofs.Common.{◌≡◌, ◌&&◌, if◌then◌else◌, not, nat_lt, ◌==◌, Bool, true, false, Option, Some, None}
 use Rattle.std.proofs.Common.{List, ℕ, refl, ◌∙◌, ap}
 use Rattle.rx_model.specs.declared.stray.Stray.{Stray}
@@ -21,7 +22,8 @@ use Rattle.rx_rules.specs.Setup.{Setup, is_client}
 abbrev pub aside : Looks → List Connection × List Stray × ℕ
 aside l = (l.forgotten, l.strays, l.now)
 
-same-if : (test : Bool) (m l k : Looks) → aside m ≡ aside k → aside l ≡ aside k → aside (if test then m else l) ≡ aside k
+same-if : (test : Bool) (m l k : Looks) → aside m ≡ aside k → aside l ≡ aside k → aside (if test then m else l)
+    ≡ aside k
 same-if true m l k here there = here
 same-if false m l k here there = there
 

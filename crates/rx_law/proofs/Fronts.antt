@@ -27,7 +27,8 @@ found : (bytes : List ℕ) (shut : Bool) (j : ℕ) (ps : List Packet) (p : Piece
     → packet_at ps (suc j) ≡ Some p → IsPiece bytes shut j p
 found bytes shut j [] p a h = absurd cc
 found bytes shut j (q ∷ qs) p a h =
-    (elim (q.seq == suc j) as (λ b. (q.seq == suc j) ≡ b → cond b (Some q.piece) (packet_at qs (suc j)) ≡ Some p → IsPiece bytes shut j p) [
+    (elim (q.seq == suc j) as (λ b. (q.seq == suc j) ≡ b → cond b (Some q.piece) (packet_at qs (suc j)) ≡ Some p
+    → IsPiece bytes shut j p) [
       | true ↦ λ same e. (
           let seq : q.seq ≡ suc j = same_number _ _ same in
           let is : q.piece ≡ p = cc (e) in
@@ -82,7 +83,8 @@ heard_is bytes shut ps a =
     bytes_are bytes shut ps (front_of ps) a
     (λ j low. reach_passes (λ k. is_some (packet_at ps k)) (greatest ps) j low)
 
-pub heard_begins : (bytes : List ℕ) (shut : Bool) (ps : List Packet) → ArePieces bytes shut ps → Begins (heard_of ps) bytes
+pub heard_begins : (bytes : List ℕ) (shut : Bool) (ps : List Packet) → ArePieces bytes shut ps
+    → Begins (heard_of ps) bytes
 heard_begins bytes shut ps a = (
   drop (1412 * front_of ps) bytes,
   ap (λ (xs : List ℕ). xs ++ drop (1412 * front_of ps) bytes) (heard_is bytes shut ps a)

@@ -46,7 +46,8 @@ hears-trans now By a b c (inr p) (inl q) = inr (q ∙ p.0, p.1)
 
 -- ---- changes that leave it
 
-heard-map : (change : CallRecord → CallRecord) (o : Option CallRecord) → ((k : CallRecord) → (change k).looks.heard ≡ k.looks.heard)
+heard-map : (change : CallRecord → CallRecord) (o : Option CallRecord)
+    → ((k : CallRecord) → (change k).looks.heard ≡ k.looks.heard)
     → heard_by (option_map change o) ≡ heard_by o
 heard-map change None same = refl
 heard-map change (Some k) same = ap (λ (n : ℕ). Some n) (same k)
@@ -74,7 +75,8 @@ pub heard-on_life : (c d : CallName) (change : Life → Life) (l : Looks) → he
 heard-on_life c d change l = heard-on_call c d (λ k. record k { life = change k.life }) l (λ k. refl) (λ k. refl)
 
 -- of what passed at its end, where it isn't heard by it
-pub heard-on_looks : (c d : CallName) (change : CallLooks → CallLooks) (l : Looks) → ((k : CallLooks) → (change k).heard ≡ k.heard)
+pub heard-on_looks : (c d : CallName) (change : CallLooks → CallLooks) (l : Looks)
+    → ((k : CallLooks) → (change k).heard ≡ k.heard)
     → heard_at (on_looks d change l) c ≡ heard_at l c
 heard-on_looks c d change l same =
     heard-on_call c d (λ k. record k { looks = change k.looks }) l (λ k. refl) (λ k. same k.looks)
@@ -94,12 +96,14 @@ heard-settled : (c d : CallName) (l : Looks) → heard_at (on_call d settled l) 
 heard-settled c d l = heard-on_call c d settled l (λ k. refl) (λ k. refl)
 
 -- what a message that is heard changes beside its call
-pub heard-heard : (s : Setup) (c d : CallName) (body : Body) (l : Looks) → heard_at (taken_heard s d body l) c ≡ heard_at l c
+pub heard-heard : (s : Setup) (c d : CallName) (body : Body) (l : Looks) → heard_at (taken_heard s d body l) c
+    ≡ heard_at l c
 heard-heard s c d (bodies.Ack a) l = heard-challenged s c d (on_call d settled l) ∙ heard-settled c d l
 heard-heard s c d bodies.AckAll l = heard-settled c d l
 heard-heard s c d _ l = refl
 
-coded-name : (test : Bool) (code : ℤ) (k : CallRecord) → (cond test (record k { life = after_code code k.life }) k).name ≡ k.name
+coded-name : (test : Bool) (code : ℤ) (k : CallRecord) → (cond test
+    (record k { life = after_code code k.life }) k).name ≡ k.name
 coded-name true code k = refl
 coded-name false code k = refl
 
@@ -113,13 +117,16 @@ pub heard-stopped : (c d : CallName) (body : Body) (l : Looks) → heard_at (tak
 heard-stopped c d (bodies.Abort code) l =
     let x = connection_of d in
     heard-where c (d.number == 0) (stopped_all x code l) (on_life d (after_code code) l) l
-    (heard-on_calls c (λ k. if same_connection (connection_of k.name) x then record k { life = after_code code k.life } else k) l
-    (λ k. coded-name (same_connection (connection_of k.name) x) code k) (λ k. coded-heard (same_connection (connection_of k.name) x) code k))
+    (heard-on_calls c (λ k. if same_connection
+    (connection_of k.name) x then record k { life = after_code code k.life } else k) l
+    (λ k. coded-name (same_connection (connection_of k.name) x) code k)
+    (λ k. coded-heard (same_connection (connection_of k.name) x) code k))
     (heard-on_life c d (after_code code) l)
 heard-stopped c d (bodies.Response bytes) l = heard-on_life c d _ l
 heard-stopped c d _ l = refl
 
 -- a message of a call that ended
-pub heard-over : (c d : CallName) (body : Body) (o : Option CallRecord) (l : Looks) → heard_at (taken_over d body o l) c ≡ heard_at l c
+pub heard-over : (c d : CallName) (body : Body) (o : Option CallRecord) (l : Looks)
+    → heard_at (taken_over d body o l) c ≡ heard_at l c
 heard-over c d body None l = refl
 heard-over c d body (Some k) l = refl

@@ -57,10 +57,13 @@ heard-calls c l m same = ap heard_by (call-by c l m same)
 
 -- ---- a message
 
-hears-behind : (s : Setup) (row : Option Took) (from : Host) (bytes : List ℕ) (m : Message) (got : Took) (l : Looks) (c : CallName)
+hears-behind : (s : Setup) (row : Option Took) (from : Host) (bytes : List ℕ) (m : Message) (got : Took) (l : Looks)
+    (c : CallName)
     → reading_of bytes ≡ Ok m → outer_row s s.kind l from m ≡ row
-    → Hears l.now (HeardFrom s l from bytes got c) (heard_at l c) (heard_at (taken_behind s row from (named s from m) m got l) c)
-hears-behind s (Some row) from bytes m got l c reads front = inl (heard-calls c l (turned_away row from m l) (calls-turned row from m l))
+    → Hears l.now (HeardFrom s l from bytes got c) (heard_at l c)
+    (heard_at (taken_behind s row from (named s from m) m got l) c)
+hears-behind s (Some row) from bytes m got l c reads front = inl
+    (heard-calls c l (turned_away row from m l) (calls-turned row from m l))
 hears-behind s None from bytes m got l c reads front =
     let d : CallName = named s from m in
     let ready : Looks = prepared s got (connection_of d) l in
@@ -84,11 +87,13 @@ hears-behind s None from bytes m got l c reads front =
           },
         )
 
-hears-message : (s : Setup) (from : Host) (bytes : List ℕ) (reading : Result Message BadMsg) (got : Took) (l : Looks) (c : CallName)
+hears-message : (s : Setup) (from : Host) (bytes : List ℕ) (reading : Result Message BadMsg) (got : Took) (l : Looks)
+    (c : CallName)
     → reading_of bytes ≡ reading
     → Hears l.now (HeardFrom s l from bytes got c) (heard_at l c) (heard_at (taken_message s from reading got l) c)
 hears-message s from bytes (Err bad) got l c reads = inl refl
-hears-message s from bytes (Ok m) got l c reads = hears-behind s (outer_row s s.kind l from m) from bytes m got l c reads refl
+hears-message s from bytes (Ok m) got l c reads = hears-behind s
+    (outer_row s s.kind l from m) from bytes m got l c reads refl
 
 -- ---- a poll
 
@@ -102,14 +107,16 @@ silent-name now k = of (is_silent now k)
 silent-heard : (now : ℕ) (k : CallRecord) → (unless_silent now k).looks.heard ≡ k.looks.heard
 silent-heard now k = of (is_silent now k)
   where
-    of : (b : Bool) → (cond b (record k { life = after_silence (silence_of now k) k.life }) k).looks.heard ≡ k.looks.heard
+    of : (b : Bool) → (cond b (record k { life = after_silence (silence_of now k) k.life }) k).looks.heard
+        ≡ k.looks.heard
     of true = refl
     of false = refl
 
 heard-silenced : (c : CallName) (l : Looks) → heard_at (silenced l) c ≡ heard_at l c
 heard-silenced c l = heard-on_calls c (unless_silent l.now) l (silent-name l.now) (silent-heard l.now)
 
-heard-given : (s : Setup) (got : Option (Host × List ℕ)) (l : Looks) (c : CallName) → heard_at (given_by s got l) c ≡ heard_at l c
+heard-given : (s : Setup) (got : Option (Host × List ℕ)) (l : Looks) (c : CallName) → heard_at (given_by s got l) c
+    ≡ heard_at l c
 heard-given s None l c = refl
 heard-given s (Some (to, bytes)) l c = of (reading_of bytes)
   where
@@ -123,7 +130,8 @@ heard-given s (Some (to, bytes)) l c = of (reading_of bytes)
     body d m bodies.AckAll l = refl
 
     stray : (m : Message) (b : Bool)
-        → heard_at (if b then record l { strays = drop 1 l.strays } else given_body (named s to m) m m.body (counted (connection_of (named s to m)) l)) c
+        → heard_at (if b then record l { strays = drop 1 l.strays } else given_body (named s to m) m m.body
+        (counted (connection_of (named s to m)) l)) c
         ≡ heard_at l c
     stray m true = refl
     stray m false = body (named s to m) m m.body (counted (connection_of (named s to m)) l)
@@ -134,14 +142,17 @@ heard-given s (Some (to, bytes)) l c = of (reading_of bytes)
 
 -- ---- each event
 
-heard-linked : (kind : Kind) (to : Host) (service first cid : ℕ) (l : Looks) (c : CallName) → heard_at (linked kind to service first cid l) c ≡ heard_at l c
+heard-linked : (kind : Kind) (to : Host) (service first cid : ℕ) (l : Looks) (c : CallName)
+    → heard_at (linked kind to service first cid l) c ≡ heard_at l c
 heard-linked (Client host epoch) to service first cid l c = refl
 heard-linked (Server service nonces) to other first cid l c = refl
 
-not-yet : (l : Looks) (c d : CallName) → same_name c d ≡ true → number_of (conn_at l (connection_of d)) d.chan < d.number → Sound l c 0
+not-yet : (l : Looks) (c d : CallName) → same_name c d ≡ true
+    → number_of (conn_at l (connection_of d)) d.chan < d.number → Sound l c 0
     → call_at l c ≡ None
 not-yet l c d same above sound =
-    of (call_at l c) sound.below (subst (λ (n : CallName). number_of (conn_at l (connection_of n)) n.chan < n.number) (sym (name_is c d same)) above)
+    of (call_at l c) sound.below (subst (λ (n : CallName). number_of (conn_at l (connection_of n)) n.chan < n.number)
+    (sym (name_is c d same)) above)
   where
     of : (o : Option CallRecord) → Below o c.number (number_of (conn_at l (connection_of c)) c.chan)
         → number_of (conn_at l (connection_of c)) c.chan < c.number → o ≡ None
@@ -149,9 +160,12 @@ not-yet l c d same above sound =
     of (Some k) below above = absurd (omega arith)
 
 -- what an event of a client makes of the moment at which a call was last heard
-pub hears-client : (s : Setup) (host : Host) (epoch : ℕ) (l : Looks) (e : Event) (c : CallName) → s.kind ≡ Client host epoch → FitsSetup s
-    → AllowedClient s host epoch l e → Conns s l → Sound l c 0 → Hears l.now (HeardIn s l e c) (heard_at l c) (heard_at (after s e l) c)
-hears-client s host epoch l (events.Linked to service first (Ok cid)) c kind fits allowed conns sound = inl (heard-linked s.kind to service first cid l c)
+pub hears-client : (s : Setup) (host : Host) (epoch : ℕ) (l : Looks) (e : Event) (c : CallName) → s.kind
+    ≡ Client host epoch → FitsSetup s
+    → AllowedClient s host epoch l e → Conns s l → Sound l c 0
+    → Hears l.now (HeardIn s l e c) (heard_at l c) (heard_at (after s e l) c)
+hears-client s host epoch l (events.Linked to service first (Ok cid)) c kind fits allowed conns sound = inl
+    (heard-linked s.kind to service first cid l c)
 hears-client s host epoch l (events.Linked to service first (Err full)) c kind fits allowed conns sound = inl refl
 hears-client s host epoch l (events.Called cid (Ok d)) c kind fits allowed conns sound =
     with-none (heard_at l c) (heard_at (after s (events.Called cid (Ok d)) l) c) (hears-started s lives.Calling c d l)
@@ -159,38 +173,56 @@ hears-client s host epoch l (events.Called cid (Ok d)) c kind fits allowed conns
     with-none : (a b : Option ℕ) → Hears l.now (same_name c d ≡ true) a b
         → Hears l.now ((same_name c d ≡ true) × (call_at l c ≡ None)) a b
     with-none a b (inl stays) = inl stays
-    with-none a b (inr now) = inr (now.0, (now.1, not-yet l c d now.1 (fresh-call s host epoch cid l d kind fits conns allowed).above sound))
+    with-none a b (inr now) = inr (
+      now.0,
+      (
+        now.1,
+        not-yet l c d now.1
+            (fresh-call s host epoch cid l d kind fits conns allowed).above sound,
+      ),
+    )
 hears-client s host epoch l (events.Called cid (Err refused)) c kind fits allowed conns sound = inl refl
-hears-client s host epoch l (events.Wrote d offered got bytes) c kind fits allowed conns sound = inl (heard-on_looks c d (after_write bytes) l (λ k. refl))
-hears-client s host epoch l (events.Shut d (Ok done)) c kind fits allowed conns sound = inl (heard-on_looks c d after_shut l (λ k. refl))
+hears-client s host epoch l (events.Wrote d offered got bytes) c kind fits allowed conns sound = inl
+    (heard-on_looks c d (after_write bytes) l (λ k. refl))
+hears-client s host epoch l (events.Shut d (Ok done)) c kind fits allowed conns sound = inl
+    (heard-on_looks c d after_shut l (λ k. refl))
 hears-client s host epoch l (events.Shut d (Err closed)) c kind fits allowed conns sound = inl refl
 hears-client s host epoch l (events.HasRead d max got bytes) c kind fits allowed conns sound =
     let first : Looks = acknowledged (is_end got) d l in
     let second : Looks = on_looks d (after_read l.now (is_end got) bytes) first in
-    inl (heard-on_life c d (after_end (is_end got)) second ∙ heard-on_looks c d (after_read l.now (is_end got) bytes) first (λ k. refl))
+    inl (heard-on_life c d (after_end (is_end got)) second ∙ heard-on_looks c d
+    (after_read l.now (is_end got) bytes) first (λ k. refl))
 hears-client s host epoch l (events.Ended d got) c kind fits allowed conns sound = inl refl
-hears-client s host epoch l (events.Cancelled d code (Ok done)) c kind fits allowed conns sound = inl (heard-on_life c d (after_cancel code) l)
+hears-client s host epoch l (events.Cancelled d code (Ok done)) c kind fits allowed conns sound = inl
+    (heard-on_life c d (after_cancel code) l)
 hears-client s host epoch l (events.Cancelled d code (Err closed)) c kind fits allowed conns sound = inl refl
-hears-client s host epoch l (events.Taken from bytes got) c kind fits allowed conns sound = hears-message s from bytes (reading_of bytes) got l c refl
-hears-client s host epoch l (events.Polled got) c kind fits allowed conns sound = inl (heard-given s got (silenced l) c ∙ heard-silenced c l)
+hears-client s host epoch l (events.Taken from bytes got) c kind fits allowed conns sound = hears-message s from bytes
+    (reading_of bytes) got l c refl
+hears-client s host epoch l (events.Polled got) c kind fits allowed conns sound = inl
+    (heard-given s got (silenced l) c ∙ heard-silenced c l)
 hears-client s host epoch l (events.Clocked now) c kind fits allowed conns sound = inl refl
 hears-client s host epoch l (events.Accepted got) c kind fits allowed conns sound = absurd allowed
 hears-client s host epoch l (events.Finished d code got) c kind fits allowed conns sound = absurd allowed
 
 -- ---- its DATA
 
-awake-still : (now heard : ℕ) (active : Bool) → active ≡ true → (active && nat_le SILENCE_MS (now - heard)) ≡ false → now < heard + SILENCE_MS
+awake-still : (now heard : ℕ) (active : Bool) → active ≡ true → (active && nat_le SILENCE_MS (now - heard)) ≡ false
+    → now < heard + SILENCE_MS
 awake-still now heard true is test = grind (arith, nat_tests)
 awake-still now heard false is test = absurd cc
 
 -- what a poll gives and is read as DATA is of a call that was heard a short while ago
-pub gives-heard : (s : Setup) (l : Looks) (got : Option (Host × List ℕ)) (to : Host) (bytes : List ℕ) (m : Message) (payload : List ℕ) (c : CallName)
-    → FitsSetup s → Standing s l → got ≡ poll_answer s l → got ≡ Some (to, bytes) → reading_of bytes ≡ Ok m → m.body ≡ bodies.Chunk payload
+pub gives-heard : (s : Setup) (l : Looks) (got : Option (Host × List ℕ)) (to : Host) (bytes : List ℕ) (m : Message)
+    (payload : List ℕ) (c : CallName)
+    → FitsSetup s → Standing s l → got ≡ poll_answer s l → got ≡ Some (to, bytes) → reading_of bytes ≡ Ok m → m.body
+    ≡ bodies.Chunk payload
     → named s to m ≡ c → (heard : ℕ) × (heard_at l c ≡ Some heard) × (l.now < heard + SILENCE_MS)
 gives-heard s l got to bytes m payload c fits standing answer is reads chunk name =
-    let g = poll-gives s (silenced l) l.strays to bytes m payload fits standing.conns (λ d. good-silenced s l d (standing.calls d))
+    let g = poll-gives s (silenced l) l.strays to bytes m payload fits standing.conns
+    (λ d. good-silenced s l d (standing.calls d))
     (sym answer ∙ is) reads chunk in
-    let there : call_at (silenced l) c ≡ Some g.call = subst (λ (n : CallName). call_at (silenced l) n ≡ Some g.call) name g.there in (
+    let there : call_at (silenced l) c ≡ Some g.call = subst
+    (λ (n : CallName). call_at (silenced l) n ≡ Some g.call) name g.there in (
       g.call.looks.heard,
       sym (heard-silenced c l) ∙ ap heard_by there,
       awake-still l.now g.call.looks.heard (is_active g.call.life) g.active g.awake,

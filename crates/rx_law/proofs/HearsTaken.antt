@@ -32,12 +32,14 @@ pub hears-started : (s : Setup) (life : Life) (c d : CallName) (l : Looks)
     → Hears l.now (same_name c d ≡ true) (heard_at l c) (heard_at (started s life d l) c)
 hears-started s life c d l =
     let k : CallRecord = record { name = d; life = life; looks = fresh_call s.limits.window l.now } in
-    (elim (same_name c d) as (λ b. same_name c d ≡ b → Hears l.now (b ≡ true) (heard_at l c) (heard_at (started s life d l) c)) [
+    (elim (same_name c d) as (λ b. same_name c d ≡ b → Hears l.now (b ≡ true) (heard_at l c)
+    (heard_at (started s life d l) c)) [
       | true ↦ λ same. inr (ap heard_by (call_at-any c k l (sym (name_is c d same)) (call_at l c) refl), refl)
       | false ↦ λ other. inl (ap heard_by (call_at-other c k l other (call_at l c) refl))
     ]) refl
 
-hears-opened : (s : Setup) (c d : CallName) (l : Looks) → Hears l.now (same_name c d ≡ true) (heard_at l c) (heard_at (opened s d l) c)
+hears-opened : (s : Setup) (c d : CallName) (l : Looks) → Hears l.now (same_name c d ≡ true) (heard_at l c)
+    (heard_at (opened s d l) c)
 hears-opened s c d l =
     let ended : Looks = on_life (latest_name l (channel_of d)) after_later l in
     (elim (nat_lt (channel_at l (channel_of d)).number d.number)
@@ -88,14 +90,16 @@ hears-taken_at s got c d m l =
     change : CallRecord → CallRecord
     change k = record k { looks = after_taken (node_view s l) got m k.looks }
 
-    one : (a b n : ℕ) → same_name c d ≡ true → (b ≡ a) ⊎ ((b ≡ n) × (hears got ≡ true)) → Hears n (HeardBy got c d) (Some a) (Some b)
+    one : (a b n : ℕ) → same_name c d ≡ true → (b ≡ a) ⊎ ((b ≡ n) × (hears got ≡ true))
+        → Hears n (HeardBy got c d) (Some a) (Some b)
     one a b n same (inl stays) = inl (ap (λ (x : ℕ). Some x) stays)
     one a b n same (inr now) = inr (ap (λ (x : ℕ). Some x) now.0, (now.1, same))
 
     of : (b : Bool) → same_name c d ≡ b → (o : Option CallRecord)
         → Hears l.now (HeardBy got c d) (heard_by o) (heard_by (cond b (option_map change o) o))
     of true same None = inl refl
-    of true same (Some k) = one k.looks.heard (change k).looks.heard l.now same (taken-heard (node_view s l) got m k.looks)
+    of true same (Some k) = one k.looks.heard (change k).looks.heard l.now same
+        (taken-heard (node_view s l) got m k.looks)
     of false other o = inl refl
 
 hears-data : (s : Setup) (got : Took) (c d : CallName) (m : Message) (l : Looks)
@@ -108,9 +112,11 @@ hears-data s got c d m l =
 hears-starting : (s : Setup) (got : Took) (c d : CallName) (m : Message) (l : Looks) → hears got ≡ true
     → Hears l.now (HeardBy got c d) (heard_at l c) (heard_at (taken_data s got d m (opened s d l)) c)
 hears-starting s got c d m l is =
-    hears-trans l.now (HeardBy got c d) (heard_at l c) (heard_at (opened s d l) c) (heard_at (taken_data s got d m (opened s d l)) c)
+    hears-trans l.now (HeardBy got c d) (heard_at l c) (heard_at (opened s d l) c)
+    (heard_at (taken_data s got d m (opened s d l)) c)
     (with-answer (heard_at l c) (heard_at (opened s d l) c) (hears-opened s c d l))
-    (subst (λ (n : ℕ). Hears n (HeardBy got c d) (heard_at (opened s d l) c) (heard_at (taken_data s got d m (opened s d l)) c))
+    (subst (λ (n : ℕ). Hears n (HeardBy got c d) (heard_at (opened s d l) c)
+    (heard_at (taken_data s got d m (opened s d l)) c))
     (now-opened s d l) (hears-data s got c d m (opened s d l)))
   where
     with-answer : (a b : Option ℕ) → Hears l.now (same_name c d ≡ true) a b → Hears l.now (HeardBy got c d) a b
@@ -127,7 +133,8 @@ hears-with s tooks.Beyond c d m l = hears-data s tooks.Beyond c d m l
 hears-with s tooks.Clash c d m l = hears-data s tooks.Clash c d m l
 hears-with s tooks.Heard c d m l =
     let heard : Looks = taken_at s tooks.Heard d m l in
-    hears-trans l.now (HeardBy tooks.Heard c d) (heard_at l c) (heard_at heard c) (heard_at (taken_heard s d m.body heard) c)
+    hears-trans l.now (HeardBy tooks.Heard c d) (heard_at l c) (heard_at heard c)
+    (heard_at (taken_heard s d m.body heard) c)
     (hears-taken_at s tooks.Heard c d m l) (inl (heard-heard s c d m.body heard))
 hears-with s tooks.Stopped c d m l = inl (heard-stopped c d m.body l)
 hears-with s tooks.Busy c d m l = inl (heard-on_life c (latest_name l (channel_of d)) (after_code RX_CALL_DEAD) l)

@@ -24,32 +24,55 @@ use Rattle.rx_law.specs.Starts.{StartsOnce}
 use Rattle.rx_law.proofs.JoinsTimed.{joined-lately, peer-is}
 use Rattle.rx_law.proofs.StartsTimed.{starts-once}
 
-server-came : (s : Setup) (l : Looks) (y : Connection) (e : Event) (Wanted : List ℕ → Type 0) → IsServer s.kind → ComesOn y y.host e Wanted
+server-came : (s : Setup) (l : Looks) (y : Connection) (e : Event) (Wanted : List ℕ → Type 0) → IsServer s.kind
+    → ComesOn y y.host e Wanted
     → DataCame s l y e Wanted
 server-came s l y (events.Taken from bytes tooks.Kept) Wanted server comes = λ m payload reads body front at. (
     let own = server-name s from m server in
     let host : from ≡ y.host = ap (λ (n : CallName). n.host) (sym own) ∙ ap (λ (z : Connection). z.host) at in
-    comes host (record { message = m; reads = reads; on = ap (λ (h : Host). connection_of (name_of h m)) (sym host) ∙ ap connection_of (sym own) ∙ at }))
+    comes host (record {
+      message = m;
+      reads = reads;
+      on = ap (λ (h : Host). connection_of (name_of h m)) (sym host)
+          ∙ ap connection_of (sym own) ∙ at;
+    }))
 server-came s l y _ Wanted server comes = tt
 
-client-came : (s : Setup) (l : Looks) (y : Connection) (host : Host) (e : Event) (Wanted : List ℕ → Type 0) → s.kind ≡ Client y.host y.epoch
+client-came : (s : Setup) (l : Looks) (y : Connection) (host : Host) (e : Event) (Wanted : List ℕ → Type 0) → s.kind
+    ≡ Client y.host y.epoch
     → IfSome (conn_at l y) (λ r. r.peer ≡ host) → ComesOn y host e Wanted → Came s l y e Wanted
-client-came s l y host (events.Taken from bytes tooks.Kept) Wanted kind linked comes = λ m payload reads body front at. (
+client-came s l y host (events.Taken from bytes tooks.Kept) Wanted kind linked comes = λ m payload reads body front at.
+    (
     let known = client-known s l from m (ap (λ (k : Kind). outer_row s k l from m) (sym kind) ∙ front) in
-    let sender = peer-is from host (conn_at l y) (subst (λ (z : Connection). is_peer from (conn_at l z) ≡ true) at known) linked in
-    comes sender (record { message = m; reads = reads; on = ap connection_of (sym (client-name s y from m kind)) ∙ at }))
+    let sender = peer-is from host (conn_at l y) (subst (λ (z : Connection). is_peer from (conn_at l z)
+    ≡ true) at known) linked in
+    comes sender (record {
+      message = m;
+      reads = reads;
+      on = ap connection_of (sym (client-name s y from m kind))
+          ∙ at;
+    }))
 client-came s l y host (events.Taken from bytes tooks.Stopped) Wanted kind linked comes = λ m reads front at. (
     let known = client-known s l from m (ap (λ (k : Kind). outer_row s k l from m) (sym kind) ∙ front) in
-    let sender = peer-is from host (conn_at l y) (subst (λ (z : Connection). is_peer from (conn_at l z) ≡ true) at known) linked in
-    comes sender (record { message = m; reads = reads; on = ap connection_of (sym (client-name s y from m kind)) ∙ at }))
+    let sender = peer-is from host (conn_at l y) (subst (λ (z : Connection). is_peer from (conn_at l z)
+    ≡ true) at known) linked in
+    comes sender (record {
+      message = m;
+      reads = reads;
+      on = ap connection_of (sym (client-name s y from m kind))
+          ∙ at;
+    }))
 client-came s l y host _ Wanted kind linked comes = tt
 
-came-on : (x : TwoEnds) (h : List Noted) → x.client_setup.kind ≡ Client x.connection.host x.connection.epoch → IsServer x.server_setup.kind
+came-on : (x : TwoEnds) (h : List Noted) → x.client_setup.kind ≡ Client x.connection.host x.connection.epoch
+    → IsServer x.server_setup.kind
     → CarriedOn x h → LinkedTo x h → CameOn x h
 came-on x [] kind server carried linked = tt
 came-on x (e ∷ h) kind server carried linked = (
-  λ here. server-came x.server_setup (at_server x h) x.connection e.event (λ bytes. Gave x.server_host bytes (side x.client h)) server (carried.0 here),
-  λ here. client-came x.client_setup (at_client x h) x.connection x.server_host e.event (λ bytes. Gave x.connection.host bytes (side x.server h)) kind
+  λ here. server-came x.server_setup (at_server x h) x.connection e.event
+      (λ bytes. Gave x.server_host bytes (side x.client h)) server (carried.0 here),
+  λ here. client-came x.client_setup (at_client x h) x.connection x.server_host e.event
+      (λ bytes. Gave x.connection.host bytes (side x.server h)) kind
       linked.0 (carried.1 here),
   came-on x h kind server carried.2 linked.1,
 )

@@ -51,13 +51,16 @@ with-starts s _ d m l is = absurd cc
 is-below : (a b : ℕ) → nat_lt a b ≡ true → a < b
 is-below a b is = grind (arith, nat_tests)
 
-keeps-later : (s : Setup) (c d : CallName) (l : Looks) → same_name c d ≡ false → nat_lt (channel_at l (channel_of d)).number d.number ≡ true
+keeps-later : (s : Setup) (c d : CallName) (l : Looks) → same_name c d ≡ false
+    → nat_lt (channel_at l (channel_of d)).number d.number ≡ true
     → Keeps c l (started_later s d l)
 keeps-later s c d l other above =
     let ended : Looks = on_life (latest_name l (channel_of d)) after_later l in
     let low : number_of (conn_at l (connection_of d)) d.chan < d.number =
-    subst (λ (n : ℕ). n < d.number) (channel_number l (channel_of d)) (is-below (channel_at l (channel_of d)).number d.number above) in
-    keeps-trans c l ended (started_later s d l) (keeps-on_life c (latest_name l (channel_of d)) after_later l later_waits)
+    subst (λ (n : ℕ). n < d.number) (channel_number l (channel_of d))
+    (is-below (channel_at l (channel_of d)).number d.number above) in
+    keeps-trans c l ended (started_later s d l) (keeps-on_life c
+    (latest_name l (channel_of d)) after_later l later_waits)
     (keeps-started s lives.Waiting c d ended other (omega arith))
 
 firm-later : (s : Setup) (c d : CallName) (l : Looks) → Firm c l (started_later s d l)
@@ -68,7 +71,8 @@ firm-later s c d l =
 keeps-opened : (s : Setup) (c d : CallName) (l : Looks) → same_name c d ≡ false → Keeps c l (opened s d l)
 keeps-opened s c d l other =
     (elim (nat_lt (channel_at l (channel_of d)).number d.number)
-    as (λ b. nat_lt (channel_at l (channel_of d)).number d.number ≡ b → Keeps c l (if b then started_later s d l else l)) [
+    as (λ b. nat_lt (channel_at l (channel_of d)).number d.number ≡ b
+    → Keeps c l (if b then started_later s d l else l)) [
       | true ↦ λ above. keeps-later s c d l other above
       | false ↦ λ below. keeps-refl c l
     ]) refl
@@ -88,7 +92,8 @@ keeps-starting s got c d m l other =
     keeps-trans c l (opened s d l) _ (keeps-opened s c d l other) (keeps-data s got c d m (opened s d l))
 
 -- it is kept where another call starts, or none
-pub keeps-with : (s : Setup) (got : Took) (c d : CallName) (m : Message) (l : Looks) → (starts got ≡ true → same_name c d ≡ false) → waits got ≡ false
+pub keeps-with : (s : Setup) (got : Took) (c d : CallName) (m : Message) (l : Looks)
+    → (starts got ≡ true → same_name c d ≡ false) → waits got ≡ false
     → Keeps c l (taken_with s got d m l)
 keeps-with s tooks.Kept c d m l other rests = keeps-starting s tooks.Kept c d m l (other refl)
 keeps-with s tooks.NoSlot c d m l other rests = keeps-starting s tooks.NoSlot c d m l (other refl)
@@ -97,7 +102,8 @@ keeps-with s tooks.Beyond c d m l other rests = keeps-data s tooks.Beyond c d m 
 keeps-with s tooks.Clash c d m l other rests = keeps-data s tooks.Clash c d m l
 keeps-with s tooks.Heard c d m l other rests =
     let heard : Looks = taken_at s tooks.Heard d m l in
-    keeps-trans c l heard _ (keeps-on_looks c d (after_taken (node_view s l) tooks.Heard m) l) (keeps-heard s c d m.body heard)
+    keeps-trans c l heard _ (keeps-on_looks c d (after_taken (node_view s l) tooks.Heard m) l)
+    (keeps-heard s c d m.body heard)
 keeps-with s tooks.Stopped c d m l other rests = keeps-stopped c d m.body l
 keeps-with s tooks.Busy c d m l other rests = absurd cc
 keeps-with s tooks.NoRoom c d m l other rests = absurd cc
@@ -105,7 +111,8 @@ keeps-with s tooks.Over c d m l other rests = keeps-over c d m.body (call_at l d
 keeps-with s _ c d m l other rests = keeps-refl c l
 
 -- the records of connections are kept
-pub firm-with : (s : Setup) (got : Took) (c d : CallName) (m : Message) (l : Looks) → waits got ≡ false → Firm c l (taken_with s got d m l)
+pub firm-with : (s : Setup) (got : Took) (c d : CallName) (m : Message) (l : Looks) → waits got ≡ false
+    → Firm c l (taken_with s got d m l)
 firm-with s tooks.Kept c d m l rests =
     firm-trans c l (opened s d l) _ (firm-opened s c d l) (firm-data s tooks.Kept c d m (opened s d l))
 firm-with s tooks.NoSlot c d m l rests =
@@ -129,20 +136,25 @@ busy-fresh [] n number = refl
 busy-fresh (q ∷ qs) zero number = refl
 busy-fresh (q ∷ qs) (suc n) number = busy-fresh qs n number
 
-busy-started : (s : Setup) (c : CallName) (l : Looks) → busy_of (conn_at (started s lives.Waiting c l) (connection_of c)) c.chan ≡ None
+busy-started : (s : Setup) (c : CallName) (l : Looks) → busy_of
+    (conn_at (started s lives.Waiting c l) (connection_of c)) c.chan ≡ None
 busy-started s c l =
-    ap (λ (o : Option ConnLooks). busy_of o c.chan) (conn_at-on_conn (connection_of c) (connection_of c) change l (λ r. refl)) ∙ of (conn_at l (connection_of c)) refl
+    ap (λ (o : Option ConnLooks). busy_of o c.chan) (conn_at-on_conn (connection_of c) (connection_of c) change l
+    (λ r. refl)) ∙ of (conn_at l (connection_of c)) refl
   where
     change : ConnLooks → ConnLooks
     change r = record r { channels = changed_at c.chan (λ q. fresh_channel c.number) r.channels }
 
-    of : (o : Option ConnLooks) → conn_at l (connection_of c) ≡ o → busy_of (option_map (conn_if (connection_of c) change) o) c.chan ≡ None
+    of : (o : Option ConnLooks) → conn_at l (connection_of c) ≡ o
+        → busy_of (option_map (conn_if (connection_of c) change) o) c.chan ≡ None
     of None is = refl
     of (Some r) is =
-        rw (find_passes (λ q. same_connection q.connection (connection_of c)) l.conns r is) (busy-fresh r.channels c.chan c.number)
+        rw (find_passes (λ q. same_connection q.connection (connection_of c)) l.conns r is)
+        (busy-fresh r.channels c.chan c.number)
 
 -- a call that starts on a connection that is there and is used now
-pub recalls-started : (s : Setup) (c : CallName) (l : Looks) (u : ℕ) → is_some (conn_at l (connection_of c)) ≡ true → c.chan < 4
+pub recalls-started : (s : Setup) (c : CallName) (l : Looks) (u : ℕ) → is_some (conn_at l (connection_of c)) ≡ true
+    → c.chan < 4
     → Young (connection_of c) l.now l.conns → Recalls l c u → Recalls (started_later s c l) c l.now
 recalls-started s c l u there chan young old =
     let ended : Looks = on_life (latest_name l (channel_of c)) after_later l in

@@ -1,4 +1,5 @@
--- What is known of the times of a connection: what comes was given a short while ago, and the clocks of its ends go alike.
+-- What is known of the times of a connection: what comes was given a short while ago, and the clocks of its ends go
+-- alike.
 use Rattle.std.proofs.Common.{◌≡◌, ◌≢◌, ◌⊎◌, ◌==◌, ◌<◌, ◌≤◌, ◌+◌, ℕ, is_some, true, List, [], ◌∷◌, Option, Some, None}
 use Rattle.std.proofs.Common.{Ok, refl, inl, inr, arith}
 use Rattle.rx_model.specs.declared.event.Event.{Event}
@@ -35,7 +36,8 @@ LateData s l y _ Wanted = Unit {0}
 -- any message by which a client's call is heard was
 abbrev pub LateAny : Setup → Looks → Connection → Event → (List ℕ → Type 0) → Type 0
 LateAny s l y (events.Taken from bytes got) Wanted =
-    (m : Message) → hears got ≡ true → reading_of bytes ≡ Ok m → outer_row s s.kind l from m ≡ None → connection_of (named s from m) ≡ y
+    (m : Message) → hears got ≡ true → reading_of bytes ≡ Ok m → outer_row s s.kind l from m ≡ None
+    → connection_of (named s from m) ≡ y
     → Wanted bytes
 LateAny s l y _ Wanted = Unit {0}
 
@@ -81,7 +83,8 @@ lately-before x e h f =
 -- at an event of the client other than a clock event these were the moments of its two ends
 abbrev pub Since : ℕ → ℕ → List Noted → ℕ → ℕ → Type 0
 Since server client [] own now = ⊥
-Since server client (e ∷ h) own now = (Acts client e × (own ≡ moment client h) × (now ≡ moment server h)) ⊎ Since server client h own now
+Since server client (e ∷ h) own now = (Acts client e × (own ≡ moment client h)
+    × (now ≡ moment server h)) ⊎ Since server client h own now
 
 -- since then the client's clock lost at most a minute on the server's
 pub alike-since : (server client : ℕ) (h : List Noted) (now own before at : ℕ) → AdvancesAlike server client h now own
@@ -89,12 +92,13 @@ pub alike-since : (server client : ℕ) (h : List Noted) (now own before at : �
 alike-since server client [] now own before at alike since = absurd since
 alike-since server client (e ∷ h) now own before at alike (inl here) =
     (let step = alike.0 here.0 in let a = here.1 in let b = here.2 in omega arith)
-alike-since server client (e ∷ h) now own before at alike (inr since) = alike-since server client h now own before at alike.1 since
+alike-since server client (e ∷ h) now own before at alike
+    (inr since) = alike-since server client h now own before at alike.1 since
 
 -- ---- one call
 
--- what holds of a call of the connection: when the server last used it, when the client called it and when it last heard
--- of it, all by the server's clock
+-- what holds of a call of the connection: when the server last used it, when the client called it and when it last
+-- heard of it, all by the server's clock
 pub record Timed (x : TwoEnds) (c : CallName) (h : List Noted) (lc ls : Looks) (now : ℕ) : Type 0 where
   pub used : ℕ
   pub called : ℕ
@@ -119,8 +123,10 @@ there-is None is = absurd cc
 there-is (Some t) is = (t, refl)
 
 -- DATA of a call that has begun comes soon after its last use
-pub soon : (x : TwoEnds) (c : CallName) (h : List Noted) (lc ls : Looks) (now : ℕ) (bytes : List ℕ) (m : Message) (payload : List ℕ)
-    (k : Timed x c h lc ls now) → is_some (call_at ls c) ≡ true → GaveLately x.server x.client x.server_host bytes now h → reading_of bytes ≡ Ok m
+pub soon : (x : TwoEnds) (c : CallName) (h : List Noted) (lc ls : Looks) (now : ℕ) (bytes : List ℕ) (m : Message)
+    (payload : List ℕ)
+    (k : Timed x c h lc ls now) → is_some (call_at ls c) ≡ true
+    → GaveLately x.server x.client x.server_host bytes now h → reading_of bytes ≡ Ok m
     → m.body ≡ bodies.Chunk payload → named x.client_setup x.server_host m ≡ c → now < k.used + 312000
 soon x c h lc ls now bytes m payload k there gave reads chunk name =
     let g = k.gave bytes m payload now gave reads chunk name in

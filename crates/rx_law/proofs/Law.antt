@@ -61,7 +61,8 @@ once-of : (o : Option CallRecord) (n m p : ℕ) → CountedOf o n m p → n ≤ 
 once-of None n m p counted = (let zero = counted.0 in omega arith)
 once-of (Some k) n m p counted = counted.once
 
-serves : (x : TwoEnds) (h : List Noted) (c : CallName) → Fed x h → connection_of c ≡ x.connection → Served x.server_setup (side x.server h) c
+serves : (x : TwoEnds) (h : List Noted) (c : CallName) → Fed x h → connection_of c ≡ x.connection
+    → Served x.server_setup (side x.server h) c
 serves x h c f on =
     server-serves x.server_setup (side x.server h) c f.server_kind f.server_fits f.server_legal (f.once c on)
 
@@ -77,28 +78,40 @@ Stood (ends.Abort code) x c cl sv =
 Stood (ends.Dead n) x c cl sv = EndsBySilence x.client_setup c n cl
 Stood (ends.Cancelled code) x c cl sv = EndsByCancel c code cl
 
-stands-client : (end : End) (x : TwoEnds) (c : CallName) (e : Event) (cl sv : List Event) → Stood end x c cl sv → Stood end x c (e ∷ cl) sv
+stands-client : (end : End) (x : TwoEnds) (c : CallName) (e : Event) (cl sv : List Event) → Stood end x c cl sv
+    → Stood end x c (e ∷ cl) sv
 stands-client ends.Ok x c e cl sv s = tt
 stands-client (ends.Abort code) x c e cl sv s = s
 stands-client (ends.Dead n) x c e cl sv s =
-    record { later = e ∷ s.later; got = s.got; before = s.before; is = ap (λ (es : List Event). e ∷ es) s.is; long = s.long; heard = s.heard }
+    record {
+      later = e ∷ s.later;
+      got = s.got;
+      before = s.before;
+      is = ap
+          (λ (es : List Event). e ∷ es) s.is;
+      long = s.long;
+      heard = s.heard;
+    }
 stands-client (ends.Cancelled code) x c e cl sv s = inr s
 
-stands-server : (end : End) (x : TwoEnds) (c : CallName) (e : Event) (cl sv : List Event) → Stood end x c cl sv → Stood end x c cl (e ∷ sv)
+stands-server : (end : End) (x : TwoEnds) (c : CallName) (e : Event) (cl sv : List Event) → Stood end x c cl sv
+    → Stood end x c cl (e ∷ sv)
 stands-server ends.Ok x c e cl sv s = tt
 stands-server (ends.Abort code) x c e cl sv s = (s.0, s.1, s.2, s.3, s.4, inr s.5)
 stands-server (ends.Dead n) x c e cl sv s = s
 stands-server (ends.Cancelled code) x c e cl sv s = s
 
 -- an event that ends it
-ended-by : (end : End) (x : TwoEnds) (c : CallName) (e : Event) (cl sv : List Event) → x.client_setup.kind ≡ Client x.connection.host x.connection.epoch
+ended-by : (end : End) (x : TwoEnds) (c : CallName) (e : Event) (cl sv : List Event) → x.client_setup.kind
+    ≡ Client x.connection.host x.connection.epoch
     → connection_of c ≡ x.connection
     → Came x.client_setup (looks x.client_setup cl) x.connection e (λ bytes. Gave x.connection.host bytes sv)
     → CauseBy x.client_setup (looks x.client_setup cl) e c end → Stood end x c (e ∷ cl) sv
 ended-by ends.Ok x c e cl sv kind on came cause = tt
 ended-by (ends.Abort code) x c (events.Taken from bytes tooks.Stopped) cl sv kind on came w =
     let name : named x.client_setup from w.message ≡ name_of c.host w.message =
-    client-name x.client_setup x.connection from w.message kind ∙ ap (λ (y : Connection). name_of y.host w.message) (sym on) in
+    client-name x.client_setup x.connection from w.message kind
+    ∙ ap (λ (y : Connection). name_of y.host w.message) (sym on) in
     let at : connection_of (named x.client_setup from w.message) ≡ x.connection =
     (elim w.name as (λ t. connection_of (named x.client_setup from w.message) ≡ x.connection) [
       | inl same ↦ ap connection_of same ∙ on
@@ -108,10 +121,11 @@ ended-by (ends.Abort code) x c (events.Taken from bytes tooks.Stopped) cl sv kin
       w.message,
       w.reads,
       w.body,
-      (elim w.name as (λ t. (name_of c.host w.message ≡ c) ⊎ ((w.message.number ≡ 0) × (connection_of (name_of c.host w.message) ≡ connection_of c))) [
-        | inl same ↦ inl (sym name ∙ same)
-        | inr all ↦ inr (all.0, ap connection_of (sym name) ∙ all.1)
-      ]),
+      (elim w.name as (λ t. (name_of c.host w.message ≡ c) ⊎
+          ((w.message.number ≡ 0) × (connection_of (name_of c.host w.message) ≡ connection_of c))) [
+            | inl same ↦ inl (sym name ∙ same)
+            | inr all ↦ inr (all.0, ap connection_of (sym name) ∙ all.1)
+          ]),
       came w.message w.reads w.front at,
     )
 ended-by (ends.Abort code) x c _ cl sv kind on came w = absurd w
@@ -123,17 +137,21 @@ ended-by (ends.Dead n) x c (events.Polled got) cl sv kind on came w =
       is = refl;
       long = w.long;
       heard =
-          subst (λ (o : Option CallRecord). IsSomeAnd o (λ k. n ≡ silence_of (looks x.client_setup cl).now k)) (sym w.there) w.is;
+          subst (λ (o : Option CallRecord). IsSomeAnd o (λ k. n ≡ silence_of (looks x.client_setup cl).now k))
+          (sym w.there) w.is;
     }
 ended-by (ends.Dead n) x c _ cl sv kind on came w = absurd w
 ended-by (ends.Cancelled code) x c (events.Cancelled d told (Ok done)) cl sv kind on came w = inl w
 ended-by (ends.Cancelled code) x c (events.Cancelled d told (Err closed)) cl sv kind on came w = absurd w
 ended-by (ends.Cancelled code) x c _ cl sv kind on came w = absurd w
 
-ends-step : (x : TwoEnds) (cl sv : List Event) (e : Event) (at_c at_s : Bool) (c : CallName) → (at_c ≡ true → at_s ≡ true → ⊥)
-    → x.client_setup.kind ≡ Client x.connection.host x.connection.epoch → FitsSetup x.client_setup → Legal x.client_setup (cond at_c (e ∷ cl) cl)
+ends-step : (x : TwoEnds) (cl sv : List Event) (e : Event) (at_c at_s : Bool) (c : CallName)
+    → (at_c ≡ true → at_s ≡ true → ⊥)
+    → x.client_setup.kind ≡ Client x.connection.host x.connection.epoch → FitsSetup x.client_setup
+    → Legal x.client_setup (cond at_c (e ∷ cl) cl)
     → connection_of c ≡ x.connection
-    → (at_c ≡ true → Came x.client_setup (looks x.client_setup cl) x.connection e (λ bytes. Gave x.connection.host bytes sv))
+    → (at_c ≡ true → Came x.client_setup (looks x.client_setup cl) x.connection e
+    (λ bytes. Gave x.connection.host bytes sv))
     → ((end : End) → end_by (call_at (looks x.client_setup cl) c) ≡ Some end → Stood end x c cl sv)
     → (end : End) → end_by (call_at (looks x.client_setup (cond at_c (e ∷ cl) cl)) c) ≡ Some end
     → Stood end x c (cond at_c (e ∷ cl) cl) (cond at_s (e ∷ sv) sv)
@@ -148,12 +166,15 @@ ends-step x cl sv e true false c apart kind fits legal on came old end is =
       | inr now ↦ ended-by end x c e cl sv kind on (came refl) now
     ])
 
-stood : (x : TwoEnds) (h : List Noted) (c : CallName) → Fed x h → connection_of c ≡ x.connection → (end : End) → end_at (at_client x h) c ≡ Some end
+stood : (x : TwoEnds) (h : List Noted) (c : CallName) → Fed x h → connection_of c ≡ x.connection → (end : End)
+    → end_at (at_client x h) c ≡ Some end
     → Stood end x c (side x.client h) (side x.server h)
 stood x [] c f on end is = absurd cc
 stood x (e ∷ h) c f on end is =
-    ends-step x (side x.client h) (side x.server h) e.event (e.node == x.client) (e.node == x.server) c (not-both x.client x.server e.node f.apart)
-    f.client_kind f.client_fits f.client_legal on (λ here. f.came.1 (same_number e.node x.client here)) (stood x h c (fed-before x e h f) on) end is
+    ends-step x (side x.client h) (side x.server h) e.event (e.node == x.client) (e.node == x.server) c
+    (not-both x.client x.server e.node f.apart)
+    f.client_kind f.client_fits f.client_legal on (λ here. f.came.1 (same_number e.node x.client here))
+    (stood x h c (fed-before x e h f) on) end is
 
 -- ---- a good end
 
@@ -173,11 +194,13 @@ ok-ended (Some k) fine is = fine (of k.life is)
     of (lives.Broken code) is = absurd cc
     of (lives.Over code) is = absurd cc
 
-shut-counts : (o : Option CallRecord) (n m p : ℕ) → CountedOf o n m p → (ends_of o).shut ≡ true → (n ≡ 1) × (m ≡ 1) × (p ≡ 1)
+shut-counts : (o : Option CallRecord) (n m p : ℕ) → CountedOf o n m p → (ends_of o).shut ≡ true → (n ≡ 1) × (m ≡ 1)
+    × (p ≡ 1)
 shut-counts None n m p counted shut = absurd cc
 shut-counts (Some k) n m p counted shut = (let w = counted.shut shut in (w.0, w.1, w.3))
 
-times-split : (f : Event → CallName → Bool) (c : CallName) (later before : List Event) → times f (later ++ before) c ≡ times f later c + times f before c
+times-split : (f : Event → CallName → Bool) (c : CallName) (later before : List Event) → times f (later ++ before) c
+    ≡ times f later c + times f before c
 times-split f c [] before = omega arith
 times-split f c (e ∷ later) before =
     let rest = times-split f c later before in
@@ -205,12 +228,14 @@ well-fewer : (h : List Event) (c : CallName) → times finishes_well h c ≤ tim
 well-fewer [] c = omega arith
 well-fewer (e ∷ h) c =
     let rest = well-fewer h c in
-    (elim (finishes e c) as (λ b. finishes e c ≡ b → (if finishes_well e c then suc (times finishes_well h c) else times finishes_well h c)
+    (elim (finishes e c) as (λ b. finishes e c ≡ b → (if finishes_well e c then suc
+    (times finishes_well h c) else times finishes_well h c)
     ≤ (if b then suc (times_finished h c) else times_finished h c)) [
-      | true ↦ λ in'. (elim (finishes_well e c) as (λ b. (if b then suc (times finishes_well h c) else times finishes_well h c) ≤ suc (times_finished h c)) [
-        | true ↦ omega arith
-        | false ↦ omega arith
-      ])
+      | true ↦ λ in'. (elim (finishes_well e c) as (λ b. (if b then suc
+          (times finishes_well h c) else times finishes_well h c) ≤ suc (times_finished h c)) [
+            | true ↦ omega arith
+            | false ↦ omega arith
+          ])
       | false ↦ λ out. rw (well-within e c out) (omega arith)
     ]) refl
 
@@ -250,18 +275,22 @@ side-split n (e ∷ later) before =
       | false ↦ rest
     ])
 
-side-here : (n : ℕ) (event : Event) (before : List Noted) → side n (record { node = n; event = event } ∷ before) ≡ event ∷ side n before
+side-here : (n : ℕ) (event : Event) (before : List Noted) → side n (record { node = n; event = event } ∷ before)
+    ≡ event ∷ side n before
 side-here n event before = rw (number_itself n) refl
 
 -- where the server finished a call with 0 the whole request was said and read
 finish-whole : (x : TwoEnds) (before : List Noted) (c : CallName) (code : ℤ)
-    → Fed x (record { node = x.server; event = events.Finished c code (Ok tt) } ∷ before) → connection_of c ≡ x.connection → is_zero code ≡ true
+    → Fed x (record { node = x.server; event = events.Finished c code (Ok tt) } ∷ before) → connection_of c
+    ≡ x.connection → is_zero code ≡ true
     → RequestWhole x c before
 finish-whole x before c code f on zero' =
     let old = fed-before x (record { node = x.server; event = events.Finished c code (Ok tt) }) before f in
     let legal : Legal x.server_setup (events.Finished c code (Ok tt) ∷ side x.server before) =
-    subst (λ (es : List Event). Legal x.server_setup es) (side-here x.server (events.Finished c code (Ok tt)) before) f.server_legal in
-    let allowed = served x.server_setup.kind x.server_setup (at_server x before) (events.Finished c code (Ok tt)) f.server_kind legal.0 in
+    subst (λ (es : List Event). Legal x.server_setup es) (side-here x.server
+    (events.Finished c code (Ok tt)) before) f.server_legal in
+    let allowed = served x.server_setup.kind x.server_setup (at_server x before)
+    (events.Finished c code (Ok tt)) f.server_kind legal.0 in
     let ended = of (call_at (at_server x before) c) allowed.1 in
     let w = (between x before c old on).request.ended ended in
     record {
@@ -269,17 +298,22 @@ finish-whole x before c code f on zero' =
       read = read-is (call_at (at_server x before) c) ∙ w.1 ∙ sym (said-is (call_at (at_client x before) c));
     }
   where
-    of : (o : Option CallRecord) → ◌≡◌ {A = Result (Unit {0}) ServeRefused} (Ok tt) (served_finish o code) → (ends_of o).ended ≡ true
+    of : (o : Option CallRecord) → ◌≡◌ {A = Result (Unit {0}) ServeRefused} (Ok tt) (served_finish o code)
+        → (ends_of o).ended ≡ true
     of None is = absurd cc
     of (Some k) is =
-        or_not k.looks.received.ended (is_zero code) (running-at k.life (k.looks.received.ended || not (is_zero code)) tt is).1 zero'
+        or_not k.looks.received.ended (is_zero code) (running-at k.life
+        (k.looks.received.ended || not (is_zero code)) tt is).1 zero'
 
-ends-ok : (x : TwoEnds) (h : List Noted) (c : CallName) → Fed x h → connection_of c ≡ x.connection → end_at (at_client x h) c ≡ Some ends.Ok → EndsOk x c h
+ends-ok : (x : TwoEnds) (h : List Noted) (c : CallName) → Fed x h → connection_of c ≡ x.connection
+    → end_at (at_client x h) c ≡ Some ends.Ok → EndsOk x c h
 ends-ok x h c f on is =
-    let calls = client-calls x.client_setup x.connection.host x.connection.epoch (side x.client h) f.client_kind f.client_fits f.client_legal in
+    let calls = client-calls x.client_setup x.connection.host x.connection.epoch
+    (side x.client h) f.client_kind f.client_fits f.client_legal in
     let ended = ok-ended (call_at (at_client x h) c) (calls.fine c) is in
     let w = (between x h c f on).reply.ended ended in
-    let counts = shut-counts (call_at (at_server x h) c) (times_accepted (side x.server h) c) (times_finished (side x.server h) c)
+    let counts = shut-counts (call_at (at_server x h) c) (times_accepted (side x.server h) c)
+    (times_finished (side x.server h) c)
     (times finishes_well (side x.server h) c) (serves x h c f on).counted w.0 in
     record {
       accepted = counts.0;
@@ -288,17 +322,21 @@ ends-ok x h c f on is =
           let e : Noted = record { node = x.server; event = events.Finished c code (Ok tt) } in
           let sides : side x.server h ≡ side x.server later ++ events.Finished c code (Ok tt) ∷ side x.server before =
           ap (side x.server) split ∙ side-split x.server later (e ∷ before)
-          ∙ ap (λ (es : List Event). side x.server later ++ es) (side-here x.server (events.Finished c code (Ok tt)) before) in
+          ∙ ap (λ (es : List Event). side x.server later ++ es)
+          (side-here x.server (events.Finished c code (Ok tt)) before) in
           let zero' = finish-zero c code (side x.server later) (side x.server before)
-          (subst (λ (es : List Event). times_finished es c ≡ 1) sides counts.1) (subst (λ (es : List Event). times finishes_well es c ≡ 1) sides counts.2) in (
+          (subst (λ (es : List Event). times_finished es c ≡ 1) sides counts.1)
+          (subst (λ (es : List Event). times finishes_well es c ≡ 1) sides counts.2) in (
             zero-code code zero',
-            finish-whole x before c code (fed-at x later (e ∷ before) (subst (λ (es : List Noted). Fed x es) split f)) on zero',
+            finish-whole x before c code (fed-at x later (e ∷ before)
+                (subst (λ (es : List Noted). Fed x es) split f)) on zero',
           ));
       shut = shut-is (call_at (at_server x h) c) ∙ w.0;
       read = read-is (call_at (at_client x h) c) ∙ w.1 ∙ sym (said-is (call_at (at_server x h) c));
     }
 
-law-ends : (end : End) (x : TwoEnds) (h : List Noted) (c : CallName) → Fed x h → connection_of c ≡ x.connection → end_at (at_client x h) c ≡ Some end
+law-ends : (end : End) (x : TwoEnds) (h : List Noted) (c : CallName) → Fed x h → connection_of c ≡ x.connection
+    → end_at (at_client x h) c ≡ Some end
     → Stood end x c (side x.client h) (side x.server h) → EndsAs end x c h
 law-ends ends.Ok x h c f on is s = ends-ok x h c f on is
 law-ends (ends.Abort code) x h c f on is s =
@@ -310,7 +348,8 @@ pub law-of : (x : TwoEnds) (h : List Noted) (c : CallName) → Fed x h → conne
 law-of x h c f on =
     let b = between x h c f on in
     record {
-      once = once-of (call_at (at_server x h) c) (times_accepted (side x.server h) c) (times_finished (side x.server h) c)
+      once = once-of (call_at (at_server x h) c) (times_accepted (side x.server h) c)
+          (times_finished (side x.server h) c)
           (times finishes_well (side x.server h) c) (serves x h c f on).counted;
       prefix =
           record {

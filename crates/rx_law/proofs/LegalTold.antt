@@ -1,11 +1,9 @@
 -- Legal events are answered as their node's kind answers, with as many bytes as their answers say.
-use Rattle.std.proofs.Common.{◌≡◌, ◌&&◌, ℕ, Bool, true, false, not, List, [], ◌∷◌, length, Option, Some, None}
+use Rattle.std.proofs.Common.{ℕ, Bool, true, false, not, List, [], ◌∷◌, Option, Some, None}
 use Rattle.std.proofs.Common.{Result, Ok, Err, refl, sym, subst}
 use Rattle.std.specs.List.{All}
 use Rattle.std.proofs.lemmas.List.{length-take}
 use Rattle.std.proofs.lemmas.List.Elements.{All-nil, All-cons, All-head, All-tail}
-use Rattle.rx_model.specs.declared.answers.CallRead.{CallRead}
-use Rattle.rx_model.specs.declared.answers.CallRead.TheVariants as callreads
 use Rattle.rx_model.specs.declared.answers.End.TheVariants as ends
 use Rattle.rx_model.specs.declared.answers.ReadAns.{ReadAns}
 use Rattle.rx_model.specs.declared.answers.ReadGot.TheVariants as readers
@@ -13,13 +11,12 @@ use Rattle.rx_model.specs.declared.answers.ServeRead.{ServeRead}
 use Rattle.rx_model.specs.declared.answers.WroteGot.TheVariants as writers
 use Rattle.rx_model.specs.declared.event.Event.{Event}
 use Rattle.rx_model.specs.declared.event.Event.TheVariants as events
-use Rattle.rx_model.specs.declared.names.Host.{Host}
 use Rattle.rx_model.specs.Telling.{AreReadByClient, AreReadByServer, AreWritten, FitsEvent, IsOfKind, IsTold}
 use Rattle.rx_rules.specs.After.{looks}
 use Rattle.rx_rules.specs.Life.{Life}
 use Rattle.rx_rules.specs.Life as lives
 use Rattle.rx_rules.specs.Looks.{CallRecord, Looks, call_at}
-use Rattle.rx_rules.specs.Received.{Received, is_complete, read_from, read_of, unread_of}
+use Rattle.rx_rules.specs.Received.{is_complete, read_from, unread_of}
 use Rattle.rx_rules.specs.Rules.{AllowedAt, HasBytes, Legal, client_read, client_read_by, own_call, served_read, served_read_by}
 use Rattle.rx_rules.specs.Setup.{Setup, Kind, Server, Client, is_client}
 

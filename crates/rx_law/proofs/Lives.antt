@@ -60,7 +60,8 @@ life-aborted Cause x code cause =
     subst-cause : (a b : End) → a ≡ b → Cause a → Cause b
     subst-cause a b is c = rw is at c
 
-life-dead : (Cause : End → Type 0) (x : Life) (n : ℕ) → Cause (ends.Dead n) → LifeMove Cause x (lives.Ended (ends.Dead n))
+life-dead : (Cause : End → Type 0) (x : Life) (n : ℕ) → Cause (ends.Dead n)
+    → LifeMove Cause x (lives.Ended (ends.Dead n))
 life-dead Cause x n cause =
     record {
       waits = λ is. absurd cc;
@@ -82,7 +83,8 @@ code-moves Cause code lives.Finished cause = life-over Cause lives.Finished (Som
 code-moves Cause code (lives.Broken before) cause = life-stays Cause (lives.Broken before)
 code-moves Cause code (lives.Over before) cause = life-stays Cause (lives.Over before)
 
-pub silence-moves : (Cause : End → Type 0) (n : ℕ) (x : Life) → Cause (ends.Dead n) → LifeMove Cause x (after_silence n x)
+pub silence-moves : (Cause : End → Type 0) (n : ℕ) (x : Life) → Cause (ends.Dead n)
+    → LifeMove Cause x (after_silence n x)
 silence-moves Cause n lives.Calling cause = life-dead Cause lives.Calling n cause
 silence-moves Cause n (lives.Ended end) cause = life-stays Cause (lives.Ended end)
 silence-moves Cause n lives.Waiting cause = life-over Cause lives.Waiting (Some RX_CALL_DEAD)

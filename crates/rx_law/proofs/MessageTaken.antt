@@ -68,7 +68,8 @@ there-prepared s got x l server none is =
     of false is none = absurd cc
 
 -- a row in front changes no call
-pub turned-keeps : (row : Took) (from : Host) (m : Message) (c : CallName) (l : Looks) → Keeps c l (turned_away row from m l)
+pub turned-keeps : (row : Took) (from : Host) (m : Message) (c : CallName) (l : Looks)
+    → Keeps c l (turned_away row from m l)
 turned-keeps tooks.Unserved from m c l = of m.body
   where
     of : (body : Body) → Keeps c l (taken_unserved from m body l)
@@ -82,7 +83,8 @@ turned-keeps tooks.Unserved from m c l = of m.body
     of (bodies.Response bytes) = keeps-refl c l
 turned-keeps _ from m c l = keeps-refl c l
 
-pub sound-behind : (s : Setup) (row : Option Took) (from : Host) (c : CallName) (m : Message) (got : Took) (l : Looks) (n : ℕ)
+pub sound-behind : (s : Setup) (row : Option Took) (from : Host) (c : CallName) (m : Message) (got : Took) (l : Looks)
+    (n : ℕ)
     → IsServer s.kind → (taken_behind s row from (named s from m) m got l).forgotten ≡ []
     → Sound l c n → Sound (taken_behind s row from (named s from m) m got l) c n
 sound-behind s (Some row) from c m got l n server none sound =
@@ -94,7 +96,8 @@ sound-behind s None from c m got l n server none sound =
     sound-with s got c d m ready n (there-prepared s got (connection_of d) l server still) (omega arith)
     (sound-keeps c l ready n (keeps-prepared s got c (connection_of d) l still) sound)
 
-pub sound-message : (s : Setup) (from : Host) (reading : Result Message BadMsg) (c : CallName) (got : Took) (l : Looks) (n : ℕ)
+pub sound-message : (s : Setup) (from : Host) (reading : Result Message BadMsg) (c : CallName) (got : Took) (l : Looks)
+    (n : ℕ)
     → IsServer s.kind → (taken_message s from reading got l).forgotten ≡ []
     → Sound l c n → Sound (taken_message s from reading got l) c n
 sound-message s from (Err bad) c got l n server none sound = sound

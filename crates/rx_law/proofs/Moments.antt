@@ -76,7 +76,8 @@ now-given s None l = refl
 now-given s (Some (to, bytes)) l = of (reading_of bytes)
   where
     stray : (m : Message) (b : Bool) (body : Body)
-        → (if b then record l { strays = drop 1 l.strays } else given_body (named s to m) m body (counted (connection_of (named s to m)) l)).now ≡ l.now
+        → (if b then record l { strays = drop 1 l.strays } else given_body (named s to m) m body
+        (counted (connection_of (named s to m)) l)).now ≡ l.now
     stray m true body = refl
     stray m false (bodies.Chunk payload) = refl
     stray m false (bodies.Ack a) = refl
@@ -91,17 +92,20 @@ now-given s (Some (to, bytes)) l = of (reading_of bytes)
     of (Ok m) = stray m (is_stray m m.body) m.body
 
 -- and a finish
-pub now-finish : (d : CallName) (code : ℤ) (got : Result (Unit {0}) ServeRefused) (l : Looks) → (finish_done d code got l).now ≡ l.now
+pub now-finish : (d : CallName) (code : ℤ) (got : Result (Unit {0}) ServeRefused) (l : Looks)
+    → (finish_done d code got l).now ≡ l.now
 now-finish d code (Ok done) l = of (is_zero code)
   where
-    of : (b : Bool) → (if b then on_looks d after_shut l else on_channel (channel_of d) (owing_abort (Some code)) l).now ≡ l.now
+    of : (b : Bool) → (if b then on_looks d after_shut l else on_channel (channel_of d)
+        (owing_abort (Some code)) l).now ≡ l.now
     of true = refl
     of false = refl
 now-finish d code (Err (refusals.Gone told)) l = refl
 now-finish d code (Err refusals.NotOpen) l = refl
 now-finish d code (Err refusals.Unread) l = refl
 
-now-linked : (kind : Kind) (to : Host) (service first cid : ℕ) (l : Looks) → (linked kind to service first cid l).now ≡ l.now
+now-linked : (kind : Kind) (to : Host) (service first cid : ℕ) (l : Looks) → (linked kind to service first cid l).now
+    ≡ l.now
 now-linked (Client host epoch) to service first cid l = refl
 now-linked (Server service nonces) to other first cid l = refl
 
@@ -129,7 +133,8 @@ now-after s l (events.Clocked now) = refl
 pub now-side : (s : Setup) (n : ℕ) (h : List Noted) → (looks s (side n h)).now ≡ moment n h
 now-side s n [] = refl
 now-side s n (e ∷ h) =
-    (elim (e.node == n) as (λ b. (looks s (cond b (e.event ∷ side n h) (side n h))).now ≡ cond b (with_clock e.event (moment n h)) (moment n h)) [
+    (elim (e.node == n) as (λ b. (looks s (cond b (e.event ∷ side n h) (side n h))).now
+    ≡ cond b (with_clock e.event (moment n h)) (moment n h)) [
       | true ↦ now-after s (looks s (side n h)) e.event ∙ ap (with_clock e.event) (now-side s n h)
       | false ↦ now-side s n h
     ])

@@ -114,7 +114,8 @@ sound-after s l (events.Ended d got) c n server allowed none sound = absurd allo
 sound-after s l (events.Cancelled d code got) c n server allowed none sound = absurd allowed
 
 -- where nothing is forgotten behind an event of a server, nothing was before it
-pub forgot-after : (s : Setup) (l : Looks) (e : Event) → AllowedServer s l e → (after s e l).forgotten ≡ [] → l.forgotten ≡ []
+pub forgot-after : (s : Setup) (l : Looks) (e : Event) → AllowedServer s l e → (after s e l).forgotten ≡ []
+    → l.forgotten ≡ []
 forgot-after s l (events.Accepted (Some d)) allowed none = none
 forgot-after s l (events.Accepted None) allowed none = none
 forgot-after s l (events.Wrote d offered got bytes) allowed none = none
@@ -130,11 +131,13 @@ forgot-after s l (events.Ended d got) allowed none = absurd allowed
 forgot-after s l (events.Cancelled d code got) allowed none = absurd allowed
 
 -- the rules of a server
-pub served : (kind : Kind) (s : Setup) (l : Looks) (e : Event) → IsServer kind → AllowedAt kind s l e → AllowedServer s l e
+pub served : (kind : Kind) (s : Setup) (l : Looks) (e : Event) → IsServer kind → AllowedAt kind s l e
+    → AllowedServer s l e
 served (Server service nonces) s l e server allowed = allowed
 served (Client host epoch) s l e server allowed = absurd server
 
-pub sound-history : (s : Setup) (h : List Event) (c : CallName) → IsServer s.kind → Legal s h → (looks s h).forgotten ≡ []
+pub sound-history : (s : Setup) (h : List Event) (c : CallName) → IsServer s.kind → Legal s h → (looks s h).forgotten
+    ≡ []
     → Sound (looks s h) c (times_accepted h c)
 sound-history s [] c server legal none = record { counted = refl; below = tt; fours = tt }
 sound-history s (e ∷ h) c server legal none =

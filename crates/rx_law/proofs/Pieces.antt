@@ -23,7 +23,8 @@ done_shut j n last =
     let is : suc j ≡ max 1 ((n + (1412 - 1)) / 1412) = grind (arith, nat_tests) in
     omega arith
 
-facts_of : (shut : Bool) (s : Sent) (j : ℕ) → s.shut ≡ shut → suc j ≤ counting_of s → IsPiece s.said shut j (piece_at s (suc j))
+facts_of : (shut : Bool) (s : Sent) (j : ℕ) → s.shut ≡ shut → suc j ≤ counting_of s
+    → IsPiece s.said shut j (piece_at s (suc j))
 facts_of true s j is counts =
     let low : suc j ≤ max 1 (opened (length s.said)) =
     subst (λ (b : Bool). suc j ≤ cond b (max 1 (opened (length s.said))) ((length s.said - 1) / 1412)) is counts in
@@ -55,7 +56,8 @@ grown old more is j p f =
           let room : 1412 * j + 1412 < length old = f.more goes in
           let rest : 1412 ≤ length (drop (1412 * j) old) = omega (arith, length-drop (1412 * j) old) in
           let same : take 1412 (drop (1412 * j) (old ++ more)) ≡ take 1412 (drop (1412 * j) old) =
-          ap (take 1412) (drop-append-le (1412 * j) old more (omega arith)) ∙ take-append-le 1412 (drop (1412 * j) old) more rest in
+          ap (take 1412) (drop-append-le (1412 * j) old more (omega arith))
+          ∙ take-append-le 1412 (drop (1412 * j) old) more rest in
           record {
             payload_is = f.payload_is ∙ sym same;
             more = λ n. omega (arith, length-append old more);
@@ -70,7 +72,8 @@ piece_grows old new true is j p g f =
     let s = g.stops refl in
     let whole : new ≡ old = g.joined ∙ ap (λ (xs : List ℕ). old ++ xs) s.0 ∙ append-nil old in
     subst (λ (xs : List ℕ). IsPiece xs is j p) (sym whole) (subst (λ (b : Bool). IsPiece old b j p) (sym s.1) f)
-piece_grows old new false is j p g f = subst (λ (xs : List ℕ). IsPiece xs is j p) (sym g.joined) (grown old g.more is j p f)
+piece_grows old new false is j p g f = subst (λ (xs : List ℕ). IsPiece xs is j p) (sym g.joined)
+    (grown old g.more is j p f)
 
 pub at_grows : (old new : List ℕ) (was is : Bool) (seq : ℕ) (p : Piece) → Grows old was new is → IsAt old was seq p
     → IsAt new is seq p

@@ -34,13 +34,15 @@ pub find-only : (p : ConnLooks → Bool) (new old : ConnLooks) (rs : List ConnLo
     → OnlyNew new (find p (map (instead new old) rs))
 find-only p new old [] none = tt
 find-only p new old (r ∷ rs) none =
-    (elim (p r) as (λ b. p r ≡ b → cond b (Some r) (find p rs) ≡ None → OnlyNew new (find p (map (instead new old) (r ∷ rs)))) [
+    (elim (p r) as (λ b. p r ≡ b → cond b (Some r) (find p rs) ≡ None
+    → OnlyNew new (find p (map (instead new old) (r ∷ rs)))) [
       | true ↦ λ passes is. absurd cc
       | false ↦ λ fails is. (
           let rest = find-only p new old rs is in
           (elim (same_connection r.connection old.connection)
           as (λ b. OnlyNew new (cond (p (cond b new r)) (Some (cond b new r)) (find p (map (instead new old) rs)))) [
-            | true ↦ (elim (p new) as (λ t. OnlyNew new (cond t (Some new) (find p (map (instead new old) rs)))) [ true ↦ refl | false ↦ rest ])
+            | true ↦ (elim (p new) as (λ t. OnlyNew new (cond t (Some new)
+                (find p (map (instead new old) rs)))) [ true ↦ refl | false ↦ rest ])
             | false ↦ rw fails rest
           ]))
     ]) refl none
@@ -52,7 +54,8 @@ find-kept p new old [] fails apart = refl
 find-kept p new old (r ∷ rs) fails apart =
     let rest = find-kept p new old rs fails apart in
     (elim (same_connection r.connection old.connection) as (λ b. same_connection r.connection old.connection ≡ b
-    → cond (p (cond b new r)) (Some (cond b new r)) (find p (map (instead new old) rs)) ≡ cond (p r) (Some r) (find p rs)) [
+    → cond (p (cond b new r)) (Some (cond b new r)) (find p (map (instead new old) rs))
+    ≡ cond (p r) (Some r) (find p rs)) [
       | true ↦ λ same. rw (fails, apart r same) rest
       | false ↦ λ other. ap (λ (o : Option ConnLooks). cond (p r) (Some r) o) rest
     ]) refl
@@ -64,9 +67,11 @@ fresh-number x (suc (suc zero)) = refl
 fresh-number x (suc (suc (suc zero))) = refl
 fresh-number x (suc (suc (suc (suc n)))) = refl
 
-pub only-fours : (x : Connection) (new : ConnLooks) (o : Option ConnLooks) → new.channels ≡ fresh_channels x → OnlyNew new o → Fours o
+pub only-fours : (x : Connection) (new : ConnLooks) (o : Option ConnLooks) → new.channels ≡ fresh_channels x
+    → OnlyNew new o → Fours o
 only-fours x new None fresh only = tt
-only-fours x new (Some r) fresh only = ap (λ (q : ConnLooks). length q.channels) only ∙ ap (λ (qs : List ChannelLooks). length qs) fresh
+only-fours x new (Some r) fresh only = ap (λ (q : ConnLooks). length q.channels) only
+    ∙ ap (λ (qs : List ChannelLooks). length qs) fresh
 
 last-only : (b : Bool) (new : ConnLooks) → OnlyNew new (cond b (Some new) None)
 last-only true new = refl
@@ -83,7 +88,11 @@ pub found-placed : (x y : Connection) (new : ConnLooks) (o : Option ConnLooks) (
     → Apart y o → (q : Option ConnLooks) → conn_at l y ≡ q
     → (conn_at (placed new o l) y ≡ q) ⊎ ((q ≡ None) × OnlyNew new (conn_at (placed new o l) y))
 found-placed x y new None l named unknown apart None is =
-    inr (refl, rw (find-last (λ r. same_connection r.connection y) l.conns new is) (last-only (same_connection new.connection y) new))
+    inr (
+      refl,
+      rw (find-last (λ r. same_connection r.connection y) l.conns new is)
+          (last-only (same_connection new.connection y) new),
+    )
 found-placed x y new None l named unknown apart (Some r) is =
     inl (find-before (λ q. same_connection q.connection y) l.conns new r is)
 found-placed x y new (Some old) l named unknown apart q is =
@@ -95,19 +104,23 @@ found-placed x y new (Some old) l named unknown apart q is =
           inr (sym is ∙ none, find-only (λ r. same_connection r.connection y) new old l.conns none))
       | false ↦ λ other.
           inl (find-kept (λ r. same_connection r.connection y) new old l.conns other
-          (λ r at. subst (λ (z : Connection). same_connection z y ≡ false) (sym (connection_is r.connection old.connection at)) apart) ∙ is)
+          (λ r at. subst (λ (z : Connection). same_connection z y ≡ false)
+          (sym (connection_is r.connection old.connection at)) apart) ∙ is)
     ]) refl
 
-pub keeps-placed : (c : CallName) (x : Connection) (new : ConnLooks) (o : Option ConnLooks) (l : Looks) → new.connection ≡ x
-    → (is_some o ≡ true → conn_at l x ≡ None) → new.channels ≡ fresh_channels x → Apart (connection_of c) o → Keeps c l (placed new o l)
+pub keeps-placed : (c : CallName) (x : Connection) (new : ConnLooks) (o : Option ConnLooks) (l : Looks)
+    → new.connection ≡ x
+    → (is_some o ≡ true → conn_at l x ≡ None) → new.channels ≡ fresh_channels x → Apart (connection_of c) o
+    → Keeps c l (placed new o l)
 keeps-placed c x new o l named unknown fresh apart =
     let f = found-placed x (connection_of c) new o l named unknown apart (conn_at l (connection_of c)) refl in
     record {
       calls = calls-placed o;
-      numbers = (elim f as (λ t. number_of (conn_at l (connection_of c)) c.chan ≤ number_of (conn_at (placed new o l) (connection_of c)) c.chan) [
-        | inl same ↦ rw same (omega arith)
-        | inr came ↦ rw came.0 (omega arith)
-      ]);
+      numbers = (elim f as (λ t. number_of (conn_at l (connection_of c)) c.chan ≤ number_of
+          (conn_at (placed new o l) (connection_of c)) c.chan) [
+            | inl same ↦ rw same (omega arith)
+            | inr came ↦ rw came.0 (omega arith)
+          ]);
       fours = λ fours. (elim f as (λ t. Fours (conn_at (placed new o l) (connection_of c))) [
         | inl same ↦ rw same fours
         | inr came ↦ only-fours x new (conn_at (placed new o l) (connection_of c)) fresh came.1
@@ -132,10 +145,13 @@ keeps-with_conn : (c : CallName) (s : Setup) (kind : Kind) (x : Connection) (l :
     → Spared (connection_of c) (with_conn s kind x l) → Keeps c l (with_conn s kind x l)
 keeps-with_conn c s (Client host epoch) x l unknown spared = keeps-refl c l
 keeps-with_conn c s (Server service nonces) x l unknown spared =
-    keeps-placed c x (fresh_conn x x.host service 1 l) (if is_full s l then idle_conn l else None) l refl (λ y. unknown) refl
-    (spared-placed (connection_of c) (fresh_conn x x.host service 1 l) (if is_full s l then idle_conn l else None) l spared).0
+    keeps-placed c x (fresh_conn x x.host service 1 l) (if is_full s l then idle_conn l else None) l refl
+    (λ y. unknown) refl
+    (spared-placed (connection_of c) (fresh_conn x x.host service 1 l)
+    (if is_full s l then idle_conn l else None) l spared).0
 
-spared-with_conn : (y : Connection) (s : Setup) (kind : Kind) (x : Connection) (l : Looks) → Spared y (with_conn s kind x l) → Spared y l
+spared-with_conn : (y : Connection) (s : Setup) (kind : Kind) (x : Connection) (l : Looks)
+    → Spared y (with_conn s kind x l) → Spared y l
 spared-with_conn y s (Client host epoch) x l spared = spared
 spared-with_conn y s (Server service nonces) x l spared =
     (spared-placed y (fresh_conn x x.host service 1 l) (if is_full s l then idle_conn l else None) l spared).1
@@ -143,7 +159,8 @@ spared-with_conn y s (Server service nonces) x l spared =
 pub keeps-entered : (c : CallName) (s : Setup) (x : Connection) (l : Looks) → Spared (connection_of c) (entered s x l)
     → Keeps c l (entered s x l)
 keeps-entered c s x l spared =
-    (elim (is_some (conn_at l x)) as (λ b. is_some (conn_at l x) ≡ b → Spared (connection_of c) (cond b l (with_conn s s.kind x l))
+    (elim (is_some (conn_at l x)) as (λ b. is_some (conn_at l x) ≡ b
+    → Spared (connection_of c) (cond b l (with_conn s s.kind x l))
     → Keeps c l (cond b l (with_conn s s.kind x l))) [
       | true ↦ λ known spared. keeps-refl c l
       | false ↦ λ unknown spared. keeps-with_conn c s s.kind x l (is_none (conn_at l x) unknown) spared
@@ -170,7 +187,8 @@ within-more : (q : ConnLooks) (rs : List ConnLooks) (o : Option ConnLooks) → W
 within-more q rs None within = tt
 within-more q rs (Some r) within = rw within (or_true (same_connection q.connection r.connection))
 
-within-older : (q r : ConnLooks) (rs : List ConnLooks) (o : Option ConnLooks) → q ≡ r → Within rs o → Within (q ∷ rs) (Some (lesser_by (λ q. q.last_use) r o))
+within-older : (q r : ConnLooks) (rs : List ConnLooks) (o : Option ConnLooks) → q ≡ r → Within rs o
+    → Within (q ∷ rs) (Some (lesser_by (λ q. q.last_use) r o))
 within-older q r rs None is within = rw (is, connection_itself r.connection) refl
 within-older q r rs (Some p) is within =
     (elim (nat_le r.last_use p.last_use) as (λ b. Within (q ∷ rs) (Some (cond b r p))) [
@@ -193,16 +211,21 @@ there-instead : (x : Connection) (new old : ConnLooks) (rs : List ConnLooks) →
 there-instead x new old [] named within = absurd cc
 there-instead x new old (r ∷ rs) named within =
     let own : same_connection new.connection x ≡ true = rw (named, connection_itself x) refl in
-    (elim (same_connection r.connection old.connection) as (λ b. (b || list_any (λ q. same_connection q.connection old.connection) rs) ≡ true
-    → is_some (cond (same_connection (cond b new r).connection x) (Some (cond b new r)) (find (λ r. same_connection r.connection x) (map (instead new old) rs))) ≡ true) [
+    (elim (same_connection r.connection old.connection) as (λ b.
+    (b || list_any (λ q. same_connection q.connection old.connection) rs) ≡ true
+    → is_some (cond (same_connection (cond b new r).connection x) (Some (cond b new r))
+    (find (λ r. same_connection r.connection x) (map (instead new old) rs))) ≡ true) [
       | true ↦ λ t. rw own refl
-      | false ↦ λ t. (elim (same_connection r.connection x) as (λ b. is_some (cond b (Some r) (find (λ r. same_connection r.connection x) (map (instead new old) rs))) ≡ true) [
-        | true ↦ refl
-        | false ↦ there-instead x new old rs named t
-      ])
+      | false ↦ λ t. (elim (same_connection r.connection x) as
+          (λ b. is_some (cond b (Some r) (find (λ r. same_connection r.connection x) (map (instead new old) rs)))
+          ≡ true) [
+            | true ↦ refl
+            | false ↦ there-instead x new old rs named t
+          ])
     ]) within
 
-there-placed : (x : Connection) (new : ConnLooks) (o : Option ConnLooks) (l : Looks) → new.connection ≡ x → conn_at l x ≡ None
+there-placed : (x : Connection) (new : ConnLooks) (o : Option ConnLooks) (l : Looks) → new.connection ≡ x → conn_at l x
+    ≡ None
     → Within l.conns o → is_some (conn_at (placed new o l) x) ≡ true
 there-placed x new None l named unknown within =
     rw (find-last (λ q. same_connection q.connection x) l.conns new unknown, named, connection_itself x) refl
@@ -219,9 +242,11 @@ there-with_conn s (Server service nonces) x l server unknown =
     there-placed x (fresh_conn x x.host service 1 l) (if is_full s l then idle_conn l else None) l refl unknown
     (within-if (is_full s l) l.conns (idle_conn l) (within-oldest (is_idle l) l.conns))
 
-pub there-entered : (s : Setup) (x : Connection) (l : Looks) → IsServer s.kind → is_some (conn_at (entered s x l) x) ≡ true
+pub there-entered : (s : Setup) (x : Connection) (l : Looks) → IsServer s.kind → is_some (conn_at (entered s x l) x)
+    ≡ true
 there-entered s x l server =
-    (elim (is_some (conn_at l x)) as (λ b. is_some (conn_at l x) ≡ b → is_some (conn_at (cond b l (with_conn s s.kind x l)) x) ≡ true) [
+    (elim (is_some (conn_at l x)) as (λ b. is_some (conn_at l x) ≡ b
+    → is_some (conn_at (cond b l (with_conn s s.kind x l)) x) ≡ true) [
       | true ↦ λ known. known
       | false ↦ λ unknown. there-with_conn s s.kind x l server (is_none (conn_at l x) unknown)
     ]) refl

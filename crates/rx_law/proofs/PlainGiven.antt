@@ -33,7 +33,8 @@ plain-body y d m (bodies.Abort code) l = plain-on_channel y (channel_of d) (λ q
 plain-body y d m bodies.Busy l = plain-on_channel y (channel_of d) (λ q. record q { owed_busy = None }) l
 plain-body y d m (bodies.Challenge bytes) l =
     plain-on_channel y (channel_of d) (λ q. record q { owed_challenge = false }) l
-plain-body y d m (bodies.Response bytes) l = plain-on_channel y (channel_of d) (λ q. record q { owed_response = None }) l
+plain-body y d m (bodies.Response bytes) l = plain-on_channel y (channel_of d)
+    (λ q. record q { owed_response = None }) l
 plain-body y d m bodies.AckAll l = plain-on_channel y (channel_of d) (λ q. record q { owed_ackall = false }) l
 
 plain-given : (s : Setup) (to : Host) (reading : Result Message BadMsg) (y : Connection) (l : Looks)
@@ -51,7 +52,8 @@ plain-given s to (Ok m) y l = of (is_stray m m.body)
         plain-trans y l (counted x l) (given_body (named s to m) m m.body (counted x l)) (plain-counted y x l)
         (plain-body y (named s to m) m m.body (counted x l))
 
-pub plain-polled : (s : Setup) (got : Option (Host × List ℕ)) (y : Connection) (l : Looks) → Plain y l (given_by s got (silenced l))
+pub plain-polled : (s : Setup) (got : Option (Host × List ℕ)) (y : Connection) (l : Looks)
+    → Plain y l (given_by s got (silenced l))
 plain-polled s None y l = fine-refl (conn_at l y)
 plain-polled s (Some (to, bytes)) y l = plain-given s to (reading_of bytes) y (silenced l)
 

@@ -19,7 +19,8 @@ use Rattle.rx_rules.specs.Records.{started_later}
 use Rattle.rx_rules.specs.Setup.{Setup, is_client}
 use Rattle.rx_law.proofs.ShownLaws.{Plain, fine-refl, plain-on_channel, plain-trans}
 
-plain-if : (y : Connection) (test : Bool) (l m n : Looks) → Plain y l m → Plain y l n → Plain y l (if test then m else n)
+plain-if : (y : Connection) (test : Bool) (l m n : Looks) → Plain y l m → Plain y l n
+    → Plain y l (if test then m else n)
 plain-if y true l m n here there = here
 plain-if y false l m n here there = there
 
@@ -60,7 +61,8 @@ plain-stopped y d (bodies.Abort code) l =
     plain-if y (d.number == 0) l (stopped_all (connection_of d) code l) (on_life d (after_code code) l)
     (fine-refl (conn_at l y)) (fine-refl (conn_at l y))
 plain-stopped y d (bodies.Response bytes) l =
-    plain-on_channel y (channel_of d) (owing_abort (Some RX_PROTOCOL_ERROR)) (on_life d (after_code RX_PROTOCOL_ERROR) l)
+    plain-on_channel y (channel_of d) (owing_abort (Some RX_PROTOCOL_ERROR))
+    (on_life d (after_code RX_PROTOCOL_ERROR) l)
 plain-stopped y d (bodies.Chunk payload) l = fine-refl (conn_at l y)
 plain-stopped y d bodies.Busy l = fine-refl (conn_at l y)
 plain-stopped y d (bodies.Ack a) l = fine-refl (conn_at l y)

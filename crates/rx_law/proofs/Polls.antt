@@ -26,9 +26,12 @@ use Rattle.rx_law.proofs.Recalls.{Recalls, recalls-keeps}
 
 -- ---- a poll
 
-given-message : (s : Setup) (l : Looks) (to : Host) (bytes : List ℕ) (reading : Result Message BadMsg) (c : CallName) (u : ℕ)
+given-message : (s : Setup) (l : Looks) (to : Host) (bytes : List ℕ) (reading : Result Message BadMsg) (c : CallName)
+    (u : ℕ)
     → reading_of bytes ≡ reading → 1 ≤ c.number
-    → ((m : Message) → reading ≡ Ok m → named s to m ≡ c → (c.number ≡ number_of (conn_at l (connection_of c)) c.chan) ⊎ (busy_of (conn_at l (connection_of c)) c.chan ≡ Some c.number))
+    → ((m : Message) → reading ≡ Ok m → named s to m ≡ c → (c.number
+    ≡ number_of (conn_at l (connection_of c)) c.chan) ⊎ (busy_of (conn_at l (connection_of c)) c.chan
+    ≡ Some c.number))
     → Recalls l c u → Given s l (given_message s to reading l) (Some (to, bytes)) c u
 given-message s l to bytes (Err bad) c u reads some tells old =
     record {
@@ -38,7 +41,8 @@ given-message s l to bytes (Err bad) c u reads some tells old =
       begins = λ is. is;
       told = λ at given n is read name. absurd (
           let p = some_pair (to, bytes) (at, given) is in
-          let out : ◌≡◌ {A = Result Message BadMsg} (Err bad) (Ok n) = sym reads ∙ ap (λ (q : Host × List ℕ). reading_of q.1) p ∙ read in
+          let out : ◌≡◌ {A = Result Message BadMsg} (Err bad) (Ok n) = sym reads
+          ∙ ap (λ (q : Host × List ℕ). reading_of q.1) p ∙ read in
           cc (out));
     }
 given-message s l to bytes (Ok m) c u reads some tells old = stray (is_stray m m.body) refl
@@ -54,37 +58,44 @@ given-message s l to bytes (Ok m) c u reads some tells old = stray (is_stray m m
     same-ok a b is = cc
 
     stray : (b : Bool) → is_stray m m.body ≡ b
-        → Given s l (if b then record l { strays = drop 1 l.strays } else given_body (named s to m) m m.body (counted (connection_of (named s to m)) l)) (Some (to, bytes)) c u
+        → Given s l (if b then record l { strays = drop 1 l.strays } else given_body (named s to m) m m.body
+        (counted (connection_of (named s to m)) l)) (Some (to, bytes)) c u
     stray true is = (
         let k = keeps-refl c l in
         record {
           used = u;
           later = omega arith;
           recalls =
-              recalls-keeps c l (record l { strays = drop 1 l.strays }) u (record { calls = k.calls; numbers = k.numbers; fours = k.fours })
+              recalls-keeps c l (record l { strays = drop 1 l.strays }) u
+              (record { calls = k.calls; numbers = k.numbers; fours = k.fours })
               (firm-same c l (record l { strays = drop 1 l.strays }) refl refl) old;
           begins = λ there. there;
           told = λ at given n same read name. absurd (
               let p = some_pair (to, bytes) (at, given) same in
               let one : m ≡ n = same-ok m n (sym reads ∙ ap (λ (q : Host × List ℕ). reading_of q.1) p ∙ read) in
               let zero' : m.number ≡ 0 = no-number m m.body is in
-              let number : m.number ≡ c.number = ap (λ (q : Message). q.number) one ∙ ap (λ (q : CallName). q.number) name in
+              let number : m.number ≡ c.number = ap (λ (q : Message). q.number) one
+              ∙ ap (λ (q : CallName). q.number) name in
               omega arith);
         })
     stray false is =
         (elim (same_name c (named s to m)) as (λ b. same_name c (named s to m) ≡ b
-        → Given s l (given_body (named s to m) m m.body (counted (connection_of (named s to m)) l)) (Some (to, bytes)) c u) [
+        → Given s l (given_body (named s to m) m m.body (counted (connection_of (named s to m)) l))
+        (Some (to, bytes)) c u) [
           | true ↦ λ same. (
               let own : c ≡ named s to m = name_is c (named s to m) same in
-              subst (λ (n : CallName). Given s l (given_body n m m.body (counted (connection_of n) l)) (Some (to, bytes)) c u) own
+              subst (λ (n : CallName). Given s l (given_body n m m.body (counted (connection_of n) l))
+              (Some (to, bytes)) c u) own
               (own-given s c l to bytes m u old (tells m refl (sym own)) (sym own)))
           | false ↦ λ other. other-given s c l to bytes m (named s to m) u old reads refl other
         ]) refl
 
 -- behind a poll
-pub given-poll : (s : Setup) (l : Looks) (got : Option (Host × List ℕ)) (c : CallName) (u : ℕ) → IsServer s.kind → Conns s l → 1 ≤ c.number
+pub given-poll : (s : Setup) (l : Looks) (got : Option (Host × List ℕ)) (c : CallName) (u : ℕ) → IsServer s.kind
+    → Conns s l → 1 ≤ c.number
     → got ≡ poll_answer s l → Recalls (silenced l) c u → Given s (silenced l) (given_by s got (silenced l)) got c u
 given-poll s l None c u server conns some answer old = none-given s c (silenced l) u old
 given-poll s l (Some (to, bytes)) c u server conns some answer old =
     given-message s (silenced l) to bytes (reading_of bytes) c u refl some
-    (λ m reads name. poll-tells s (silenced l) l.strays to bytes m c server conns some (λ n is. (old.busy n is).0) (sym answer) reads name) old
+    (λ m reads name. poll-tells s (silenced l) l.strays to bytes m c server conns some (λ n is. (old.busy n is).0)
+    (sym answer) reads name) old

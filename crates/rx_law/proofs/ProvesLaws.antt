@@ -48,7 +48,8 @@ proves-later s key c order h e p =
     }
 
 -- a change that proves none carries it on
-pub shown-fine : (s : Setup) (key : List ℕ) (c : CallName) (h : List Event) (e : Event) (o q : Option ConnLooks) → Fine o q
+pub shown-fine : (s : Setup) (key : List ℕ) (c : CallName) (h : List Event) (e : Event) (o q : Option ConnLooks)
+    → Fine o q
     → Shown s key c h o → Shown s key c (e ∷ h) q
 shown-fine s key c h e o None fine shown = tt
 shown-fine s key c h e None (Some r) fine shown = λ proved. absurd (let was = fine proved in cc (was.1))
@@ -94,7 +95,8 @@ same-answer key c d asked same =
     ap (λ (x : Connection). sha256 (key ++ (big_bytes 4 x.epoch ++ (big_bytes 4 x.cid ++ asked)))) same
 
 -- it was the right one for the record that is there
-pub proves-now : (s : Setup) (key : List ℕ) (c : CallName) (h : List Event) (from : Host) (bytes answer : List ℕ) (m : Message)
+pub proves-now : (s : Setup) (key : List ℕ) (c : CallName) (h : List Event) (from : Host) (bytes answer : List ℕ)
+    (m : Message)
     (q : ConnLooks) → IsServer s.kind → s.class ≡ token key → reading_of bytes ≡ Ok m → m.body ≡ bodies.Response answer
     → tooks.Heard ≡ took_named s (looks s h) (named s from m) m
     → connection_of (named s from m) ≡ connection_of c

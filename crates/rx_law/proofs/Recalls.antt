@@ -1,5 +1,5 @@
--- What a server still knows of a call: while its channel's number isn't below the call's own, or its connection was idle
--- for long since the call's last use.
+-- What a server still knows of a call: while its channel's number isn't below the call's own, or its connection was
+-- idle for long since the call's last use.
 use Rattle.std.proofs.Common.{◌≡◌, ◌⊎◌, ◌<◌, ◌≤◌, ◌+◌, ◌-◌, ◌^◌, ℕ, not, nat_le, is_some}
 use Rattle.std.proofs.Common.{true, List, [], ◌∷◌, filter, Option, Some, None, refl, inl, inr, arith}
 use Rattle.std.proofs.lemmas.Bool.Decides.{nat_tests}
@@ -20,8 +20,10 @@ pub record Recalls (l : Looks) (c : CallName) (u : ℕ) : Type 0 where
   pub before : u ≤ l.now
   pub fours : Fours (conn_at l (connection_of c))
   pub young : Young (connection_of c) u l.conns
-  pub held : is_some (call_at l c) ≡ true → (c.number ≤ number_of (conn_at l (connection_of c)) c.chan) ⊎ (u + IDLE_MS ≤ l.now)
-  pub busy : (n : ℕ) → busy_of (conn_at l (connection_of c)) c.chan ≡ Some n → (n < 2 ^ 32) × (n ≡ c.number → call_at l c ≡ None)
+  pub held : is_some (call_at l c) ≡ true → (c.number ≤ number_of (conn_at l (connection_of c)) c.chan) ⊎
+      (u + IDLE_MS ≤ l.now)
+  pub busy : (n : ℕ) → busy_of (conn_at l (connection_of c)) c.chan ≡ Some n → (n < 2 ^ 32)
+      × (n ≡ c.number → call_at l c ≡ None)
 
 -- no call comes by such a change
 pub lives-some : (a b : Option CallRecord) → Lives a b → is_some b ≡ true → is_some a ≡ true
@@ -51,11 +53,13 @@ recalls-keeps c l m u keeps firm old =
             | inl there ↦ inl (omega arith)
             | inr idle ↦ inr (omega arith)
           ]);
-      busy = λ n is. (let b = old.busy n (firm.busy n is) in (b.0, λ at. lives-none (call_at l c) (call_at m c) keeps.calls (b.1 at)));
+      busy = λ n is. (let b = old.busy n (firm.busy n is) in
+          (b.0, λ at. lives-none (call_at l c) (call_at m c) keeps.calls (b.1 at)));
     }
 
 -- nor does a clock event change it
-pub recalls-clock : (c : CallName) (l : Looks) (now u : ℕ) → l.now ≤ now → Recalls l c u → Recalls (record l { now = now }) c u
+pub recalls-clock : (c : CallName) (l : Looks) (now u : ℕ) → l.now ≤ now → Recalls l c u
+    → Recalls (record l { now = now }) c u
 recalls-clock c l now u later old =
     let low = old.before in
     record {
@@ -63,7 +67,8 @@ recalls-clock c l now u later old =
       fours = old.fours;
       young = old.young;
       held = λ is. (
-          elim (old.held is) as (λ t. (c.number ≤ number_of (conn_at l (connection_of c)) c.chan) ⊎ (u + IDLE_MS ≤ now)) [
+          elim (old.held is) as (λ t. (c.number ≤ number_of (conn_at l (connection_of c)) c.chan) ⊎
+          (u + IDLE_MS ≤ now)) [
             | inl there ↦ inl there
             | inr idle ↦ inr (omega arith)
           ]);
@@ -83,9 +88,13 @@ idle-long now last u low is = grind (arith, nat_tests)
 pub idle-old : (l : Looks) (y : Connection) (u : ℕ) (old : ConnLooks) → Young y u l.conns → idle_conn l ≡ Some old
     → same_connection old.connection y ≡ true → u + IDLE_MS ≤ l.now
 idle-old l y u old young is same =
-    let found = least-keeps (λ r. (same_connection r.connection y ≡ true → u ≤ r.last_use) × (is_idle l r ≡ true)) (λ r. r.last_use)
+    let found = least-keeps (λ r. (same_connection r.connection y ≡ true → u ≤ r.last_use) × (is_idle l r ≡ true))
+    (λ r. r.last_use)
     (filter (is_idle l) l.conns)
-    (every-both (λ r. same_connection r.connection y ≡ true → u ≤ r.last_use) (λ r. is_idle l r ≡ true) (filter (is_idle l) l.conns)
-    (every-filter (λ r. same_connection r.connection y ≡ true → u ≤ r.last_use) (is_idle l) l.conns young) (filter-passes (is_idle l) l.conns))
+    (every-both (λ r. same_connection r.connection y ≡ true → u ≤ r.last_use) (λ r. is_idle l r ≡ true)
+    (filter (is_idle l) l.conns)
+    (every-filter (λ r. same_connection r.connection y ≡ true → u ≤ r.last_use) (is_idle l) l.conns young)
+    (filter-passes (is_idle l) l.conns))
     old is in
-    idle-long l.now old.last_use u (found.0 same) (both (not (has_live l old.connection)) (nat_le IDLE_MS (l.now - old.last_use)) found.1).1
+    idle-long l.now old.last_use u (found.0 same) (both (not (has_live l old.connection))
+    (nat_le IDLE_MS (l.now - old.last_use)) found.1).1

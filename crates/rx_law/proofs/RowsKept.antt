@@ -20,8 +20,8 @@ use Rattle.rx_model.proofs.NameLaws.{both, neither}
 use Rattle.rx_law.proofs.HeldLaws.{Slotted}
 use Rattle.rx_law.proofs.RowsInFront.{may_start, past}
 
--- the packet has a seq, within the window, and a slot, lies below no last packet, and comes to a client whose own stream
--- is shut
+-- the packet has a seq, within the window, and a slot, lies below no last packet, and comes to a client whose own
+-- stream is shut
 pub record Keepable (v : NodeView) (p : Packet) (k : CallLooks) : Type 0 where
   pub numbered : is_no_seq p.seq ≡ false
   pub within : nat_lt (used_of k.received + v.window) p.seq ≡ false

@@ -34,7 +34,8 @@ use Rattle.rx_law.proofs.Turns.{CountedOf, Turn}
 
 -- ---- every call
 
-server-conns : (s : Setup) (l : Looks) (e : Event) → FitsSetup s → AllowedServer s l e → Conns s l → Conns s (after s e l)
+server-conns : (s : Setup) (l : Looks) (e : Event) → FitsSetup s → AllowedServer s l e → Conns s l
+    → Conns s (after s e l)
 server-conns s l (events.Accepted (Some d)) fits allowed conns = conns
 server-conns s l (events.Accepted None) fits allowed conns = conns
 server-conns s l (events.Wrote d offered got bytes) fits allowed conns = conns
@@ -51,20 +52,23 @@ server-conns s l (events.Shut d got) fits allowed conns = absurd allowed
 server-conns s l (events.Ended d got) fits allowed conns = absurd allowed
 server-conns s l (events.Cancelled d code got) fits allowed conns = absurd allowed
 
-server-standing : (s : Setup) (l : Looks) (e : Event) → IsServer s.kind → FitsSetup s → AllowedServer s l e → Standing s l
+server-standing : (s : Setup) (l : Looks) (e : Event) → IsServer s.kind → FitsSetup s → AllowedServer s l e
+    → Standing s l
     → Standing s (after s e l)
 server-standing s l e server fits allowed standing =
     record {
       conns = server-conns s l e fits allowed standing.conns;
       calls = λ c.
           good-turn ⊥ (Uncounted e c) (λ end. Unit {0}) (Arrives s l e c) s l (after s e l) c
-          (server-turn ⊥ c s l e server fits allowed standing (λ y. absurd y) (λ y k is runs. absurd y)) (standing.calls c);
+          (server-turn ⊥ c s l e server fits allowed standing (λ y. absurd y) (λ y k is runs. absurd y))
+          (standing.calls c);
     }
 
 pub server-stands : (s : Setup) (h : List Event) → IsServer s.kind → FitsSetup s → Legal s h → Standing s (looks s h)
 server-stands s [] server fits legal = none-yet s
 server-stands s (e ∷ h) server fits legal =
-    server-standing s (looks s h) e server fits (served s.kind s (looks s h) e server legal.0) (server-stands s h server fits legal.1)
+    server-standing s (looks s h) e server fits (served s.kind s (looks s h) e server legal.0)
+    (server-stands s h server fits legal.1)
 
 -- ---- a call whose connection's record was not forgotten
 
@@ -83,7 +87,8 @@ accepted-counted k n m p waits counted =
     let zero = w.0 in
     let is : after_accept k.life ≡ lives.Accepted = of k.life waits in
     record {
-      waiting = λ y. absurd (let not_now : is_waiting (after_accept k.life) ≡ false = ap is_waiting is in cc (y, not_now));
+      waiting = λ y. absurd (let not_now : is_waiting (after_accept k.life)
+          ≡ false = ap is_waiting is in cc (y, not_now));
       running = λ y. (omega arith, w.1, w.2, w.3);
       once = omega arith;
       shut = λ y. absurd (let open_still = w.2 in cc (y, open_still));
@@ -99,7 +104,8 @@ accepted-counted k n m p waits counted =
     of (lives.Over code) waits = absurd cc
 
 -- the rules of a finish that answers ok
-pub running-at : (life : Life) (ended : Bool) (done : Unit {0}) → ◌≡◌ {A = Result (Unit {0}) ServeRefused} (Ok done) (served_by life ended tt)
+pub running-at : (life : Life) (ended : Bool) (done : Unit {0})
+    → ◌≡◌ {A = Result (Unit {0}) ServeRefused} (Ok done) (served_by life ended tt)
     → (life ≡ lives.Accepted) × (ended ≡ true)
 running-at lives.Accepted true done is = (refl, refl)
 running-at lives.Accepted false done is = absurd cc
@@ -118,16 +124,23 @@ or_not false false is holds = absurd cc
 -- the record behind a finish
 abbrev finished_as : ℤ → CallRecord → CallRecord
 finished_as code k =
-    record k { life = after_finish (is_zero code) code k.life; looks = (if is_zero code then after_shut k.looks else k.looks) }
+    record k {
+      life = after_finish (is_zero code) code k.life;
+      looks =
+          (if is_zero code then after_shut k.looks else k.looks);
+    }
 
-finished-counted : (code : ℤ) (k : CallRecord) (n m p : ℕ) → k.life ≡ lives.Accepted → (k.looks.received.ended || not (is_zero code)) ≡ true
+finished-counted : (code : ℤ) (k : CallRecord) (n m p : ℕ) → k.life ≡ lives.Accepted
+    → (k.looks.received.ended || not (is_zero code)) ≡ true
     → CountedOf (Some k) n m p → CountedOf (Some (finished_as code k)) n (suc m) (if is_zero code then suc p else p)
 finished-counted code k n m p life may counted =
     let w = counted.running (ap is_running life) in
     let one = w.0 in
     let none = w.1 in
     let zero = w.3 in
-    (elim (is_zero code) as (λ b. is_zero code ≡ b → CountedOf (Some (record k { life = after_finish b code k.life; looks = (if b then after_shut k.looks else k.looks) })) n (suc m)
+    (elim (is_zero code) as (λ b. is_zero code ≡ b → CountedOf
+    (Some (record k { life = after_finish b code k.life; looks = (if b then after_shut k.looks else k.looks) })) n
+    (suc m)
     (if b then suc p else p)) [
       | true ↦ λ well. (
           let is : after_finish true code k.life ≡ lives.Finished = ap (after_finish true code) life in
@@ -162,7 +175,8 @@ finish-at s l c code k there =
     call-changed c c (with-life code) (finished c code l) (λ j. refl)
     ∙ rw (name_itself c) (ap (option_map (with-life code)) (first (is_zero code)))
   where
-    first : (b : Bool) → call_at (if b then on_looks c after_shut l else on_channel (channel_of c) (owing_abort (Some code)) l) c
+    first : (b : Bool) → call_at (if b then on_looks c after_shut l else on_channel (channel_of c)
+        (owing_abort (Some code)) l) c
         ≡ Some (record k { looks = (if b then after_shut k.looks else k.looks) })
     first true =
         call-changed c c with-shut l (λ j. refl) ∙ rw (name_itself c) (ap (option_map with-shut) there)
@@ -176,39 +190,49 @@ counted-after : (s : Setup) (l : Looks) (e : Event) (c : CallName) (n m p : ℕ)
     → CountedOf (call_at (after s e l) c) (if accepts e c then suc n else n) (if finishes e c then suc m else m)
     (if finishes_well e c then suc p else p)
 counted-after s l (events.Accepted (Some d)) c n m p allowed plain counted =
-    (elim (same_name c d) as (λ b. same_name c d ≡ b → CountedOf (call_at (on_life d after_accept l) c) (if b then suc n else n) m p) [
+    (elim (same_name c d) as (λ b. same_name c d ≡ b → CountedOf (call_at (on_life d after_accept l) c)
+    (if b then suc n else n) m p) [
       | true ↦ λ same. (
           let is : c ≡ d = name_is c d same in
           let found = is_call-some (call_at l d) (both _ _ (find_passes (can_enter s l) l.firsts d (sym allowed))).0 in
-          let mine : call_at l c ≡ Some found.0 = subst (λ (x : CallName). call_at l x ≡ Some found.0) (sym is) found.1 in
-          let behind : call_at (on_life d after_accept l) c ≡ Some (record found.0 { life = after_accept found.0.life }) =
+          let mine : call_at l c ≡ Some found.0 = subst (λ (x : CallName). call_at l x ≡ Some found.0)
+          (sym is) found.1 in
+          let behind : call_at (on_life d after_accept l) c ≡ Some
+          (record found.0 { life = after_accept found.0.life }) =
           call-changed c d with-accept l (λ j. refl) ∙ rw same (ap (option_map with-accept) mine) in
           subst (λ (o : Option CallRecord). CountedOf o (suc n) m p) (sym behind)
           (accepted-counted found.0 n m p found.2 (subst (λ (o : Option CallRecord). CountedOf o n m p) mine counted)))
       | false ↦ λ other. plain (other, refl) counted
     ]) refl
 counted-after s l (events.Finished d code (Ok done)) c n m p allowed plain counted =
-    (elim (same_name c d) as (λ b. same_name c d ≡ b → CountedOf (call_at (after s (events.Finished d code (Ok tt)) l) c) n (if b && true then suc m else m)
+    (elim (same_name c d) as (λ b. same_name c d ≡ b → CountedOf
+    (call_at (after s (events.Finished d code (Ok tt)) l) c) n (if b && true then suc m else m)
     (if (b && true) && is_zero code then suc p else p)) [
       | true ↦ λ same. (
           let is : c ≡ d = name_is c d same in
           let found = running-of (call_at l d) code done allowed.1 in
-          let mine : call_at l c ≡ Some found.0 = subst (λ (x : CallName). call_at l x ≡ Some found.0) (sym is) found.1 in
+          let mine : call_at l c ≡ Some found.0 = subst (λ (x : CallName). call_at l x ≡ Some found.0)
+          (sym is) found.1 in
           let behind : call_at (after s (events.Finished d code (Ok tt)) l) c ≡ Some (finished_as code found.0) =
-          subst (λ (x : CallName). call_at (after s (events.Finished x code (Ok tt)) l) c ≡ Some (finished_as code found.0)) is
+          subst (λ (x : CallName). call_at (after s (events.Finished x code (Ok tt)) l) c
+          ≡ Some (finished_as code found.0)) is
           (finish-at s l c code found.0 mine) in
           subst (λ (o : Option CallRecord). CountedOf o n (suc m) (if is_zero code then suc p else p)) (sym behind)
-          (finished-counted code found.0 n m p found.2 found.3 (subst (λ (o : Option CallRecord). CountedOf o n m p) mine counted)))
+          (finished-counted code found.0 n m p found.2 found.3
+          (subst (λ (o : Option CallRecord). CountedOf o n m p) mine counted)))
       | false ↦ λ other. plain (refl, rw other refl) counted
     ]) refl
   where
-    running-of : (o : Option CallRecord) (code : ℤ) (done : Unit {0}) → ◌≡◌ {A = Result (Unit {0}) ServeRefused} (Ok done) (served_finish o code)
-        → (k : CallRecord) × (o ≡ Some k) × (k.life ≡ lives.Accepted) × ((k.looks.received.ended || not (is_zero code)) ≡ true)
+    running-of : (o : Option CallRecord) (code : ℤ) (done : Unit {0})
+        → ◌≡◌ {A = Result (Unit {0}) ServeRefused} (Ok done) (served_finish o code)
+        → (k : CallRecord) × (o ≡ Some k) × (k.life ≡ lives.Accepted)
+        × ((k.looks.received.ended || not (is_zero code)) ≡ true)
     running-of None code done is = absurd cc
     running-of (Some k) code done is =
         (let r = running-at k.life (k.looks.received.ended || not (is_zero code)) done is in (k, refl, r.0, r.1))
 counted-after s l (events.Finished d code (Err bad)) c n m p allowed plain counted =
-    (elim (same_name c d) as (λ b. same_name c d ≡ b → CountedOf (call_at (after s (events.Finished d code (Err bad)) l) c) n (if b && false then suc m else m)
+    (elim (same_name c d) as (λ b. same_name c d ≡ b → CountedOf
+    (call_at (after s (events.Finished d code (Err bad)) l) c) n (if b && false then suc m else m)
     (if (b && false) && is_zero code then suc p else p)) [
       | true ↦ λ same. plain (refl, rw same refl) counted
       | false ↦ λ other. plain (refl, rw other refl) counted
@@ -225,22 +249,29 @@ counted-after s l (events.Shut d got) c n m p allowed plain counted = absurd all
 counted-after s l (events.Ended d got) c n m p allowed plain counted = absurd allowed
 counted-after s l (events.Cancelled d code got) c n m p allowed plain counted = absurd allowed
 
-counted-unshut : (c : CallName) (l : Looks) (n m p : ℕ) (k : CallRecord) → CountedOf (call_at l c) n m p → call_at l c ≡ Some k
+counted-unshut : (c : CallName) (l : Looks) (n m p : ℕ) (k : CallRecord) → CountedOf (call_at l c) n m p → call_at l c
+    ≡ Some k
     → is_running k.life ≡ true → k.looks.sent.shut ≡ false
 counted-unshut c l n m p k counted there runs =
-    (let own : CountedOf (Some k) n m p = subst (λ (o : Option CallRecord). CountedOf o n m p) there counted in (own.running runs).2)
+    (let own : CountedOf (Some k) n m p = subst (λ (o : Option CallRecord). CountedOf o n m p) there counted in
+    (own.running runs).2)
 
 -- the newest event of a server
-pub served-turn : (s : Setup) (e : Event) (h : List Event) (c : CallName) → IsServer s.kind → FitsSetup s → Legal s (e ∷ h)
+pub served-turn : (s : Setup) (e : Event) (h : List Event) (c : CallName) → IsServer s.kind → FitsSetup s
+    → Legal s (e ∷ h)
     → StartsOnce s (e ∷ h) c → Served s h c
-    → Turn (Unit {0}) (Uncounted e c) (GoodName s c) (λ end. Unit {0}) (Arrives s (looks s h) e c) (call_at (looks s h) c) (call_at (looks s (e ∷ h)) c)
+    → Turn (Unit {0}) (Uncounted e c) (GoodName s c) (λ end. Unit {0}) (Arrives s (looks s h) e c)
+    (call_at (looks s h) c) (call_at (looks s (e ∷ h)) c)
 served-turn s e h c server fits legal once old =
-    server-turn (Unit {0}) c s (looks s h) e server fits (served s.kind s (looks s h) e server legal.0) (server-stands s h server fits legal.1)
+    server-turn (Unit {0}) c s (looks s h) e server fits (served s.kind s (looks s h) e server legal.0)
+    (server-stands s h server fits legal.1)
     (λ y. once.0)
-    (λ y k is runs. counted-unshut c (looks s h) (times_accepted h c) (times_finished h c) (times finishes_well h c) k old.counted is runs)
+    (λ y k is runs. counted-unshut c (looks s h) (times_accepted h c) (times_finished h c)
+    (times finishes_well h c) k old.counted is runs)
 
 -- what stands of a call that never starts while it has a record
-pub server-serves : (s : Setup) (h : List Event) (c : CallName) → IsServer s.kind → FitsSetup s → Legal s h → StartsOnce s h c → Served s h c
+pub server-serves : (s : Setup) (h : List Event) (c : CallName) → IsServer s.kind → FitsSetup s → Legal s h
+    → StartsOnce s h c → Served s h c
 server-serves s [] c server fits legal once = record { counted = (refl, refl, refl) }
 server-serves s (e ∷ h) c server fits legal once =
     let allowed = served s.kind s (looks s h) e server legal.0 in
@@ -249,7 +280,8 @@ server-serves s (e ∷ h) c server fits legal once =
     record {
       counted =
           counted-after s (looks s h) e c (times_accepted h c) (times_finished h c) (times finishes_well h c) allowed
-          (λ un counted. turn.counts tt un (times_accepted h c) (times_finished h c) (times finishes_well h c) counted) old.counted;
+          (λ un counted. turn.counts tt un (times_accepted h c) (times_finished h c)
+          (times finishes_well h c) counted) old.counted;
     }
 
 -- ---- where no record of its connection was forgotten
@@ -259,14 +291,19 @@ spared-before : (s : Setup) (e : Event) (h : List Event) (x : Connection) → Is
 spared-before s e h x server legal spared =
     spared-server x s (looks s h) e (served s.kind s (looks s h) e server legal.0) spared
 
-server-sound : (s : Setup) (h : List Event) (c : CallName) → IsServer s.kind → Legal s h → Spared (connection_of c) (looks s h) → Sound (looks s h) c 0
+server-sound : (s : Setup) (h : List Event) (c : CallName) → IsServer s.kind → Legal s h
+    → Spared (connection_of c) (looks s h) → Sound (looks s h) c 0
 server-sound s [] c server legal spared = record { counted = refl; below = tt; fours = tt }
 server-sound s (e ∷ h) c server legal spared =
     sound-server s (looks s h) e c (served s.kind s (looks s h) e server legal.0) spared
     (server-sound s h c server legal.1 (spared-before s e h (connection_of c) server legal spared))
 
-pub spared-once : (s : Setup) (h : List Event) (c : CallName) → IsServer s.kind → Legal s h → Spared (connection_of c) (looks s h) → StartsOnce s h c
+pub spared-once : (s : Setup) (h : List Event) (c : CallName) → IsServer s.kind → Legal s h
+    → Spared (connection_of c) (looks s h) → StartsOnce s h c
 spared-once s [] c server legal spared = tt
 spared-once s (e ∷ h) c server legal spared =
-    let before = spared-before s e h (connection_of c) server legal spared in
-    (spared-starts (Unit {0}) c s (looks s h) e (server-sound s h c server legal.1 before) spared, spared-once s h c server legal.1 before)
+    let before = spared-before s e h (connection_of c) server legal spared in (
+      spared-starts (Unit {0}) c s (looks s h) e
+          (server-sound s h c server legal.1 before) spared,
+      spared-once s h c server legal.1 before,
+    )

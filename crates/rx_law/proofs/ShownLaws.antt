@@ -18,7 +18,8 @@ pub fine-refl : (o : Option ConnLooks) → Fine o o
 fine-refl None = tt
 fine-refl (Some r) = λ proved. (r, refl, proved, refl)
 
-fine-trans-some : (a : Option ConnLooks) (b : Option ConnLooks) (q : ConnLooks) → Fine a b → Fine b (Some q) → Fine a (Some q)
+fine-trans-some : (a : Option ConnLooks) (b : Option ConnLooks) (q : ConnLooks) → Fine a b → Fine b (Some q)
+    → Fine a (Some q)
 fine-trans-some a None q first second = λ proved. absurd (let found = second proved in cc (found.1))
 fine-trans-some a (Some r) q first second =
     λ proved. (
@@ -112,7 +113,8 @@ find-given_way y new old q (r ∷ rs) fresh is proved =
       | true ↦ λ gone is.
           behind_new (λ is. find-given_way y new old q rs fresh is proved) gone (same_connection new.connection y) is
       | false ↦ λ stays is.
-          behind_same (λ is. find-given_way y new old q rs fresh is proved) stays (same_connection r.connection y) refl is
+          behind_same (λ is. find-given_way y new old q rs fresh is proved) stays
+          (same_connection r.connection y) refl is
     ]) refl is
   where
     Rest : Type 0
@@ -149,7 +151,8 @@ find-given_way y new old q (r ∷ rs) fresh is proved =
           named = there.named;
         })
 
-    behind_same : Rest → same_connection r.connection old.connection ≡ false → (b : Bool) → same_connection r.connection y ≡ b
+    behind_same : Rest → same_connection r.connection old.connection ≡ false → (b : Bool)
+        → same_connection r.connection y ≡ b
         → cond b (Some r) (find (λ p. same_connection p.connection y) (map (given_way new old) rs)) ≡ Some q
         → WasThere y old q (r ∷ rs)
     behind_same rest stays true same is =

@@ -43,7 +43,8 @@ shown-map s key c h x (Some r) own shown =
       | false ↦ λ other proved. shown proved
     ]) refl
 
-shown-proof : (s : Setup) (key : List ℕ) (c : CallName) (h : List Event) (from : Host) (bytes answer : List ℕ) (m : Message)
+shown-proof : (s : Setup) (key : List ℕ) (c : CallName) (h : List Event) (from : Host) (bytes answer : List ℕ)
+    (m : Message)
     → IsServer s.kind → s.class ≡ token key → reading_of bytes ≡ Ok m → m.body ≡ bodies.Response answer
     → tooks.Heard ≡ took_named s (looks s h) (named s from m) m
     → Shown s key c h (conn_at (looks s h) (connection_of c))
@@ -96,7 +97,8 @@ shown-with s key c h from bytes m got body server class reads is answer shown =
     (plain-with s got y d m ready (λ p. subst (λ (b : Body). IsProof got b) is p))) shown
 
 -- a row in front changes no connection
-plain-turned : (row : Took) (from : Host) (m : Message) (y : Connection) (l : Looks) → Plain y l (turned_away row from m l)
+plain-turned : (row : Took) (from : Host) (m : Message) (y : Connection) (l : Looks)
+    → Plain y l (turned_away row from m l)
 plain-turned tooks.Unserved from m y l = of m.body
   where
     of : (body : Body) → Plain y l (taken_unserved from m body l)
@@ -123,7 +125,8 @@ shown-behind s key c h from bytes m got (Some row) server class reads answer sho
 shown-behind s key c h from bytes m got None server class reads answer shown =
     shown-with s key c h from bytes m got m.body server class reads refl answer shown
 
-pub shown-message : (s : Setup) (key : List ℕ) (c : CallName) (h : List Event) (from : Host) (bytes : List ℕ) (got : Took)
+pub shown-message : (s : Setup) (key : List ℕ) (c : CallName) (h : List Event) (from : Host) (bytes : List ℕ)
+    (got : Took)
     (reading : Result Message BadMsg) → IsServer s.kind → s.class ≡ token key → reading_of bytes ≡ reading
     → got ≡ took_reading s (looks s h) from reading → Shown s key c h (conn_at (looks s h) (connection_of c))
     → Shown s key c (events.Taken from bytes got ∷ h)

@@ -30,7 +30,8 @@ counted-lives None (Some b) n lives counted = absurd lives
 counted-lives (Some a) None n lives counted = absurd lives
 counted-lives (Some a) (Some b) n lives counted = ((λ waits. counted.0 (lives waits)), counted.1)
 
-below-lives : (a b : Option CallRecord) (number low high : ℕ) → Lives a b → low ≤ high → Below a number low → Below b number high
+below-lives : (a b : Option CallRecord) (number low high : ℕ) → Lives a b → low ≤ high → Below a number low
+    → Below b number high
 below-lives None None number low high lives rises below = tt
 below-lives None (Some b) number low high lives rises below = absurd lives
 below-lives (Some a) None number low high lives rises below = tt

@@ -49,11 +49,13 @@ nothing-timed x c =
       told = λ bytes m at gave. absurd gave;
     }
 
-clients : (s : Setup) (host : Host) (epoch : ℕ) (l : Looks) (e : Event) → s.kind ≡ Client host epoch → AllowedAt s.kind s l e → AllowedClient s host epoch l e
+clients : (s : Setup) (host : Host) (epoch : ℕ) (l : Looks) (e : Event) → s.kind ≡ Client host epoch
+    → AllowedAt s.kind s l e → AllowedClient s host epoch l e
 clients s host epoch l e kind allowed = subst (λ (k : Kind). AllowedAt k s l e) kind allowed
 
 -- an event of neither end
-neither-timed : (x : TwoEnds) (c : CallName) (e : Noted) (h : List Noted) → (e.node == x.client) ≡ false → (e.node == x.server) ≡ false
+neither-timed : (x : TwoEnds) (c : CallName) (e : Noted) (h : List Noted) → (e.node == x.client) ≡ false
+    → (e.node == x.server) ≡ false
     → TimedAt x c h → Timed x c (e ∷ h) (at_client x h) (at_server x h) (moment x.server h)
 neither-timed x c e h out away k =
     record {
@@ -80,20 +82,25 @@ neither-timed x c e h out away k =
     not-here : (a b : ℕ) → a ≡ b → (a == b) ≡ false → ⊥
     not-here a b is out = (let same : (a == b) ≡ true = rw is (number_itself b) in absurd (cc (same, out)))
 
-step : (x : TwoEnds) (c : CallName) (e : Noted) (h : List Noted) → FedLately x (e ∷ h) → connection_of c ≡ x.connection → 1 ≤ c.number
+step : (x : TwoEnds) (c : CallName) (e : Noted) (h : List Noted) → FedLately x (e ∷ h) → connection_of c ≡ x.connection
+    → 1 ≤ c.number
     → TimedAt x c h → (at_c at_s : Bool) → (e.node == x.client) ≡ at_c → (e.node == x.server) ≡ at_s
     → Legal x.client_setup (cond at_c (e.event ∷ side x.client h) (side x.client h))
     → Legal x.server_setup (cond at_s (e.event ∷ side x.server h) (side x.server h))
     → Timed x c (e ∷ h) (looks x.client_setup (cond at_c (e.event ∷ side x.client h) (side x.client h)))
-    (looks x.server_setup (cond at_s (e.event ∷ side x.server h) (side x.server h))) (cond at_s (with_clock e.event (moment x.server h)) (moment x.server h))
+    (looks x.server_setup (cond at_s (e.event ∷ side x.server h) (side x.server h)))
+    (cond at_s (with_clock e.event (moment x.server h)) (moment x.server h))
 step x c e h f on some k true true here there lc ls = absurd (not-both x.client x.server e.node f.apart here there)
 step x c e h f on some k false false here there lc ls = neither-timed x c e h here there k
 step x c e h f on some k true false here there lc ls =
     let at = same_number e.node x.client here in
-    let old = client-calls x.client_setup x.connection.host x.connection.epoch (side x.client h) f.client_kind f.client_fits lc.1 in
-    client-timed x c on f.client_kind f.server_kind f.apart e h (at_client x h) (at_server x h) (moment x.server h) f.client_fits at
+    let old = client-calls x.client_setup x.connection.host x.connection.epoch
+    (side x.client h) f.client_kind f.client_fits lc.1 in
+    client-timed x c on f.client_kind f.server_kind f.apart e h (at_client x h) (at_server x h)
+    (moment x.server h) f.client_fits at
     (now-side x.client_setup x.client h) refl
-    (clients x.client_setup x.connection.host x.connection.epoch (at_client x h) e.event f.client_kind lc.0) old.standing (old.sound c)
+    (clients x.client_setup x.connection.host x.connection.epoch
+    (at_client x h) e.event f.client_kind lc.0) old.standing (old.sound c)
     (f.late.1 at) f.alike.0 k
 step x c e h f on some k false true here there lc ls =
     let at = same_number e.node x.server there in
@@ -103,18 +110,22 @@ step x c e h f on some k false true here there lc ls =
     (server-stands x.server_setup (side x.server h) f.server_kind f.server_fits ls.1).conns some (f.late.0 at) k
 
 -- a call with a number, whose times hold
-pub timed : (x : TwoEnds) (h : List Noted) (c : CallName) → FedLately x h → connection_of c ≡ x.connection → 1 ≤ c.number → TimedAt x c h
+pub timed : (x : TwoEnds) (h : List Noted) (c : CallName) → FedLately x h → connection_of c ≡ x.connection
+    → 1 ≤ c.number → TimedAt x c h
 timed x [] c f on some = nothing-timed x c
 timed x (e ∷ h) c f on some =
-    step x c e h f on some (timed x h c (lately-before x e h f) on some) (e.node == x.client) (e.node == x.server) refl refl f.client_legal f.server_legal
+    step x c e h f on some (timed x h c (lately-before x e h f) on some) (e.node == x.client)
+    (e.node == x.server) refl refl f.client_legal f.server_legal
 
 -- a call without a number never starts
 none-starts : (s : Setup) (l : Looks) (e : Event) (c : CallName) → c.number ≡ 0 → StartsNew s l e c
-none-starts s l (events.Taken from bytes tooks.Kept) c none = λ m reads front name above. absurd (never _ c.number none above)
+none-starts s l (events.Taken from bytes tooks.Kept) c none = λ m reads front name above. absurd
+    (never _ c.number none above)
   where
     never : (a b : ℕ) → b ≡ 0 → nat_lt a b ≡ true → ⊥
     never a b is above = absurd (let low : suc a ≤ b = grind (arith, nat_tests) in omega arith)
-none-starts s l (events.Taken from bytes tooks.NoSlot) c none = λ m reads front name above. absurd (never _ c.number none above)
+none-starts s l (events.Taken from bytes tooks.NoSlot) c none = λ m reads front name above. absurd
+    (never _ c.number none above)
   where
     never : (a b : ℕ) → b ≡ 0 → nat_lt a b ≡ true → ⊥
     never a b is above = absurd (let low : suc a ≤ b = grind (arith, nat_tests) in omega arith)
@@ -128,9 +139,11 @@ some-or-none (suc n) = inl (omega arith)
 pub starts-once : (x : TwoEnds) (h : List Noted) (c : CallName) → FedLately x h → connection_of c ≡ x.connection
     → StartsOnce x.server_setup (side x.server h) c
 starts-once x [] c f on = tt
-starts-once x (e ∷ h) c f on = of (e.node == x.server) refl f.server_legal (starts-once x h c (lately-before x e h f) on)
+starts-once x (e ∷ h) c f on = of (e.node == x.server) refl f.server_legal
+    (starts-once x h c (lately-before x e h f) on)
   where
-    starts : (e.node == x.server) ≡ true → Legal x.server_setup (e.event ∷ side x.server h) → StartsNew x.server_setup (at_server x h) e.event c
+    starts : (e.node == x.server) ≡ true → Legal x.server_setup (e.event ∷ side x.server h)
+        → StartsNew x.server_setup (at_server x h) e.event c
     starts here legal =
         (elim (some-or-none c.number) as (λ t. StartsNew x.server_setup (at_server x h) e.event c) [
           | inr none ↦ none-starts x.server_setup (at_server x h) e.event c none
@@ -140,12 +153,16 @@ starts-once x (e ∷ h) c f on = of (e.node == x.server) refl f.server_legal (st
               let at = same_number e.node x.server here in
               let allowed = served x.server_setup.kind x.server_setup (at_server x h) e.event f.server_kind legal.0 in
               starts-new x.server_setup (at_server x h) e.event c k.used f.server_kind allowed
-              (asks-new x c on f.client_kind f.server_kind f.apart e h (at_client x h) (at_server x h) (moment x.server h) at
+              (asks-new x c on f.client_kind f.server_kind f.apart e h (at_client x h) (at_server x h)
+              (moment x.server h) at
               (now-side x.server_setup x.server h) refl allowed
-              (server-stands x.server_setup (side x.server h) f.server_kind f.server_fits legal.1).conns some (f.late.0 at) k) k.recalls)
+              (server-stands x.server_setup (side x.server h) f.server_kind f.server_fits legal.1).conns some
+              (f.late.0 at) k) k.recalls)
         ])
 
-    of : (b : Bool) → (e.node == x.server) ≡ b → Legal x.server_setup (cond b (e.event ∷ side x.server h) (side x.server h))
-        → StartsOnce x.server_setup (side x.server h) c → StartsOnce x.server_setup (cond b (e.event ∷ side x.server h) (side x.server h)) c
+    of : (b : Bool) → (e.node == x.server) ≡ b → Legal x.server_setup
+        (cond b (e.event ∷ side x.server h) (side x.server h))
+        → StartsOnce x.server_setup (side x.server h) c → StartsOnce x.server_setup
+        (cond b (e.event ∷ side x.server h) (side x.server h)) c
     of true here legal before = (starts here legal, before)
     of false here legal before = before

@@ -43,7 +43,8 @@ keeps-challenged s c d l =
     (on_channel (channel_of d) (λ q. record q { owed_challenge = true }) l)
     (keeps-on_channel c (channel_of d) (λ q. record q { owed_challenge = true }) l (λ q. refl))
 
-pub keeps-data : (s : Setup) (got : Took) (c d : CallName) (m : Message) (l : Looks) → Keeps c l (taken_data s got d m l)
+pub keeps-data : (s : Setup) (got : Took) (c d : CallName) (m : Message) (l : Looks)
+    → Keeps c l (taken_data s got d m l)
 keeps-data s got c d m l =
     let heard = keeps-on_looks c d (after_taken (node_view s l) got m) l in
     keeps-trans c l _ _ (record { calls = heard.calls; numbers = heard.numbers; fours = heard.fours })
@@ -83,7 +84,8 @@ keeps-stopped_all c x code l =
     (λ k. coded-name (same_connection (connection_of k.name) x) code k)
     (λ k. coded-waits (same_connection (connection_of k.name) x) code k)
 
-keeps-owing_abort : (c d : CallName) (code : Option ℤ) (l : Looks) → Keeps c l (on_channel (channel_of d) (owing_abort code) l)
+keeps-owing_abort : (c d : CallName) (code : Option ℤ) (l : Looks)
+    → Keeps c l (on_channel (channel_of d) (owing_abort code) l)
 keeps-owing_abort c d None l = keeps-on_channel c (channel_of d) (owing_abort None) l (λ q. refl)
 keeps-owing_abort c d (Some code) l = keeps-on_channel c (channel_of d) (owing_abort (Some code)) l (λ q. refl)
 
@@ -141,7 +143,8 @@ no-record : (o : Option CallRecord) (number top : ℕ) → top < number → Belo
 no-record None number top above below = refl
 no-record (Some k) number top above below = absurd (omega arith)
 
-sound-new : (s : Setup) (c : CallName) (l : Looks) (r : ConnLooks) (n : ℕ) → conn_at l (connection_of c) ≡ Some r → c.chan < 4
+sound-new : (s : Setup) (c : CallName) (l : Looks) (r : ConnLooks) (n : ℕ) → conn_at l (connection_of c) ≡ Some r
+    → c.chan < 4
     → number_of (conn_at l (connection_of c)) c.chan < c.number → Sound l c n → Sound (started s lives.Waiting c l) c n
 sound-new s c l r n there chan above sound =
     let new : CallRecord = record { name = c; life = lives.Waiting; looks = fresh_call s.limits.window l.now } in
@@ -152,7 +155,8 @@ sound-new s c l r n there chan above sound =
     record {
       counted = subst (λ (o : Option CallRecord). Counted o n) (sym is) ((λ waits. zero), (omega arith));
       below =
-          subst (λ (o : Option CallRecord). Below o c.number (number_of (conn_at (started s lives.Waiting c l) (connection_of c)) c.chan))
+          subst (λ (o : Option CallRecord). Below o c.number
+          (number_of (conn_at (started s lives.Waiting c l) (connection_of c)) c.chan))
           (sym is) (omega arith);
       fours = fours-start s lives.Waiting c l (connection_of c) sound.fours;
     }

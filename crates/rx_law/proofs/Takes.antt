@@ -55,7 +55,8 @@ TakenWhy Cause Comes c d m _ = Unit {0}
 
 -- a call that starts has no record
 abbrev pub Opens : Type 0 → CallName → Looks → CallName → Type 0
-Opens Safe c l d = same_name c d ≡ true → Safe → nat_lt (channel_at l (channel_of d)).number d.number ≡ true → call_at l d ≡ None
+Opens Safe c l d = same_name c d ≡ true → Safe → nat_lt (channel_at l (channel_of d)).number d.number ≡ true
+    → call_at l d ≡ None
 
 -- the same where the answer may start it
 abbrev pub OpensBy : Type 0 → CallName → Looks → CallName → Took → Type 0
@@ -63,7 +64,8 @@ OpensBy Safe c l d tooks.Kept = Opens Safe c l d
 OpensBy Safe c l d tooks.NoSlot = Opens Safe c l d
 OpensBy Safe c l d _ = Unit {0}
 
-pub opens-by : (Safe : Type 0) (c : CallName) (l : Looks) (d : CallName) (got : Took) → Opens Safe c l d → OpensBy Safe c l d got
+pub opens-by : (Safe : Type 0) (c : CallName) (l : Looks) (d : CallName) (got : Took) → Opens Safe c l d
+    → OpensBy Safe c l d got
 opens-by Safe c l d tooks.Kept opens = opens
 opens-by Safe c l d tooks.NoSlot opens = opens
 opens-by Safe c l d _ opens = tt
@@ -80,7 +82,8 @@ chunk-ends v m (bodies.Chunk payload) k =
 chunk-ends v m _ k = (refl, refl, refl, refl)
 
 -- the new record is found, whether there was one or none
-pub call_at-any : (c : CallName) (new : CallRecord) (l : Looks) → new.name ≡ c → (o : Option CallRecord) → call_at l c ≡ o
+pub call_at-any : (c : CallName) (new : CallRecord) (l : Looks) → new.name ≡ c → (o : Option CallRecord) → call_at l c
+    ≡ o
     → find (λ k. same_name k.name c) (with_call new l.calls) ≡ Some new
 call_at-any c new l named None is = call_at-new c new l named is
 call_at-any c new l named (Some k) is =
@@ -113,10 +116,12 @@ module _ (Safe Served Good : Type 0) (Cause : End → Type 0) (Comes : Packet �
       → Still Safe Served Good Cause (call_at l c) (call_at (started s life d l) c)
   start-still s life d l rests lives on new =
       let k : CallRecord = record { name = d; life = life; looks = fresh_call s.limits.window l.now } in
-      (elim (same_name c d) as (λ b. same_name c d ≡ b → Still Safe Served Good Cause (call_at l c) (call_at (started s life d l) c)) [
+      (elim (same_name c d) as (λ b. same_name c d ≡ b → Still Safe Served Good Cause (call_at l c)
+      (call_at (started s life d l) c)) [
         | true ↦ λ same. (
             let is : c ≡ d = name_is c d same in
-            let none : Safe → call_at l c ≡ None = λ y. subst (λ (n : CallName). call_at l n ≡ None) (sym is) ((new same).0 y) in
+            let none : Safe → call_at l c ≡ None = λ y. subst (λ (n : CallName). call_at l n ≡ None) (sym is)
+            ((new same).0 y) in
             let there : call_at (started s life d l) c ≡ Some k = call_at-any c k l (sym is) (call_at l c) refl in
             subst (λ (o : Option CallRecord). Still Safe Served Good Cause (call_at l c) o) (sym there)
             (started-still Safe Served Good Cause (call_at l c) k none rests lives on refl (new same).1))
@@ -144,7 +149,8 @@ module _ (Safe Served Good : Type 0) (Cause : End → Type 0) (Comes : Packet �
             (start-still s lives.Waiting d ended refl refl refl
             (λ same. (
               (λ y. still-none (call_at l d) (call_at ended d)
-                  (calls-on_life Cause d (latest_name l (channel_of d)) after_later l (later-moves Cause)) (opens same y above)),
+                  (calls-on_life Cause d (latest_name l (channel_of d)) after_later l (later-moves Cause))
+                  (opens same y above)),
               good same,
             )))
         | false ↦ λ below. still-refl Safe Served Good Cause (call_at l c)
@@ -157,16 +163,21 @@ module _ (Safe Served Good : Type 0) (Cause : End → Type 0) (Comes : Packet �
       → Turn Safe Served Good Cause Comes (Some k) (Some (record k { looks = after_chunk v tooks.Kept m body k.looks }))
   kept-turn v m (bodies.Chunk payload) k is comes =
       let same = found-ends v.client k.looks in
-      streams-turn Safe Served Good Cause Comes k (record k { looks = after_chunk v tooks.Kept m (bodies.Chunk payload) k.looks })
+      streams-turn Safe Served Good Cause Comes k (record k {
+        looks = after_chunk v tooks.Kept m
+            (bodies.Chunk payload) k.looks;
+      })
       refl (ap (λ (x : Ends). x.shut) same) refl
-      (λ safe. subst (λ (x : Ends). Moves Comes (ends_in k.looks) (record x { kept = packet_of m payload ∷ k.looks.received.kept })) (sym same)
+      (λ safe. subst (λ (x : Ends). Moves Comes (ends_in k.looks)
+      (record x { kept = packet_of m payload ∷ k.looks.received.kept })) (sym same)
       (kept_moves Comes (ends_in k.looks) (packet_of m payload) (comes payload is)))
       (λ sends. subst SendsOf (sym same) sends)
   kept-turn v m _ k is comes = refl-turn (Some k)
 
   taken_at-turn : (s : Setup) (got : Took) (d : CallName) (m : Message) (l : Looks)
       → ((k : CallRecord) → same_name c d ≡ true
-      → Turn Safe Served Good Cause Comes (Some k) (Some (record k { looks = after_taken (node_view s l) got m k.looks })))
+      → Turn Safe Served Good Cause Comes (Some k)
+      (Some (record k { looks = after_taken (node_view s l) got m k.looks })))
       → Turn Safe Served Good Cause Comes (call_at l c) (call_at (taken_at s got d m l) c)
   taken_at-turn s got d m l turns =
       subst (λ (o : Option CallRecord). Turn Safe Served Good Cause Comes (call_at l c) o)
@@ -182,20 +193,24 @@ module _ (Safe Served Good : Type 0) (Cause : End → Type 0) (Comes : Packet �
       of true (Some k) turns = turns k refl
       of false o turns = refl-turn o
 
-  same-turn : (a b : CallRecord) → b.life ≡ a.life → ends_in b.looks ≡ ends_in a.looks → Turn Safe Served Good Cause Comes (Some a) (Some b)
+  same-turn : (a b : CallRecord) → b.life ≡ a.life → ends_in b.looks ≡ ends_in a.looks
+      → Turn Safe Served Good Cause Comes (Some a) (Some b)
   same-turn a b life same =
-      streams-turn Safe Served Good Cause Comes a b life (ap (λ (x : Ends). x.shut) same) (ap (λ (x : Ends). x.ended) same)
+      streams-turn Safe Served Good Cause Comes a b life (ap (λ (x : Ends). x.shut) same)
+      (ap (λ (x : Ends). x.ended) same)
       (λ safe. same_moves Comes (ends_in a.looks) (ends_in b.looks) same) (λ sends. subst SendsOf (sym same) sends)
 
   data-turn : (s : Setup) (got : Took) (d : CallName) (m : Message) (l : Looks)
       → ((k : CallRecord) → same_name c d ≡ true
-      → Turn Safe Served Good Cause Comes (Some k) (Some (record k { looks = after_taken (node_view s l) got m k.looks })))
+      → Turn Safe Served Good Cause Comes (Some k)
+      (Some (record k { looks = after_taken (node_view s l) got m k.looks })))
       → Turn Safe Served Good Cause Comes (call_at l c) (call_at (taken_data s got d m l) c)
   data-turn s got d m l turns =
       let behind : Looks = record (taken_at s got d m l) { firsts = with_first got d m.seq l.firsts } in
       turn-behind Safe Served Good Cause Comes (call_at l c) (call_at behind c) (call_at (challenged s d behind) c)
       (taken_at-turn s got d m l turns)
-      (calls-still Safe Served Good Cause (call_at behind c) (call_at (challenged s d behind) c) (calls-challenged Cause s c d behind))
+      (calls-still Safe Served Good Cause (call_at behind c) (call_at (challenged s d behind) c)
+      (calls-challenged Cause s c d behind))
 
   -- ---- by the answer
 
@@ -208,21 +223,27 @@ module _ (Safe Served Good : Type 0) (Cause : End → Type 0) (Comes : Packet �
             calls-turn (call_at l c) (call_at (stopped_all (connection_of d) code l) c)
             (calls-stopped_all Cause c (connection_of d) code l (λ same. why (inr (all, same))))
         | false ↦ λ one.
-            calls-turn (call_at l c) (call_at (on_life d (after_code code) l) c) (calls-coded Cause c d code l (λ same. why (inl same)))
+            calls-turn (call_at l c) (call_at (on_life d (after_code code) l) c)
+            (calls-coded Cause c d code l (λ same. why (inl same)))
       ]) refl
   stopped-turn d (bodies.Response bytes) l why =
-      calls-turn (call_at l c) (call_at (on_life d (after_code RX_PROTOCOL_ERROR) l) c) (calls-coded Cause c d RX_PROTOCOL_ERROR l why)
+      calls-turn (call_at l c) (call_at (on_life d (after_code RX_PROTOCOL_ERROR) l) c)
+      (calls-coded Cause c d RX_PROTOCOL_ERROR l why)
   stopped-turn d _ l why = refl-turn (call_at l c)
 
-  pub with-turn : (s : Setup) (got : Took) (d : CallName) (m : Message) (l : Looks) → OpensBy Safe c l d got → (same_name c d ≡ true → Good)
-      → TakenWhy Cause Comes c d m got → Turn Safe Served Good Cause Comes (call_at l c) (call_at (taken_with s got d m l) c)
+  pub with-turn : (s : Setup) (got : Took) (d : CallName) (m : Message) (l : Looks) → OpensBy Safe c l d got
+      → (same_name c d ≡ true → Good)
+      → TakenWhy Cause Comes c d m got → Turn Safe Served Good Cause Comes (call_at l c)
+      (call_at (taken_with s got d m l) c)
   with-turn s tooks.Kept d m l opens good why =
-      turn-before Safe Served Good Cause Comes (call_at l c) (call_at (opened s d l) c) (call_at (taken_with s tooks.Kept d m l) c)
+      turn-before Safe Served Good Cause Comes (call_at l c) (call_at (opened s d l) c)
+      (call_at (taken_with s tooks.Kept d m l) c)
       (opened-still s d l opens good)
       (data-turn s tooks.Kept d m (opened s d l)
       (λ k same. kept-turn (node_view s (opened s d l)) m m.body k refl (λ payload is. why payload same is)))
   with-turn s tooks.NoSlot d m l opens good why =
-      turn-before Safe Served Good Cause Comes (call_at l c) (call_at (opened s d l) c) (call_at (taken_with s tooks.NoSlot d m l) c)
+      turn-before Safe Served Good Cause Comes (call_at l c) (call_at (opened s d l) c)
+      (call_at (taken_with s tooks.NoSlot d m l) c)
       (opened-still s d l opens good)
       (data-turn s tooks.NoSlot d m (opened s d l)
       (λ k same. same-turn k _ refl (chunk-ends (node_view s (opened s d l)) m m.body k.looks).3))
@@ -234,14 +255,18 @@ module _ (Safe Served Good : Type 0) (Cause : End → Type 0) (Comes : Packet �
       data-turn s tooks.Clash d m l (λ k same. same-turn k _ refl (chunk-ends (node_view s l) m m.body k.looks).2)
   with-turn s tooks.Heard d m l opens good why =
       let heard : Looks = taken_at s tooks.Heard d m l in
-      turn-behind Safe Served Good Cause Comes (call_at l c) (call_at heard c) (call_at (taken_heard s d m.body heard) c)
+      turn-behind Safe Served Good Cause Comes (call_at l c) (call_at heard c)
+      (call_at (taken_heard s d m.body heard) c)
       (taken_at-turn s tooks.Heard d m l (λ k same. same-turn k _ refl (body-ends l.now m m.body k.looks)))
-      (calls-still Safe Served Good Cause (call_at heard c) (call_at (taken_heard s d m.body heard) c) (calls-heard Cause s c d m.body heard))
+      (calls-still Safe Served Good Cause (call_at heard c) (call_at (taken_heard s d m.body heard) c)
+      (calls-heard Cause s c d m.body heard))
   with-turn s tooks.Stopped d m l opens good why = stopped-turn d m.body l why
   with-turn s tooks.Busy d m l opens good why =
       calls-turn (call_at l c) (call_at (taken_with s tooks.Busy d m l) c)
-      (calls-on_life Cause c (latest_name l (channel_of d)) (after_code RX_CALL_DEAD) l (λ x. code-moves Cause RX_CALL_DEAD x (λ is. why)))
+      (calls-on_life Cause c (latest_name l (channel_of d)) (after_code RX_CALL_DEAD) l
+      (λ x. code-moves Cause RX_CALL_DEAD x (λ is. why)))
   with-turn s tooks.NoRoom d m l opens good why = refl-turn (call_at l c)
   with-turn s tooks.Over d m l opens good why =
-      calls-turn (call_at l c) (call_at (taken_over d m.body (call_at l d) l) c) (calls-over Cause c d m.body (call_at l d) l)
+      calls-turn (call_at l c) (call_at (taken_over d m.body (call_at l d) l) c)
+      (calls-over Cause c d m.body (call_at l d) l)
   with-turn s _ d m l opens good why = refl-turn (call_at l c)

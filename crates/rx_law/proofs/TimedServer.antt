@@ -28,26 +28,35 @@ use Rattle.rx_law.proofs.Knows.{AskedFor, AsksFor, AsksNew}
 use Rattle.rx_law.proofs.Late.{LateData, Timed, soon}
 use Rattle.rx_law.proofs.Learns.{server-next}
 
-module _ (x : TwoEnds) (c : CallName) (on : connection_of c ≡ x.connection) (kind : x.client_setup.kind ≡ Client x.connection.host x.connection.epoch)
+module _ (x : TwoEnds) (c : CallName) (on : connection_of c ≡ x.connection)
+    (kind : x.client_setup.kind ≡ Client x.connection.host x.connection.epoch)
     (server : IsServer x.server_setup.kind) (apart : x.client ≢ x.server) where
-  module _ (e : Noted) (h : List Noted) (lc ls : Looks) (now : ℕ) (here : e.node ≡ x.server) (clock : ls.now ≡ now) (same : now ≡ moment x.server h)
+  module _ (e : Noted) (h : List Noted) (lc ls : Looks) (now : ℕ) (here : e.node ≡ x.server) (clock : ls.now ≡ now)
+      (same : now ≡ moment x.server h)
       (allowed : AllowedServer x.server_setup ls e.event) (conns : Conns x.server_setup ls) (some : 1 ≤ c.number)
-      (late : LateData x.server_setup ls x.connection e.event (λ bytes. GaveLately x.server x.client x.server_host bytes (moment x.server h) h))
+      (late : LateData x.server_setup ls x.connection e.event
+      (λ bytes. GaveLately x.server x.client x.server_host bytes (moment x.server h) h))
       (k : Timed x c h lc ls now) where
     -- DATA that asks for the call was given by the client
-    asked-gave : (from : Host) (bytes : List ℕ) (got : Took) → e.event ≡ events.Taken from bytes got → (a : AskedFor x.server_setup ls from bytes got c)
+    asked-gave : (from : Host) (bytes : List ℕ) (got : Took) → e.event ≡ events.Taken from bytes got
+        → (a : AskedFor x.server_setup ls from bytes got c)
         → GaveLately x.server x.client x.server_host bytes now h × (named x.client_setup x.server_host a.message ≡ c)
     asked-gave from bytes got event a =
-        let comes = subst (λ (event : Event). LateData x.server_setup ls x.connection event (λ bytes. GaveLately x.server x.client x.server_host bytes (moment x.server h) h))
+        let comes = subst (λ (event : Event). LateData x.server_setup ls x.connection event
+        (λ bytes. GaveLately x.server x.client x.server_host bytes (moment x.server h) h))
         event late in
         let gave = comes a.message a.payload a.answer a.reads a.body a.front (ap connection_of a.named_is ∙ on) in
-        let own : named x.server_setup from a.message ≡ name_of from a.message = server-name x.server_setup from a.message server in
-        let host : from ≡ x.connection.host = ap (λ (n : CallName). n.host) (sym own ∙ a.named_is) ∙ ap (λ (y : Connection). y.host) on in
+        let own : named x.server_setup from a.message
+        ≡ name_of from a.message = server-name x.server_setup from a.message server in
+        let host : from ≡ x.connection.host = ap (λ (n : CallName). n.host) (sym own ∙ a.named_is)
+        ∙ ap (λ (y : Connection). y.host) on in
         let name : named x.client_setup x.server_host a.message ≡ c =
-        client-name x.client_setup x.connection x.server_host a.message kind ∙ ap (λ (q : Host). name_of q a.message) (sym host) ∙ sym own ∙ a.named_is in
+        client-name x.client_setup x.connection x.server_host a.message kind
+        ∙ ap (λ (q : Host). name_of q a.message) (sym host) ∙ sym own ∙ a.named_is in
         (subst (λ (t : ℕ). GaveLately x.server x.client x.server_host bytes t h) (sym same) gave, name)
 
-    none-asked : (from : Host) (bytes : List ℕ) (got : Took) → e.event ≡ events.Taken from bytes got → AskedFor x.server_setup ls from bytes got c
+    none-asked : (from : Host) (bytes : List ℕ) (got : Took) → e.event ≡ events.Taken from bytes got
+        → AskedFor x.server_setup ls from bytes got c
         → nat_lt (channel_at ls (channel_of c)).number c.number ≡ true → call_at ls c ≡ None
     none-asked from bytes got event a above = of (call_at ls c) refl
       where
@@ -123,7 +132,8 @@ module _ (x : TwoEnds) (c : CallName) (on : connection_of c ≡ x.connection) (k
         let later = n.later in
         let first = k.called_before in
         let last = k.heard_before in
-        let on_time : now ≤ with_clock e.event now = subst (λ (t : ℕ). t ≤ with_clock e.event t) clock (clock-later e.event allowed) in
+        let on_time : now ≤ with_clock e.event now = subst (λ (t : ℕ). t ≤ with_clock e.event t) clock
+        (clock-later e.event allowed) in
         record {
           used = n.used;
           called = k.called;
@@ -145,17 +155,22 @@ module _ (x : TwoEnds) (c : CallName) (on : connection_of c ≡ x.connection) (k
                 | inr asks ↦ (let at = asks.0 in (asked-client asks.1, (omega arith)))
               ]);
           gave = λ bytes m payload at gave reads chunk name. gave-still bytes m payload at gave reads chunk name;
-          told = λ bytes m at gave reads name. told-now n.used later bytes m at (λ gives. n.told x.connection.host bytes m gives reads name) gave reads name;
+          told = λ bytes m at gave reads name. told-now n.used later bytes m at
+              (λ gives. n.told x.connection.host bytes m gives reads name) gave reads name;
         }
       where
-        gave-still : (bytes : List ℕ) (m : Message) (payload : List ℕ) (at : ℕ) → GaveLately x.server x.client x.server_host bytes at (e ∷ h)
+        gave-still : (bytes : List ℕ) (m : Message) (payload : List ℕ) (at : ℕ)
+            → GaveLately x.server x.client x.server_host bytes at (e ∷ h)
             → reading_of bytes ≡ Ok m → m.body ≡ bodies.Chunk payload → named x.client_setup x.server_host m ≡ c
             → (is_some (heard_at lc c) ≡ true) × (at < k.heard + 192000)
         gave-still bytes m payload at (inl g) reads chunk name = absurd (apart (sym g.node_is ∙ here))
         gave-still bytes m payload at (inr gave) reads chunk name = k.gave bytes m payload at gave reads chunk name
 
-        told-now : (used : ℕ) → k.used ≤ used → (bytes : List ℕ) (m : Message) (at : ℕ) → (GivesTo x.connection.host bytes e.event → used ≡ ls.now)
+        told-now : (used : ℕ) → k.used ≤ used → (bytes : List ℕ) (m : Message) (at : ℕ)
+            → (GivesTo x.connection.host bytes e.event → used ≡ ls.now)
             → GaveLately x.server x.server x.connection.host bytes at (e ∷ h)
             → reading_of bytes ≡ Ok m → named x.server_setup x.connection.host m ≡ c → at < used + LIFETIME_MS
-        told-now used later bytes m at uses (inl g) reads name = (let is = uses g.gives in let lately = g.lately in omega arith)
-        told-now used later bytes m at uses (inr gave) reads name = (let old = k.told bytes m at gave reads name in omega arith)
+        told-now used later bytes m at uses (inl g) reads name =
+            (let is = uses g.gives in let lately = g.lately in omega arith)
+        told-now used later bytes m at uses (inr gave) reads name =
+            (let old = k.told bytes m at gave reads name in omega arith)

@@ -80,7 +80,8 @@ module _ (Safe Served Good : Type 0) (Cause : End → Type 0) where
         named = λ is. or-else (q.named is) (λ before. p.named before);
       }
 
-  counted-quiet : (a b : CallRecord) → Quiet Cause a b → (n m p : ℕ) → CountedOf (Some a) n m p → CountedOf (Some b) n m p
+  counted-quiet : (a b : CallRecord) → Quiet Cause a b → (n m p : ℕ) → CountedOf (Some a) n m p
+      → CountedOf (Some b) n m p
   counted-quiet a b q n m p k =
       let shut : b.looks.sent.shut ≡ a.looks.sent.shut = ap (λ (x : Ends). x.shut) q.streams in
       let ended : b.looks.received.ended ≡ a.looks.received.ended = ap (λ (x : Ends). x.ended) q.streams in
@@ -108,7 +109,8 @@ module _ (Safe Served Good : Type 0) (Cause : End → Type 0) where
   none-end : (end : End) → None ≡ Some end → ⊥
   none-end end is = absurd cc
 
-  fresh-counted : (k : CallRecord) → is_running k.life ≡ false → k.looks.sent.shut ≡ false → (n m p : ℕ) → CountedOf None n m p
+  fresh-counted : (k : CallRecord) → is_running k.life ≡ false → k.looks.sent.shut ≡ false → (n m p : ℕ)
+      → CountedOf None n m p
       → CountedOf (Some k) n m p
   fresh-counted k rests shut n m p c =
       record {
@@ -128,7 +130,8 @@ module _ (Safe Served Good : Type 0) (Cause : End → Type 0) where
         sends = λ s. subst SendsOf (sym fresh) (record { counts = omega arith; fits = omega arith });
         fine = λ y f is. absurd (cc (is, lives));
         ends = λ y end is. absurd (none-end end (sym on ∙ is));
-        counts = λ y s n m p c. fresh-counted k rests shut n m p (subst (λ (o : Option CallRecord). CountedOf o n m p) (none y) c);
+        counts = λ y s n m p c. fresh-counted k rests shut n m p
+            (subst (λ (o : Option CallRecord). CountedOf o n m p) (none y) c);
         named = λ is. inr good;
       }
 
@@ -177,7 +180,8 @@ module _ (Safe Served Good : Type 0) (Cause : End → Type 0) where
   -- the streams alone move, and neither is shut or read to its end by it
   pub streams-turn : (Comes : Packet → Type 0) (a b : CallRecord) → b.life ≡ a.life
       → b.looks.sent.shut ≡ a.looks.sent.shut → b.looks.received.ended ≡ a.looks.received.ended
-      → (Safe → Moves Comes (ends_in a.looks) (ends_in b.looks)) → (SendsOf (ends_in a.looks) → SendsOf (ends_in b.looks))
+      → (Safe → Moves Comes (ends_in a.looks) (ends_in b.looks))
+      → (SendsOf (ends_in a.looks) → SendsOf (ends_in b.looks))
       → Turn Comes (Some a) (Some b)
   streams-turn Comes a b life shut ended moves sends =
       record {

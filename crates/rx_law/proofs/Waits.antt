@@ -38,25 +38,31 @@ busy-owed (q ∷ qs) (suc m) (suc n) number k is = up (busy-owed qs m n number k
 abbrev owing : CallName → ConnLooks → ConnLooks
 owing d r = record r { channels = changed_at d.chan (owing_busy d.number) r.channels }
 
-busy-at : (l : Looks) (y : Connection) (d : CallName) (n k : ℕ) → busy_of (conn_at (on_channel (channel_of d) (owing_busy d.number) l) y) n ≡ Some k
+busy-at : (l : Looks) (y : Connection) (d : CallName) (n k : ℕ)
+    → busy_of (conn_at (on_channel (channel_of d) (owing_busy d.number) l) y) n ≡ Some k
     → (busy_of (conn_at l y) n ≡ Some k) ⊎ ((connection_of d ≡ y) × (d.chan ≡ n) × (d.number ≡ k))
 busy-at l y d n k is =
     of (conn_at l y) refl
-    (subst (λ (o : Option ConnLooks). busy_of o n ≡ Some k) (conn_at-on_conn y (connection_of d) (owing d) l (λ r. refl)) is)
+    (subst (λ (o : Option ConnLooks). busy_of o n ≡ Some k) (conn_at-on_conn y (connection_of d) (owing d) l
+    (λ r. refl)) is)
   where
-    of : (o : Option ConnLooks) → conn_at l y ≡ o → busy_of (option_map (conn_if (connection_of d) (owing d)) o) n ≡ Some k
+    of : (o : Option ConnLooks) → conn_at l y ≡ o → busy_of (option_map (conn_if (connection_of d) (owing d)) o) n
+        ≡ Some k
         → (busy_of o n ≡ Some k) ⊎ ((connection_of d ≡ y) × (d.chan ≡ n) × (d.number ≡ k))
     of None there is = inl is
     of (Some r) there is =
-        (elim (same_connection r.connection (connection_of d)) as (λ b. same_connection r.connection (connection_of d) ≡ b
-        → busy_in (cond b (owing d r) r).channels n ≡ Some k → (busy_in r.channels n ≡ Some k) ⊎ ((connection_of d ≡ y) × (d.chan ≡ n) × (d.number ≡ k))) [
+        (elim (same_connection r.connection (connection_of d)) as
+        (λ b. same_connection r.connection (connection_of d) ≡ b
+        → busy_in (cond b (owing d r) r).channels n ≡ Some k
+        → (busy_in r.channels n ≡ Some k) ⊎ ((connection_of d ≡ y) × (d.chan ≡ n) × (d.number ≡ k))) [
           | true ↦ λ same is.
               (elim (busy-owed r.channels d.chan n d.number k is)
               as (λ t. (busy_in r.channels n ≡ Some k) ⊎ ((connection_of d ≡ y) × (d.chan ≡ n) × (d.number ≡ k))) [
                 | inl before ↦ inl before
                 | inr now ↦ inr (
                   sym (connection_is r.connection (connection_of d) same)
-                      ∙ connection_is r.connection y (find_passes (λ q. same_connection q.connection y) l.conns r there),
+                      ∙ connection_is r.connection y (find_passes
+                      (λ q. same_connection q.connection y) l.conns r there),
                   now.0,
                   now.1,
                 )
@@ -65,7 +71,8 @@ busy-at l y d n k is =
         ]) refl is
 
 -- a BUSY that is owed for a call that isn't there
-pub recalls-owing : (c d : CallName) (l : Looks) (u : ℕ) → d.number < 2 ^ 32 → (d ≡ c → call_at l c ≡ None) → Recalls l c u
+pub recalls-owing : (c d : CallName) (l : Looks) (u : ℕ) → d.number < 2 ^ 32 → (d ≡ c → call_at l c ≡ None)
+    → Recalls l c u
     → Recalls (on_channel (channel_of d) (owing_busy d.number) l) c u
 recalls-owing c d l u fits none old =
     let last : Looks = on_channel (channel_of d) (owing_busy d.number) l in
@@ -76,12 +83,14 @@ recalls-owing c d l u fits none old =
       fours = keeps.fours old.fours;
       young = young-map (connection_of d) (connection_of c) (owing d) l.conns u (λ r. refl) (λ r is. is) old.young;
       held = λ is. (
-          elim (old.held is) as (λ t. (c.number ≤ number_of (conn_at last (connection_of c)) c.chan) ⊎ (u + IDLE_MS ≤ l.now)) [
+          elim (old.held is) as (λ t. (c.number ≤ number_of (conn_at last (connection_of c)) c.chan) ⊎
+          (u + IDLE_MS ≤ l.now)) [
             | inl there ↦ inl (omega arith)
             | inr idle ↦ inr idle
           ]);
       busy = λ n is. (
-          elim (busy-at l (connection_of c) d c.chan n is) as (λ t. (n < 2 ^ 32) × (n ≡ c.number → call_at l c ≡ None)) [
+          elim (busy-at l (connection_of c) d c.chan n is) as
+          (λ t. (n < 2 ^ 32) × (n ≡ c.number → call_at l c ≡ None)) [
             | inl before ↦ old.busy n before
             | inr now ↦ (let same : d.number ≡ n = now.2 in ((omega arith), (λ at. none (one now.0 now.1 (same ∙ at)))))
           ]);
@@ -89,12 +98,21 @@ recalls-owing c d l u fits none old =
   where
     one : connection_of d ≡ connection_of c → d.chan ≡ c.chan → d.number ≡ c.number → d ≡ c
     one conn chan number =
-        λ j. record { host = (conn j).host; epoch = (conn j).epoch; cid = (conn j).cid; chan = chan j; number = number j }
+        λ j. record {
+          host = (conn j).host;
+          epoch = (conn j).epoch;
+          cid =
+              (conn j).cid;
+          chan = chan j;
+          number = number j;
+        }
 
 -- so it is where an answer tells to wait
-pub recalls-waits : (s : Setup) (got : Took) (c d : CallName) (m : Message) (l : Looks) (u : ℕ) → waits got ≡ true → d.number < 2 ^ 32
+pub recalls-waits : (s : Setup) (got : Took) (c d : CallName) (m : Message) (l : Looks) (u : ℕ) → waits got ≡ true
+    → d.number < 2 ^ 32
     → (d ≡ c → call_at l c ≡ None) → Recalls l c u
-    → Recalls (taken_with s got d m l) c u × (is_some (call_at (taken_with s got d m l) c) ≡ true → is_some (call_at l c) ≡ true)
+    → Recalls (taken_with s got d m l) c u × (is_some (call_at (taken_with s got d m l) c) ≡ true
+    → is_some (call_at l c) ≡ true)
 recalls-waits s tooks.Busy c d m l u is fits none old =
     let broken : Looks = on_life (latest_name l (channel_of d)) (after_code RX_CALL_DEAD) l in
     let keeps = keeps-on_life c (latest_name l (channel_of d)) (after_code RX_CALL_DEAD) l (code_waits RX_CALL_DEAD) in (

@@ -37,31 +37,37 @@ use Rattle.rx_law.proofs.WorldTimed.{world-lately}
 use Rattle.rx_law.proofs.WorldAsks.{ClientOf, asked-by, serves}
 
 module _ (nodes : List Node) (server : Node) (first : slice_get nodes 0 ≡ Some server) (are : AreNodes nodes)
-    (apart : (i j : ℕ) → i ≢ j → IfSome (slice_get nodes i) (λ n. IfSome (slice_get nodes j) (λ o. AreApart n.setup.kind o.setup.kind))) where
+    (apart : (i j : ℕ) → i ≢ j → IfSome (slice_get nodes i) (λ n. IfSome (slice_get nodes j)
+    (λ o. AreApart n.setup.kind o.setup.kind))) where
   -- ---- every call of the server starts once
 
   lower : (a b n : ℕ) → a ≤ b → nat_lt b n ≡ true → nat_lt a n ≡ true
   lower a b n low is = grind (arith, nat_tests)
 
   starts-by-client : (h : List Noted) (l : Looks) (from : Host) (bytes : List ℕ) (got : Took) (c : CallName)
-      → ((j : ℕ) (n : Node) → slice_get nodes j ≡ Some n → Legal n.setup (side j h)) → IsFresh nodes h server.host (events.Taken from bytes got)
-      → got ≡ took_of server.setup l from bytes → enters got ≡ true → (ClientOf nodes c → StartsBy server.setup l from bytes c got)
+      → ((j : ℕ) (n : Node) → slice_get nodes j ≡ Some n → Legal n.setup (side j h))
+      → IsFresh nodes h server.host (events.Taken from bytes got)
+      → got ≡ took_of server.setup l from bytes → enters got ≡ true
+      → (ClientOf nodes c → StartsBy server.setup l from bytes c got)
       → StartsBy server.setup l from bytes c got
   starts-by-client h l from bytes got c legal fresh is enter found = λ m reads front name above. (
       let rises = above-prepared server.setup got (connection_of c) l c.chan in
       let here = channel_number (prepared server.setup got (connection_of c) l) (channel_of c) in
       let there = channel_number l (channel_of c) in
       let before : nat_lt (channel_at l (channel_of c)).number c.number ≡ true =
-      lower (channel_at l (channel_of c)).number (channel_at (prepared server.setup got (connection_of c) l) (channel_of c)).number c.number (omega arith) above in
+      lower (channel_at l (channel_of c)).number (channel_at (prepared server.setup got (connection_of c) l)
+      (channel_of c)).number c.number (omega arith) above in
       let mine : nat_lt (channel_at l (channel_of (named server.setup from m))).number m.number ≡ true =
       subst (λ (d : CallName). nat_lt (channel_at l (channel_of d)).number d.number ≡ true) (sym name) before in
       let answer : got ≡ took_reading server.setup l from (Ok m) = is ∙ ap (took_reading server.setup l from) reads in
-      let chunk = data-is m.body (asks-data server.setup l from m got (serves nodes server first are apart) answer front enter mine) in
+      let chunk = data-is m.body (asks-data server.setup l from m got
+      (serves nodes server first are apart) answer front enter mine) in
       found (asked-by nodes server first are apart h l from bytes m chunk.0 got c legal fresh reads chunk.1 front name) m reads front name above)
 
   starts-any : (h : List Noted) (l : Looks) (e : Event) (c : CallName)
       → ((j : ℕ) (n : Node) → slice_get nodes j ≡ Some n → Legal n.setup (side j h)) → IsFresh nodes h server.host e
-      → AllowedServer server.setup l e → (ClientOf nodes c → StartsNew server.setup l e c) → StartsNew server.setup l e c
+      → AllowedServer server.setup l e → (ClientOf nodes c → StartsNew server.setup l e c)
+      → StartsNew server.setup l e c
   starts-any h l (events.Taken from bytes tooks.Kept) c legal fresh allowed found =
       starts-by-client h l from bytes tooks.Kept c legal fresh allowed.1 refl found
   starts-any h l (events.Taken from bytes tooks.NoSlot) c legal fresh allowed found =
@@ -69,7 +75,8 @@ module _ (nodes : List Node) (server : Node) (first : slice_get nodes 0 ≡ Some
   starts-any h l _ c legal fresh allowed found = tt
 
   -- with each event, whoever's it is
-  world-starts : (h : List Noted) (c : CallName) → ((j : ℕ) (n : Node) → slice_get nodes j ≡ Some n → Legal n.setup (side j h)) → AreFresh nodes h
+  world-starts : (h : List Noted) (c : CallName) → ((j : ℕ) (n : Node) → slice_get nodes j ≡ Some n
+      → Legal n.setup (side j h)) → AreFresh nodes h
       → ((j : ℕ) → IfSome (slice_get nodes (suc j)) (λ n. GoAlike 0 (suc j) h)) → StartsOnce server.setup (side 0 h) c
   world-starts [] c legal fresh alike = tt
   world-starts (e ∷ h) c legal fresh alike = of (e.node == 0) refl (world-starts h c before fresh.1 alike-before)
@@ -84,31 +91,41 @@ module _ (nodes : List Node) (server : Node) (first : slice_get nodes 0 ≡ Some
           down None a = tt
           down (Some n) a = a.1
 
-      head : (e.node == 0) ≡ true → StartsOnce server.setup (cond (e.node == 0) (e.event ∷ side 0 h) (side 0 h)) c → StartsNew server.setup (looks server.setup (side 0 h)) e.event c
-      head here once = (subst (λ (b : Bool). StartsOnce server.setup (cond b (e.event ∷ side 0 h) (side 0 h)) c) here once).0
+      head : (e.node == 0) ≡ true → StartsOnce server.setup (cond (e.node == 0) (e.event ∷ side 0 h) (side 0 h)) c
+          → StartsNew server.setup (looks server.setup (side 0 h)) e.event c
+      head here once = (subst (λ (b : Bool). StartsOnce server.setup
+          (cond b (e.event ∷ side 0 h) (side 0 h)) c) here once).0
 
       own-legal : (e.node == 0) ≡ true → Legal server.setup (e.event ∷ side 0 h)
-      own-legal here = subst (λ (b : Bool). Legal server.setup (cond b (e.event ∷ side 0 h) (side 0 h))) here (legal 0 server first)
+      own-legal here = subst (λ (b : Bool). Legal server.setup (cond b (e.event ∷ side 0 h) (side 0 h))) here
+          (legal 0 server first)
 
-      of : (b : Bool) → (e.node == 0) ≡ b → StartsOnce server.setup (side 0 h) c → StartsOnce server.setup (cond b (e.event ∷ side 0 h) (side 0 h)) c
+      of : (b : Bool) → (e.node == 0) ≡ b → StartsOnce server.setup (side 0 h) c
+          → StartsOnce server.setup (cond b (e.event ∷ side 0 h) (side 0 h)) c
       of false here once = once
       of true here once = (
         starts-any h (looks server.setup (side 0 h)) e.event c before
-            (if-some (slice_get nodes e.node) server (λ n. IsFresh nodes h n.host e.event) (ap (slice_get nodes) (same_number e.node 0 here) ∙ first) fresh.0)
-            (served server.setup.kind server.setup (looks server.setup (side 0 h)) e.event (serves nodes server first are apart) (own-legal here).0)
+            (if-some (slice_get nodes e.node) server (λ n. IsFresh nodes h n.host e.event)
+            (ap (slice_get nodes) (same_number e.node 0 here) ∙ first) fresh.0)
+            (served server.setup.kind server.setup (looks server.setup (side 0 h)) e.event
+            (serves nodes server first are apart) (own-legal here).0)
             (λ found. head here (starts-once (ends_in (connection_of c) found.index found.node server) (e ∷ h) c
-            (world-lately nodes found.index found.node server (connection_of c) found.there found.kind first are apart (e ∷ h) legal fresh alike) refl)),
+            (world-lately nodes found.index found.node server (connection_of c) found.there found.kind first are apart
+            (e ∷ h) legal fresh alike) refl)),
         once,
       )
 
-  world-once : (h : List Noted) → ((j : ℕ) (n : Node) → slice_get nodes j ≡ Some n → Legal n.setup (side j h)) → AreFresh nodes h
+  world-once : (h : List Noted) → ((j : ℕ) (n : Node) → slice_get nodes j ≡ Some n → Legal n.setup (side j h))
+      → AreFresh nodes h
       → ((j : ℕ) → IfSome (slice_get nodes (suc j)) (λ n. GoAlike 0 (suc j) h)) → Once (side 0 h)
   world-once h legal fresh alike c =
       of (call_at (looks server.setup (side 0 h)) c)
-      (server-serves server.setup (side 0 h) c (serves nodes server first are apart) (if-some (slice_get nodes 0) server (λ n. FitsSetup n.setup) first (are.fits 0))
+      (server-serves server.setup (side 0 h) c (serves nodes server first are apart)
+      (if-some (slice_get nodes 0) server (λ n. FitsSetup n.setup) first (are.fits 0))
       (legal 0 server first) (world-starts h c legal fresh alike)).counted
     where
-      of : (o : Option CallRecord) → CountedOf o (times_accepted (side 0 h) c) (times_finished (side 0 h) c) (times finishes_well (side 0 h) c)
+      of : (o : Option CallRecord) → CountedOf o (times_accepted (side 0 h) c) (times_finished (side 0 h) c)
+          (times finishes_well (side 0 h) c)
           → times_accepted (side 0 h) c ≤ 1
       of None counted = (let zero' = counted.0 in omega arith)
       of (Some k) counted = counted.once
@@ -129,10 +146,12 @@ world-timed nodes h w timely =
     legal j n is = if-some (slice_get nodes j) n (λ n. Legal n.setup (side j h)) is (w.sides.legal j)
 
     once-in : (o : Option Node) → slice_get nodes 0 ≡ o → Once (side 0 h)
-    once-in None is = absurd (subst (λ (q : Option Node). IsSomeAnd q (λ n. IsServer n.setup.kind)) is w.sides.nodes_are.server)
+    once-in None is = absurd (subst (λ (q : Option Node). IsSomeAnd q
+        (λ n. IsServer n.setup.kind)) is w.sides.nodes_are.server)
     once-in (Some n) is = world-once nodes n is w.sides.nodes_are w.apart h legal timely.fresh timely.alike
 
 -- the law of a world
-pub world-law : (nodes : List Node) (h : List Noted) → World nodes h → ServerForgotNone nodes h ⊎ Timely nodes h → LawIn nodes h
+pub world-law : (nodes : List Node) (h : List Noted) → World nodes h → ServerForgotNone nodes h ⊎ Timely nodes h
+    → LawIn nodes h
 world-law nodes h w (inl kept) = world-kept nodes h w kept
 world-law nodes h w (inr timely) = world-timed nodes h w timely

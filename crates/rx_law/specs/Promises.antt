@@ -68,7 +68,8 @@ pub record EndsByAbort (x : TwoEnds) (c : CallName) (code : ℤ) (h : List Noted
   pub message : Message
   pub reads : reading_of bytes ≡ Ok message
   pub body : message.body ≡ bodies.Abort code
-  pub name : (name_of c.host message ≡ c) ⊎ ((message.number ≡ 0) × (connection_of (name_of c.host message) ≡ connection_of c))
+  pub name : (name_of c.host message ≡ c) ⊎ ((message.number ≡ 0)
+      × (connection_of (name_of c.host message) ≡ connection_of c))
   pub gave : Gave x.connection.host bytes (side x.server h)
 
 -- a cancel of the call with this code answered ok
@@ -107,7 +108,8 @@ pub record LawOf (x : TwoEnds) (c : CallName) (h : List Noted) : Type 0 where
 
 -- of each call of a connection, at every moment
 abbrev pub LawOn : TwoEnds → List Noted → Type 0
-LawOn x h = (c : CallName) → connection_of c ≡ x.connection → (later now : List Noted) → h ≡ later ++ now → LawOf x c now
+LawOn x h = (c : CallName) → connection_of c ≡ x.connection → (later now : List Noted) → h ≡ later ++ now
+    → LawOf x c now
 
 -- a client's connection in a world, with its ends
 abbrev pub ends_in : Connection → ℕ → Node → Node → TwoEnds

@@ -19,7 +19,8 @@ use Rattle.rx_rules.specs.Setup.{Setup, named}
 abbrev pub StartsBy : Setup → Looks → Host → List ℕ → CallName → Took → Type 0
 StartsBy s l from bytes c got =
     (m : Message) → reading_of bytes ≡ Ok m → outer_row s s.kind l from m ≡ None → named s from m ≡ c
-    → nat_lt (channel_at (prepared s got (connection_of c) l) (channel_of c)).number c.number ≡ true → call_at l c ≡ None
+    → nat_lt (channel_at (prepared s got (connection_of c) l) (channel_of c)).number c.number ≡ true → call_at l c
+    ≡ None
 
 abbrev pub StartsNew : Setup → Looks → Event → CallName → Type 0
 StartsNew s l (events.Taken from bytes tooks.Kept) c = StartsBy s l from bytes c tooks.Kept

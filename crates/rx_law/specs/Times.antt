@@ -24,7 +24,8 @@ is_clock _ = false
 abbrev pub Acts : ℕ → Noted → Type 0
 Acts client e = (e.node ≡ client) × (is_clock e.event ≡ false)
 
--- from each earlier such event to this moment the client's clock advances by at least the server's advance less a minute
+-- from each earlier such event to this moment the client's clock advances by at least the server's advance less a
+-- minute
 abbrev pub AdvancesAlike : ℕ → ℕ → List Noted → ℕ → ℕ → Type 0
 AdvancesAlike server client [] now own = Unit {0}
 AdvancesAlike server client (e ∷ h) now own =
@@ -52,7 +53,8 @@ GoAlways server client (e ∷ h) =
 -- ---- datagrams
 
 -- the event is a node's, and gave this datagram, when the server's clock was not long behind
-pub record GivesLately (server node : ℕ) (to : Host) (bytes : List ℕ) (now : ℕ) (e : Noted) (h : List Noted) : Type 0 where
+pub record GivesLately (server node : ℕ) (to : Host) (bytes : List ℕ) (now : ℕ) (e : Noted)
+    (h : List Noted) : Type 0 where
   pub node_is : e.node ≡ node
   pub gives : GivesTo to bytes e.event
   pub lately : now < moment server h + LIFETIME_MS
