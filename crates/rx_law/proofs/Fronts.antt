@@ -6,6 +6,7 @@ use Rattle.std.proofs.lemmas.Bool.Decides.{nat_tests}
 use Rattle.std.proofs.lemmas.List.{take_all, take-append-drop}
 use Rattle.rx_rules.specs.Received.{Packet, Piece, bytes_to, front_of, greatest, heard_of, is_within, last_seq, packet_at, payload_of}
 use Rattle.rx_rules.specs.Received.{reach}
+use Rattle.rx_rules.proofs.ReachLaws.{reach_passes}
 use Rattle.rx_law.specs.Streams.{Begins}
 use Rattle.rx_model.proofs.NameLaws.{both, same_number}
 use Rattle.rx_law.proofs.Ends.{Grows}
@@ -35,22 +36,6 @@ found bytes shut j (q ∷ qs) p a h =
           subst (λ (x : Piece). IsPiece bytes shut j x) is (subst (λ (n : ℕ). IsAt bytes shut n q.piece) seq a.0))
       | false ↦ λ other e. found bytes shut j qs p a.1 e
     ]) refl h
-
--- each up to the reach passes
-pub reach_passes : (test : ℕ → Bool) (n k : ℕ) → suc k ≤ reach test n → test (suc k) ≡ true
-reach_passes test zero k low = absurd (omega arith)
-reach_passes test (suc n) k low =
-    (elim ((reach test n == n) && test (suc n)) as (λ b. ((reach test n == n) && test (suc n)) ≡ b
-    → suc k ≤ cond b (suc n) (reach test n) → test (suc k) ≡ true) [
-      | true ↦ λ passes high. (
-          let t = both (reach test n == n) (test (suc n)) passes in
-          let all : reach test n ≡ n = same_number _ _ t.0 in
-          (elim (k == n) as (λ b. (k == n) ≡ b → test (suc k) ≡ true) [
-            | true ↦ λ same. subst (λ (m : ℕ). test (suc m) ≡ true) (sym (same_number k n same)) t.1
-            | false ↦ λ other. reach_passes test n k (let apart : suc k ≤ n = grind (arith, nat_tests) in omega arith)
-          ]) refl)
-      | false ↦ λ fails high. reach_passes test n k high
-    ]) refl low
 
 take_more : (m n : ℕ) (xs : List ℕ) → take m xs ++ take n (drop m xs) ≡ take (m + n) xs
 take_more zero n xs = (let e : n ≡ 0 + n = omega arith in ap (λ (m : ℕ). take m xs) e)

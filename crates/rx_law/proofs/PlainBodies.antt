@@ -19,7 +19,7 @@ use Rattle.rx_rules.specs.Sent.{LastGiving, last_giving, lowest_of}
 use Rattle.rx_rules.proofs.EveryLaws.{Every, every-append}
 use Rattle.rx_law.proofs.FitCall.{FitsCall}
 use Rattle.rx_law.proofs.FitValues.{FitsReceived, OwedFits}
-use Rattle.rx_law.proofs.Reaches.{reach_within}
+use Rattle.rx_rules.proofs.ReachLaws.{reach_within}
 use Rattle.rx_law.proofs.UsedLaws.{used_within}
 
 -- ---- a body

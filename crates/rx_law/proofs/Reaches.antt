@@ -4,19 +4,9 @@ use Rattle.std.proofs.Common.{List, [], ◌∷◌, Some, refl, sym, subst, arith
 use Rattle.std.proofs.lemmas.Bool.Decides.{nat_tests}
 use Rattle.rx_rules.specs.Received.{Packet, count_above, front_of, greatest, packet_at, reach}
 use Rattle.rx_model.proofs.NameLaws.{same_number, number_itself}
-use Rattle.rx_law.proofs.Fronts.{reach_passes}
+use Rattle.rx_rules.proofs.ReachLaws.{reach_passes, reach_within}
 
 -- ---- a test of each number from 1 on
-
--- it reaches no further than it is asked
-pub reach_within : (test : ℕ → Bool) (n : ℕ) → reach test n ≤ n
-reach_within test zero = omega arith
-reach_within test (suc n) =
-    let low = reach_within test n in
-    (elim ((reach test n == n) && test (suc n)) as (λ b. cond b (suc n) (reach test n) ≤ suc n) [
-      | true ↦ omega arith
-      | false ↦ omega arith
-    ])
 
 -- where each of 1 to n passes it reaches n
 reach_all : (test : ℕ → Bool) (n : ℕ) → ((j : ℕ) → suc j ≤ n → test (suc j) ≡ true) → reach test n ≡ n
@@ -48,23 +38,6 @@ reach_least test n m low all =
     let more = reach_more test m n low in
     omega arith
 
--- the next one doesn't pass
-pub reach_stops : (test : ℕ → Bool) (n : ℕ) → reach test n < n → test (suc (reach test n)) ≡ false
-reach_stops test n low = of (test (suc (reach test n))) refl
-  where
-    each : test (suc (reach test n)) ≡ true → (j : ℕ) → suc j ≤ suc (reach test n) → test (suc j) ≡ true
-    each passes j high =
-        (elim (j == reach test n) as (λ b. (j == reach test n) ≡ b → test (suc j) ≡ true) [
-          | true ↦ λ same. subst (λ (k : ℕ). test (suc k) ≡ true) (sym (same_number j (reach test n) same)) passes
-          | false ↦ λ other. reach_passes test n j (let apart : suc j ≤ reach test n = grind (arith, nat_tests) in
-              apart)
-        ]) refl
-
-    of : (b : Bool) → test (suc (reach test n)) ≡ b → test (suc (reach test n)) ≡ false
-    of true passes =
-        (let high = reach_least test n (suc (reach test n)) (omega arith) (each passes) in absurd (omega arith))
-    of false stops = stops
-
 -- what passes one test passes another: it reaches as far
 pub reach_wider : (old new : ℕ → Bool) (n m : ℕ) → reach old n ≤ m
     → ((j : ℕ) → suc j ≤ reach old n → old (suc j) ≡ true → new (suc j) ≡ true) → reach old n ≤ reach new m
@@ -72,20 +45,6 @@ reach_wider old new n m low all =
     reach_least new m (reach old n) low (λ j high. all j high (reach_passes old n j high))
 
 -- ---- packets
-
--- a packet that is kept is at most the greatest
-pub kept_within : (ps : List Packet) (k : ℕ) → is_some (packet_at ps k) ≡ true → k ≤ greatest ps
-kept_within [] k is = absurd cc
-kept_within (p ∷ ps) k is =
-    (elim (p.seq == k) as (λ b. (p.seq == k) ≡ b → is_some (cond b (Some p.piece) (packet_at ps k)) ≡ true
-    → k ≤ max p.seq (greatest ps)) [
-      | true ↦ λ same there. grind (arith, nat_tests)
-      | false ↦ λ other there. (let rest = kept_within ps k there in omega arith)
-    ]) refl is
-
--- each up to the front is kept
-pub front_kept : (ps : List Packet) (j : ℕ) → suc j ≤ front_of ps → is_some (packet_at ps (suc j)) ≡ true
-front_kept ps j low = reach_passes (λ k. is_some (packet_at ps k)) (greatest ps) j low
 
 -- fewer are above a greater seq
 pub count_falls : (ps : List Packet) (low high : ℕ) → low ≤ high → count_above high ps ≤ count_above low ps

@@ -6,9 +6,10 @@ use Rattle.std.proofs.lemmas.Bool.Decides.{nat_tests}
 use Rattle.rx_rules.specs.Received.{Packet, Piece, Received, count_above, end_of, front_of, greatest}
 use Rattle.rx_rules.specs.Received.{after_read, is_done, is_done_by, packet_at, payload_of, used_of}
 use Rattle.rx_model.proofs.NameLaws.{number_itself}
-use Rattle.rx_law.proofs.Reaches.{count_falls, count_passes, front_kept, reach_least, reach_stops, reach_wider}
-use Rattle.rx_law.proofs.Reaches.{reach_within}
-use Rattle.rx_law.proofs.Fronts.{reach_passes}
+use Rattle.rx_law.proofs.Reaches.{count_falls, count_passes, reach_least, reach_wider}
+use Rattle.rx_rules.proofs.ReachLaws.{reach_stops, reach_within}
+use Rattle.rx_rules.proofs.PacketLaws.{front_all}
+use Rattle.rx_rules.proofs.ReachLaws.{reach_passes}
 
 -- what is done with stands in front
 pub used_within : (r : Received) → used_of r ≤ front_of r.kept
@@ -48,7 +49,7 @@ front_next p ps next =
         (elim (p.seq == suc j) as (λ b. (p.seq == suc j) ≡ b
         → is_some (cond b (Some p.piece) (packet_at ps (suc j))) ≡ true) [
           | true ↦ λ own. refl
-          | false ↦ λ other. front_kept ps j (let apart : suc j ≤ front_of ps = grind (arith, nat_tests) in apart)
+          | false ↦ λ other. front_all ps j (let apart : suc j ≤ front_of ps = grind (arith, nat_tests) in apart)
         ]) refl
 
 -- a packet that is neither done with nor kept stands above the front
@@ -62,7 +63,7 @@ above_front p r above away = of p.seq above away
         (elim (nat_le (suc j) (front_of r.kept)) as (λ b. nat_le (suc j) (front_of r.kept) ≡ b
         → front_of r.kept < suc j) [
           | true ↦ λ low. (
-              let there = front_kept r.kept j (let is : suc j ≤ front_of r.kept = grind (arith, nat_tests) in is) in
+              let there = front_all r.kept j (let is : suc j ≤ front_of r.kept = grind (arith, nat_tests) in is) in
               absurd (cc (there, away)))
           | false ↦ λ high. grind (arith, nat_tests)
         ]) refl
@@ -172,4 +173,4 @@ pub lead_reads : (end : Bool) (bytes : List ℕ) (r : Received) → used_of r < 
     → suc (count_above (used_of (after_read end bytes r)) r.kept) ≤ count_above (used_of r) r.kept
 lead_reads end bytes r low all =
     count_passes r.kept (used_of r) (used_of (after_read end bytes r)) (suc (used_of r)) (omega arith) (omega arith)
-    (front_kept r.kept (used_of r) (omega arith))
+    (front_all r.kept (used_of r) (omega arith))

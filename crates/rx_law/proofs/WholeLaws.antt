@@ -8,7 +8,8 @@ use Rattle.rx_rules.specs.Received.{is_complete, is_done}
 use Rattle.rx_rules.specs.Received.{is_done_by, is_within, last_seq, packet_at, payload_of, unread_of, used_of}
 use Rattle.rx_model.proofs.NameLaws.{same_number}
 use Rattle.rx_law.proofs.Carries.{none_left}
-use Rattle.rx_law.proofs.Reaches.{front_kept, reach_least}
+use Rattle.rx_law.proofs.Reaches.{reach_least}
+use Rattle.rx_rules.proofs.PacketLaws.{front_all}
 use Rattle.rx_law.proofs.UsedLaws.{above_front, used_reads}
 
 -- all packets are there, and done with
@@ -78,4 +79,4 @@ end_reads bytes r none complete =
     each j low =
         let rises = end-rises r.kept (suc j) (front_of r.kept) low in
         let all = read in
-        of (suc j) (packet_at r.kept (suc j)) (omega arith) (front_kept r.kept j low)
+        of (suc j) (packet_at r.kept (suc j)) (omega arith) (front_all r.kept j low)

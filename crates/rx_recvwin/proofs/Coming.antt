@@ -15,7 +15,7 @@ use Rattle.rx_rules.specs.Received.{is_done}
 use Rattle.rx_rules.specs.Received.{is_done_by, is_no_seq, used_of, count_above, Arrival, is_above, has_slot}
 use Rattle.rx_rules.specs.Received.{arrival_row}
 use Rattle.rx_rules.specs.Received.{arrival_of, after_packet}
-use Rattle.rx_recvwin.proofs.Lookups.{at_own, at_other, end_below, front_all}
+use Rattle.rx_rules.proofs.PacketLaws.{at_own, at_other, end_below, front_all}
 use Rattle.rx_pool.specs.Pool.{Slots}
 use Rattle.rx_recvwin.specs.Places.{place_at, leading, seen_at}
 use Rattle.rx_recvwin.specs.Window.{RecvWindow, Window, window_of, Near, StandsFor, IsReceivable, after_put, arrival_at}

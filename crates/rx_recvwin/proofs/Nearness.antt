@@ -7,7 +7,7 @@ use Rattle.std.proofs.lemmas.Bool.Decides.{nat_tests}
 use Rattle.std.proofs.lemmas.List.{length-drop}
 use Rattle.rx_rules.specs.Received.{Piece, Packet, Received, packet_at, payload_of, front_of}
 use Rattle.rx_rules.specs.Received.{end_of, is_done, is_done_by, used_of, count_above}
-use Rattle.rx_recvwin.proofs.Lookups.{front_only, used_only, done_kept}
+use Rattle.rx_rules.proofs.PacketLaws.{front_only, used_only, done_kept}
 use Rattle.rx_recvwin.specs.Places.{place_at, leading, count_in, is_place_done}
 use Rattle.rx_recvwin.specs.Window.{Window, Near, StandsFor, IsOnce, after_use}
 use Rattle.rx_recvwin.proofs.PlaceLaws.{leading_all, leading_stops, place_next, count_turned}

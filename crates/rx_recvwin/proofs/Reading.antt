@@ -12,8 +12,8 @@ use Rattle.rx_rules.specs.Received.{bytes_to, end_of, heard_of, is_done_by, unre
 use Rattle.rx_rules.specs.Received.{after_read}
 use Rattle.rx_recvwin.specs.Places.{place_at, leading}
 use Rattle.rx_recvwin.specs.Window.{Window, Near, StandsFor, FirstRead, AllRead, SomeRead, read_more}
-use Rattle.rx_recvwin.proofs.Lookups.{front_stops, front_only, done_kept, bytes_split, above_greatest, end_is}
-use Rattle.rx_recvwin.proofs.Reach.{reach_within}
+use Rattle.rx_rules.proofs.PacketLaws.{front_stops, front_only, done_kept, bytes_split, above_greatest, end_is}
+use Rattle.rx_rules.proofs.ReachLaws.{reach_within}
 use Rattle.rx_recvwin.proofs.Nearness.{front_is, first_is}
 
 -- ---- lists

@@ -8,4 +8,6 @@ pub mod EnterLaws
 pub mod EveryLaws
 pub mod LeastLaws
 pub mod SentLaws
+pub mod ReachLaws
+pub mod PacketLaws
 pub mod Replay

@@ -8,7 +8,7 @@ use Rattle.std.proofs.lemmas.Bool.Decides.{nat_tests}
 use Rattle.std.proofs.lemmas.Bool.{cases_lt, cases_eq, false≢true}
 use Rattle.rx_rules.specs.Received.{reach}
 use Rattle.rx_rules.specs.Sent.{count_to, highest_to, is_marked, marks_past}
-use Rattle.rx_sendwin.proofs.Reach.{reach_only}
+use Rattle.rx_rules.proofs.ReachLaws.{reach_only}
 use Rattle.rx_sendwin.specs.Marks.{is_acked_by, flight_by, newly_by, highest_by, is_new_by, is_valid_ack, leading_marks}
 
 pub known_low : (acked : ℕ) (soft : List Bool) (k : ℕ) → k ≤ acked → is_acked_by acked soft k ≡ true

@@ -1,4 +1,3 @@
-pub mod Reach
 pub mod Acks
 pub mod PieceLaws
 pub mod Payloads

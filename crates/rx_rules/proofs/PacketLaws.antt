@@ -7,7 +7,7 @@ use Rattle.std.proofs.lemmas.Bool.Decides.{nat_tests}
 use Rattle.std.proofs.lemmas.List.{append-nil}
 use Rattle.rx_rules.specs.Received.{Piece, Packet, Received, packet_at, payload_of, greatest, front_of, bytes_to}
 use Rattle.rx_rules.specs.Received.{end_of, is_done, is_done_by, used_of}
-use Rattle.rx_recvwin.proofs.Reach.{reach_all, reach_stops, reach_only}
+use Rattle.rx_rules.proofs.ReachLaws.{reach_passes, reach_stops, reach_only}
 
 -- ---- packets
 
@@ -35,7 +35,7 @@ at_other seq piece kept k apart = let test : (seq == k) ≡ false = grind (arith
 -- ---- the front
 
 pub front_all : (kept : List Packet) (k : ℕ) → k < front_of kept → is_some (packet_at kept (suc k)) ≡ true
-front_all kept k lt = reach_all (λ k. is_some (packet_at kept k)) (greatest kept) k lt
+front_all kept k lt = reach_passes (λ k. is_some (packet_at kept k)) (greatest kept) k lt
 
 pub front_stops : (kept : List Packet) → is_some (packet_at kept (suc (front_of kept))) ≡ false
 front_stops kept =
@@ -65,7 +65,7 @@ done_kept d k h =
     ]) h
 
 pub used_all : (d : Received) (k : ℕ) → k < used_of d → is_done d (suc k) ≡ true
-used_all d k lt = reach_all (is_done d) (front_of d.kept) k lt
+used_all d k lt = reach_passes (is_done d) (front_of d.kept) k lt
 
 not_kept : (d : Received) (k : ℕ) → is_some (packet_at d.kept k) ≡ false → is_done d k ≡ false
 not_kept d k h =

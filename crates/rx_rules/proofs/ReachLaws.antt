@@ -13,6 +13,7 @@ not_both : (a b : Bool) → (a && b) ≡ false → a ≡ true → b ≡ false
 not_both true b h t = h
 not_both false b h t = absurd cc
 
+-- it reaches no further than it is asked
 pub reach_within : (test : ℕ → Bool) (n : ℕ) → reach test n ≤ n
 reach_within test zero = omega arith
 reach_within test (suc n) =
@@ -22,9 +23,10 @@ reach_within test (suc n) =
       | false ↦ omega (arith, rest)
     ]
 
-pub reach_all : (test : ℕ → Bool) (n k : ℕ) → k < reach test n → test (suc k) ≡ true
-reach_all test zero k lt = absurd (omega (arith, lt))
-reach_all test (suc n) k lt =
+-- each that it reaches passes
+pub reach_passes : (test : ℕ → Bool) (n k : ℕ) → k < reach test n → test (suc k) ≡ true
+reach_passes test zero k lt = absurd (omega (arith, lt))
+reach_passes test (suc n) k lt =
     (elim ((reach test n == n) && test (suc n)) as (λ b. ((reach test n == n) && test (suc n)) ≡ b →
     k < cond b (suc n) (reach test n) → test (suc k) ≡ true) [
       | true ↦ λ h l. (
@@ -32,11 +34,12 @@ reach_all test (suc n) k lt =
           let at : reach test n ≡ n = grind (arith, nat_tests, parts.0) in
           elim (cases_order k n) as (λ _. test (suc k) ≡ true) [
             | inl e ↦ ap (λ j. test (suc j)) e ∙ parts.1
-            | inr r ↦ reach_all test n k (omega (arith, at, l, r))
+            | inr r ↦ reach_passes test n k (omega (arith, at, l, r))
           ])
-      | false ↦ λ h l. reach_all test n k l
+      | false ↦ λ h l. reach_passes test n k l
     ]) refl lt
 
+-- the one behind them doesn't
 pub reach_stops : (test : ℕ → Bool) (n : ℕ) → reach test n < n → test (suc (reach test n)) ≡ false
 reach_stops test zero lt = absurd (omega (arith, lt))
 reach_stops test (suc n) lt =
@@ -63,6 +66,6 @@ reach_only test n u within all stops =
       | inl e ↦ e
       | inr r ↦ (elim r as (λ _. reach test n ≡ u) [
         | inl lt ↦ absurd (false≢true (sym (reach_stops test n (omega (arith, lt, within))) ∙ all (reach test n) lt))
-        | inr gt ↦ absurd (false≢true (sym (stops (omega (arith, gt, most))) ∙ reach_all test n u gt))
+        | inr gt ↦ absurd (false≢true (sym (stops (omega (arith, gt, most))) ∙ reach_passes test n u gt))
       ])
     ]
