@@ -1,5 +1,6 @@
 pub mod Story
 pub mod Told
+mod Shared
 mod OneCall
 mod Pieces
 mod Times

@@ -4,6 +4,7 @@ use Rattle.rx_model.specs.Text.{hex_text}
 use Rattle.rx_rules.proofs.Replay.{unhex}
 use Rattle.rx_examples.proofs.Story.{Line, Connect, Call, Write, Shut, Read, Ask, Accept, Finish, Forge, Poll, Deliver, Rounds}
 use Rattle.rx_examples.proofs.Told.{Told, ToldBehind, server_with, client_with, lines_of, at_client, at_server, call, client, host, name, server}
+use Rattle.rx_examples.proofs.Shared.{connected}
 use Rattle.std.specs.Fmt.{digits}
 use Rattle.hex.specs.Hex.{encode_with}
 
@@ -51,10 +52,9 @@ one_call_lives = refl
 -- a client of one live call
 abbrev client_of_one_call_told : List (Line × List ℕ)
 client_of_one_call_told =
-    (Connect 1 at_server 1 1, codes "c1 connect 10.0.0.1:7000 1 1 -> 4")
-    ∷ (Call 1 4, codes "c1 call 4 -> 10.0.0.2:7001/1/4/0/1")
-    ∷ (Call 1 4, codes "c1 call 4 -> noroom")
-    ∷ []
+    connected
+    ++ ((Call 1 4, codes "c1 call 4 -> noroom")
+    ∷ [])
 
 client_of_one_call : Told (server ∷ (client_with (record { conns = 1024; calls = 1; slots = 2; window = 32 }))
     ∷ []) client_of_one_call_told
@@ -64,10 +64,9 @@ client_of_one_call = refl
 -- a client of one connection
 abbrev client_of_one_connection_told : List (Line × List ℕ)
 client_of_one_connection_told =
-    (Connect 1 at_server 1 1, codes "c1 connect 10.0.0.1:7000 1 1 -> 4")
-    ∷ (Call 1 4, codes "c1 call 4 -> 10.0.0.2:7001/1/4/0/1")
-    ∷ (Connect 1 at_server 1 1, codes "c1 connect 10.0.0.1:7000 1 1 -> connfull")
-    ∷ []
+    connected
+    ++ ((Connect 1 at_server 1 1, codes "c1 connect 10.0.0.1:7000 1 1 -> connfull")
+    ∷ [])
 
 client_of_one_connection : Told (server ∷ (client_with (record { conns = 1; calls = 64; slots = 2048; window = 32 }))
     ∷ []) client_of_one_connection_told
@@ -94,9 +93,8 @@ unserved = refl
 -- two calls contend for one slot beside their own: the later part of one finds none
 abbrev slots_told : List (Line × List ℕ)
 slots_told =
-    (Connect 1 at_server 1 1, codes "c1 connect 10.0.0.1:7000 1 1 -> 4")
-    ∷ (Call 1 4, codes "c1 call 4 -> 10.0.0.2:7001/1/4/0/1")
-    ∷ (Call 1 4, codes "c1 call 4 -> 10.0.0.2:7001/1/4/1/1")
+    connected
+    ++ ((Call 1 4, codes "c1 call 4 -> 10.0.0.2:7001/1/4/1/1")
     ∷ (
       Write 1 call (replicate 1413 90),
       codes "c1 write 10.0.0.2:7001/1/4/0/1 1413 -> 1413 " ++ hex_text (replicate 1413 90),
@@ -150,7 +148,7 @@ slots_told =
       codes "s read 10.0.0.2:7001/1/4/1/1 2000 -> got " ++ hex_text (replicate 1412 90),
     )
     ∷ (Read 0 (name 2 1 4 1 1) 2000, codes "s read 10.0.0.2:7001/1/4/1/1 2000 -> notyet")
-    ∷ []
+    ∷ [])
 
 slots : Told ((server_with (record { conns = 1024; calls = 2; slots = 3; window = 32 })) ∷ client ∷ []) slots_told
 unfolding digits encode_with

@@ -1,25 +1,17 @@
 -- Worked examples of the lives of calls.
-use Rattle.std.specs.Prelude.{◌++◌, ℕ, List, [], ◌∷◌, codes, refl, pos, replicate}
-use Rattle.rx_model.specs.Text.{hex_text}
+use Rattle.std.specs.Prelude.{◌++◌, ℕ, List, [], ◌∷◌, codes, refl, pos}
 use Rattle.rx_rules.proofs.Replay.{unhex}
 use Rattle.rx_examples.proofs.Story.{Line, Connect, Call, Write, Shut, Read, Ask, Cancel, Accept, Finish, Forge, Poll, Deliver, Clock}
 use Rattle.rx_examples.proofs.Told.{Told, at_client, at_server, call, client, name, server}
+use Rattle.rx_examples.proofs.Shared.{connected, asked, accepted, two_pieces}
 use Rattle.std.specs.Fmt.{digits}
 use Rattle.hex.specs.Hex.{encode_with}
 
 -- a later call comes while the handler of the one before is at work
 abbrev busy_told : List (Line × List ℕ)
 busy_told =
-    (Connect 1 at_server 1 1, codes "c1 connect 10.0.0.1:7000 1 1 -> 4")
-    ∷ (Call 1 4, codes "c1 call 4 -> 10.0.0.2:7001/1/4/0/1")
-    ∷ (Shut 1 call, codes "c1 shut 10.0.0.2:7001/1/4/0/1 -> ok")
-    ∷ (Poll 1, codes "c1 poll -> 10.0.0.1:7000 00000001000000040000000100000001000000010107000000000001")
-    ∷ (
-      Deliver 1,
-      codes "s take 10.0.0.2:7001 00000001000000040000000100000001000000010107000000000001 -> kept",
-    )
-    ∷ (Accept, codes "s accept -> 10.0.0.2:7001/1/4/0/1")
-    ∷ (Cancel 1 call (pos 7), codes "c1 cancel 10.0.0.2:7001/1/4/0/1 7 -> ok")
+    accepted
+    ++ ((Cancel 1 call (pos 7), codes "c1 cancel 10.0.0.2:7001/1/4/0/1 7 -> ok")
     ∷ (Call 1 4, codes "c1 call 4 -> 10.0.0.2:7001/1/4/0/2")
     ∷ (Shut 1 (name 2 1 4 0 2), codes "c1 shut 10.0.0.2:7001/1/4/0/2 -> ok")
     ∷ (Poll 1, codes "c1 poll -> 10.0.0.1:7000 00000001000000040000000200000001000000020107000000000001")
@@ -36,7 +28,7 @@ busy_told =
       codes "s take 10.0.0.2:7001 00000001000000040000000200000001000000030107000000000001 -> kept",
     )
     ∷ (Accept, codes "s accept -> 10.0.0.2:7001/1/4/0/2")
-    ∷ []
+    ∷ [])
 
 busy : Told (server ∷ client ∷ []) busy_told
 unfolding digits encode_with
@@ -45,38 +37,8 @@ busy = refl
 -- a handler that has not read the whole request cannot reply, but can fail
 abbrev unread_told : List (Line × List ℕ)
 unread_told =
-    (Connect 1 at_server 1 1, codes "c1 connect 10.0.0.1:7000 1 1 -> 4")
-    ∷ (Call 1 4, codes "c1 call 4 -> 10.0.0.2:7001/1/4/0/1")
-    ∷ (
-      Write 1 call (replicate 1412 90),
-      codes "c1 write 10.0.0.2:7001/1/4/0/1 1412 -> 1412 " ++ hex_text (replicate 1412 90),
-    )
-    ∷ (Write 1 call (unhex (codes "6b")), codes "c1 write 10.0.0.2:7001/1/4/0/1 1 -> 1 6b")
-    ∷ (Shut 1 call, codes "c1 shut 10.0.0.2:7001/1/4/0/1 -> ok")
-    ∷ (
-      Poll 1,
-      codes "c1 poll -> 10.0.0.1:7000 00000001000000040000000100000001000000010101000000000001"
-          ++ hex_text (replicate 1412 90),
-    )
-    ∷ (Poll 1, codes "c1 poll -> 10.0.0.1:7000 000000010000000400000001000000020000000201070000000000016b")
-    ∷ (
-      Deliver 2,
-      codes "s take 10.0.0.2:7001 000000010000000400000001000000020000000201070000000000016b -> kept",
-    )
-    ∷ (Accept, codes "s accept -> none")
-    ∷ (
-      Poll 0,
-      codes "s poll -> 10.0.0.2:7001 00000001000000040000000100000000000000010200000000000001000000000000000100"
-          ++ codes "0000020000000203020001000000000005a4000005a40000002000000001",
-    )
-    ∷ (
-      Deliver 1,
-      codes "s take 10.0.0.2:7001 00000001000000040000000100000001000000010101000000000001"
-          ++ hex_text (replicate 1412 90)
-          ++ codes " -> kept",
-    )
-    ∷ (Accept, codes "s accept -> 10.0.0.2:7001/1/4/0/1")
-    ∷ (Write 0 call (unhex (codes "00")), codes "s write 10.0.0.2:7001/1/4/0/1 1 -> unread")
+    two_pieces
+    ++ ((Write 0 call (unhex (codes "00")), codes "s write 10.0.0.2:7001/1/4/0/1 1 -> unread")
     ∷ (Finish call (pos 0), codes "s finish 10.0.0.2:7001/1/4/0/1 0 -> unread")
     ∷ (Finish call (pos 5), codes "s finish 10.0.0.2:7001/1/4/0/1 5 -> ok")
     ∷ (
@@ -88,7 +50,7 @@ unread_told =
       codes "c1 take 10.0.0.1:7000 0000000100000004000000010000000000000002040000000000000100000005 -> stopped",
     )
     ∷ (Ask 1 call, codes "c1 ask 10.0.0.2:7001/1/4/0/1 -> abort 5")
-    ∷ []
+    ∷ [])
 
 unread : Told (server ∷ client ∷ []) unread_told
 unfolding digits encode_with
@@ -111,16 +73,15 @@ finish_unread = refl
 -- four calls live on a connection, and a fifth has no channel
 abbrev channels_told : List (Line × List ℕ)
 channels_told =
-    (Connect 1 at_server 1 1, codes "c1 connect 10.0.0.1:7000 1 1 -> 4")
-    ∷ (Call 1 4, codes "c1 call 4 -> 10.0.0.2:7001/1/4/0/1")
-    ∷ (Call 1 4, codes "c1 call 4 -> 10.0.0.2:7001/1/4/1/1")
+    connected
+    ++ ((Call 1 4, codes "c1 call 4 -> 10.0.0.2:7001/1/4/1/1")
     ∷ (Call 1 4, codes "c1 call 4 -> 10.0.0.2:7001/1/4/2/1")
     ∷ (Call 1 4, codes "c1 call 4 -> 10.0.0.2:7001/1/4/3/1")
     ∷ (Call 1 4, codes "c1 call 4 -> nochannel")
     ∷ (Call 1 12, codes "c1 call 12 -> noconn")
     ∷ (Cancel 1 (name 2 1 4 1 1) (pos 7), codes "c1 cancel 10.0.0.2:7001/1/4/1/1 7 -> ok")
     ∷ (Call 1 4, codes "c1 call 4 -> 10.0.0.2:7001/1/4/1/2")
-    ∷ []
+    ∷ [])
 
 channels : Told (server ∷ client ∷ []) channels_told
 unfolding digits encode_with
@@ -129,9 +90,8 @@ channels = refl
 -- the last call number of each channel is used up
 abbrev worn_told : List (Line × List ℕ)
 worn_told =
-    (Connect 1 at_server 1 1, codes "c1 connect 10.0.0.1:7000 1 1 -> 4")
-    ∷ (Call 1 4, codes "c1 call 4 -> 10.0.0.2:7001/1/4/0/1")
-    ∷ (Connect 1 at_server 1 4294967295, codes "c1 connect 10.0.0.1:7000 1 4294967295 -> 8")
+    connected
+    ++ ((Connect 1 at_server 1 4294967295, codes "c1 connect 10.0.0.1:7000 1 4294967295 -> 8")
     ∷ (Call 1 8, codes "c1 call 8 -> 10.0.0.2:7001/1/8/0/4294967295")
     ∷ (Cancel 1 (name 2 1 8 0 4294967295) (pos 7), codes "c1 cancel 10.0.0.2:7001/1/8/0/4294967295 7 -> ok")
     ∷ (Call 1 8, codes "c1 call 8 -> 10.0.0.2:7001/1/8/1/4294967295")
@@ -142,7 +102,7 @@ worn_told =
     ∷ (Cancel 1 (name 2 1 8 3 4294967295) (pos 7), codes "c1 cancel 10.0.0.2:7001/1/8/3/4294967295 7 -> ok")
     ∷ (Call 1 8, codes "c1 call 8 -> worn")
     ∷ (Call 1 12, codes "c1 call 12 -> noconn")
-    ∷ []
+    ∷ [])
 
 worn : Told (server ∷ client ∷ []) worn_told
 unfolding digits encode_with
@@ -151,16 +111,13 @@ worn = refl
 -- an abort with the least code
 abbrev least_code_told : List (Line × List ℕ)
 least_code_told =
-    (Connect 1 at_server 1 1, codes "c1 connect 10.0.0.1:7000 1 1 -> 4")
-    ∷ (Call 1 4, codes "c1 call 4 -> 10.0.0.2:7001/1/4/0/1")
-    ∷ (Shut 1 call, codes "c1 shut 10.0.0.2:7001/1/4/0/1 -> ok")
-    ∷ (Poll 1, codes "c1 poll -> 10.0.0.1:7000 00000001000000040000000100000001000000010107000000000001")
-    ∷ (
+    asked
+    ++ ((
       Forge 1 at_server (unhex (codes "0000000100000004000000010000000000000001040000000000000180000000")),
       codes "c1 take 10.0.0.1:7000 0000000100000004000000010000000000000001040000000000000180000000 -> stopped",
     )
     ∷ (Ask 1 call, codes "c1 ask 10.0.0.2:7001/1/4/0/1 -> abort -2147483648")
-    ∷ []
+    ∷ [])
 
 least_code : Told (server ∷ client ∷ []) least_code_told
 unfolding digits encode_with

@@ -2,8 +2,9 @@
 use Rattle.std.specs.Prelude.{◌≡◌, ◌++◌, ℕ, List, [], ◌∷◌, codes, refl, replicate, Some}
 use Rattle.rx_model.specs.Text.{hex_text}
 use Rattle.rx_rules.proofs.Replay.{unhex}
-use Rattle.rx_examples.proofs.Story.{Line, Connect, Call, Shut, Read, Forge, Poll, Clock}
+use Rattle.rx_examples.proofs.Story.{Line, Read, Forge, Poll, Clock}
 use Rattle.rx_examples.proofs.Told.{Told, at_client, at_server, call, client, server, peer_window_told}
+use Rattle.rx_examples.proofs.Shared.{asked}
 use Rattle.std.specs.Fmt.{digits}
 use Rattle.hex.specs.Hex.{encode_with}
 
@@ -48,13 +49,10 @@ bad_datagrams = refl
 -- an ACK may end behind its marks, or tell a window, of which 0 is read as 1
 abbrev lenient_acks_told : List (Line × List ℕ)
 lenient_acks_told =
-    (Connect 1 at_server 1 1, codes "c1 connect 10.0.0.1:7000 1 1 -> 4")
-    ∷ (Call 1 4, codes "c1 call 4 -> 10.0.0.2:7001/1/4/0/1")
-    ∷ (Shut 1 call, codes "c1 shut 10.0.0.2:7001/1/4/0/1 -> ok")
-    ∷ (Poll 1, codes "c1 poll -> 10.0.0.1:7000 00000001000000040000000100000001000000010107000000000001")
-    ∷ (
-      Forge 1 at_server (unhex
-          (codes "00000001000000040000000100000000000000010200000000000001000000000000000100000000000000000800")),
+    asked
+    ++ ((
+      Forge 1 at_server
+          (unhex (codes "00000001000000040000000100000000000000010200000000000001000000000000000100000000000000000800")),
       codes "c1 take 10.0.0.1:7000 0000000100000004000000010000000000000001020000000000000100000000000000010000"
           ++ codes "0000000000000800 -> heard",
     )
@@ -72,7 +70,7 @@ lenient_acks_told =
       codes "c1 take 10.0.0.1:7000 0000000100000004000000010000000000000003020000000000000100000000000000010000"
           ++ codes "0000000000000800000000000005a4000005a400000000 -> heard",
     )
-    ∷ []
+    ∷ [])
 
 lenient_acks : Told (server ∷ client ∷ []) lenient_acks_told
 unfolding digits encode_with
@@ -85,13 +83,10 @@ lenient_acks_window = refl
 -- an ACK of a piece that was never sent changes nothing
 abbrev strange_acks_told : List (Line × List ℕ)
 strange_acks_told =
-    (Connect 1 at_server 1 1, codes "c1 connect 10.0.0.1:7000 1 1 -> 4")
-    ∷ (Call 1 4, codes "c1 call 4 -> 10.0.0.2:7001/1/4/0/1")
-    ∷ (Shut 1 call, codes "c1 shut 10.0.0.2:7001/1/4/0/1 -> ok")
-    ∷ (Poll 1, codes "c1 poll -> 10.0.0.1:7000 00000001000000040000000100000001000000010107000000000001")
-    ∷ (
-      Forge 1 at_server (unhex
-          (codes "00000001000000040000000100000000000000010200000000000001000000000000000300000000000000000800000000")
+    asked
+    ++ ((
+      Forge 1 at_server
+          (unhex (codes "00000001000000040000000100000000000000010200000000000001000000000000000300000000000000000800000000")
           ++ unhex (codes "000005a4000005a40000002000000001")),
       codes "c1 take 10.0.0.1:7000 0000000100000004000000010000000000000001020000000000000100000000000000030000"
           ++ codes "0000000000000800000000000005a4000005a40000002000000001 -> strange",
@@ -107,7 +102,7 @@ strange_acks_told =
     ∷ (Read 1 call 16, codes "c1 read 10.0.0.2:7001/1/4/0/1 16 -> notyet")
     ∷ (Clock 1 1000, codes "c1 clock 1000")
     ∷ (Poll 1, codes "c1 poll -> 10.0.0.1:7000 00000001000000040000000100000001000000020107000000000001")
-    ∷ []
+    ∷ [])
 
 strange_acks : Told (server ∷ client ∷ []) strange_acks_told
 unfolding digits encode_with
@@ -116,13 +111,10 @@ strange_acks = refl
 -- the reasons 0 and 9, a status and a spare are heard as any; a ping is answered with its serial
 abbrev any_reason_told : List (Line × List ℕ)
 any_reason_told =
-    (Connect 1 at_server 1 1, codes "c1 connect 10.0.0.1:7000 1 1 -> 4")
-    ∷ (Call 1 4, codes "c1 call 4 -> 10.0.0.2:7001/1/4/0/1")
-    ∷ (Shut 1 call, codes "c1 shut 10.0.0.2:7001/1/4/0/1 -> ok")
-    ∷ (Poll 1, codes "c1 poll -> 10.0.0.1:7000 00000001000000040000000100000001000000010107000000000001")
-    ∷ (
-      Forge 1 at_server (unhex
-          (codes "00000001000000040000000100000000000000010200000000000001000000000000000100000000000000000000000000")
+    asked
+    ++ ((
+      Forge 1 at_server
+          (unhex (codes "00000001000000040000000100000000000000010200000000000001000000000000000100000000000000000000000000")
           ++ unhex (codes "000005a4000005a40000002000000001")),
       codes "c1 take 10.0.0.1:7000 0000000100000004000000010000000000000001020000000000000100000000000000010000"
           ++ codes "0000000000000000000000000005a4000005a40000002000000001 -> heard",
@@ -148,7 +140,7 @@ any_reason_told =
       codes "c1 poll -> 10.0.0.1:7000 0000000100000004000000010000000000000002020100000000000100000000000000010"
           ++ codes "0000000000000030700000000000005a4000005a40000002000000001",
     )
-    ∷ []
+    ∷ [])
 
 any_reason : Told (server ∷ client ∷ []) any_reason_told
 unfolding digits encode_with

@@ -1,8 +1,9 @@
 -- Worked examples of one call.
 use Rattle.std.specs.Prelude.{◌++◌, ℕ, List, [], ◌∷◌, codes, refl, pos}
 use Rattle.rx_rules.proofs.Replay.{unhex}
-use Rattle.rx_examples.proofs.Story.{Line, Connect, Call, Write, Shut, Read, Ask, Accept, Finish, Forge, Poll, Deliver}
-use Rattle.rx_examples.proofs.Told.{Told, at_client, at_server, call, client, name, server}
+use Rattle.rx_examples.proofs.Story.{Line, Call, Write, Shut, Read, Accept, Finish, Forge, Poll, Deliver}
+use Rattle.rx_examples.proofs.Told.{Told, at_client, call, client, name, server}
+use Rattle.rx_examples.proofs.Shared.{asked, ended}
 use Rattle.std.specs.Fmt.{digits}
 use Rattle.hex.specs.Hex.{encode_with}
 
@@ -33,40 +34,7 @@ one_call = refl
 -- two nodes, an empty request and an empty reply
 abbrev empty_call_told : List (Line × List ℕ)
 empty_call_told =
-    (Connect 1 at_server 1 1, codes "c1 connect 10.0.0.1:7000 1 1 -> 4")
-    ∷ (Call 1 4, codes "c1 call 4 -> 10.0.0.2:7001/1/4/0/1")
-    ∷ (Shut 1 call, codes "c1 shut 10.0.0.2:7001/1/4/0/1 -> ok")
-    ∷ (Poll 1, codes "c1 poll -> 10.0.0.1:7000 00000001000000040000000100000001000000010107000000000001")
-    ∷ (
-      Deliver 1,
-      codes "s take 10.0.0.2:7001 00000001000000040000000100000001000000010107000000000001 -> kept",
-    )
-    ∷ (Accept, codes "s accept -> 10.0.0.2:7001/1/4/0/1")
-    ∷ (Read 0 call 16, codes "s read 10.0.0.2:7001/1/4/0/1 16 -> end")
-    ∷ (Finish call (pos 0), codes "s finish 10.0.0.2:7001/1/4/0/1 0 -> ok")
-    ∷ (Poll 0, codes "s poll -> 10.0.0.2:7001 00000001000000040000000100000001000000010106000000000001")
-    ∷ (
-      Poll 0,
-      codes "s poll -> 10.0.0.2:7001 00000001000000040000000100000000000000020200000000000001000000000000000200"
-          ++ codes "000001000000010100000000000005a4000005a40000002000000001",
-    )
-    ∷ (
-      Deliver 2,
-      codes "c1 take 10.0.0.1:7000 00000001000000040000000100000001000000010106000000000001 -> kept",
-    )
-    ∷ (Read 1 call 16, codes "c1 read 10.0.0.2:7001/1/4/0/1 16 -> end")
-    ∷ (
-      Deliver 3,
-      codes "c1 take 10.0.0.1:7000 0000000100000004000000010000000000000002020000000000000100000000000000020000"
-          ++ codes "0001000000010100000000000005a4000005a40000002000000001 -> over",
-    )
-    ∷ (Poll 1, codes "c1 poll -> 10.0.0.1:7000 00000001000000040000000100000000000000020501000000000001")
-    ∷ (
-      Deliver 4,
-      codes "s take 10.0.0.2:7001 00000001000000040000000100000000000000020501000000000001 -> heard",
-    )
-    ∷ (Ask 1 call, codes "c1 ask 10.0.0.2:7001/1/4/0/1 -> ok")
-    ∷ []
+    ended
 
 empty_call : Told (server ∷ client ∷ []) empty_call_told
 unfolding digits encode_with
@@ -75,11 +43,8 @@ empty_call = refl
 -- a request comes again: before its call is accepted, after its reply, and after its channel has a later call
 abbrev repeats_told : List (Line × List ℕ)
 repeats_told =
-    (Connect 1 at_server 1 1, codes "c1 connect 10.0.0.1:7000 1 1 -> 4")
-    ∷ (Call 1 4, codes "c1 call 4 -> 10.0.0.2:7001/1/4/0/1")
-    ∷ (Shut 1 call, codes "c1 shut 10.0.0.2:7001/1/4/0/1 -> ok")
-    ∷ (Poll 1, codes "c1 poll -> 10.0.0.1:7000 00000001000000040000000100000001000000010107000000000001")
-    ∷ (
+    asked
+    ++ ((
       Deliver 1,
       codes "s take 10.0.0.2:7001 00000001000000040000000100000001000000010107000000000001 -> kept",
     )
@@ -125,7 +90,7 @@ repeats_told =
       Deliver 1,
       codes "s take 10.0.0.2:7001 00000001000000040000000100000001000000010107000000000001 -> old",
     )
-    ∷ []
+    ∷ [])
 
 repeats : Told (server ∷ client ∷ []) repeats_told
 unfolding digits encode_with

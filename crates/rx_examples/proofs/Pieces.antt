@@ -2,17 +2,17 @@
 use Rattle.std.specs.Prelude.{◌++◌, ℕ, List, [], ◌∷◌, codes, refl, replicate}
 use Rattle.rx_model.specs.Text.{hex_text}
 use Rattle.rx_rules.proofs.Replay.{unhex}
-use Rattle.rx_examples.proofs.Story.{Line, Connect, Call, Write, Shut, Read, Accept, Poll, Deliver, Rounds}
-use Rattle.rx_examples.proofs.Told.{Told, ToldBehind, lines_of, at_server, call, client, server}
+use Rattle.rx_examples.proofs.Story.{Line, Write, Shut, Read, Accept, Poll, Deliver, Rounds}
+use Rattle.rx_examples.proofs.Told.{Told, ToldBehind, lines_of, call, client, server}
+use Rattle.rx_examples.proofs.Shared.{connected, two_pieces}
 use Rattle.std.specs.Fmt.{digits}
 use Rattle.hex.specs.Hex.{encode_with}
 
 -- a request of 1,412 bytes is one piece
 abbrev one_full_piece_told : List (Line × List ℕ)
 one_full_piece_told =
-    (Connect 1 at_server 1 1, codes "c1 connect 10.0.0.1:7000 1 1 -> 4")
-    ∷ (Call 1 4, codes "c1 call 4 -> 10.0.0.2:7001/1/4/0/1")
-    ∷ (
+    connected
+    ++ ((
       Write 1 call (replicate 1412 90),
       codes "c1 write 10.0.0.2:7001/1/4/0/1 1412 -> 1412 " ++ hex_text (replicate 1412 90),
     )
@@ -23,7 +23,7 @@ one_full_piece_told =
           ++ hex_text (replicate 1412 90),
     )
     ∷ (Poll 1, codes "c1 poll -> none")
-    ∷ []
+    ∷ [])
 
 one_full_piece : Told (server ∷ client ∷ []) one_full_piece_told
 unfolding digits encode_with
@@ -32,9 +32,8 @@ one_full_piece = refl
 -- one of 1,413 bytes is two
 abbrev a_byte_more_told : List (Line × List ℕ)
 a_byte_more_told =
-    (Connect 1 at_server 1 1, codes "c1 connect 10.0.0.1:7000 1 1 -> 4")
-    ∷ (Call 1 4, codes "c1 call 4 -> 10.0.0.2:7001/1/4/0/1")
-    ∷ (
+    connected
+    ++ ((
       Write 1 call (replicate 1413 90),
       codes "c1 write 10.0.0.2:7001/1/4/0/1 1413 -> 1413 " ++ hex_text (replicate 1413 90),
     )
@@ -46,7 +45,7 @@ a_byte_more_told =
     )
     ∷ (Poll 1, codes "c1 poll -> 10.0.0.1:7000 000000010000000400000001000000020000000201070000000000015a")
     ∷ (Poll 1, codes "c1 poll -> none")
-    ∷ []
+    ∷ [])
 
 a_byte_more : Told (server ∷ client ∷ []) a_byte_more_told
 unfolding digits encode_with
@@ -55,43 +54,13 @@ a_byte_more = refl
 -- the second piece comes first
 abbrev out_of_order_told : List (Line × List ℕ)
 out_of_order_told =
-    (Connect 1 at_server 1 1, codes "c1 connect 10.0.0.1:7000 1 1 -> 4")
-    ∷ (Call 1 4, codes "c1 call 4 -> 10.0.0.2:7001/1/4/0/1")
-    ∷ (
-      Write 1 call (replicate 1412 90),
-      codes "c1 write 10.0.0.2:7001/1/4/0/1 1412 -> 1412 " ++ hex_text (replicate 1412 90),
-    )
-    ∷ (Write 1 call (unhex (codes "6b")), codes "c1 write 10.0.0.2:7001/1/4/0/1 1 -> 1 6b")
-    ∷ (Shut 1 call, codes "c1 shut 10.0.0.2:7001/1/4/0/1 -> ok")
-    ∷ (
-      Poll 1,
-      codes "c1 poll -> 10.0.0.1:7000 00000001000000040000000100000001000000010101000000000001"
-          ++ hex_text (replicate 1412 90),
-    )
-    ∷ (Poll 1, codes "c1 poll -> 10.0.0.1:7000 000000010000000400000001000000020000000201070000000000016b")
-    ∷ (
-      Deliver 2,
-      codes "s take 10.0.0.2:7001 000000010000000400000001000000020000000201070000000000016b -> kept",
-    )
-    ∷ (Accept, codes "s accept -> none")
-    ∷ (
-      Poll 0,
-      codes "s poll -> 10.0.0.2:7001 00000001000000040000000100000000000000010200000000000001000000000000000100"
-          ++ codes "0000020000000203020001000000000005a4000005a40000002000000001",
-    )
-    ∷ (
-      Deliver 1,
-      codes "s take 10.0.0.2:7001 00000001000000040000000100000001000000010101000000000001"
-          ++ hex_text (replicate 1412 90)
-          ++ codes " -> kept",
-    )
-    ∷ (Accept, codes "s accept -> 10.0.0.2:7001/1/4/0/1")
-    ∷ (
+    two_pieces
+    ++ ((
       Read 0 call 2000,
       codes "s read 10.0.0.2:7001/1/4/0/1 2000 -> got " ++ hex_text (replicate 1412 90) ++ codes "6b",
     )
     ∷ (Read 0 call 2000, codes "s read 10.0.0.2:7001/1/4/0/1 2000 -> end")
-    ∷ []
+    ∷ [])
 
 out_of_order : Told (server ∷ client ∷ []) out_of_order_told
 unfolding digits encode_with
@@ -100,9 +69,8 @@ out_of_order = refl
 -- a window of 32 pieces is full, and stays so where nobody reads
 abbrev full_window_told : List (Line × List ℕ)
 full_window_told =
-    (Connect 1 at_server 1 1, codes "c1 connect 10.0.0.1:7000 1 1 -> 4")
-    ∷ (Call 1 4, codes "c1 call 4 -> 10.0.0.2:7001/1/4/0/1")
-    ∷ (
+    connected
+    ++ ((
       Write 1 call (replicate 46596 90),
       codes "c1 write 10.0.0.2:7001/1/4/0/1 46596 -> 45184 " ++ hex_text (replicate 45184 90),
     )
@@ -119,7 +87,7 @@ full_window_told =
           ++ codes " -> kept",
     )
     ∷ (Accept, codes "s accept -> 10.0.0.2:7001/1/4/0/1")
-    ∷ []
+    ∷ [])
 
 full_window : Told (server ∷ client ∷ []) full_window_told
 unfolding digits encode_with

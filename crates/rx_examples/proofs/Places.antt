@@ -2,46 +2,15 @@
 use Rattle.std.specs.Prelude.{◌++◌, ℕ, List, [], ◌∷◌, codes, refl, pos}
 use Rattle.rx_examples.proofs.Story.{Line, Connect, Call, Shut, Read, Ask, Cancel, Accept, Finish, Poll, Deliver, ClockAll}
 use Rattle.rx_examples.proofs.Told.{Told, server_with, client_at, at_server, call, client, host, name, server}
+use Rattle.rx_examples.proofs.Shared.{asked, ended}
 use Rattle.std.specs.Fmt.{digits}
 use Rattle.hex.specs.Hex.{encode_with}
 
 -- a record that was idle for 600,000 ms gives its place away, and not a moment before
 abbrev idle_place_told : List (Line × List ℕ)
 idle_place_told =
-    (Connect 1 at_server 1 1, codes "c1 connect 10.0.0.1:7000 1 1 -> 4")
-    ∷ (Call 1 4, codes "c1 call 4 -> 10.0.0.2:7001/1/4/0/1")
-    ∷ (Shut 1 call, codes "c1 shut 10.0.0.2:7001/1/4/0/1 -> ok")
-    ∷ (Poll 1, codes "c1 poll -> 10.0.0.1:7000 00000001000000040000000100000001000000010107000000000001")
-    ∷ (
-      Deliver 1,
-      codes "s take 10.0.0.2:7001 00000001000000040000000100000001000000010107000000000001 -> kept",
-    )
-    ∷ (Accept, codes "s accept -> 10.0.0.2:7001/1/4/0/1")
-    ∷ (Read 0 call 16, codes "s read 10.0.0.2:7001/1/4/0/1 16 -> end")
-    ∷ (Finish call (pos 0), codes "s finish 10.0.0.2:7001/1/4/0/1 0 -> ok")
-    ∷ (Poll 0, codes "s poll -> 10.0.0.2:7001 00000001000000040000000100000001000000010106000000000001")
-    ∷ (
-      Poll 0,
-      codes "s poll -> 10.0.0.2:7001 00000001000000040000000100000000000000020200000000000001000000000000000200"
-          ++ codes "000001000000010100000000000005a4000005a40000002000000001",
-    )
-    ∷ (
-      Deliver 2,
-      codes "c1 take 10.0.0.1:7000 00000001000000040000000100000001000000010106000000000001 -> kept",
-    )
-    ∷ (Read 1 call 16, codes "c1 read 10.0.0.2:7001/1/4/0/1 16 -> end")
-    ∷ (
-      Deliver 3,
-      codes "c1 take 10.0.0.1:7000 0000000100000004000000010000000000000002020000000000000100000000000000020000"
-          ++ codes "0001000000010100000000000005a4000005a40000002000000001 -> over",
-    )
-    ∷ (Poll 1, codes "c1 poll -> 10.0.0.1:7000 00000001000000040000000100000000000000020501000000000001")
-    ∷ (
-      Deliver 4,
-      codes "s take 10.0.0.2:7001 00000001000000040000000100000000000000020501000000000001 -> heard",
-    )
-    ∷ (Ask 1 call, codes "c1 ask 10.0.0.2:7001/1/4/0/1 -> ok")
-    ∷ (ClockAll 599999, codes "s clock 599999;c1 clock 599999;c2 clock 599999")
+    ended
+    ++ ((ClockAll 599999, codes "s clock 599999;c1 clock 599999;c2 clock 599999")
     ∷ (Connect 2 at_server 1 1, codes "c2 connect 10.0.0.1:7000 1 1 -> 4")
     ∷ (Call 2 4, codes "c2 call 4 -> 10.0.0.3:7001/1/4/0/1")
     ∷ (Shut 2 (name 3 1 4 0 1), codes "c2 shut 10.0.0.3:7001/1/4/0/1 -> ok")
@@ -55,7 +24,7 @@ idle_place_told =
       Deliver 5,
       codes "s take 10.0.0.3:7001 00000001000000040000000100000001000000010107000000000001 -> kept",
     )
-    ∷ []
+    ∷ [])
 
 idle_place : Told ((server_with (record { conns = 1; calls = 64; slots = 2048; window = 32 })) ∷ client
     ∷ (client_at (host 3)) ∷ []) idle_place_told
@@ -65,40 +34,8 @@ idle_place = refl
 -- a request of the forgotten record comes while its place is taken
 abbrev place_taken_told : List (Line × List ℕ)
 place_taken_told =
-    (Connect 1 at_server 1 1, codes "c1 connect 10.0.0.1:7000 1 1 -> 4")
-    ∷ (Call 1 4, codes "c1 call 4 -> 10.0.0.2:7001/1/4/0/1")
-    ∷ (Shut 1 call, codes "c1 shut 10.0.0.2:7001/1/4/0/1 -> ok")
-    ∷ (Poll 1, codes "c1 poll -> 10.0.0.1:7000 00000001000000040000000100000001000000010107000000000001")
-    ∷ (
-      Deliver 1,
-      codes "s take 10.0.0.2:7001 00000001000000040000000100000001000000010107000000000001 -> kept",
-    )
-    ∷ (Accept, codes "s accept -> 10.0.0.2:7001/1/4/0/1")
-    ∷ (Read 0 call 16, codes "s read 10.0.0.2:7001/1/4/0/1 16 -> end")
-    ∷ (Finish call (pos 0), codes "s finish 10.0.0.2:7001/1/4/0/1 0 -> ok")
-    ∷ (Poll 0, codes "s poll -> 10.0.0.2:7001 00000001000000040000000100000001000000010106000000000001")
-    ∷ (
-      Poll 0,
-      codes "s poll -> 10.0.0.2:7001 00000001000000040000000100000000000000020200000000000001000000000000000200"
-          ++ codes "000001000000010100000000000005a4000005a40000002000000001",
-    )
-    ∷ (
-      Deliver 2,
-      codes "c1 take 10.0.0.1:7000 00000001000000040000000100000001000000010106000000000001 -> kept",
-    )
-    ∷ (Read 1 call 16, codes "c1 read 10.0.0.2:7001/1/4/0/1 16 -> end")
-    ∷ (
-      Deliver 3,
-      codes "c1 take 10.0.0.1:7000 0000000100000004000000010000000000000002020000000000000100000000000000020000"
-          ++ codes "0001000000010100000000000005a4000005a40000002000000001 -> over",
-    )
-    ∷ (Poll 1, codes "c1 poll -> 10.0.0.1:7000 00000001000000040000000100000000000000020501000000000001")
-    ∷ (
-      Deliver 4,
-      codes "s take 10.0.0.2:7001 00000001000000040000000100000000000000020501000000000001 -> heard",
-    )
-    ∷ (Ask 1 call, codes "c1 ask 10.0.0.2:7001/1/4/0/1 -> ok")
-    ∷ (ClockAll 600000, codes "s clock 600000;c1 clock 600000;c2 clock 600000")
+    ended
+    ++ ((ClockAll 600000, codes "s clock 600000;c1 clock 600000;c2 clock 600000")
     ∷ (Connect 2 at_server 1 1, codes "c2 connect 10.0.0.1:7000 1 1 -> 4")
     ∷ (Call 2 4, codes "c2 call 4 -> 10.0.0.3:7001/1/4/0/1")
     ∷ (Shut 2 (name 3 1 4 0 1), codes "c2 shut 10.0.0.3:7001/1/4/0/1 -> ok")
@@ -114,7 +51,7 @@ place_taken_told =
       Deliver 1,
       codes "s take 10.0.0.2:7001 00000001000000040000000100000001000000010107000000000001 -> full",
     )
-    ∷ []
+    ∷ [])
 
 place_taken : Told ((server_with (record { conns = 1; calls = 64; slots = 2048; window = 32 })) ∷ client
     ∷ (client_at (host 3)) ∷ []) place_taken_told
@@ -124,11 +61,8 @@ place_taken = refl
 -- an abort that comes before its call is strange
 abbrev early_cancel_told : List (Line × List ℕ)
 early_cancel_told =
-    (Connect 1 at_server 1 1, codes "c1 connect 10.0.0.1:7000 1 1 -> 4")
-    ∷ (Call 1 4, codes "c1 call 4 -> 10.0.0.2:7001/1/4/0/1")
-    ∷ (Shut 1 call, codes "c1 shut 10.0.0.2:7001/1/4/0/1 -> ok")
-    ∷ (Poll 1, codes "c1 poll -> 10.0.0.1:7000 00000001000000040000000100000001000000010107000000000001")
-    ∷ (Cancel 1 call (pos 7), codes "c1 cancel 10.0.0.2:7001/1/4/0/1 7 -> ok")
+    asked
+    ++ ((Cancel 1 call (pos 7), codes "c1 cancel 10.0.0.2:7001/1/4/0/1 7 -> ok")
     ∷ (
       Poll 1,
       codes "c1 poll -> 10.0.0.1:7000 0000000100000004000000010000000000000002040100000000000100000007",
@@ -138,7 +72,7 @@ early_cancel_told =
       Deliver 2,
       codes "s take 10.0.0.2:7001 0000000100000004000000010000000000000002040100000000000100000007 -> strange",
     )
-    ∷ []
+    ∷ [])
 
 early_cancel : Told (server ∷ client ∷ []) early_cancel_told
 unfolding digits encode_with
@@ -174,40 +108,8 @@ shared_name = refl
 -- a number below the channel's is old, whatever became of its call
 abbrev old_before_over_told : List (Line × List ℕ)
 old_before_over_told =
-    (Connect 1 at_server 1 1, codes "c1 connect 10.0.0.1:7000 1 1 -> 4")
-    ∷ (Call 1 4, codes "c1 call 4 -> 10.0.0.2:7001/1/4/0/1")
-    ∷ (Shut 1 call, codes "c1 shut 10.0.0.2:7001/1/4/0/1 -> ok")
-    ∷ (Poll 1, codes "c1 poll -> 10.0.0.1:7000 00000001000000040000000100000001000000010107000000000001")
-    ∷ (
-      Deliver 1,
-      codes "s take 10.0.0.2:7001 00000001000000040000000100000001000000010107000000000001 -> kept",
-    )
-    ∷ (Accept, codes "s accept -> 10.0.0.2:7001/1/4/0/1")
-    ∷ (Read 0 call 16, codes "s read 10.0.0.2:7001/1/4/0/1 16 -> end")
-    ∷ (Finish call (pos 0), codes "s finish 10.0.0.2:7001/1/4/0/1 0 -> ok")
-    ∷ (Poll 0, codes "s poll -> 10.0.0.2:7001 00000001000000040000000100000001000000010106000000000001")
-    ∷ (
-      Poll 0,
-      codes "s poll -> 10.0.0.2:7001 00000001000000040000000100000000000000020200000000000001000000000000000200"
-          ++ codes "000001000000010100000000000005a4000005a40000002000000001",
-    )
-    ∷ (
-      Deliver 2,
-      codes "c1 take 10.0.0.1:7000 00000001000000040000000100000001000000010106000000000001 -> kept",
-    )
-    ∷ (Read 1 call 16, codes "c1 read 10.0.0.2:7001/1/4/0/1 16 -> end")
-    ∷ (
-      Deliver 3,
-      codes "c1 take 10.0.0.1:7000 0000000100000004000000010000000000000002020000000000000100000000000000020000"
-          ++ codes "0001000000010100000000000005a4000005a40000002000000001 -> over",
-    )
-    ∷ (Poll 1, codes "c1 poll -> 10.0.0.1:7000 00000001000000040000000100000000000000020501000000000001")
-    ∷ (
-      Deliver 4,
-      codes "s take 10.0.0.2:7001 00000001000000040000000100000000000000020501000000000001 -> heard",
-    )
-    ∷ (Ask 1 call, codes "c1 ask 10.0.0.2:7001/1/4/0/1 -> ok")
-    ∷ (
+    ended
+    ++ ((
       Deliver 1,
       codes "s take 10.0.0.2:7001 00000001000000040000000100000001000000010107000000000001 -> over",
     )
@@ -222,7 +124,7 @@ old_before_over_told =
       Deliver 1,
       codes "s take 10.0.0.2:7001 00000001000000040000000100000001000000010107000000000001 -> old",
     )
-    ∷ []
+    ∷ [])
 
 old_before_over : Told (server ∷ client ∷ []) old_before_over_told
 unfolding digits encode_with

@@ -1,31 +1,16 @@
 -- Worked examples of what is given again, and when.
-use Rattle.std.specs.Prelude.{◌≡◌, ◌++◌, ℕ, List, [], ◌∷◌, codes, refl, pos, Some}
-use Rattle.rx_examples.proofs.Story.{Line, Connect, Call, Shut, Read, Ask, Accept, Finish, Poll, Deliver, Clock}
-use Rattle.rx_examples.proofs.Told.{Told, at_server, call, client, server, rates_told}
+use Rattle.std.specs.Prelude.{◌≡◌, ◌++◌, ℕ, List, [], ◌∷◌, codes, refl, Some}
+use Rattle.rx_examples.proofs.Story.{Line, Read, Ask, Poll, Deliver, Clock}
+use Rattle.rx_examples.proofs.Told.{Told, call, client, server, rates_told}
+use Rattle.rx_examples.proofs.Shared.{asked, served}
 use Rattle.std.specs.Fmt.{digits}
 use Rattle.hex.specs.Hex.{encode_with}
 
 -- a reply that is lost is given again after one second, and then after two
 abbrev reply_lost_twice_told : List (Line × List ℕ)
 reply_lost_twice_told =
-    (Connect 1 at_server 1 1, codes "c1 connect 10.0.0.1:7000 1 1 -> 4")
-    ∷ (Call 1 4, codes "c1 call 4 -> 10.0.0.2:7001/1/4/0/1")
-    ∷ (Shut 1 call, codes "c1 shut 10.0.0.2:7001/1/4/0/1 -> ok")
-    ∷ (Poll 1, codes "c1 poll -> 10.0.0.1:7000 00000001000000040000000100000001000000010107000000000001")
-    ∷ (
-      Deliver 1,
-      codes "s take 10.0.0.2:7001 00000001000000040000000100000001000000010107000000000001 -> kept",
-    )
-    ∷ (Accept, codes "s accept -> 10.0.0.2:7001/1/4/0/1")
-    ∷ (Read 0 call 16, codes "s read 10.0.0.2:7001/1/4/0/1 16 -> end")
-    ∷ (Finish call (pos 0), codes "s finish 10.0.0.2:7001/1/4/0/1 0 -> ok")
-    ∷ (Poll 0, codes "s poll -> 10.0.0.2:7001 00000001000000040000000100000001000000010106000000000001")
-    ∷ (
-      Poll 0,
-      codes "s poll -> 10.0.0.2:7001 00000001000000040000000100000000000000020200000000000001000000000000000200"
-          ++ codes "000001000000010100000000000005a4000005a40000002000000001",
-    )
-    ∷ (
+    served
+    ++ ((
       Deliver 3,
       codes "c1 take 10.0.0.1:7000 0000000100000004000000010000000000000002020000000000000100000000000000020000"
           ++ codes "0001000000010100000000000005a4000005a40000002000000001 -> heard",
@@ -47,7 +32,7 @@ reply_lost_twice_told =
     ∷ (Poll 0, codes "s poll -> none")
     ∷ (Clock 0 7000, codes "s clock 7000")
     ∷ (Poll 0, codes "s poll -> 10.0.0.2:7001 00000001000000040000000100000001000000050106000000000001")
-    ∷ []
+    ∷ [])
 
 reply_lost_twice : Told (server ∷ client ∷ []) reply_lost_twice_told
 unfolding digits encode_with
@@ -60,11 +45,8 @@ reply_lost_twice_rates = refl
 -- nothing arrives: the request is given again, the client pings, and dies after 12 seconds
 abbrev all_lost_told : List (Line × List ℕ)
 all_lost_told =
-    (Connect 1 at_server 1 1, codes "c1 connect 10.0.0.1:7000 1 1 -> 4")
-    ∷ (Call 1 4, codes "c1 call 4 -> 10.0.0.2:7001/1/4/0/1")
-    ∷ (Shut 1 call, codes "c1 shut 10.0.0.2:7001/1/4/0/1 -> ok")
-    ∷ (Poll 1, codes "c1 poll -> 10.0.0.1:7000 00000001000000040000000100000001000000010107000000000001")
-    ∷ (Poll 1, codes "c1 poll -> none")
+    asked
+    ++ ((Poll 1, codes "c1 poll -> none")
     ∷ (Clock 1 1000, codes "c1 clock 1000")
     ∷ (Poll 1, codes "c1 poll -> 10.0.0.1:7000 00000001000000040000000100000001000000020107000000000001")
     ∷ (Poll 1, codes "c1 poll -> none")
@@ -96,7 +78,7 @@ all_lost_told =
     ∷ (Clock 1 12000, codes "c1 clock 12000")
     ∷ (Poll 1, codes "c1 poll -> none")
     ∷ (Ask 1 call, codes "c1 ask 10.0.0.2:7001/1/4/0/1 -> dead 12000")
-    ∷ []
+    ∷ [])
 
 all_lost : Told (server ∷ client ∷ []) all_lost_told
 unfolding digits encode_with
