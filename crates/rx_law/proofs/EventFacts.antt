@@ -36,6 +36,7 @@ use Rattle.rx_law.proofs.ServerHistory.{running-at}
 abbrev pub HasLatest : Looks → CallName → Type 0
 HasLatest l c = 1 ≤ number_of (conn_at l (connection_of c)) c.chan
 
+-- the numbers of an event fit, and a call that is ended with a code is its channel's latest
 abbrev pub EventFits : Setup → Looks → Event → Type 0
 EventFits s l (events.Linked to service first (Ok cid)) = (cid % 4 ≡ 0) × (cid + 4 ≤ 2 ^ 32)
 EventFits s l (events.Called cid (Ok c)) = 1 ≤ c.number
@@ -109,5 +110,6 @@ module _ (s : Setup) (l : Looks) (fits : FitsSetup s) (conns : Conns s l) (o : O
   by-kind (Server service nonces) (events.Taken from bytes got) is allowed = allowed
   by-kind (Server service nonces) _ is allowed = tt
 
+  -- so it is of each event that the rules allow
   pub event_fits : (e : Event) → Allowed s l e → EventFits s l e
   event_fits e allowed = by-kind s.kind e refl allowed

@@ -30,6 +30,7 @@ pub record FitsCall (k : CallRecord) : Type 0 where
   pub life : FitsLife k.life
   pub number : 1 ≤ k.name.number
 
+-- of one that is looked for
 abbrev pub CallFits : Option CallRecord → Type 0
 CallFits None = Unit {0}
 CallFits (Some k) = FitsCall k
@@ -40,12 +41,14 @@ CallsFit ks = (c : CallName) → CallFits (find (λ k. same_name k.name c) ks)
 
 -- ---- one call
 
+-- its life goes on
 pub life_fits : (k : CallRecord) (life : Life) → FitsLife life → FitsCall k → FitsCall (record k { life = life })
 life_fits k life is f = record { received = f.received; owed = f.owed; said = f.said; life = is; number = f.number }
 
 none-said : IsBytes []
 none-said i = omega arith
 
+-- it starts
 pub fresh_fits : (c : CallName) (life : Life) (window now : ℕ) → FitsLife life → 1 ≤ c.number
     → FitsCall (record { name = c; life = life; looks = fresh_call window now })
 fresh_fits c life window now is some =
@@ -100,6 +103,7 @@ both-bytes [] ys a b i = b i
 both-bytes (x ∷ xs) ys a b zero = a zero
 both-bytes (x ∷ xs) ys a b (suc i) = both-bytes xs ys (λ j. a (suc j)) b i
 
+-- bytes were accepted
 pub write_fits : (bytes : List ℕ) (k : CallRecord) → IsBytes bytes → FitsCall k
     → FitsCall (record k { looks = after_write bytes k.looks })
 write_fits bytes k is f =
@@ -112,6 +116,7 @@ write_fits bytes k is f =
       number = f.number;
     }
 
+-- bytes were given, or the end
 pub read_fits : (now : ℕ) (end : Bool) (bytes : List ℕ) (k : CallRecord) → FitsCall k
     → FitsCall (record k { looks = after_read now end bytes k.looks })
 read_fits now end bytes k f =

@@ -50,12 +50,14 @@ fit_call d change l names keeps all c =
     of None keeps f = tt
     of (Some k) keeps f = keeps k refl f
 
+-- the life of the call of a name goes on
 pub fit_life : (d : CallName) (change : Life → Life) (l : Looks) → ((x : Life) → FitsLife x → FitsLife (change x))
     → CallsFit l.calls → CallsFit (on_life d change l).calls
 fit_life d change l keeps all =
     fit_call d (λ k. record k { life = change k.life }) l (λ k. refl)
     (λ k there f. life_fits k (change k.life) (keeps k.life f.life) f) all
 
+-- its end changes
 pub fit_looks : (d : CallName) (change : CallLooks → CallLooks) (l : Looks)
     → ((k : CallRecord) → call_at l d ≡ Some k → FitsCall k → FitsCall (record k { looks = change k.looks }))
     → CallsFit l.calls → CallsFit (on_looks d change l).calls
@@ -78,6 +80,7 @@ fit_started s life d l is some all c =
 above-none : (a b : ℕ) → nat_lt a b ≡ true → 1 ≤ b
 above-none a b is = (let low : a < b = grind (arith, nat_tests) in omega arith)
 
+-- a call whose number is above its channel's starts
 pub fit_opened : (s : Setup) (d : CallName) (l : Looks) → CallsFit l.calls → CallsFit (opened s d l).calls
 fit_opened s d l all = of (nat_lt (channel_at l (channel_of d)).number d.number) refl
   where

@@ -30,24 +30,29 @@ abbrev pub OwnConn : Kind → Connection → Type 0
 OwnConn (Client host epoch) x = (x.host ≡ host) × (x.epoch ≡ epoch)
 OwnConn (Server service nonces) x = Unit {0}
 
+-- its name, whose it is, and what its channels owe
 pub record FitsConn (s : Setup) (r : ConnLooks) : Type 0 where
   pub name : FitsConnection r.connection
   pub own : OwnConn s.kind r.connection
   pub channels : Every FitsChannel r.channels
 
+-- of each connection of a node
 abbrev pub ConnsFit : Setup → Looks → Type 0
 ConnsFit s l = Every (FitsConn s) l.conns
 
 -- ---- what a channel comes to owe
 
+-- it owes nothing
 pub fresh_channel_fits : (n : ℕ) → FitsChannel (fresh_channel n)
 fresh_channel_fits n = record { abort = tt; busy = tt; response = tt; numbered = tt }
 
+-- it comes to owe an ABORT
 pub abort_fits : (o : Option ℤ) (q : ChannelLooks) → 1 ≤ q.number → IfSome o IsCode → FitsChannel q
     → FitsChannel (owing_abort o q)
 abort_fits None q some is f = f
 abort_fits (Some code) q some is f = record { abort = is; busy = f.busy; response = f.response; numbered = some }
 
+-- it comes to owe an ACKALL
 pub ackall_fits : (owes : Bool) (q : ChannelLooks) → FitsChannel q → FitsChannel (owing_ackall owes q)
 ackall_fits true q f = record { abort = f.abort; busy = f.busy; response = f.response; numbered = f.numbered }
 ackall_fits false q f = f
@@ -66,6 +71,7 @@ told-fits : (life : Life) → FitsLife life → IfSome (told_code life) IsCode
 told-fits (lives.Ended (ends.Cancelled code)) f = f
 told-fits life f = served-fits life f
 
+-- it comes to owe again what its call ended with
 pub again_fits : (body : Body) (life : Life) (q : ChannelLooks) → 1 ≤ q.number → FitsLife life → FitsChannel q
     → FitsChannel (owing_again body life q)
 again_fits (bodies.Chunk payload) life q some is f =

@@ -86,6 +86,7 @@ conns-busy s d l low all =
     conns_on_channel s (channel_of d) (owing_busy d.number) l
     (λ q f. record { abort = f.abort; busy = low; response = f.response; numbered = f.numbered }) all
 
+-- behind the rows in front, by the answer
 pub conns_with : (s : Setup) (got : Took) (d : CallName) (m : Message) (l : Looks) → FitsSetup s → d.number < 2 ^ 32
     → CallFits (call_at l d)
     → (may_abort got m.body ≡ true → Abortable l d) → ConnsFit s l → ConnsFit s (taken_with s got d m l)

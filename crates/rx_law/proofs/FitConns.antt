@@ -28,6 +28,7 @@ if-conn : (s : Setup) (b : Bool) (f : ConnLooks → ConnLooks) (r : ConnLooks) �
 if-conn s true f r keeps fits = keeps fits
 if-conn s false f r keeps fits = fits
 
+-- a connection changes
 pub conns_on_conn : (s : Setup) (x : Connection) (f : ConnLooks → ConnLooks) (l : Looks)
     → ((r : ConnLooks) → FitsConn s r → FitsConn s (f r))
     → ConnsFit s l → ConnsFit s (on_conn x f l)
@@ -42,6 +43,7 @@ channels-changed n f [] keeps all = tt
 channels-changed zero f (q ∷ qs) keeps all = (keeps q all.0, all.1)
 channels-changed (suc n) f (q ∷ qs) keeps all = (all.0, channels-changed n f qs keeps all.1)
 
+-- what a channel owes changes
 pub conns_on_channel : (s : Setup) (ch : Channel) (f : ChannelLooks → ChannelLooks) (l : Looks)
     → ((q : ChannelLooks) → FitsChannel q → FitsChannel (f q)) → ConnsFit s l → ConnsFit s (on_channel ch f l)
 conns_on_channel s ch f l keeps all =
@@ -80,6 +82,7 @@ one-conn s x f (r ∷ rs) differ keeps all =
       | false ↦ λ other keeps. (all.0, one-conn s x f rs differ.1 keeps all.1)
     ]) refl keeps
 
+-- what it owes changes as only that of a channel with a call may
 pub conns_numbered : (s : Setup) (ch : Channel) (f : ChannelLooks → ChannelLooks) (l : Looks)
     → Differ by_connection l.conns
     → 1 ≤ number_of (conn_at l ch.connection) ch.chan
@@ -95,15 +98,18 @@ conns_numbered s ch f l differ some keeps all =
           (subst (λ (o : Option ConnLooks). 1 ≤ number_of o ch.chan) there some) fits.channels;
     }) all
 
+-- one or the other
 pub if_conns : (s : Setup) (b : Bool) (m l : Looks) → ConnsFit s m → ConnsFit s l → ConnsFit s (if b then m else l)
 if_conns s true m l here there = here
 if_conns s false m l here there = there
 
+-- a datagram more was given
 pub conns_counted : (s : Setup) (x : Connection) (l : Looks) → ConnsFit s l → ConnsFit s (counted x l)
 conns_counted s x l all =
     conns_on_conn s x (λ r. record r { given = suc r.given; last_use = l.now }) l
     (λ r fits. record { name = fits.name; own = fits.own; channels = fits.channels }) all
 
+-- a CHALLENGE is owed
 pub conns_challenged : (s : Setup) (d : CallName) (l : Looks) → ConnsFit s l → ConnsFit s (challenged s d l)
 conns_challenged s d l all =
     if_conns s (not (is_client s.kind) && (s.class.challenges && not (is_proved l (connection_of d))))
@@ -111,6 +117,7 @@ conns_challenged s d l all =
     (conns_on_channel s (channel_of d) (λ q. record q { owed_challenge = true }) l
     (λ q f. record { abort = f.abort; busy = f.busy; response = f.response; numbered = f.numbered }) all) all
 
+-- a call starts
 pub conns_started : (s : Setup) (life : Life) (d : CallName) (l : Looks) → ConnsFit s l
     → ConnsFit s (started s life d l)
 conns_started s life d l all =
@@ -118,6 +125,7 @@ conns_started s life d l all =
 
 -- ---- entering
 
+-- a connection that is entered
 pub fresh_conn_fits : (s : Setup) (x : Connection) (peer : Host) (service first : ℕ) (l : Looks) → FitsConnection x
     → OwnConn s.kind x
     → FitsConn s (fresh_conn x peer service first l)
@@ -128,6 +136,7 @@ fresh_conn_fits s x peer service first l name own =
       channels = (fresh_channel_fits 0, (fresh_channel_fits 0, (fresh_channel_fits 0, (fresh_channel_fits 0, tt))));
     }
 
+-- it stands in its place
 pub conns_placed : (s : Setup) (new : ConnLooks) (o : Option ConnLooks) (l : Looks) → FitsConn s new → ConnsFit s l
     → ConnsFit s (placed new o l)
 conns_placed s new None l fits all = every-append (FitsConn s) l.conns (new ∷ []) all (fits, tt)
@@ -143,6 +152,7 @@ conns-with_conn s (Server service nonces) x l is name all =
     conns_placed s (fresh_conn x x.host service 1 l) (if is_full s l then idle_conn l else None) l
     (fresh_conn_fits s x x.host service 1 l name (subst (λ (k : Kind). OwnConn k x) (sym is) tt)) all
 
+-- the connection of a message is entered and used
 pub conns_prepared : (s : Setup) (got : Took) (x : Connection) (l : Looks) → FitsConnection x → ConnsFit s l
     → ConnsFit s (prepared s got x l)
 conns_prepared s got x l name all =

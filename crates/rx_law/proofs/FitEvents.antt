@@ -98,6 +98,7 @@ fit-linked : (kind : Kind) (to : Host) (service first cid : ℕ) (l : Looks) →
 fit-linked (Client host epoch) to service first cid l all = all
 fit-linked (Server service nonces) to other first cid l all = all
 
+-- each event leaves them so
 pub calls_after : (s : Setup) (l : Looks) (e : Event) → FitsSetup s → EventFits s l e → CallsFit l.calls
     → CallsFit (after s e l).calls
 calls_after s l (events.Linked to service first (Ok cid)) fits is all = fit-linked s.kind to service first cid l all

@@ -24,6 +24,7 @@ node_stands s h fits legal = of s.kind refl
     of (Server service nonces) is = server-stands s h (subst (λ (k : Kind). IsServer k) (sym is) tt) fits legal
     of (Client host epoch) is = (client-calls s host epoch h is fits legal).standing
 
+-- of all that a node keeps
 pub record FitsLooks (s : Setup) (l : Looks) : Type 0 where
   pub conns : ConnsFit s l
   pub calls : CallsFit l.calls

@@ -40,6 +40,7 @@ pub record FitsStray (x : Stray) : Type 0 where
   pub index : x.index < 256
   pub service : x.service < 2 ^ 16
 
+-- of each
 abbrev pub StraysFit : Looks → Type 0
 StraysFit l = Every FitsStray l.strays
 

@@ -48,6 +48,7 @@ pub record Came (m : Message) : Type 0 where
   pub header : FitsHeader m
   pub code : CodeFits m.body
 
+-- so it is of bytes that are read
 pub read_came : (bytes : List ℕ) (m : Message) → IsBytes bytes → reading_of bytes ≡ Ok m → Came m
 read_came bytes m is reads =
     let spells = spelled bytes m is reads in

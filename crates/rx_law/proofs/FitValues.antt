@@ -27,6 +27,7 @@ pub record FitsReceived (r : Received) : Type 0 where
   pub near : greatest r.kept ≤ used_of r + 255
   pub previous : r.previous < 2 ^ 32
 
+-- nothing came yet
 pub received_none : FitsReceived nothing_received
 received_none = record { seqs = omega arith; near = omega arith; previous = omega arith }
 
@@ -78,6 +79,7 @@ pub record FitsOwed (owed : Owed) : Type 0 where
   pub high : owed.reason ≤ 8
   pub serial : owed.serial < 2 ^ 32
 
+-- of one, where it is owed
 abbrev pub OwedFits : Option Owed → Type 0
 OwedFits None = Unit {0}
 OwedFits (Some owed) = FitsOwed owed
@@ -127,6 +129,7 @@ FitsLife (lives.Broken code) = IsCode code
 FitsLife (lives.Over (Some code)) = IsCode code
 FitsLife _ = Unit {0}
 
+-- a code reached it
 pub code_life : (code : ℤ) (x : Life) → IsCode code → FitsLife x → FitsLife (after_code code x)
 code_life code lives.Calling is f = tt
 code_life code lives.Waiting is f = is
@@ -137,6 +140,7 @@ code_life code x is f = f
 dead-code : IsCode RX_CALL_DEAD
 dead-code = omega arith
 
+-- nothing was heard of it
 pub silence_life : (n : ℕ) (x : Life) → FitsLife x → FitsLife (after_silence n x)
 silence_life n lives.Calling f = tt
 silence_life n lives.Waiting f = dead-code
@@ -144,35 +148,42 @@ silence_life n lives.Accepted f = dead-code
 silence_life n lives.Finished f = dead-code
 silence_life n x f = f
 
+-- a later call took its channel
 pub later_life : (x : Life) → FitsLife x → FitsLife (after_later x)
 later_life lives.Waiting f = dead-code
 later_life lives.Finished f = tt
 later_life x f = f
 
+-- its pieces were acknowledged
 pub acks_life : (all : Bool) (x : Life) → FitsLife x → FitsLife (after_acks all x)
 acks_life true lives.Finished f = tt
 acks_life false lives.Finished f = tt
 acks_life all x f = f
 
+-- a handler took it
 pub accept_life : (x : Life) → FitsLife x → FitsLife (after_accept x)
 accept_life lives.Waiting f = tt
 accept_life x f = f
 
+-- its handler ended
 pub finish_life : (fine : Bool) (code : ℤ) (x : Life) → IsCode code → FitsLife x → FitsLife (after_finish fine code x)
 finish_life true code lives.Accepted is f = tt
 finish_life false code lives.Accepted is f = is
 finish_life true code x is f = f
 finish_life false code x is f = f
 
+-- its handler was told that it is broken
 pub gone_life : (x : Life) → FitsLife x → FitsLife (after_gone x)
 gone_life (lives.Broken code) f = f
 gone_life x f = f
 
+-- it was read to its end
 pub end_life : (end : Bool) (x : Life) → FitsLife x → FitsLife (after_end end x)
 end_life true lives.Calling f = tt
 end_life true x f = f
 end_life false x f = f
 
+-- it was given up
 pub cancel_life : (code : ℤ) (x : Life) → IsCode code → FitsLife x → FitsLife (after_cancel code x)
 cancel_life code lives.Calling is f = is
 cancel_life code x is f = f

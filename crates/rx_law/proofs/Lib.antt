@@ -9,8 +9,8 @@ mod Takes
 mod Places
 mod Events
 mod Numbers
-mod Conns
-mod Data
+pub mod Conns
+pub mod Data
 mod Server
 mod ServerHistory
 mod Client

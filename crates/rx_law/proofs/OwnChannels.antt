@@ -19,6 +19,7 @@ pub record OwnChannel (s : Setup) (ch : Channel) : Type 0 where
   pub own : OwnConn s.kind ch.connection
   pub chan : ch.chan < 4
 
+-- all of its channels
 pub own_channels : (s : Setup) (rs : List ConnLooks) → Every (FitsConn s) rs → Every (OwnChannel s) (all_channels rs)
 own_channels s [] all = tt
 own_channels s (r ∷ rs) all =
@@ -33,6 +34,7 @@ own-name : (kind : Kind) (ch : Channel) (n : ℕ) → OwnConn kind ch.connection
 own-name (Client host epoch) ch n own = own
 own-name (Server service nonces) ch n own = tt
 
+-- the name of a call on it fits
 pub good_name : (s : Setup) (ch : Channel) (n : ℕ) → OwnChannel s ch → n < 2 ^ 32 → GoodName s (call_named ch n)
 good_name s ch n own low =
     let whole = own.name.1 in
@@ -53,6 +55,7 @@ nth-has P [] n none all = none
 nth-has P (q ∷ qs) zero none all = all.0
 nth-has P (q ∷ qs) (suc n) none all = nth-has P qs n none all.1
 
+-- what holds of each channel of a connection, and of one that owes nothing, holds of the one that is looked for
 pub channel_has : (P : ChannelLooks → Type 0) (l : Looks) (ch : Channel) → P (fresh_channel 0)
     → ((r : ConnLooks) → conn_at l ch.connection ≡ Some r → Every P r.channels) → P (channel_at l ch)
 channel_has P l ch none each = of (conn_at l ch.connection) each

@@ -36,6 +36,7 @@ OwedBody (bodies.Chunk payload) = ⊥
 OwedBody (bodies.Ack a) = ⊥
 OwedBody body = IsPlainBody body
 
+-- so it is plain
 pub owed_plain : (body : Body) → OwedBody body → IsPlainBody body
 owed_plain (bodies.Chunk payload) is = absurd is
 owed_plain (bodies.Ack a) is = absurd is
@@ -45,6 +46,7 @@ owed_plain bodies.AckAll is = is
 owed_plain (bodies.Challenge bytes) is = is
 owed_plain (bodies.Response bytes) is = is
 
+-- it is not both
 pub owed_apart : (body : Body) → OwedBody body → IsSent body → ⊥
 owed_apart (bodies.Chunk payload) is sent = is
 owed_apart (bodies.Ack a) is sent = is
@@ -65,16 +67,19 @@ is_abort _ = false
 abbrev pub OwedAt : ℕ → Body → Type 0
 OwedAt n body = OwedBody body × (is_abort body ≡ true → 1 ≤ n)
 
+-- an ABORT
 pub abort_one : (o : Option ℤ) (n : ℕ) → IfSome o IsCode → IfSome o (λ code. 1 ≤ n)
     → IfSome (option_map bodies.Abort o) (OwedAt n)
 abort_one None n is some = tt
 abort_one (Some code) n is some = (is, λ aborts. some)
 
+-- a RESPONSE
 pub response_one : (o : Option (List ℕ)) (n : ℕ) → IfSome o FitsAnswer
     → IfSome (option_map bodies.Response o) (OwedAt n)
 response_one None n is = tt
 response_one (Some bytes) n is = ((let short = is.1 in omega arith), λ aborts. absurd cc)
 
+-- any other
 pub where_one : (b : Bool) (body : Body) (n : ℕ) → is_abort body ≡ false → OwedBody body
     → IfSome (where_owed b body) (OwedAt n)
 where_one true body n other is = (is, λ aborts. absurd (cc (aborts, other)))
@@ -105,6 +110,7 @@ marks_low r f =
     marks-count r.kept (used_of r) (greatest r.kept - used_of r) in
     omega arith
 
+-- with these it is plain
 pub ack_plain : (window reason serial : ℕ) (r : Received) → window ≤ 255 → 1 ≤ reason → reason ≤ 8 → serial < 2 ^ 32
     → FitsReceived r
     → IsPlainAck (ack_body window reason serial r)
@@ -124,6 +130,7 @@ abbrev pub AckFits : Sending → Type 0
 AckFits (sendings.Piece seq again) = Unit {0}
 AckFits (sendings.Ack reason serial) = (1 ≤ reason) × (reason ≤ 8) × (serial < 2 ^ 32)
 
+-- of each
 abbrev pub AcksFit : List CallItem → Type 0
 AcksFit is = Every (λ i. AckFits i.sending) is
 
@@ -143,6 +150,7 @@ ping-fit : (client : Bool) (spoke : ℕ) → AcksFit (ping_items client spoke)
 ping-fit true spoke = ((omega arith, omega arith, omega arith), tt)
 ping-fit false spoke = tt
 
+-- so they do of each item of a call
 pub acks_fit : (client : Bool) (k : CallRecord) → FitsCall k → AcksFit (call_items client k.looks)
 acks_fit client k f =
     let P : CallItem → Type 0 = λ i. AckFits i.sending in
