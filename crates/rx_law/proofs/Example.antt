@@ -259,7 +259,13 @@ a_world =
                 (codes "00000001000000040000000100000000000000020200000000000001000000000000000200000001000000010100000000000005a4000005a40000002000000001")) refl,
             refl,
           ),
-          ((omega arith, refl), ((are_bytes (unhex (codes "00000001000000040000000100000001000000010106000000000001")) refl, refl), (refl, (refl, (refl, ((omega arith, omega arith, omega arith, refl), tt)))))),
+          (
+            (omega arith, refl),
+            (
+              (are_bytes (unhex (codes "00000001000000040000000100000001000000010106000000000001")) refl, refl),
+              (refl, (refl, (refl, ((omega arith, omega arith, omega arith, refl), tt)))),
+            ),
+          ),
         ),
       ),
     )

@@ -1,14 +1,13 @@
 -- What stands in front of the packets kept, where each is a piece of the stream.
-use Rattle.std.proofs.Common.{◌≡◌, ◌≤◌, ◌+◌, ◌*◌, ◌==◌, ◌&&◌, cond, is_some, Bool, true, false, List, []}
-use Rattle.std.proofs.Common.{◌∷◌, ◌++◌, length, take, drop, Some, None, refl, ap, sym}
+use Rattle.std.proofs.Common.{◌≡◌, ◌≤◌, ◌+◌, ◌*◌, ◌==◌, cond, is_some, Bool, true, false, List, []}
+use Rattle.std.proofs.Common.{◌∷◌, ◌++◌, length, take, drop, Some, None, refl, ap}
 use Rattle.std.proofs.Common.{subst, ◌∙◌, arith, ℕ, zero, suc}
 use Rattle.std.proofs.lemmas.Bool.Decides.{nat_tests}
 use Rattle.std.proofs.lemmas.List.{take_all, take-append-drop}
 use Rattle.rx_rules.specs.Received.{Packet, Piece, bytes_to, front_of, greatest, heard_of, is_within, last_seq, packet_at, payload_of}
-use Rattle.rx_rules.specs.Received.{reach}
 use Rattle.rx_rules.proofs.ReachLaws.{reach_passes}
 use Rattle.rx_law.specs.Streams.{Begins}
-use Rattle.rx_model.proofs.NameLaws.{both, same_number}
+use Rattle.rx_model.proofs.NameLaws.{same_number}
 use Rattle.rx_law.proofs.Ends.{Grows}
 use Rattle.rx_law.proofs.Pieces.{at_grows}
 use Rattle.rx_law.specs.Pieces.{IsAt, IsPiece}

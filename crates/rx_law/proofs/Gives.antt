@@ -171,7 +171,8 @@ module _ (s : Setup) (c : CallName) where
                   (l.now + 600000 ≤ mid.now)) [
                     | inl same ↦ inl (omega arith)
                     | inr busy ↦ absurd (let none = (old.busy c.number busy).1 refl in let some : is_some (call_at l c)
-                        ≡ true = is in let not_one = ap (λ (o : Option CallRecord). is_some o) none in cc (some, not_one))
+                        ≡ true = is in let not_one = ap (λ (o : Option CallRecord). is_some o) none in cc
+                        (some, not_one))
                   ]);
               busy = λ n is. old.busy n (firm.busy n is);
             });

@@ -1,8 +1,8 @@
 -- How far a test reaches, and how many packets are kept above a seq.
-use Rattle.std.proofs.Common.{◌≡◌, ◌≤◌, ◌<◌, ◌==◌, ◌&&◌, ℕ, zero, suc, cond, max, is_some, Bool, true, false}
-use Rattle.std.proofs.Common.{List, [], ◌∷◌, Some, refl, sym, subst, arith}
+use Rattle.std.proofs.Common.{◌≡◌, ◌≤◌, ◌<◌, ◌==◌, ◌&&◌, ℕ, zero, suc, cond, is_some, Bool, true, false}
+use Rattle.std.proofs.Common.{List, [], ◌∷◌, Some, refl, subst, arith}
 use Rattle.std.proofs.lemmas.Bool.Decides.{nat_tests}
-use Rattle.rx_rules.specs.Received.{Packet, count_above, front_of, greatest, packet_at, reach}
+use Rattle.rx_rules.specs.Received.{Packet, count_above, packet_at, reach}
 use Rattle.rx_model.proofs.NameLaws.{same_number, number_itself}
 use Rattle.rx_rules.proofs.ReachLaws.{reach_passes, reach_within}
 
