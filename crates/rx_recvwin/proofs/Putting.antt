@@ -1,27 +1,23 @@
--- A packet put into a free slot and the slot into a place; and a window with nothing in its places.
-use Rattle.std.proofs.Common.{◌≡◌, ◌<◌, ◌≤◌, ◌+◌, ◌-◌, ◌^◌, is_some, map, min, max, cond, replicate}
+-- A packet put into a free slot, and the slot into a place.
+use Rattle.std.proofs.Common.{◌≡◌, ◌<◌, ◌≤◌, ◌+◌, ◌-◌, ◌^◌, map, max, cond}
 use Rattle.std.proofs.Common.{Bool}
-use Rattle.std.proofs.Common.{true, false, ℕ, suc, zero, List, [], ◌∷◌, ◌++◌, length, get_or, set, take, Option}
+use Rattle.std.proofs.Common.{true, ℕ, suc, List, [], ◌∷◌, length, get_or, set, take, Option}
 use Rattle.std.proofs.Common.{Some}
-use Rattle.std.proofs.Common.{None, refl, sym, ap, ◌∙◌, arith, add-one}
-use Rattle.std.proofs.lemmas.Bool.{false≢true}
-use Rattle.std.proofs.lemmas.List.{get_or-set_other, get_or-set_same, map-set, length-replicate, length-take-le}
-use Rattle.rx_model.specs.declared.wire.TheConstants.{PAYLOAD_BYTES, MIN_WINDOW, MAX_WINDOW}
-use Rattle.rx_rules.specs.Received.{Piece, Received, nothing_received, packet_at, used_of, marks_from, marks_of}
-use Rattle.rx_rules.specs.Received.{greatest}
+use Rattle.std.proofs.Common.{None, sym, ap, ◌∙◌, arith}
+use Rattle.std.proofs.lemmas.List.{get_or-set_other, get_or-set_same, map-set}
+use Rattle.rx_model.specs.declared.wire.TheConstants.{PAYLOAD_BYTES}
+use Rattle.rx_rules.specs.Received.{Piece}
 use Rattle.rx_pool.specs.Pool.{Slots, Takes, has, bytes_at, overwrite}
 use Rattle.rx_pool.specs.Held.{Holds, Keeps}
 use Rattle.rx_pool.proofs.Numbers.{has_first, two}
 use Rattle.rx_pool.proofs.Written.{length-overwrite, take-overwrite}
 use Rattle.rx_pool.proofs.Holding.{keeps_got, keeps_put, keeps_then, keeps_order}
 use Rattle.rx_recvwin.specs.declared.packet.KeptPacket.{KeptPacket}
-use Rattle.rx_recvwin.specs.Places.{place_at, leading, count_in, slots_in, seen_at, HasSizes, is_open_done}
-use Rattle.rx_recvwin.specs.Places.{is_place_done}
-use Rattle.rx_recvwin.specs.Window.{RecvWindow, window_of, StandsFor, IsTied, after_put, as_packet}
-use Rattle.rx_recvwin.proofs.PlaceLaws.{fits_put, sized_put, slots_put, no_repeat_put, slots_count, count_put}
-use Rattle.rx_recvwin.proofs.PlaceLaws.{seen_same}
-use Rattle.rx_recvwin.proofs.PlaceLaws.{place_seen, some_seen}
-use Rattle.rx_recvwin.proofs.Nearness.{used_is}
+use Rattle.rx_recvwin.specs.Places.{place_at, leading, slots_in, seen_at}
+use Rattle.rx_recvwin.specs.Window.{RecvWindow, window_of, IsTied, after_put, as_packet}
+use Rattle.rx_recvwin.proofs.PlaceLaws.{fits_put, sized_put, count_put}
+use Rattle.rx_recvwin.proofs.SlotLaws.{slots_put, no_repeat_put, slots_count}
+use Rattle.rx_recvwin.proofs.SlotLaws.{seen_same}
 
 -- the pool after a packet was written into a slot
 abbrev pub written : Slots → ℕ → List ℕ → Slots
@@ -70,128 +66,7 @@ put_seen old got hs i slot last bytes t holds fits =
     map-set (seen_at new) hs i (Some (packet_in slot bytes last))
     ∙ (λ j. set (seen_same old new hs same j) i (Some (record { payload = front j; last = last })))
 
--- ---- nothing in the places
-
-pub none_at : {X : Type 0} (n i : ℕ) → place_at {X = X} (replicate n None) i ≡ None
-none_at zero i = refl
-none_at (suc n) zero = refl
-none_at (suc n) (suc i) = none_at n i
-
-pub leading_none : (X : Type 0) (n : ℕ) → leading {X = X} (replicate n None) ≡ 0
-leading_none X zero = refl
-leading_none X (suc n) = refl
-
-pub count_none : (X : Type 0) (n : ℕ) → count_in {X = X} (replicate n None) ≡ 0
-count_none X zero = refl
-count_none X (suc n) = count_none X n
-
-pub slots_none : (n : ℕ) → slots_in (replicate n None) ≡ []
-slots_none zero = refl
-slots_none (suc n) = slots_none n
-
-pub seen_none : (pool : Slots) (n : ℕ) → map (seen_at pool) (replicate n None) ≡ replicate n None
-seen_none pool zero = refl
-seen_none pool (suc n) = ap (λ ps. None ∷ ps) (seen_none pool n)
-
-pub tied_empty : (width : ℕ) (places : List (Option KeptPacket)) → places ≡ replicate width None → MIN_WINDOW ≤ width →
-    width ≤ MAX_WINDOW → IsTied width 0 0 0 places
-tied_empty width places is least most =
-    let nothing : (i : ℕ) → place_at places i ≡ None = (λ i. ap (λ ps. place_at ps i) is ∙ none_at width i) in
-    record {
-      least = least;
-      most = most;
-      seqs = (omega arith, λ i h. absurd (false≢true (ap is_some (sym (nothing i)) ∙ h)));
-      sizes = λ i h e. absurd (false≢true (ap is_some (sym (nothing i) ∙ e)));
-      upto = (let none : leading places ≡ 0 = ap leading is ∙ leading_none KeptPacket width in omega (arith, none));
-      count = sym (ap count_in is ∙ count_none KeptPacket width);
-    }
-
--- an empty window
-abbrev pub empty_window : ℕ → List (Option KeptPacket) → RecvWindow
-empty_window width places =
-    record {
-      width = width;
-      used = 0;
-      offset = 0;
-      places = places;
-      last = None;
-      greatest = 0;
-      ended = false;
-      previous = 0;
-    }
-
-pub empty_stands : (pool : Slots) (width : ℕ) (places : List (Option KeptPacket)) → places ≡ replicate width None →
-    MIN_WINDOW ≤ width → StandsFor (window_of pool (empty_window width places)) nothing_received
-empty_stands pool width places is least =
-    let all : map (seen_at pool) places ≡ replicate width None = ap (map (seen_at pool)) is ∙ seen_none pool width in
-    record {
-      near = record {
-        sound = record {
-          fits = omega arith;
-          zero = refl;
-          once = tt;
-          marked = λ k b e l. absurd cc;
-          last = λ l e. absurd cc;
-          over = λ t. absurd (false≢true t);
-        };
-        done = λ k lt. absurd (omega (arith, lt));
-        some = omega (arith, least);
-        size = ap length all ∙ length-replicate width None;
-        ahead = λ i. ap (λ ps. place_at ps i) all ∙ none_at width i;
-        within = omega arith;
-        count = ap count_in all ∙ count_none Piece width;
-        offset = refl;
-        short = omega arith;
-        marked = refl;
-        greatest = refl;
-        ended = refl;
-        previous = refl;
-      };
-      stops = refl;
-    }
-
--- ---- what the code reads
-
-pub done_seen : (pool : Slots) (hs : List (Option KeptPacket)) (offset : ℕ) (ended : Bool) → HasSizes hs →
-    Holds pool (slots_in hs) →
-    is_open_done (place_at hs 0) offset ended ≡ is_place_done (place_at (map (seen_at pool) hs) 0) offset ended
-done_seen pool [] offset ended sized holds = refl
-done_seen pool (None ∷ hs) offset ended sized holds = refl
-done_seen pool (Some h ∷ hs) offset ended sized holds =
-    let room = (holds.of h.slot (has_first h.slot (slots_in hs))).size in
-    let small = sized 0 h refl in
-    let size : h.size ≡ length (take h.size (bytes_at pool h.slot)) = (
-    sym (length-take-le h.size (bytes_at pool h.slot) (omega (arith, room, small)))) in
-    ap (λ n. is_open_done (Some (record { slot = h.slot; size = n; last = h.last })) offset ended) size
-
-pub item_is : {X : Type 0} (xs : List (Option X)) (i : ℕ) (o : Option X) → o ≡ get_or xs i o → i < length xs →
-    place_at xs i ≡ o
-item_is [] i o e lt = absurd (omega (arith, lt))
-item_is (x ∷ xs) zero o e lt = sym e
-item_is (x ∷ xs) (suc i) o e lt = item_is xs i o e (omega (arith, lt))
-
-pub marks_next : (pool : Slots) (w : RecvWindow) (r : Received) (i : ℕ) (o : Option KeptPacket) (marks : List Bool) →
-    StandsFor (window_of pool w) r → o ≡ get_or w.places i o → i < length w.places → marks
-    ≡ marks_from r.kept (used_of r) i →
-    marks ++ is_some o ∷ [] ≡ marks_from r.kept (used_of r) (i + 1)
-marks_next pool w r i o marks s read lt so_far =
-    let used = used_is (window_of pool w) r s in
-    let at : place_at w.places i ≡ o = item_is w.places i o read lt in
-    let here : is_some o ≡ is_some (packet_at r.kept (used_of r + suc i)) = (
-    ap is_some (sym at) ∙ sym (some_seen pool (place_at w.places i))
-    ∙ ap is_some (sym (place_seen pool w.places i) ∙ s.near.ahead i)
-    ∙ ap (λ k. is_some (packet_at r.kept k)) (omega (arith, used))) in
-    (λ j. so_far j ++ here j ∷ []) ∙ sym (ap (marks_from r.kept (used_of r)) (add-one i))
-
-pub marks_end : (pool : Slots) (w : RecvWindow) (r : Received) (i : ℕ) (marks : List Bool) →
-    StandsFor (window_of pool w) r →
-    i ≡ min (w.greatest - w.used) w.width → marks ≡ marks_from r.kept (used_of r) i → marks ≡ marks_of r
-marks_end pool w r i marks s end so_far =
-    let used = used_is (window_of pool w) r s in
-    let top = s.near.greatest in
-    let within = s.near.within in
-    let count : i ≡ greatest r.kept - used_of r = omega (arith, end, top, within, used) in
-    so_far ∙ ap (marks_from r.kept (used_of r)) count
+-- ---- the window with it
 
 pub tied_put : (width used front held lead j : ℕ) (hs : List (Option KeptPacket)) (h : KeptPacket) →
     IsTied width used front held hs → j < length hs → place_at hs j ≡ None → h.size ≤ PAYLOAD_BYTES →

@@ -2,7 +2,7 @@
 use Rattle.std.proofs.Common.{◌≡◌, true, ℕ}
 use Rattle.rx_pool.specs.Pool.{Slots, has, bytes_at}
 use Rattle.rx_recvwin.specs.Window.{RecvWindow, window_of, packet_slots}
-use Rattle.rx_recvwin.proofs.PlaceLaws.{seen_same}
+use Rattle.rx_recvwin.proofs.SlotLaws.{seen_same}
 
 pub seen_undisturbed : (old new : Slots) (w : RecvWindow) →
     ((s : ℕ) → has s (packet_slots w) ≡ true → bytes_at new s ≡ bytes_at old s) → window_of new w ≡ window_of old w

@@ -13,10 +13,11 @@ use Rattle.rx_sendwin.specs.declared.piece.HeldPiece.{HeldPiece}
 use Rattle.rx_sendwin.specs.Marks.{is_acked_by, flight_by, newly_by, highest_by, trip_at, is_valid_ack, leading_marks}
 use Rattle.rx_sendwin.specs.Pieces.{seen_at, payload_in, giving_in, giving_at, last_size, AllSized, AllTimed}
 use Rattle.rx_sendwin.specs.Window.{SendWindow, StandsSent, IsTied}
-use Rattle.rx_sendwin.proofs.Acks.{newly_same, highest_same, flight_none, marked_at, past_quiet, kept_alike}
-use Rattle.rx_sendwin.proofs.Acks.{known_alike}
+use Rattle.rx_sendwin.proofs.Counts.{newly_same, highest_same}
+use Rattle.rx_sendwin.proofs.Acks.{marked_at, past_quiet, kept_alike}
+use Rattle.rx_sendwin.proofs.Counts.{known_alike}
 use Rattle.rx_sendwin.proofs.Acks.{makes_sense}
-use Rattle.rx_sendwin.proofs.Standing.{known_of, known_is, pieces_is, counting_most}
+use Rattle.rx_sendwin.proofs.Standing.{known_of, known_is, counting_most}
 
 pub sized_drop : (n : ℕ) (hs : List HeldPiece) → AllSized hs → AllSized (drop n hs)
 sized_drop zero hs z = z
@@ -181,46 +182,3 @@ ack_tied w low flight first marks soft pieces low2 flight2 peer tied valid le is
       marks = omega (arith, few);
       peer = peer_most;
     }
-
--- ---- all pieces are acknowledged
-
-pub all_tied : (w : SendWindow) (low flight : ℕ) (soft : List Bool) (pieces : List HeldPiece) → IsTied w low flight →
-    w.given ≡ pieces_by w.total w.shut → soft ≡ [] → pieces ≡ drop (length w.pieces) w.pieces →
-    IsTied (record w { acked = w.given; soft = soft; pieces = pieces }) 0 0
-all_tied w low flight soft pieces tied all soft_is is =
-    let none = length-drop (length w.pieces) w.pieces in
-    let size : length pieces ≡ 0 = ap length is ∙ none ∙ omega arith in
-    record {
-      least = tied.least;
-      most = tied.most;
-      held = omega (arith, size, all);
-      within = omega (arith, size);
-      filling = λ lt. absurd (omega (arith, lt, size));
-      fits = tied.fits;
-      given_most = tied.given_most;
-      acked_most = omega arith;
-      quiet = λ i past. ap (λ ms. get_or ms i false) soft_is;
-      lowest = sym (ap leading_marks soft_is);
-      in_flight = sym (flight_none w.given soft w.given (omega arith));
-      sized = subst AllSized (sym is) (sized_drop (length w.pieces) w.pieces tied.sized);
-      timed = subst AllTimed (sym is) (timed_drop (length w.pieces) w.pieces tied.timed);
-      marks = subst (λ ms. length ms ≤ MAX_WINDOW) (sym soft_is) (omega arith);
-      peer = tied.peer;
-    }
-
-pub all_stands : (old new : Slots) (w : SendWindow) (s : Sent) (low flight : ℕ) (soft : List Bool)
-    (pieces : List HeldPiece) → StandsSent old w s → IsTied w low flight → w.given ≡ pieces_by w.total w.shut →
-    new.bytes ≡ old.bytes → soft ≡ [] → pieces ≡ drop (length w.pieces) w.pieces →
-    StandsSent new (record w { acked = w.given; soft = soft; pieces = pieces }) (after_all s)
-all_stands old new w s low flight soft pieces st tied all same soft_is is =
-    let held = tied.held in
-    let least = tied.acked_most in
-    let quiet : (i : ℕ) → get_or soft i false ≡ s.soft (suc (w.given + i)) = (λ i.
-    let j = w.given - w.acked + i in
-    let at : w.acked + j ≡ w.given + i = omega (arith, least) in
-    ap (λ ms. get_or ms i false) soft_is ∙ sym (tied.quiet j (omega (arith, least))) ∙ st.soft j
-    ∙ ap (λ k. s.soft (suc k)) at) in
-    let after : SendWindow = record w { acked = w.given; soft = soft; pieces = pieces } in
-    subst (λ (k : ℕ). StandsSent new after (record s { acked = k })) (all ∙ pieces_is old w s st)
-    (dropped_stands old new w s w.given (length w.pieces) w.peer_window soft pieces s.soft s.peer_window st
-    (omega (arith, held, all)) same is quiet st.peer)

@@ -1,8 +1,13 @@
+pub mod Counts
 pub mod Acks
 pub mod PieceLaws
+pub mod PieceSlots
 pub mod Payloads
 pub mod Standing
+pub mod WriteLaws
+pub mod GivenLaws
 pub mod Acknowledging
+pub mod AllAcked
 pub mod Lowest
 pub mod Nexts
 pub mod Undisturbed

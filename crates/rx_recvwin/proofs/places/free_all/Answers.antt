@@ -1,7 +1,7 @@
 use Rattle.std.proofs.Common.{◌<◌, ◌∙◌, arith, length}
 use Rattle.rx_pool.proofs.Holding.{keeps_then}
 use Rattle.rx_recvwin.specs.Places.{slots_in}
-use Rattle.rx_recvwin.proofs.PlaceLaws.{turn_next}
+use Rattle.rx_recvwin.proofs.SlotLaws.{turn_next}
 use Rattle.rx_recvwin.proofs.places.free_all.Goals as goal
 
 pub loop-preserved : goal.loop-preserved

@@ -1,6 +1,6 @@
 use Rattle.std.proofs.Common.{◌≡◌, ◌++◌, ◌∷◌, Option, Some, None, ◌∙◌, ap, option_to_list}
 use Rattle.rx_recvwin.specs.declared.packet.KeptPacket.{KeptPacket}
-use Rattle.rx_recvwin.proofs.PlaceLaws.{turn_of, turn_some, turn_none}
+use Rattle.rx_recvwin.proofs.SlotLaws.{turn_of, turn_some, turn_none}
 use Rattle.rx_recvwin.proofs.places.turn.Goals as goal
 
 pub give-requires : goal.give-requires

@@ -1,6 +1,6 @@
 use Rattle.std.proofs.Common.{◌≡◌, ◌+◌, ◌-◌, ◌∙◌, sym, ap, arith}
 use Rattle.rx_sendwin.specs.Marks.{is_acked_by, flight_by}
-use Rattle.rx_sendwin.proofs.Acks.{flight_none, flight_cut}
+use Rattle.rx_sendwin.proofs.Counts.{flight_none, flight_cut}
 use Rattle.rx_sendwin.proofs.marks.count_in_flight.Goals as goal
 
 pub loop-i-init : goal.loop-i-init

@@ -1,6 +1,6 @@
 use Rattle.std.proofs.Common.{◌≡◌, ◌+◌, ◌∙◌, sym, ap, arith}
 use Rattle.rx_sendwin.specs.Marks.{is_acked_by, newly_by}
-use Rattle.rx_sendwin.proofs.Acks.{newly_none, newly_cut}
+use Rattle.rx_sendwin.proofs.Counts.{newly_none, newly_cut}
 use Rattle.rx_sendwin.proofs.marks.count_newly.Goals as goal
 
 pub loop-i-init : goal.loop-i-init

@@ -1,6 +1,6 @@
 use Rattle.std.proofs.Common.{◌<◌, ◌∙◌, sym, arith}
 use Rattle.rx_sendwin.specs.Marks.{is_acked_by}
-use Rattle.rx_sendwin.proofs.Acks.{highest_none, highest_down, highest_here, new_highest_cut}
+use Rattle.rx_sendwin.proofs.Counts.{highest_none, highest_down, highest_here, new_highest_cut}
 use Rattle.rx_sendwin.proofs.marks.highest_newly.Goals as goal
 
 pub loop-seq-init : goal.loop-seq-init

@@ -1,4 +1,4 @@
-use Rattle.std.proofs.Common.{◌<◌, ◌+◌, length, arith}
+use Rattle.std.proofs.Common.{arith}
 use Rattle.rx_sendwin.proofs.Acks.{known_past}
 use Rattle.rx_sendwin.proofs.marks.last_known.Goals as goal
 

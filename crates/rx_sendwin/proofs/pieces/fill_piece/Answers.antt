@@ -3,7 +3,8 @@ use Rattle.std.proofs.Common.{arith, deque_len}
 use Rattle.rx_pool.specs.Pool.{Slots}
 use Rattle.rx_sendwin.specs.declared.piece.HeldPiece.{HeldPiece}
 use Rattle.rx_sendwin.specs.Pieces.{seen_at, last_size}
-use Rattle.rx_sendwin.proofs.PieceLaws.{fill_seen, fill_keeps, has_at, givings_set, sized_set, timed_set, timed_at}
+use Rattle.rx_sendwin.proofs.PieceLaws.{has_at, givings_set, sized_set, timed_set, timed_at}
+use Rattle.rx_sendwin.proofs.PieceSlots.{fill_seen, fill_keeps}
 use Rattle.rx_sendwin.proofs.PieceLaws.{same_at, last_seen, last_set}
 use Rattle.rx_sendwin.proofs.pieces.fill_piece.Goals as goal
 

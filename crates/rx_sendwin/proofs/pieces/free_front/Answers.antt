@@ -2,7 +2,7 @@ use Rattle.std.proofs.Common.{◌≡◌, ◌++◌, ◌∷◌, ◌∙◌, Option,
 use Rattle.rx_pool.proofs.Holding.{keeps_then}
 use Rattle.rx_sendwin.specs.declared.piece.HeldPiece.{HeldPiece}
 use Rattle.rx_sendwin.specs.Pieces.{slots_in}
-use Rattle.rx_sendwin.proofs.PieceLaws.{gives_of, gives_keeps, front_of_list}
+use Rattle.rx_sendwin.proofs.PieceSlots.{gives_of, gives_keeps, front_of_list}
 use Rattle.rx_sendwin.proofs.pieces.free_front.Goals as goal
 
 pub give-requires : goal.give-requires

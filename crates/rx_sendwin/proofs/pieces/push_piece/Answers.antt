@@ -2,7 +2,8 @@ use Rattle.std.proofs.Common.{◌≡◌, ◌∙◌, [], ℕ, subst, sym, ap, Opt
 use Rattle.rx_pool.specs.Pool.{Slots, Takes}
 use Rattle.rx_sendwin.specs.declared.piece.HeldPiece.{HeldPiece}
 use Rattle.rx_sendwin.specs.Pieces.{last_size, AllSized, AllTimed}
-use Rattle.rx_sendwin.proofs.PieceLaws.{push_seen, push_keeps, sized_push, timed_push, last_push}
+use Rattle.rx_sendwin.proofs.PieceLaws.{sized_push, timed_push, last_push}
+use Rattle.rx_sendwin.proofs.PieceSlots.{push_seen, push_keeps}
 use Rattle.rx_sendwin.proofs.pieces.push_piece.Goals as goal
 
 -- the piece that is pushed

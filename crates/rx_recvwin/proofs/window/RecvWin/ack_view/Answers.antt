@@ -1,6 +1,6 @@
 use Rattle.std.proofs.Common.{◌++◌, ◌∷◌, [], ◌+◌, ◌-◌, ◌<◌, ◌≡◌, ◌∙◌, sym, ap, subst, arith, rules, length, min}
 use Rattle.rx_recvwin.specs.Window.{RecvWindow, window_of, StandsFor}
-use Rattle.rx_recvwin.proofs.Putting.{marks_next, marks_end}
+use Rattle.rx_recvwin.proofs.Marking.{marks_next, marks_end}
 use Rattle.rx_recvwin.proofs.Nearness.{used_is}
 use Rattle.rx_recvwin.proofs.window.RecvWin.ack_view.Goals as goal
 

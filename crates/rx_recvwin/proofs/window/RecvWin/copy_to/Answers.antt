@@ -1,7 +1,7 @@
 use Rattle.std.proofs.Common.{◌<◌, ◌∙◌, arith, length, length-append}
 use Rattle.rx_pool.proofs.Holding.{keeps_then}
 use Rattle.rx_recvwin.specs.Window.{window_of, packet_slots}
-use Rattle.rx_recvwin.proofs.Reading.{some_next, some_end, some_all, rest_next}
+use Rattle.rx_recvwin.proofs.WholeReads.{some_next, some_end, some_all, rest_next}
 use Rattle.rx_recvwin.proofs.window.RecvWin.copy_to.Goals as goal
 
 pub returns-then-n-eq0-clause-answered : goal.returns-then-n-eq0-clause-answered

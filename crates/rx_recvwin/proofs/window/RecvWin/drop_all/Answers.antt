@@ -1,5 +1,5 @@
 use Rattle.std.proofs.Common.{◌∙◌, ◌≡◌, ap, rules, replicate, None, deque_len}
-use Rattle.rx_recvwin.proofs.Putting.{tied_empty, empty_stands, slots_none}
+use Rattle.rx_recvwin.proofs.EmptyLaws.{tied_empty, empty_stands, slots_none}
 use Rattle.rx_recvwin.specs.Places.{slots_in}
 use Rattle.rx_recvwin.proofs.window.RecvWin.drop_all.Goals as goal
 

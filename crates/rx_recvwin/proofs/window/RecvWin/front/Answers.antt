@@ -1,7 +1,7 @@
 use Rattle.std.proofs.Common.{◌+◌, ◌≡◌, ◌∙◌, sym, ap}
 use Rattle.rx_recvwin.specs.Places.{leading}
 use Rattle.rx_recvwin.specs.Window.{RecvWindow, window_of}
-use Rattle.rx_recvwin.proofs.PlaceLaws.{leading_seen}
+use Rattle.rx_recvwin.proofs.SlotLaws.{leading_seen}
 use Rattle.rx_recvwin.proofs.Nearness.{front_is}
 use Rattle.rx_recvwin.proofs.window.RecvWin.front.Goals as goal
 

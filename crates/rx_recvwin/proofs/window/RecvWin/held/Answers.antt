@@ -1,7 +1,7 @@
 use Rattle.std.proofs.Common.{◌≡◌, ◌∙◌, sym, ap}
 use Rattle.rx_recvwin.specs.Places.{count_in}
 use Rattle.rx_recvwin.specs.Window.{RecvWindow, window_of}
-use Rattle.rx_recvwin.proofs.PlaceLaws.{count_seen, slots_count}
+use Rattle.rx_recvwin.proofs.SlotLaws.{count_seen, slots_count}
 use Rattle.rx_recvwin.proofs.Nearness.{held_is}
 use Rattle.rx_recvwin.proofs.window.RecvWin.held.Goals as goal
 

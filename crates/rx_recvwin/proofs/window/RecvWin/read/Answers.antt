@@ -1,8 +1,8 @@
 use Rattle.std.proofs.Common.{◌+◌, ◌∙◌, true, sym, ap, length, subst}
 use Rattle.rx_rules.specs.Received.{Received, is_within}
 use Rattle.rx_recvwin.specs.Window.{RecvWindow, Near, StandsFor, window_of}
-use Rattle.rx_recvwin.proofs.PlaceLaws.{leading_seen}
-use Rattle.rx_recvwin.proofs.Reading.{read_got, read_end, read_not_yet}
+use Rattle.rx_recvwin.proofs.SlotLaws.{leading_seen}
+use Rattle.rx_recvwin.proofs.WholeReads.{read_got, read_end, read_not_yet}
 use Rattle.rx_recvwin.proofs.window.RecvWin.read.Goals as goal
 
 pub returns-then-n-gt0-clause-answered : goal.returns-then-n-gt0-clause-answered

@@ -1,7 +1,7 @@
 use Rattle.std.proofs.Common.{◌+◌, ◌∙◌, subst, sym, ap, drop, Option}
 use Rattle.rx_rules.specs.Received.{Piece, Received, payload_of}
 use Rattle.rx_recvwin.specs.Window.{RecvWindow, Near, StandsFor, window_of}
-use Rattle.rx_recvwin.proofs.PlaceLaws.{place_seen}
+use Rattle.rx_recvwin.proofs.SlotLaws.{place_seen}
 use Rattle.rx_recvwin.proofs.Reading.{first_read}
 use Rattle.rx_recvwin.proofs.window.RecvWin.read_first.Goals as goal
 

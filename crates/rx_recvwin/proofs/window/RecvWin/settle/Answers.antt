@@ -3,7 +3,7 @@ use Rattle.rx_pool.proofs.Holding.{keeps_then}
 use Rattle.rx_recvwin.specs.Places.{is_place_done, place_at}
 use Rattle.rx_recvwin.specs.Window.{Window, Near, window_of, packet_slots}
 use Rattle.rx_recvwin.proofs.Nearness.{done_is, step_near}
-use Rattle.rx_recvwin.proofs.Putting.{done_seen}
+use Rattle.rx_recvwin.proofs.Marking.{done_seen}
 use Rattle.rx_recvwin.proofs.window.RecvWin.settle.Goals as goal
 
 pub loop-self-preserved : goal.loop-self-preserved

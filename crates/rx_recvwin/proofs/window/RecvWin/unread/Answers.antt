@@ -2,8 +2,8 @@ use Rattle.std.proofs.Common.{◌≡◌, ◌∙◌, subst, sym, arith, length, t
 use Rattle.rx_pool.specs.Pool.{has}
 use Rattle.rx_recvwin.specs.Places.{place_at}
 use Rattle.rx_recvwin.specs.Window.{RecvWindow, packet_slots}
-use Rattle.rx_recvwin.proofs.PlaceLaws.{has_slots}
-use Rattle.rx_recvwin.proofs.Putting.{item_is}
+use Rattle.rx_recvwin.proofs.SlotLaws.{has_slots}
+use Rattle.rx_recvwin.proofs.Marking.{item_is}
 use Rattle.rx_recvwin.proofs.window.RecvWin.unread.Goals as goal
 
 pub unread-requires-clause-of : goal.unread-requires-clause-of

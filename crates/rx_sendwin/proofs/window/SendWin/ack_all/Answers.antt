@@ -1,5 +1,5 @@
 use Rattle.std.proofs.Common.{◌≡◌, ◌∙◌, ap, rules, drop, length}
-use Rattle.rx_sendwin.proofs.Acknowledging.{all_tied, all_stands}
+use Rattle.rx_sendwin.proofs.AllAcked.{all_tied, all_stands}
 use Rattle.rx_sendwin.proofs.window.SendWin.ack_all.Goals as goal
 
 pub invariant_of-self : goal.invariant_of-self

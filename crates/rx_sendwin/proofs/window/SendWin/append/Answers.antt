@@ -2,7 +2,7 @@ use Rattle.std.proofs.Common.{◌≡◌, ◌≤◌, ◌+◌, ◌-◌, ◌/◌, �
 use Rattle.std.proofs.Common.{deque_len, subst, Bool}
 use Rattle.rx_rules.specs.Sent.{pieces_by, counting_by}
 use Rattle.rx_sendwin.proofs.PieceLaws.{slots_count}
-use Rattle.rx_sendwin.proofs.Standing.{push_stands, fill_stands}
+use Rattle.rx_sendwin.proofs.WriteLaws.{push_stands, fill_stands}
 use Rattle.rx_sendwin.proofs.window.SendWin.append.Goals as goal
 
 pub returns-then-at-eq0-clause-stands : goal.returns-then-at-eq0-clause-stands

@@ -2,7 +2,7 @@ use Rattle.std.proofs.Common.{◌≡◌, ◌+◌, ◌∙◌, ◌||◌, ◌==◌,
 use Rattle.rx_rules.specs.Sent.{piece_at}
 use Rattle.rx_sendwin.specs.Marks.{is_acked_by, flight_by}
 use Rattle.rx_sendwin.specs.Window.{SendWindow, IsTied}
-use Rattle.rx_sendwin.proofs.Acks.{flight_most}
+use Rattle.rx_sendwin.proofs.Counts.{flight_most}
 use Rattle.rx_sendwin.proofs.Standing.{given_within, asks_is}
 use Rattle.rx_sendwin.proofs.window.SendWin.asks.Goals as goal
 

@@ -1,7 +1,8 @@
 use Rattle.std.proofs.Common.{◌∙◌, ap, sym, subst, arith, suc}
 use Rattle.rx_sendwin.specs.Pieces.{as_giving, IsTimed}
 use Rattle.rx_sendwin.proofs.PieceLaws.{timed_at}
-use Rattle.rx_sendwin.proofs.Standing.{given_within, giving_read}
+use Rattle.rx_sendwin.proofs.Standing.{given_within}
+use Rattle.rx_sendwin.proofs.GivenLaws.{giving_read}
 use Rattle.rx_sendwin.proofs.Lowest.{again_is, lowest_is, low_within, past_given, low_held}
 use Rattle.rx_sendwin.proofs.window.SendWin.lowest.Goals as goal
 

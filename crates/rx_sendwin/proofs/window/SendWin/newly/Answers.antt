@@ -3,7 +3,8 @@ use Rattle.std.specs.Prelude.{option_and_then}
 use Rattle.rx_rules.specs.Sent.{last_giving, round_trip, pieces_by}
 use Rattle.rx_rules.specs.Sent as rules
 use Rattle.rx_sendwin.specs.Marks.{is_acked_by, highest_by, trip_at}
-use Rattle.rx_sendwin.proofs.Standing.{giving_read, counting_most}
+use Rattle.rx_sendwin.proofs.Standing.{counting_most}
+use Rattle.rx_sendwin.proofs.GivenLaws.{giving_read}
 use Rattle.rx_sendwin.proofs.window.SendWin.newly.Goals as goal
 
 pub returns-in-Some-clause-sample : goal.returns-in-Some-clause-sample

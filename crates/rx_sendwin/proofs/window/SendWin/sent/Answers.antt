@@ -2,9 +2,11 @@ use Rattle.std.proofs.Common.{◌≡◌, ◌<◌, ◌+◌, ◌-◌, ◌∙◌, i
 use Rattle.rx_sendwin.specs.declared.piece.HeldPiece.{HeldPiece}
 use Rattle.rx_sendwin.specs.Marks.{is_acked_by, flight_by}
 use Rattle.rx_sendwin.specs.Window.{piece_slots}
-use Rattle.rx_sendwin.proofs.Acks.{flight_most, flight_next}
+use Rattle.rx_sendwin.proofs.Counts.{flight_most}
+use Rattle.rx_sendwin.proofs.Acks.{flight_next}
 use Rattle.rx_sendwin.proofs.PieceLaws.{same_at, slots_set}
-use Rattle.rx_sendwin.proofs.Standing.{given_within, given_now, sent_stands, sent_tied}
+use Rattle.rx_sendwin.proofs.Standing.{given_within}
+use Rattle.rx_sendwin.proofs.GivenLaws.{given_now, sent_stands, sent_tied}
 use Rattle.rx_sendwin.proofs.window.SendWin.sent.Goals as goal
 
 pub overflow_add-self : goal.overflow_add-self

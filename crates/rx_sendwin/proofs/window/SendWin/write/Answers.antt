@@ -2,7 +2,7 @@ use Rattle.std.proofs.Common.{◌≡◌, ◌+◌, ◌∙◌, arith, length, refl
 use Rattle.rx_rules.specs.Sent.{opened}
 use Rattle.rx_pool.proofs.Holding.{keeps_same, keeps_then}
 use Rattle.rx_sendwin.specs.Window.{piece_slots}
-use Rattle.rx_sendwin.proofs.Standing.{write_start, write_next, one_more}
+use Rattle.rx_sendwin.proofs.WriteLaws.{write_start, write_next, one_more}
 use Rattle.rx_sendwin.proofs.window.SendWin.write.Goals as goal
 
 pub loop-at-init : goal.loop-at-init
