@@ -1,14 +1,12 @@
 -- The connection that was used the longest ago, of those looked at.
-use Rattle.std.proofs.Common.{◌≡◌, ◌+◌, ◌-◌, ◌*◌, ◌<◌, ◌≤◌, inl, inr, ℕ, Bool, true, false, cond, nat_le, List}
+use Rattle.std.proofs.Common.{◌≡◌, ◌+◌, ◌-◌, ◌*◌, ◌<◌, ◌≤◌, ℕ, Bool, cond, List}
 use Rattle.std.proofs.Common.{length, get_or, take, drop}
 use Rattle.std.proofs.Common.{Option, Some, None, IsSome, is_some, refl, ap, sym, ◌∙◌, arith, option_and_then}
-use Rattle.std.proofs.lemmas.Bool.{cases_eq}
-use Rattle.std.proofs.lemmas.Bool.Decides.{nat_tests}
-use Rattle.std.proofs.lemmas.Option.{none-some, same_Some, slice_get_within}
+use Rattle.std.proofs.lemmas.Option.{none-some, slice_get_within}
 use Rattle.std.specs.Option.{MatchOption}
 use Rattle.rx_table.specs.declared.conn.Conn.{Conn}
 use Rattle.rx_table.specs.declared.seat.Seat.{Seat}
-use Rattle.rx_table.specs.Layout.{joined, record_of, longer}
+use Rattle.rx_table.specs.Layout.{joined, record_of}
 use Rattle.rx_table.specs.Records.{ConnRecord, Records, record_at, is_idle, idle_since, IsLongestIdle}
 use Rattle.rx_table.proofs.JoinedLaws.{seats_of}
 use Rattle.rx_table.proofs.KeptLaws.{record_is}
@@ -53,69 +51,6 @@ pub record IsLongestBelow (now : ℕ) (t : Records) (k : ℕ) (found : ℕ × �
 -- what was found among the places below one
 abbrev pub IsFoundBelow : ℕ → Records → ℕ → Option (ℕ × ℕ) → Type 0
 IsFoundBelow now t k o = MatchOption o ((q : ℕ) → q < k → idle_since now t q ≡ None) (IsLongestBelow now t k)
-
--- one more place
-pub found-more : (now : ℕ) (t : Records) (k : ℕ) (o : Option (ℕ × ℕ)) → IsFoundBelow now t k o
-    → IsFoundBelow now t (k + 1) (longer o k (idle_since now t k))
-found-more now t k o found = by o (idle_since now t k) refl found
-  where
-    same_use : (since q u : ℕ) → idle_since now t k ≡ Some since → q ≡ k → idle_since now t q ≡ Some u → since ≡ u
-    same_use since q u at is idle = same_Some _ _ (sym at ∙ ap (idle_since now t) (sym is) ∙ idle)
-
-    earlier : (q : ℕ) → q < k + 1 → (q ≡ k → ⊥) → q < k
-    earlier q below other = omega arith
-
-    by : (o : Option (ℕ × ℕ)) (s : Option ℕ) → idle_since now t k ≡ s → IsFoundBelow now t k o
-        → IsFoundBelow now t (k + 1) (longer o k s)
-    by None None at none = λ q below.
-        elim (cases_eq q k) [ inl is ↦ ap (idle_since now t) is ∙ at | inr other ↦ none q (earlier q below other) ]
-    by (Some f) None at old =
-        record {
-          below = omega (arith, old.below);
-          idle = old.idle;
-          earliest = λ q u below idle.
-              elim (cases_eq q k) [
-                | inl is ↦ absurd (none-some u (sym at ∙ ap (idle_since now t) (sym is) ∙ idle))
-                | inr other ↦ old.earliest q u (earlier q below other) idle
-              ];
-          lowest = old.lowest;
-        }
-    by None (Some since) at none =
-        record {
-          below = omega arith;
-          idle = at;
-          earliest = λ q u below idle.
-              elim (cases_eq q k) [
-                | inl is ↦ (let e = same_use since q u at is idle in omega arith)
-                | inr other ↦ absurd (none-some u (sym (none q (earlier q below other)) ∙ idle))
-              ];
-          lowest = λ q u idle below. absurd (none-some u (sym (none q below) ∙ idle));
-        }
-    by (Some f) (Some since) at old =
-        elim (nat_le f.1 since) as (λ b. nat_le f.1 since ≡ b
-        → IsFoundBelow now t (k + 1) (cond b (Some f) (Some (k, since)))) [
-          | true ↦ λ h. record {
-            below = omega (arith, old.below);
-            idle = old.idle;
-            earliest = λ q u below idle.
-                elim (cases_eq q k) [
-                  | inl is ↦ (let e = same_use since q u at is idle in
-                      let le : f.1 ≤ since = grind (arith, nat_tests) in omega arith)
-                  | inr other ↦ old.earliest q u (earlier q below other) idle
-                ];
-            lowest = old.lowest;
-          }
-          | false ↦ λ h. (let less : since < f.1 = grind (arith, nat_tests) in record {
-            below = omega arith;
-            idle = at;
-            earliest = λ q u below idle.
-                elim (cases_eq q k) [
-                  | inl is ↦ (let e = same_use since q u at is idle in omega arith)
-                  | inr other ↦ (let le : f.1 ≤ u = old.earliest q u (earlier q below other) idle in omega arith)
-                ];
-            lowest = λ q u idle below. (let le : f.1 ≤ u = old.earliest q u below idle in omega arith);
-          })
-        ] refl
 
 -- none was found before the first place
 pub found-none : (now : ℕ) (t : Records) → IsFoundBelow now t 0 None

@@ -1,7 +1,6 @@
 -- How a table keeps its records: connections and seats in a list each. No public clause cites this module.
-use Rattle.std.specs.Prelude.{◌≡◌, ◌≤◌, ◌<◌, ◌*◌, ◌^◌, ℕ, Bool, true, List, [], ◌∷◌, Option, Some, map, take, drop}
-use Rattle.std.specs.Prelude.{length, slice_get}
-use Rattle.std.specs.Prelude.{None, if◌then◌else◌, option_map, nat_le}
+use Rattle.std.specs.Prelude.{◌≡◌, ◌≤◌, ◌<◌, ◌*◌, ◌^◌, ℕ, Bool, true, List, [], ◌∷◌, Some, map, take, drop}
+use Rattle.std.specs.Prelude.{length, option_map, slice_get}
 use Rattle.rx_model.specs.Names.{Connection}
 use Rattle.rx_table.specs.declared.conn.Conn.{Conn}
 use Rattle.rx_table.specs.declared.key.Key.{Key}
@@ -44,9 +43,3 @@ pub record IsKept (cs : List Conn) (ss : List Seat) (index : List (Key × ℕ)) 
   pub seated : length ss ≡ CHANNELS * length cs
   pub distinct : IsDistinct (map name_in cs)
   pub indexed : IsIndex (map name_in cs) index complete
-
--- the place that was used the longest ago, with that moment: of those before, and of a further one, where it is idle
-abbrev pub longer : Option (ℕ × ℕ) → ℕ → Option ℕ → Option (ℕ × ℕ)
-longer found place None = found
-longer None place (Some since) = Some (place, since)
-longer (Some found) place (Some since) = if nat_le found.1 since then Some found else Some (place, since)

@@ -3,7 +3,6 @@ ghost use Rattle.std.specs.Prelude.{None, Err};
 ghost use Rattle.std.specs.Prelude.{IfOk, OnOk, OnErr, IfSome, IsNone, IsSome, IsSomeAnd};
 ghost use Rattle.std.specs.Borrow.{sem};
 ghost use Rattle.rx_table.specs.Lending.{LendsSeat};
-ghost use Rattle.rx_table.specs.Layout.{longer};
 ghost use Rattle.rx_table.specs.Records.{seat_at, names, place_of, record_at, on_place, fresh_record, next_serial};
 ghost use Rattle.rx_table.specs.Records.{idle_since, IsDistinct, IsLongestIdle};
 
@@ -130,7 +129,13 @@ impl Table {
     {
         let mut longest = None;
         for place in 0..self.conns.len() as u32 {
-            longest = longer(longest, place, self.idle_since(place, now));
+            let Some(since) = self.idle_since(place, now) else {
+                continue;
+            };
+            match longest {
+                Some((_, before)) if before <= since => {}
+                Some(_) | None => longest = Some((place, since)),
+            }
         }
         let (place, _) = longest?;
         Some(place)
@@ -224,19 +229,6 @@ impl Table {
     {
         let conn = &self.conns[position as usize];
         (conn.host, conn.epoch, conn.cid)
-    }
-}
-
-/// The place that was used the longest ago, with that moment, of those before and of a further one, where it is idle.
-fn longer(longest: Option<(u32, u64)>, place: u32, since: Option<u64>) -> Option<(u32, u64)>
-    ensures { result ≡ longer longest place since }
-{
-    let Some(since) = since else {
-        return longest;
-    };
-    match longest {
-        Some((_, before)) if before <= since => longest,
-        Some(_) | None => Some((place, since)),
     }
 }
 
