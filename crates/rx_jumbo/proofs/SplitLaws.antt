@@ -6,8 +6,9 @@ use Rattle.std.proofs.Math.Nat.{eq-or-lt_of_le}
 use Rattle.std.proofs.lemmas.Bool.{false≢true, and_parts, not-false, leb-true, ltb-true, le-leb, lt-ltb, and_from}
 use Rattle.std.proofs.lemmas.List.FromFn.{length-map-range_with_len}
 use Rattle.std.specs.List.{range_with_len}
-use Rattle.rx_jumbo.specs.Parts.{SplitsAt, header_of, has_part, if_had, is_data_datagram, is_followed, is_jumbo}
-use Rattle.rx_jumbo.specs.Parts.{last_part, part_at, part_place, parts_of, parts_to, unfollowed}
+use Rattle.rx_jumbo.specs.Parts.{SplitsAt, checksum_place, header_of, has_part, if_had, is_data_datagram, is_followed}
+use Rattle.rx_jumbo.specs.Parts.{is_jumbo, last_part, part_at, part_place, parts_of, parts_to, unfollowed}
+use Rattle.rx_jumbo.proofs.Places.{checksum_before}
 use Rattle.rx_jumbo.proofs.FindLaws.{IsFirst, find_first, first_found, get_in_range}
 
 -- a choice that gives something took its first branch
@@ -105,13 +106,23 @@ followed_below : (b : List ℕ) (last k : ℕ) → SplitsAt b last → k ≤ las
 followed_below b last k s low h (inl same) = absurd (false≢true (sym (ap (is_followed b) same ∙ s.ends) ∙ h))
 followed_below b last k s low h (inr below) = below
 
--- a part begins within the datagram, and one that is followed has its bytes there
-pub part_begins : (b : List ℕ) (last k : ℕ) → last_part b ≡ Some last → k ≤ last → part_place k ≤ length b
-part_begins b last k h low = omega (arith, reaches b last (splits_at b last h))
+-- what is known of a part that is there
+pub record PartThere (b : List ℕ) (k : ℕ) : Type 0 where
+  pub is : slice_get (parts_of b) k ≡ Some (part_at b k)
+  pub begins : part_place k ≤ length b
+  pub whole : is_followed b k ≡ true → part_place k + 1412 ≤ length b
+  pub checksum : checksum_place k + 2 ≤ length b
+  pub header : 28 ≤ length b
 
-pub part_whole : (b : List ℕ) (last k : ℕ) → last_part b ≡ Some last → k ≤ last → is_followed b k ≡ true →
-    part_place k + 1412 ≤ length b
-part_whole b last k h low follows =
-    let s = splits_at b last h in
-    let below = followed_below b last k s low follows (eq-or-lt_of_le low) in
-    omega (arith, s.room k below)
+pub part_there : (b : List ℕ) (last k : ℕ) → last_part b ≡ Some last → k < length (parts_of b) → PartThere b k
+part_there b last k told below =
+    let s = splits_at b last told in
+    let low : k ≤ last = omega (arith, below, count_split b last told) in
+    let begins : part_place k ≤ length b = omega (arith, reaches b last s) in
+    record {
+      is = part_split b last k told low;
+      begins = begins;
+      whole = λ more. omega (arith, s.room k (followed_below b last k s low more (eq-or-lt_of_le low)));
+      checksum = omega (arith, begins, checksum_before k);
+      header = omega (arith, begins);
+    }

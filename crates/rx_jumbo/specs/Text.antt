@@ -6,12 +6,12 @@ use Rattle.rx_model.specs.Message.{IsBytes}
 use Rattle.rx_model.specs.Spelling.{header_bytes}
 use Rattle.rx_jumbo.specs.declared.sizes.TheConstants.{JUMBO_PARTS, JUMBO_BYTES}
 use Rattle.rx_jumbo.specs.Parts.{header_of, is_data_datagram, is_followed, flags_place, part_place, parts_of}
-use Rattle.rx_jumbo.specs.Parts.{part_head, own_checksum, own_flags}
+use Rattle.rx_jumbo.specs.Parts.{part_head}
 use Rattle.rx_jumbo.specs.JoinerState.{same_call, spare_place}
 
--- part k without its bytes
-abbrev pub part_header : List ℕ → ℕ → List ℕ
-part_header b k = header_bytes (part_head b k) (own_flags b k) (header_of b).status (own_checksum b k) []
+-- the header of part k with flags and a checksum
+abbrev pub part_header : List ℕ → ℕ → ℕ → ℕ → List ℕ
+part_header b k flags checksum = header_bytes (part_head b k) flags (header_of b).status checksum []
 
 -- ---- joining
 

@@ -58,9 +58,9 @@ impl Joiner {
         })
     }
 
-    /// Takes a datagram for a host, where none is held or it follows the last one held: DATA of the same call with the
-    /// next seq and serial, behind a full piece, while fewer than the most are held. Answers whether it was taken; where
-    /// it wasn't, nothing changes, and the caller takes `out` first.
+    /// Takes a datagram for a host where none is held, or where it follows the last one held: DATA of the same call
+    /// with the next seq and serial, behind a full piece, while fewer than the most are held. Answers whether it was
+    /// taken; where it wasn't, nothing changes, and the caller takes `out` first.
     pub fn push(&mut self, to: Host, bytes: &[u8]) -> bool
         requires size { length bytes.now ≤ DATAGRAM_BYTES }
         requires single { is_jumbo bytes.now ≡ false }

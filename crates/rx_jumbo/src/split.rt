@@ -12,7 +12,7 @@ use crate::fields::{
 };
 use crate::sizes::JUMBO_PARTS;
 use crate::write::{put, put_u16, put_u32};
-use rx_model::wire::{DATA, JUMBO, PIECE_BYTES};
+use rx_model::wire::{DATA, HEADER_BYTES, JUMBO, PIECE_BYTES};
 
 /// How many single datagrams a datagram is split into, from 1 to 16: the parts of DATA with the flag JUMBO, and 1 for
 /// any other and for one that can't be split.
@@ -37,7 +37,12 @@ pub fn part(bytes: &[u8], k: u32, to: &mut [u8]) -> usize
     ensures rest { drop result to.new ≡ drop result to.old }
 {
     match last_part(bytes) {
-        Some(_) => put_part(to, bytes, k),
+        Some(_) => {
+            let flags = byte_at(bytes, flags_place(k)) & !JUMBO;
+            let checksum = short_at(bytes, checksum_place(k));
+            let at = put_header(to, bytes, k, flags, checksum);
+            put(to, at, part_bytes(bytes, k))
+        }
         None => put(to, 0, bytes),
     }
 }
@@ -71,17 +76,6 @@ fn has_part(bytes: &[u8], k: u32) -> bool
     part_place(k) <= bytes.len() && word_at(bytes, 12).checked_add(k).is_some()
 }
 
-fn put_part(to: &mut [u8], bytes: &[u8], k: u32) -> usize
-    requires room { length bytes.now ≤ length to.old }
-    requires begins { part_place k ≤ length bytes.now }
-    requires whole { is_followed bytes.now k ≡ true → part_place k + PIECE_BYTES ≤ length bytes.now }
-    ensures within { result ≤ length bytes.now }
-    ensures puts { Puts to.old to.new 0 result (part_at bytes.now k) }
-{
-    let at = put_header(to, bytes, k);
-    put(to, at, part_bytes(bytes, k))
-}
-
 fn part_bytes(bytes: &[u8], k: u32) -> &[u8]
     requires begins { part_place k ≤ length bytes.now }
     requires whole { is_followed bytes.now k ≡ true → part_place k + PIECE_BYTES ≤ length bytes.now }
@@ -96,18 +90,18 @@ fn part_bytes(bytes: &[u8], k: u32) -> &[u8]
     }
 }
 
-fn put_header(to: &mut [u8], bytes: &[u8], k: u32) -> usize
-    requires room { length bytes.now ≤ length to.old }
-    requires begins { part_place k ≤ length bytes.now }
-    ensures { Puts to.old to.new 0 result (part_header bytes.now k) }
+/// Writes the header of a part with these flags and this checksum, and answers the place behind it.
+fn put_header(to: &mut [u8], bytes: &[u8], k: u32, flags: u8, checksum: u16) -> usize
+    requires room { HEADER_BYTES ≤ length to.old }
+    requires header { HEADER_BYTES ≤ length bytes.now }
+    ensures { Puts to.old to.new 0 result (part_header bytes.now k flags checksum) }
 {
     let at = put_u32(to, 0, word_at(bytes, 0));
     let at = put_u32(to, at, word_at(bytes, 4));
     let at = put_u32(to, at, word_at(bytes, 8));
     let at = put_u32(to, at, word_at(bytes, 12).wrapping_add(k));
     let at = put_u32(to, at, word_at(bytes, 16).wrapping_add(k));
-    let flags = byte_at(bytes, flags_place(k)) & !JUMBO;
     let at = put(to, at, &[DATA, flags, bytes[22], bytes[23]]);
-    let at = put_u16(to, at, short_at(bytes, checksum_place(k)));
+    let at = put_u16(to, at, checksum);
     put_u16(to, at, short_at(bytes, 26))
 }
