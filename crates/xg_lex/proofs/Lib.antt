@@ -1,0 +1,15 @@
+pub mod Prefix
+pub mod Runs
+pub mod RunLaws
+pub mod CloseLaws
+pub mod MarkLaws
+pub mod PartLaws
+pub mod FoundLaws
+pub mod ReadLaws
+pub mod LoopLaws
+pub mod Boundaries
+pub mod OneReading
+pub mod ByteKinds
+pub mod Numbers
+pub mod NumberLaws
+pub mod Closes
