@@ -22,6 +22,7 @@ StartsBy s l from bytes c got =
     → nat_lt (channel_at (prepared s got (connection_of c) l) (channel_of c)).number c.number ≡ true → call_at l c
     ≡ None
 
+-- the same of any event: one that is kept or has no slot may start a call
 abbrev pub StartsNew : Setup → Looks → Event → CallName → Type 0
 StartsNew s l (events.Taken from bytes tooks.Kept) c = StartsBy s l from bytes c tooks.Kept
 StartsNew s l (events.Taken from bytes tooks.NoSlot) c = StartsBy s l from bytes c tooks.NoSlot

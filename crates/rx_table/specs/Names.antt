@@ -8,6 +8,7 @@ use Rattle.rx_table.specs.declared.key.Key.{Key}
 abbrev pub key_of : Connection → Key
 key_of x = record { addr = x.host.addr; port = x.host.port; epoch = x.epoch; cid = x.cid }
 
+-- whether two keys are one
 abbrev pub same_key : Key → Key → Bool
 same_key a b = (a.addr == b.addr) && ((a.port == b.port) && ((a.epoch == b.epoch) && (a.cid == b.cid)))
 
