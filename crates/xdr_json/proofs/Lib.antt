@@ -1,5 +1,6 @@
 pub mod Lists
 pub mod Loop
+pub mod ArgsLoop
 pub mod Texts
 pub mod Plain
 pub mod Fields

@@ -4,3 +4,4 @@ pub mod Judged
 pub mod Judging
 pub mod Answers
 pub mod Bytes
+pub mod Args

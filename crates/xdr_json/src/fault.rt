@@ -1,8 +1,8 @@
 //! Why a text is no value.
 
-ghost use Rattle.std.specs.Prelude.{◌≡◌, ◌++◌, IfOk};
+ghost use Rattle.std.specs.Prelude.{◌≡◌, ◌++◌, IfOk, codes};
 ghost use Rattle.std.specs.String.{string_bytes};
-ghost use Rattle.xdr_value.specs.Data.{Datum};
+ghost use Rattle.xdr_value.specs.Data.{Data, Datum};
 ghost use Rattle.xdr_value.specs.View.{kind_of};
 ghost use Rattle.xdr_json.specs.Judged.{Judged, misfit, below, field_step, index_step};
 ghost use Rattle.xdr_json.specs.TypeText.{type_text};
@@ -131,5 +131,21 @@ pub fn below_index(alloc: Global, index: usize, stop: Stop) -> Stop
     match index_step(alloc, index) {
         Err(_) => Stop::Memory,
         Ok(step) => below(alloc, step.as_str(), stop),
+    }
+}
+
+/// What stops above a whole list.
+pub fn below_root(alloc: Global, stop: Stop) -> Stop
+    ensures { (r : Judged Data) → Fails stop r → Fails result (below (codes "$") r) }
+{
+    match stop {
+        Stop::Memory => Stop::Memory,
+        Stop::Misfit(misfit) => match joined(alloc, "$", misfit.path.as_str()) {
+            Err(_) => Stop::Memory,
+            Ok(path) => Stop::Misfit(Misfit {
+                path,
+                want: misfit.want,
+            }),
+        },
     }
 }

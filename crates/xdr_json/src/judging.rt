@@ -48,7 +48,8 @@ fn above_field(alloc: Global, name: &str, judged: Result<Value, Stop>) -> Result
     }
 }
 
-fn above_index(alloc: Global, index: usize, judged: Result<Value, Stop>) -> Result<Value, Stop>
+/// What an element is, or what stops above it.
+pub fn above_index(alloc: Global, index: usize, judged: Result<Value, Stop>) -> Result<Value, Stop>
     ensures { (r : Judged Datum) → Gives value_of judged r → Gives value_of result (below (index_step index) r) }
 {
     match judged {
@@ -57,8 +58,9 @@ fn above_index(alloc: Global, index: usize, judged: Result<Value, Stop>) -> Resu
     }
 }
 
+/// The value of the type that JSON is, which nests at most so deep.
 #[cycle(judge)]
-fn judge(alloc: Global, types: &[Def], levels: u32, json: &Json, ty: &Ty) -> Result<Value, Stop>
+pub fn judge(alloc: Global, types: &[Def], levels: u32, json: &Json, ty: &Ty) -> Result<Value, Stop>
     requires { nesting (view json.now) ≤ levels }
     ensures { Gives value_of result (judged (types_of types.now) (view json.now) (kind_of ty.now)) }
 {

@@ -6,6 +6,7 @@
 //! Of a number, `serde_json` reads only digits as whole: `1.0` and `-0` are values of no type.
 #![tactic(auto)]
 
+mod args;
 mod fault;
 mod judging;
 mod laws;
@@ -14,6 +15,7 @@ mod objects;
 mod printing;
 mod type_name;
 
+pub use args::args_from_json;
 pub use fault::JsonFault;
 pub use judging::from_json;
 pub use laws::value_returns;

@@ -1,3 +1,4 @@
+mod args;
 mod forms;
 mod misfits;
 mod texts;

@@ -1,0 +1,12 @@
+use Rattle.std.proofs.Common.{◌≡◌, drop, map}
+use Rattle.std.specs.Option.{option_or}
+use Rattle.rx_script.specs.Answers.{last_of, sends}
+use Rattle.rx_script.specs.Answered.{maybe_saying}
+use Rattle.rx_script.specs.Saying.{saying_of}
+use Rattle.rx_script.proofs.answers.last_sending.Given as goal
+
+-- the last one of those that are left, or else the last so far
+abbrev pub invariant-loop-line : goal.invariant-loop-line
+invariant-loop-line l =
+    option_or (last_of sends (map saying_of (drop l.line-index l.lines))) (maybe_saying l.last)
+    ≡ last_of sends (map saying_of l.lines)
