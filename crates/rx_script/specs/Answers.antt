@@ -10,10 +10,12 @@ use Rattle.rx_script.specs.Saying.{Saying, when, fail, set, copy, size, count, e
 
 -- ---- the arguments as they came
 
+-- the first value, or void where there is none
 abbrev pub first_of : Data → Datum
 first_of end = nothing
 first_of (more v vs) = v
 
+-- the values behind the first
 abbrev pub rest_of : Data → Data
 rest_of end = end
 rest_of (more v vs) = vs
@@ -54,6 +56,7 @@ code_of ps args ls = option_or (first_given (held_code ps args) ls) (first_given
 
 -- ---- the values
 
+-- how many bytes an opaque or a string has
 abbrev pub byte_count : Datum → ℕ
 byte_count (octets bytes) = length bytes
 byte_count _ = 0
@@ -83,6 +86,7 @@ abbrev pub value_from : Types → List Param → Data → List ℕ → Param →
 value_from t ps args upload p None = start_value t ps args p
 value_from t ps args upload p (Some l) = given_value ps args upload l
 
+-- the value of an argument in the reply: that of the last line that gives it one
 abbrev pub reply_value : Types → List Param → Data → List ℕ → List Saying → Param → Datum
 reply_value t ps args upload ls p = value_from t ps args upload p (last_of (gives p.name) ls)
 
@@ -94,6 +98,7 @@ values_by value (p ∷ ps) =
 
 -- ---- the download
 
+-- a line that makes a download
 abbrev pub sends : Saying → Bool
 sends echo = true
 sends (send bytes) = true
@@ -116,6 +121,7 @@ pub data Answer : Type 0 where
   code : ℤ → Answer
   reply : Data → List ℕ → Answer
 
+-- a code, or else the answer behind it
 abbrev pub coded_or : Option ℤ → Answer → Answer
 coded_or None answer = answer
 coded_or (Some c) answer = code c

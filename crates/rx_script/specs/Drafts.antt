@@ -6,12 +6,15 @@ use Rattle.rx_script.specs.declared.script_reader.Draft.{Draft as CodeDraft}
 use Rattle.rx_script.specs.Saying.{Saying, saying_of, blocks_of}
 use Rattle.rx_script.specs.Scripts.{Marked, sayings, Opened, Draft}
 
+-- a line of a block under way, with its number
 abbrev pub marked_of : CodeMarked → Marked
 marked_of l = (l.line, saying_of l.what)
 
+-- the lines before it, without their numbers
 abbrev pub before_of : List CodeMarked → List Saying
 before_of ls = sayings (map marked_of ls)
 
+-- the block under way
 abbrev pub opened_of : CodeOpened → Opened
 opened_of b = record {
   place = b.place;
@@ -20,5 +23,6 @@ opened_of b = record {
   lines = map marked_of b.lines.items;
 }
 
+-- a script under way: the blocks that are closed, and the open one
 abbrev pub draft_of : CodeDraft → Draft
 draft_of d = record { done = blocks_of d.done.items; block = option_map opened_of d.block }

@@ -108,11 +108,14 @@ limits_in given = record {
   window = unwrap_or given.window DEFAULT_WINDOW;
 }
 
+-- the service that options name, or the default
 abbrev pub service_in : Options → ℕ
 service_in given = unwrap_or given.service DEFAULT_SERVICE
 
+-- the nonce that they name, or 0
 abbrev pub nonce_in : Options → ℕ
 nonce_in given = unwrap_or given.nonce 0
 
+-- the first call number that they name, or the default
 abbrev pub first_in : Options → ℕ
 first_in given = unwrap_or given.first DEFAULT_FIRST

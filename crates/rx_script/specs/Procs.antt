@@ -48,11 +48,13 @@ comes p = goes_with streams.Request p.mode
 abbrev pub returns : Role
 returns p = goes_with streams.Reply p.mode
 
+-- a type that a count of bytes may have: int or unsigned
 abbrev pub is_counter : Head → Bool
 is_counter (is_basic basics.Int) = true
 is_counter (is_basic basics.Uint) = true
 is_counter _ = false
 
+-- a type whose size is counted in bytes: opaque or string
 abbrev pub is_content : Head → Bool
 is_content (is_basic (basics.Opaque n)) = true
 is_content (is_basic (basics.OpaqueUpTo n)) = true

@@ -76,6 +76,7 @@ invoke_line t ps which =
 abbrev pub rounds_word : List ℕ → Result ℕ LineWhy
 rounds_word = number_word 1 MAX_ROUNDS
 
+-- the lines that plans and plans of peers share, by their first word
 abbrev pub shared_line : Names → Verb → Form SharedLine
 shared_line which verbs.Cancel = word (name_word CALLED) (λ call. word fault_word (λ code. end (shareds.Cancel call code)))
 shared_line which verbs.Ask = word (name_word CALLED) (λ call. end (shareds.Ask call))
@@ -89,6 +90,7 @@ shared_line which verbs.Lossy =
     word seed_word (λ seed. word rounds_word (λ rounds. end (shareds.Lossy seed rounds)))
 shared_line which _ = λ words. Err whys.Word
 
+-- such a line as one of a plan
 abbrev pub plan_of_shared : SharedLine → PlanLine
 plan_of_shared (shareds.Cancel call code) = lines.Cancel call code
 plan_of_shared (shareds.Ask call) = lines.Ask call
@@ -99,6 +101,7 @@ plan_of_shared (shareds.Turn node) = lines.Turn node
 plan_of_shared (shareds.Rounds rounds) = lines.Rounds rounds
 plan_of_shared (shareds.Lossy seed rounds) = lines.Lossy seed rounds
 
+-- such a line as one of a plan of peers
 abbrev pub peer_of_shared : SharedLine → PeerLine
 peer_of_shared (shareds.Cancel call code) = peers.Cancel call code
 peer_of_shared (shareds.Ask call) = peers.Ask call
@@ -138,6 +141,7 @@ abbrev pub write_of : CallWord → List ℕ → PlanLine
 write_of (calls.Called call) bytes = lines.Write call bytes
 write_of (calls.Accepted call) bytes = lines.HandlerWrite call bytes
 
+-- write #K or @K, BYTES
 abbrev pub write_line : Form PlanLine
 write_line = word call_word (λ call. word bytes_word (λ bytes. end (write_of call bytes)))
 

@@ -3,6 +3,7 @@ use Rattle.std.specs.Prelude.{◌&&◌, Bool, true, false, bytes_eq}
 use Rattle.std.specs.Ordering.{int_eq}
 use Rattle.xdr_value.specs.Data.{Datum, number, flag, octets, items, union, none, some, nothing, Data, end, more}
 
+-- whether two flags are one
 abbrev pub same_flag : Bool → Bool → Bool
 same_flag true true = true
 same_flag false false = true

@@ -10,14 +10,17 @@ use Rattle.rx_script.specs.Procs.{comes, returns, counts, is_counted, is_source,
 use Rattle.rx_script.specs.Saying.{Saying, wait, up, down, when, fail, set, copy, size, count, echo, send}
 use Rattle.rx_script.specs.Words.{Form, word, end, number_word, bytes_word, fault_word}
 
+-- a line `wait`
 abbrev pub is_wait : Saying → Bool
 is_wait (wait turns) = true
 is_wait _ = false
 
+-- a line `up`
 abbrev pub is_up : Saying → Bool
 is_up up = true
 is_up _ = false
 
+-- a line `down`
 abbrev pub is_down : Saying → Bool
 is_down down = true
 is_down _ = false

@@ -22,6 +22,7 @@ use Rattle.rx_script.specs.Words.{Form, and_then, word, end}
 abbrev pub Marked : Type 0
 Marked = ℕ × Saying
 
+-- lines without their numbers
 abbrev pub sayings : List Marked → List Saying
 sayings ls = map (λ (l : Marked). l.1) ls
 
@@ -68,6 +69,7 @@ abbrev pub closed_from : List Answering → Option Opened → Given (List Answer
 closed_from done None = Ok done
 closed_from done (Some b) = with_block done b (lacking b)
 
+-- the blocks of a script that ends here: the open one is checked and closed
 abbrev pub closed : Draft → Given (List Answering)
 closed d = closed_from d.done d.block
 
@@ -131,6 +133,7 @@ abbrev pub by_word : Types → Procs → ℕ → Draft → Option Verb → List 
 by_word t ps n d None words = Err (BadLine n whys.Word)
 by_word t ps n d (Some verb) words = by_verb t ps n d verb words
 
+-- a script with one more line, by its words
 abbrev pub by_words : Types → Procs → ℕ → Draft → List (List ℕ) → Given Draft
 by_words t ps n d [] = Err (BadLine n whys.Word)
 by_words t ps n d (first ∷ words) = by_word t ps n d (verb_in VERBS first) words

@@ -75,6 +75,7 @@ served_with t script p args (Some upload) =
 abbrev pub upload_of : List Answering → Procedure → List ℕ → Option (List ℕ)
 upload_of script p rest = if block_has is_up (block_named p.name script) then counted_at rest else Some []
 
+-- what is served for a request whose arguments were found, of this procedure
 abbrev pub served_by : Types → List Answering → Data → List ℕ → Option Procedure → Served
 served_by t script args rest None = refusal OPCODE
 served_by t script args rest (Some p) = served_with t script p args (upload_of script p rest)

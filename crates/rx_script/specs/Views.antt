@@ -4,6 +4,7 @@ use Rattle.xdr_value.specs.View.{values_of}
 use Rattle.rx_script.specs.declared.shared.Invocation.{Invocation as CodeInvocation}
 use Rattle.rx_script.specs.Saying.{Invocation}
 
+-- an `invoke` line by its parts
 abbrev pub invocation_of : CodeInvocation → Invocation
 invocation_of i = record {
   node = i.node;

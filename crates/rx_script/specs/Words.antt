@@ -94,6 +94,7 @@ seed_word = number_word 0 (2 ^ 64 - 1)
 abbrev pub epoch_head : List ℕ
 epoch_head = codes "epoch="
 
+-- `epoch=N`
 abbrev pub epoch_word : List ℕ → Result ℕ LineWhy
 epoch_word word =
     if starts_with nat_eq word epoch_head
