@@ -41,6 +41,7 @@ impl Index {
         self.places.get(key).copied()
     }
 
+    // No clause says when it takes one: no bound is claimed of a look-up, and what isn't here is found in the list.
     /// Takes a key, where there is room for it without memory, and answers whether it did.
     pub fn take(&mut self, key: Key, place: u32) -> bool
         ensures taken { result ≡ true → (k : Key)

@@ -51,6 +51,7 @@ fn a_fourth_connection_finds_a_table_of_three_full(rt: HostRuntime) -> Result<()
     assert_eq!(&rt; enter(&rt, &mut table, 12, 0), 2);
     assert_eq!(&rt; place(&rt, &table, 4), 0);
     assert_eq!(&rt; place(&rt, &table, 12), 2);
+    assert_eq!(&rt; table.index.place(&Key::of(PEER, 1, 12)), Some(2));
     assert_eq!(&rt; table.find(PEER, 2, 4), None);
     assert_eq!(&rt; table.find(PEER, 1, 16), None);
     assert!(&rt; table.enter(PEER, 1, 16, 0, 0) == Err(Full));
