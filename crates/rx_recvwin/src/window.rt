@@ -3,7 +3,7 @@ ghost use Rattle.std.specs.Prelude.{false, IfOk};
 ghost use Rattle.rx_rules.specs.Received.{Received, nothing_received, front_of, used_of, marks_of, count_above};
 ghost use Rattle.rx_pool.specs.Pool.{Slots};
 ghost use Rattle.rx_pool.specs.Held.{Holds, Keeps};
-ghost use Rattle.rx_recvwin.specs.Places.{place_at, count_in, is_open_done, HasSizes};
+ghost use Rattle.rx_recvwin.specs.Places.{place_at, leading, count_in, is_open_done, HasSizes};
 ghost use Rattle.rx_recvwin.specs.Window.{RecvWindow, packet_slots, window_of, Near, StandsReceived, after_use};
 
 use crate::ack_view::AckView;
@@ -105,6 +105,7 @@ impl RecvWin {
     /// How many kept packets are not used.
     pub fn held(&self) -> u32
         ensures count { result ≡ length (packet_slots self.now) }
+        ensures most { result ≤ MAX_WINDOW }
         ensures answered { (pool : Slots) (r : Received) → StandsReceived pool self.now r →
             result ≡ count_above (used_of r) r.kept }
     {
@@ -113,6 +114,7 @@ impl RecvWin {
 
     /// Whether a packet up to the front is not used.
     pub fn lead(&self) -> bool
+        ensures value { result ≡ nat_lt self.now.used (self.now.used + leading self.now.places) }
         ensures answered { (pool : Slots) (r : Received) → StandsReceived pool self.now r →
             result ≡ nat_lt (used_of r) (front_of r.kept) }
     {

@@ -104,6 +104,7 @@ impl SendWin {
     /// How many pieces are held.
     pub fn held(&self) -> u32
         ensures count { result ≡ length (piece_slots self.now) }
+        ensures most { result ≤ MAX_WINDOW }
         ensures answered { (pool : Slots) (s : Sent) → StandsSent pool self.now s → result ≡ held_pieces s }
     {
         self.pieces.len() as u32
@@ -155,7 +156,7 @@ impl SendWin {
     }
 
     /// Whether a piece has the last mark.
-    pub(crate) fn is_last(&self, seq: u32) -> bool
+    pub fn is_last(&self, seq: u32) -> bool
         ensures { (pool : Slots) (s : Sent) → StandsSent pool self.now s → result ≡ (piece_at s seq).last }
     {
         self.shut && seq as u64 == self.count()

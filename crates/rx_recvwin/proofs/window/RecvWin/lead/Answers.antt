@@ -12,6 +12,7 @@ returns c =
     ap (nat_lt c.self.inside.used) c.self.invariant.2.upto
     ∙ ap (λ (w : RecvWindow). nat_lt w.used (w.used + leading w.places)) c.self.view_is) in
     record {
+      value = upto;
       answered = λ pool r s.
           upto ∙ ap (λ n. nat_lt w.used (w.used + n)) (sym (leading_seen pool w.places))
           ∙ lead_is (window_of pool w) r s;
