@@ -1,0 +1,119 @@
+-- The piece that a sending window gives next, as the rules have it.
+use Rattle.std.proofs.Common.{◌≡◌, inl, inr, ◌<◌, ◌≤◌, ◌==◌, ◌∙◌, nat_le, cond, is_some, true, false, ℕ, suc}
+use Rattle.std.proofs.Common.{List, [], ◌∷◌, ◌++◌, Option, Some, None, refl, sym, ap, arith}
+use Rattle.std.specs.Prelude.{filter, option_map, option_and_then}
+use Rattle.std.proofs.lemmas.Bool.{cases_lt, false≢true}
+use Rattle.std.proofs.lemmas.Bool.Decides.{nat_tests}
+use Rattle.rx_rules.specs.CallItems.{CallItem, Sending, piece_items, fresh_items, again_items, can_give, asks}
+use Rattle.rx_rules.specs.CallItems as items
+use Rattle.rx_rules.specs.CallLooks.{CallLooks}
+use Rattle.rx_rules.specs.Least.{least_by, lesser_by}
+use Rattle.rx_rules.specs.Rates.{Cwnd}
+use Rattle.rx_rules.specs.Sent.{Sent, Giving, LastGiving, given_of, greatest_given, last_giving, lowest_of}
+use Rattle.rx_sendwin.specs.declared.next.NextPiece.{NextPiece}
+use Rattle.rx_sendwin.specs.Next.{next_item, next_piece, piece_of}
+use Rattle.rx_call.specs.Choosing.{piece_sending}
+
+-- it is a piece, and again says whether it was given before
+abbrev IsRight : Sent → Sending → Type 0
+IsRight s (items.Piece seq again) = again ≡ nat_le seq (given_of s)
+IsRight s (items.Ack reason serial) = ⊥
+
+abbrev AllRight : Sent → List CallItem → Type 0
+AllRight s [] = Unit {0}
+AllRight s (i ∷ is) = IsRight s i.sending × AllRight s is
+
+abbrev RightItem : Sent → Option CallItem → Type 0
+RightItem s None = Unit {0}
+RightItem s (Some i) = IsRight s i.sending
+
+right_least : (s : Sent) (is : List CallItem) → AllRight s is → RightItem s (least_by (λ (i : CallItem). i.rank) is)
+right_least s [] a = tt
+right_least s (x ∷ xs) a =
+    lesser x (least_by (λ (i : CallItem). i.rank) xs) a.0 (right_least s xs a.1)
+  where
+    lesser : (x : CallItem) (o : Option CallItem) → IsRight s x.sending → RightItem s o →
+        IsRight s (lesser_by (λ (i : CallItem). i.rank) x o).sending
+    lesser x None one other = one
+    lesser x (Some y) one other =
+        elim (nat_le x.rank y.rank) as (λ b. IsRight s (cond b x y).sending) [
+          | true ↦ one
+          | false ↦ other
+        ]
+
+right_due : (s : Sent) (now : ℕ) (is : List CallItem) → AllRight s is →
+    AllRight s (filter (λ (i : CallItem). nat_le i.rank now) is)
+right_due s now [] a = tt
+right_due s now (x ∷ xs) a =
+    let rest = right_due s now xs a.1 in
+    let due : List CallItem = filter (λ (i : CallItem). nat_le i.rank now) xs in
+    elim (nat_le x.rank now) as (λ b. AllRight s (cond b (x ∷ due) due)) [
+      | true ↦ (a.0, rest)
+      | false ↦ rest
+    ]
+
+-- a piece that was given is at most the greatest
+given_most : (gs : List Giving) (k : ℕ) (g : LastGiving) → last_giving gs k ≡ Some g → k ≤ greatest_given gs
+given_most gs k g is =
+    elim (cases_lt (greatest_given gs) k) as (λ _. k ≤ greatest_given gs) [
+      | inl lt ↦ absurd (none_some (sym (above gs k lt) ∙ is))
+      | inr ge ↦ ge
+    ]
+  where
+    none_some : ◌≡◌ {A = Option LastGiving} None (Some g) → ⊥
+    none_some e = false≢true (ap is_some e)
+
+    above : (gs : List Giving) (k : ℕ) → greatest_given gs < k → last_giving gs k ≡ None
+    above [] k lt = refl
+    above (g ∷ gs) k lt =
+        let test : (g.seq == k) ≡ false = grind (arith, nat_tests, lt) in
+        rw test (above gs k (omega (arith, lt)))
+
+right_again : (s : Sent) (rto : ℕ) (o : Option LastGiving) → last_giving s.givings (lowest_of s) ≡ o →
+    AllRight s (again_items rto (lowest_of s) o)
+right_again s rto None is = tt
+right_again s rto (Some g) is =
+    let most = given_most s.givings (lowest_of s) g is in
+    let test : nat_le (lowest_of s) (given_of s) ≡ true = grind (arith, nat_tests, most) in
+    (sym test, tt)
+
+right_pieces : (rto : ℕ) (c : Cwnd) (s : Sent) → AllRight s (piece_items rto c s)
+right_pieces rto c s =
+    let rest = right_again s rto (last_giving s.givings (lowest_of s)) refl in
+    let again : List CallItem = again_items rto (lowest_of s) (last_giving s.givings (lowest_of s)) in
+    let fresh : CallItem = record { rank = 0; sending = items.Piece (suc (given_of s)) false } in
+    let test : nat_le (suc (given_of s)) (given_of s) ≡ false = grind (arith, nat_tests) in
+    elim (can_give c s) as (λ b. AllRight s (cond b (fresh ∷ []) [] ++ again)) [
+      | true ↦ (sym test, rest)
+      | false ↦ rest
+    ]
+
+-- the sending of a piece that the window tells
+abbrev pub told : Option NextPiece → Option Sending
+told None = None
+told (Some p) = Some (items.Piece p.seq p.again)
+
+-- what the window tells of it is right
+abbrev pub IsTold : Cwnd → Sent → Option NextPiece → Type 0
+IsTold c s None = Unit {0}
+IsTold c s (Some p) = (p.asks ≡ asks c s p.seq p.again) × (p.again ≡ nat_le p.seq (given_of s))
+
+told_one : (c : Cwnd) (s : Sent) (x : Sending) → IsRight s x →
+    (Some x ≡ told (piece_of c s x)) × IsTold c s (piece_of c s x)
+told_one c s (items.Piece seq again) r = (refl, (refl, r))
+told_one c s (items.Ack reason serial) r = absurd r
+
+told_item : (c : Cwnd) (s : Sent) (o : Option CallItem) → RightItem s o →
+    (option_map (λ (i : CallItem). i.sending) o ≡ told (option_and_then (λ (i : CallItem). piece_of c s i.sending) o))
+    × IsTold c s (option_and_then (λ (i : CallItem). piece_of c s i.sending) o)
+told_item c s None r = (refl, tt)
+told_item c s (Some i) r = told_one c s i.sending r
+
+-- what the window gives next is what the rules give
+pub next_told : (now : ℕ) (k : CallLooks) → let n = next_piece now k.rtt.rto k.cwnd k.sent in
+    (piece_sending now k ≡ told n) × IsTold k.cwnd k.sent n
+next_told now k =
+    let pieces = piece_items k.rtt.rto k.cwnd k.sent in
+    told_item k.cwnd k.sent (next_item now k.rtt.rto k.cwnd k.sent)
+    (right_least k.sent (filter (λ (i : CallItem). nat_le i.rank now) pieces)
+    (right_due k.sent now pieces (right_pieces k.rtt.rto k.cwnd k.sent)))

@@ -1,0 +1,21 @@
+//! One end of one call: what came, what is said, how fast, and what is owed.
+//!
+//! With the bytes of its node's pool a `Call` stands for what a history says of one end of a call (`StandsCall` of
+//! `specs/Standing.antt`, over `CallLooks` of `rx_rules`). Each contract says for every such record what the call
+//! answers, and for which record it stands then. What it did to the pool is said by `Keeps` of `rx_pool` over the slots
+//! that it holds (`slots_of`). It knows no name, no connection and no serial: those are its node's.
+//! After `make` no call here takes memory.
+#![tactic(auto)]
+
+mod call;
+mod giving;
+mod owing;
+mod side;
+#[cfg(test)]
+mod tests;
+
+pub use call::Call;
+pub use giving::Giving;
+pub use owing::OwedAck;
+pub use rx_recvwin::AckView;
+pub use side::Side;
