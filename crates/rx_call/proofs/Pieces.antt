@@ -10,8 +10,9 @@ use Rattle.rx_rules.specs.CallLooks.{CallLooks}
 use Rattle.rx_rules.specs.Least.{least_by, lesser_by}
 use Rattle.rx_rules.specs.Rates.{Cwnd}
 use Rattle.rx_rules.specs.Sent.{Sent, Giving, LastGiving, given_of, greatest_given, last_giving, lowest_of}
+use Rattle.rx_rules.proofs.SentLaws.{given-within}
 use Rattle.rx_sendwin.specs.declared.next.NextPiece.{NextPiece}
-use Rattle.rx_sendwin.specs.Next.{next_item, next_piece, piece_of}
+use Rattle.rx_sendwin.specs.Next.{next_piece_item, next_piece, piece_of}
 use Rattle.rx_call.specs.Choosing.{piece_sending}
 
 -- it is a piece, and again says whether it was given before
@@ -52,28 +53,11 @@ right_due s now (x ∷ xs) a =
       | false ↦ rest
     ]
 
--- a piece that was given is at most the greatest
-given_most : (gs : List Giving) (k : ℕ) (g : LastGiving) → last_giving gs k ≡ Some g → k ≤ greatest_given gs
-given_most gs k g is =
-    elim (cases_lt (greatest_given gs) k) as (λ _. k ≤ greatest_given gs) [
-      | inl lt ↦ absurd (none_some (sym (above gs k lt) ∙ is))
-      | inr ge ↦ ge
-    ]
-  where
-    none_some : ◌≡◌ {A = Option LastGiving} None (Some g) → ⊥
-    none_some e = false≢true (ap is_some e)
-
-    above : (gs : List Giving) (k : ℕ) → greatest_given gs < k → last_giving gs k ≡ None
-    above [] k lt = refl
-    above (g ∷ gs) k lt =
-        let test : (g.seq == k) ≡ false = grind (arith, nat_tests, lt) in
-        rw test (above gs k (omega (arith, lt)))
-
 right_again : (s : Sent) (rto : ℕ) (o : Option LastGiving) → last_giving s.givings (lowest_of s) ≡ o →
     AllRight s (again_items rto (lowest_of s) o)
 right_again s rto None is = tt
 right_again s rto (Some g) is =
-    let most = given_most s.givings (lowest_of s) g is in
+    let most = given-within s.givings (lowest_of s) g is in
     let test : nat_le (lowest_of s) (given_of s) ≡ true = grind (arith, nat_tests, most) in
     (sym test, tt)
 
@@ -114,6 +98,6 @@ pub next_told : (now : ℕ) (k : CallLooks) → let n = next_piece now k.rtt.rto
     (piece_sending now k ≡ told n) × IsTold k.cwnd k.sent n
 next_told now k =
     let pieces = piece_items k.rtt.rto k.cwnd k.sent in
-    told_item k.cwnd k.sent (next_item now k.rtt.rto k.cwnd k.sent)
+    told_item k.cwnd k.sent (next_piece_item now k.rtt.rto k.cwnd k.sent)
     (right_least k.sent (filter (λ (i : CallItem). nat_le i.rank now) pieces)
     (right_due k.sent now pieces (right_pieces k.rtt.rto k.cwnd k.sent)))

@@ -6,7 +6,7 @@ use Rattle.std.proofs.lemmas.Bool.Decides.{nat_tests}
 use Rattle.rx_rules.specs.Owing.{Owed, owed_for_read, delayed}
 use Rattle.rx_rules.specs.Received.{Packet, Received, packet_at, used_of, count_above, after_read, is_done, front_of}
 use Rattle.rx_rules.proofs.PacketLaws.{done_kept}
-use Rattle.rx_rules.proofs.ReachLaws.{reach_all}
+use Rattle.rx_rules.proofs.ReachLaws.{reach_passes}
 
 -- no more packets lie above a higher seq
 count_fewer : (ps : List Packet) (a b : ℕ) → a ≤ b → count_above b ps ≤ count_above a ps
@@ -58,7 +58,7 @@ count_less (p ∷ ps) a b lt some =
 
 -- the last packet that is done with is kept
 used_kept : (r : Received) (n : ℕ) → n < used_of r → is_some (packet_at r.kept (suc n)) ≡ true
-used_kept r n lt = done_kept r (suc n) (reach_all (is_done r) (front_of r.kept) n lt)
+used_kept r n lt = done_kept r (suc n) (reach_passes (is_done r) (front_of r.kept) n lt)
 
 used_less : (r : Received) (a n : ℕ) → used_of r ≡ n → a < n → count_above n r.kept < count_above a r.kept
 used_less r a zero is lt = absurd (omega (arith, lt))
