@@ -6,7 +6,7 @@ use Rattle.std.proofs.lemmas.Str.{IsCharBoundary-end, IsCharBoundary-after_ascii
 use Rattle.std.proofs.lemmas.List.{append-nil}
 use Rattle.std.proofs.lemmas.Bool.Decides.{nat_tests}
 use Rattle.xg_lex.specs.Bytes.{slash, star, is_blank, is_in_line, is_in_name, is_in_number, is_sign}
-use Rattle.xg_lex.specs.Grammar.{Part, blank, comment, skipped, name, number, sign, spelling, Stands, Stops, IsSkipped, IsNumber}
+use Rattle.xg_lex.specs.Grammar.{Lexeme, blank, comment, skipped, name, number, sign, spelling, CanStand, Stops, IsSkipped, IsNumber}
 use Rattle.xg_lex.specs.Steps.{step_at}
 use Rattle.xg_lex.specs.declared.part.Step.{Step}
 use Rattle.xg_lex.proofs.Runs.{run_boundary, in_name_is_ascii, in_number_is_ascii}
@@ -44,8 +44,8 @@ behind_run : (test : ℕ → Bool) → ((b : ℕ) → test b ≡ true → b < 12
 behind_run test ascii text run more e len utf8 =
     subst (IsCharBoundary text) (ap (prefix_len test) e ∙ len) (run_boundary test ascii text utf8)
 
-behind_part : (starts : Bool) (p : Part) (text more : List ℕ) → text ≡ spelling p ++ more → IsUtf8 text →
-    Stands starts p more → IsCharBoundary text (length (spelling p))
+behind_part : (starts : Bool) (p : Lexeme) (text more : List ℕ) → text ≡ spelling p ++ more → IsUtf8 text →
+    CanStand starts p more → IsCharBoundary text (length (spelling p))
 behind_part starts (blank b) text more e utf8 h = behind_ascii text [] b more e utf8 (blank_is_ascii b h)
 behind_part starts (comment body) text more e utf8 h =
     let regrouped : text ≡ (slash ∷ star ∷ (body ++ star ∷ [])) ++ slash ∷ more =
@@ -71,7 +71,7 @@ number_some n text (inl (first, w)) = w.0.0
 number_some n text (inr (inl (digits, is, w))) = w.0.0
 number_some n text (inr (inr (digits, is, w))) = omega (arith, ap length is)
 
-spelled_some : (starts : Bool) (p : Part) (more : List ℕ) → Stands starts p more → 0 < length (spelling p)
+spelled_some : (starts : Bool) (p : Lexeme) (more : List ℕ) → CanStand starts p more → 0 < length (spelling p)
 spelled_some starts (blank b) more h = omega arith
 spelled_some starts (comment body) more h = omega arith
 spelled_some starts (skipped text) more h = skipped_some text h.1

@@ -7,8 +7,8 @@ use Rattle.std.proofs.lemmas.List.Folds.{length-prefix_len}
 use Rattle.std.proofs.lemmas.Bool.Decides.{nat_tests}
 use Rattle.std.proofs.lemmas.Bool.{and_parts, eqb-true}
 use Rattle.xg_lex.specs.Bytes.{hash, percent, star, slash, is_blank, is_in_line, begins_name, is_in_name, is_in_number, is_sign}
-use Rattle.xg_lex.specs.Grammar.{Part, blank, comment, skipped, name, number, sign, spelling, Stands, IsSkipped, IsLineMark, fault_at}
-use Rattle.xg_lex.specs.Steps.{gap, token, number_of, numbered, number_step, close_len, closed, comment_step, mark_step, is_mark_rest, line_or_nothing, sign_or_comment, name_or_number, step_at, fault_of}
+use Rattle.xg_lex.specs.Grammar.{Lexeme, blank, comment, skipped, name, number, sign, spelling, CanStand, IsSkipped, IsLineMark, fault_from}
+use Rattle.xg_lex.specs.Steps.{gap_step, token_step, number_of, numbered, number_step, close_len, closed, comment_step, mark_step, is_mark_rest, line_or_nothing, sign_or_comment, name_or_number, step_at, fault_of}
 use Rattle.xg_lex.specs.declared.token.TokenKind.{TokenKind}
 use Rattle.xg_lex.specs.declared.token.TokenKind.TheVariants as kinds
 use Rattle.xg_lex.specs.declared.part.Step.{Step}
@@ -24,10 +24,10 @@ use Rattle.xg_lex.proofs.PartLaws.{step_of}
 
 -- a part stands at the front, and is as the step says
 pub record Found (starts : Bool) (text : List ℕ) (s : Step) : Type 0 where
-  pub part : Part
+  pub part : Lexeme
   pub more : List ℕ
   pub whole : text ≡ spelling part ++ more
-  pub stands : Stands starts part more
+  pub stands : CanStand starts part more
   pub is : s ≡ step_of part
 
 -- which way a test went
@@ -61,7 +61,7 @@ is_step len kind s m e same =
     first ∙ ap (λ (n : ℕ). record { len = n; kind = kind }) (sym same)
 
 name_there : (starts : Bool) (b : ℕ) (bs : List ℕ) (s : Step) → begins_name b ≡ true →
-    token kinds.Name (prefix_len is_in_name (b ∷ bs)) ≡ Ok s → Found starts (b ∷ bs) s
+    token_step kinds.Name (prefix_len is_in_name (b ∷ bs)) ≡ Ok s → Found starts (b ∷ bs) s
 name_there starts b bs s first e =
     let whole = begins_run is_in_name b bs (name_begins b first) in
     record {
@@ -111,7 +111,7 @@ comment_step_there starts (c ∷ cs) s e = elim (chosen (eqb c star) (closed (cl
 ]
 
 line_there : (b : ℕ) (bs : List ℕ) (s : Step) → IsSkipped (take (prefix_len is_in_line (b ∷ bs)) (b ∷ bs)) →
-    gap (prefix_len is_in_line (b ∷ bs)) ≡ Ok s → Found true (b ∷ bs) s
+    gap_step (prefix_len is_in_line (b ∷ bs)) ≡ Ok s → Found true (b ∷ bs) s
 line_there b bs s skip e =
     record {
       part = skipped (take (prefix_len is_in_line (b ∷ bs)) (b ∷ bs));
@@ -134,7 +134,7 @@ mark_line bs e =
 
 mark_there : (bs : List ℕ) (s : Step) → mark_step (hash ∷ bs) ≡ Ok s → Found true (hash ∷ bs) s
 mark_there bs s e = elim (chosen (is_mark_rest (drop 1 (take (prefix_len is_in_line (hash ∷ bs)) (hash ∷ bs))))
-    (gap (prefix_len is_in_line (hash ∷ bs))) (Err whys.Line) (Ok s) e) [
+    (gap_step (prefix_len is_in_line (hash ∷ bs))) (Err whys.Line) (Ok s) e) [
       | inl h ↦ line_there hash bs s (mark_line bs h.0) h.1
       | inr h ↦ cc
     ]
@@ -142,7 +142,7 @@ mark_there bs s e = elim (chosen (is_mark_rest (drop 1 (take (prefix_len is_in_l
 line_or_nothing_there : (starts : Bool) (b : ℕ) (bs : List ℕ) (s : Step) →
     line_or_nothing starts b (b ∷ bs) ≡ Ok s → Found starts (b ∷ bs) s
 line_or_nothing_there starts b bs s e = elim (chosen (starts && eqb b percent)
-    (gap (prefix_len is_in_line (b ∷ bs))) (cond (starts && eqb b hash) (mark_step (b ∷ bs)) (Err whys.Char))
+    (gap_step (prefix_len is_in_line (b ∷ bs))) (cond (starts && eqb b hash) (mark_step (b ∷ bs)) (Err whys.Char))
     (Ok s) e) [
       | inl h ↦
           let at = and_parts starts (eqb b percent) h.0 in
@@ -159,7 +159,7 @@ line_or_nothing_there starts b bs s e = elim (chosen (starts && eqb b percent)
 
 sign_or_comment_there : (starts : Bool) (b : ℕ) (bs : List ℕ) (s : Step) →
     sign_or_comment starts b (b ∷ bs) ≡ Ok s → Found starts (b ∷ bs) s
-sign_or_comment_there starts b bs s e = elim (chosen (is_sign b) (token kinds.Sign 1)
+sign_or_comment_there starts b bs s e = elim (chosen (is_sign b) (token_step kinds.Sign 1)
     (cond (eqb b slash) (comment_step (b ∷ bs)) (line_or_nothing starts b (b ∷ bs))) (Ok s) e) [
       | inl h ↦ record {
         part = sign b;
@@ -178,7 +178,7 @@ sign_or_comment_there starts b bs s e = elim (chosen (is_sign b) (token kinds.Si
 name_or_number_there : (starts : Bool) (b : ℕ) (bs : List ℕ) (s : Step) → name_or_number starts b (b ∷ bs) ≡ Ok s →
     Found starts (b ∷ bs) s
 name_or_number_there starts b bs s e = elim (chosen (begins_name b)
-    (token kinds.Name (prefix_len is_in_name (b ∷ bs))) (cond (is_ascii_digit b) (number_step (b ∷ bs))
+    (token_step kinds.Name (prefix_len is_in_name (b ∷ bs))) (cond (is_ascii_digit b) (number_step (b ∷ bs))
     (sign_or_comment starts b (b ∷ bs))) (Ok s) e) [
       | inl h ↦ name_there starts b bs s h.0 h.1
       | inr h ↦ elim (chosen (is_ascii_digit b) (number_step (b ∷ bs)) (sign_or_comment starts b (b ∷ bs)) (Ok s) h.1) [
@@ -191,7 +191,7 @@ name_or_number_there starts b bs s e = elim (chosen (begins_name b)
 pub found_part : (starts : Bool) (text : List ℕ) (s : Step) → step_at starts text ≡ Ok s → Found starts text s
 unfolding step_at
 found_part starts [] s e = cc
-found_part starts (b ∷ bs) s e = elim (chosen (is_blank b) (gap 1) (name_or_number starts b (b ∷ bs)) (Ok s) e) [
+found_part starts (b ∷ bs) s e = elim (chosen (is_blank b) (gap_step 1) (name_or_number starts b (b ∷ bs)) (Ok s) e) [
   | inl h ↦ record { part = blank b; more = bs; whole = refl; stands = h.0; is = is_step 1 None s 1 h.1 refl }
   | inr h ↦ name_or_number_there starts b bs s h.1
 ]
@@ -215,7 +215,7 @@ comment_fault b (c ∷ cs) why e = elim (chosen (eqb c star) (closed (close_len 
 
 mark_fault : (text : List ℕ) (why : Why) → mark_step text ≡ Err why → why ≡ whys.Line
 mark_fault text why e = elim (chosen (is_mark_rest (drop 1 (take (prefix_len is_in_line text) text)))
-    (gap (prefix_len is_in_line text)) (Err whys.Line) (Err why) e) [
+    (gap_step (prefix_len is_in_line text)) (Err whys.Line) (Err why) e) [
       | inl h ↦ cc
       | inr h ↦ cc
     ]
@@ -224,7 +224,7 @@ mark_fault text why e = elim (chosen (is_mark_rest (drop 1 (take (prefix_len is_
 line_fault : (starts : Bool) (b : ℕ) (bs : List ℕ) (why : Why) (line : ℕ) →
     line_or_nothing starts b (b ∷ bs) ≡ Err why → fault_of why line ≡ cond (starts && eqb b hash) (BadLine line)
     (BadChar line)
-line_fault starts b bs why line e = elim (chosen (starts && eqb b percent) (gap (prefix_len is_in_line (b ∷ bs)))
+line_fault starts b bs why line e = elim (chosen (starts && eqb b percent) (gap_step (prefix_len is_in_line (b ∷ bs)))
     (cond (starts && eqb b hash) (mark_step (b ∷ bs)) (Err whys.Char)) (Err why) e) [
       | inl h ↦ cc
       | inr h ↦ elim (chosen (starts && eqb b hash) (mark_step (b ∷ bs)) (Err whys.Char) (Err why) h.1) [
@@ -240,7 +240,7 @@ slash_is_no_hash false = refl
 sign_fault : (starts : Bool) (b : ℕ) (bs : List ℕ) (why : Why) (line : ℕ) →
     sign_or_comment starts b (b ∷ bs) ≡ Err why → fault_of why line ≡ cond (starts && eqb b hash) (BadLine line)
     (BadChar line)
-sign_fault starts b bs why line e = elim (chosen (is_sign b) (token kinds.Sign 1)
+sign_fault starts b bs why line e = elim (chosen (is_sign b) (token_step kinds.Sign 1)
     (cond (eqb b slash) (comment_step (b ∷ bs)) (line_or_nothing starts b (b ∷ bs))) (Err why) e) [
       | inl h ↦ cc
       | inr h ↦ elim (chosen (eqb b slash) (comment_step (b ∷ bs)) (line_or_nothing starts b (b ∷ bs)) (Err why) h.1) [
@@ -250,22 +250,23 @@ sign_fault starts b bs why line e = elim (chosen (is_sign b) (token kinds.Sign 1
     ]
 
 name_fault : (starts : Bool) (b : ℕ) (bs : List ℕ) (why : Why) (line : ℕ) →
-    name_or_number starts b (b ∷ bs) ≡ Err why → fault_of why line ≡ fault_at starts b line
-name_fault starts b bs why line e = elim (chosen (begins_name b) (token kinds.Name
+    name_or_number starts b (b ∷ bs) ≡ Err why → fault_of why line ≡ fault_from starts b line
+name_fault starts b bs why line e = elim (chosen (begins_name b) (token_step kinds.Name
     (prefix_len is_in_name (b ∷ bs))) (cond (is_ascii_digit b) (number_step (b ∷ bs))
     (sign_or_comment starts b (b ∷ bs))) (Err why) e) [
       | inl h ↦ cc
-      | inr h ↦ elim (chosen (is_ascii_digit b) (number_step (b ∷ bs)) (sign_or_comment starts b (b ∷ bs)) (Err why) h.1) [
-        | inl k ↦ rw (k.0, number_fault _ _ why k.1) refl
-        | inr k ↦ rw k.0 (sign_fault starts b bs why line k.1)
-      ]
+      | inr h ↦ elim (chosen (is_ascii_digit b) (number_step (b ∷ bs)) (sign_or_comment starts b (b ∷ bs))
+          (Err why) h.1) [
+            | inl k ↦ rw (k.0, number_fault _ _ why k.1) refl
+            | inr k ↦ rw k.0 (sign_fault starts b bs why line k.1)
+          ]
     ]
 
 -- the fault is that of the byte
 pub fault_of-step_at : (starts : Bool) (b : ℕ) (bs : List ℕ) (why : Why) (line : ℕ) →
-    step_at starts (b ∷ bs) ≡ Err why → fault_of why line ≡ fault_at starts b line
+    step_at starts (b ∷ bs) ≡ Err why → fault_of why line ≡ fault_from starts b line
 unfolding step_at
-fault_of-step_at starts b bs why line e = elim (chosen (is_blank b) (gap 1) (name_or_number starts b (b ∷ bs))
+fault_of-step_at starts b bs why line e = elim (chosen (is_blank b) (gap_step 1) (name_or_number starts b (b ∷ bs))
     (Err why) e) [
       | inl h ↦ cc
       | inr h ↦ name_fault starts b bs why line h.1

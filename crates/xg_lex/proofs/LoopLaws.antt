@@ -5,7 +5,7 @@ use Rattle.std.proofs.lemmas.List.{append-nil, nil_from_length}
 use Rattle.std.proofs.lemmas.List.Sums.{sum_by-append, sum_by-cons}
 use Rattle.std.proofs.lemmas.Bool.{and_parts, ne_eqb, false≢true}
 use Rattle.xg_lex.specs.Bytes.{line_feed, is_in_name, is_in_number, is_sign}
-use Rattle.xg_lex.specs.Grammar.{Part, blank, comment, skipped, name, number, sign, spelling, Stands, Reads, begins_line, starts_after, IsStuck, line_feeds, line_after, last_line, tokens_of, token_of, Passes, IsTokensOf, IsFirstFault, fault_at}
+use Rattle.xg_lex.specs.Grammar.{Lexeme, blank, comment, skipped, name, number, sign, spelling, CanStand, Reads, begins_line, starts_after, IsStuck, line_feeds, line_after, last_line, tokens_of, token_of, AllOf, IsTokensOf, IsFirstFault, fault_from}
 use Rattle.xg_lex.specs.Steps.{step_at, is_line_end, token_with, feeds_of, fault_of, IsLexed}
 use Rattle.xg_lex.specs.declared.token.TokenKind.{TokenKind}
 use Rattle.xg_lex.specs.declared.token.Token.{Token}
@@ -21,7 +21,7 @@ use Rattle.xg_lex.proofs.ReadLaws.{begins_line-is, token_of-is}
 
 -- the text is parts, and the rest; these are their tokens, their line feeds, and whether a line begins
 pub record At (text rest : List ℕ) (items : List Token) (feeds : ℕ) (starts : Bool) : Type 0 where
-  pub parts : List Part
+  pub parts : List Lexeme
   pub reads : Reads true text parts rest
   pub tokens : items ≡ tokens_of 0 parts
   pub feeds_are : feeds ≡ line_feeds (flat_map spelling parts)
@@ -30,8 +30,8 @@ pub record At (text rest : List ℕ) (items : List Token) (feeds : ℕ) (starts 
 pub at_start : (text : List ℕ) → At text text [] 0 true
 at_start text = record { parts = []; reads = refl; tokens = refl; feeds_are = refl; starts_is = refl }
 
-reads_more : (starts : Bool) (text : List ℕ) (ps : List Part) (rest : List ℕ) (p : Part) (more : List ℕ) →
-    Reads starts text ps rest → rest ≡ spelling p ++ more → Stands (starts_after starts ps) p more → Reads starts
+reads_more : (starts : Bool) (text : List ℕ) (ps : List Lexeme) (rest : List ℕ) (p : Lexeme) (more : List ℕ) →
+    Reads starts text ps rest → rest ≡ spelling p ++ more → CanStand (starts_after starts ps) p more → Reads starts
     text (ps ++ p ∷ []) more
 reads_more starts text [] rest p more r e h = (more, r ∙ e, h, refl)
 reads_more starts text (q ∷ ps) rest p more r e h = (
@@ -42,11 +42,11 @@ reads_more starts text (q ∷ ps) rest p more r e h = (
       r.3 e h,
 )
 
-starts_after-push : (starts : Bool) (ps : List Part) (p : Part) → starts_after starts (ps ++ p ∷ []) ≡ begins_line p
+starts_after-push : (starts : Bool) (ps : List Lexeme) (p : Lexeme) → starts_after starts (ps ++ p ∷ []) ≡ begins_line p
 starts_after-push starts [] p = refl
 starts_after-push starts (q ∷ ps) p = starts_after-push (begins_line q) ps p
 
-spelled-push : (ps : List Part) (p : Part) → flat_map spelling (ps ++ p ∷ []) ≡ flat_map spelling ps ++ spelling p
+spelled-push : (ps : List Lexeme) (p : Lexeme) → flat_map spelling (ps ++ p ∷ []) ≡ flat_map spelling ps ++ spelling p
 spelled-push [] p = append-nil (spelling p)
 spelled-push (q ∷ ps) p = ap (λ (ds : List ℕ). spelling q ++ ds) (spelled-push ps p) ∙ sym
     (append_assoc (spelling q) (flat_map spelling ps) (spelling p))
@@ -54,7 +54,7 @@ spelled-push (q ∷ ps) p = ap (λ (ds : List ℕ). spelling q ++ ds) (spelled-p
 feeds-append : (xs ys : List ℕ) → line_feeds (xs ++ ys) ≡ line_feeds xs + line_feeds ys
 feeds-append xs ys = sum_by-append _ xs ys
 
-tokens_of-push : (feeds : ℕ) (ps : List Part) (p : Part) →
+tokens_of-push : (feeds : ℕ) (ps : List Lexeme) (p : Lexeme) →
     tokens_of feeds (ps ++ p ∷ []) ≡ tokens_of feeds ps ++ token_of (feeds + line_feeds (flat_map spelling ps)) p
 tokens_of-push feeds [] p = append-nil (token_of feeds p) ∙ ap (λ (k : ℕ). token_of k p) (omega arith)
 tokens_of-push feeds (q ∷ ps) p =
@@ -64,7 +64,7 @@ tokens_of-push feeds (q ∷ ps) p =
     ∙ (sym (append_assoc (token_of feeds q) (tokens_of (feeds + line_feeds (spelling q)) ps) _)
     ∙ ap (λ (k : ℕ). (token_of feeds q ++ tokens_of (feeds + line_feeds (spelling q)) ps) ++ token_of k p) sum)
 
-no_feeds : (test : ℕ → Bool) → test line_feed ≡ false → (text : List ℕ) → Passes test text → line_feeds text ≡ 0
+no_feeds : (test : ℕ → Bool) → test line_feed ≡ false → (text : List ℕ) → AllOf test text → line_feeds text ≡ 0
 no_feeds test fails [] passes = refl
 no_feeds test fails (b ∷ bs) passes =
     let parts = and_parts (test b) (list_all test bs) passes in
@@ -72,7 +72,7 @@ no_feeds test fails (b ∷ bs) passes =
     (sym fails ∙ (ap test (sym e) ∙ parts.0))) in
     sum_by-cons _ b bs ∙ rw other (ap (λ (n : ℕ). 0 + n) (no_feeds test fails bs parts.1))
 
-feeds_of-part : (starts : Bool) (p : Part) (more : List ℕ) → Stands starts p more →
+feeds_of-part : (starts : Bool) (p : Lexeme) (more : List ℕ) → CanStand starts p more →
     feeds_of (kind_of p) (spelling p) ≡ line_feeds (spelling p)
 feeds_of-part starts (blank b) more h = refl
 feeds_of-part starts (comment body) more h = refl
@@ -81,7 +81,7 @@ feeds_of-part starts (name text) more h = sym (no_feeds is_in_name refl text h.0
 feeds_of-part starts (number n text) more h = sym (no_feeds is_in_number refl text h.1)
 feeds_of-part starts (sign b) more h = sym (no_feeds is_sign refl (b ∷ []) (rw h refl))
 
-whole_text : (starts : Bool) (text : List ℕ) (ps : List Part) (rest : List ℕ) → Reads starts text ps rest →
+whole_text : (starts : Bool) (text : List ℕ) (ps : List Lexeme) (rest : List ℕ) → Reads starts text ps rest →
     text ≡ flat_map spelling ps ++ rest
 whole_text starts text [] rest r = r
 whole_text starts text (p ∷ ps) rest r =
@@ -97,7 +97,7 @@ pub at_more : (text rest : List ℕ) (items : List Token) (feeds : ℕ) (starts 
 at_more text rest items feeds starts s front back items' feeds' starts' at e is_front is_back is_items is_feeds
     is_starts =
     let f = found_part starts rest s e in
-    let stands : Stands (starts_after true at.parts) f.part f.more = subst (λ (b : Bool). Stands b f.part f.more)
+    let stands : CanStand (starts_after true at.parts) f.part f.more = subst (λ (b : Bool). CanStand b f.part f.more)
     at.starts_is f.stands in
     let len : s.len ≡ length (spelling f.part) = ap (λ (t : Step). t.len) f.is in
     let kind : s.kind ≡ kind_of f.part = ap (λ (t : Step). t.kind) f.is in
@@ -182,6 +182,6 @@ at_fault text (b ∷ bs) items feeds starts why line f at some e is_line is =
       reads = at.reads;
       stuck = subst (λ (s : Bool). IsStuck s (b ∷ bs)) at.starts_is
           (λ p more whole h. let both = sym e ∙ (ap (step_at starts) whole ∙ step_at-part starts p more h) in cc);
-      is = is ∙ (fault_of-step_at starts b bs why line e ∙ (ap (λ (s : Bool). fault_at s b line) at.starts_is
-          ∙ ap (fault_at (starts_after true at.parts) b) (is_line ∙ ap line_after at.feeds_are)));
+      is = is ∙ (fault_of-step_at starts b bs why line e ∙ (ap (λ (s : Bool). fault_from s b line) at.starts_is
+          ∙ ap (fault_from (starts_after true at.parts) b) (is_line ∙ ap line_after at.feeds_are)));
     })

@@ -8,7 +8,7 @@ use Rattle.std.specs.Char.{digit_value}
 use Rattle.std.proofs.lemmas.Bool.{ne_eqb, and_parts, false≢true}
 use Rattle.std.proofs.lemmas.Bool.Decides.{Decides-and, Decides-ltb}
 use Rattle.xg_lex.specs.Bytes.{is_in_number}
-use Rattle.xg_lex.specs.Grammar.{Passes}
+use Rattle.xg_lex.specs.Grammar.{AllOf}
 use Rattle.xg_lex.specs.Steps.{is_numeral, numeral}
 
 all_digits : (radix : ℕ) (digits : List ℕ) →
@@ -31,14 +31,14 @@ tested true d (Err e) v h = absurd (h (d.0 refl))
 tested false d (Ok x) v h = absurd (false≢true (d.1 h.0))
 tested false d (Err e) v h = refl
 
-no_plus : (digits : List ℕ) → Passes is_in_number digits → without_leading_plus digits ≡ digits
+no_plus : (digits : List ℕ) → AllOf is_in_number digits → without_leading_plus digits ≡ digits
 no_plus [] letters = refl
 no_plus (c ∷ cs) letters =
     rw (ne_eqb c 43 (λ e. false≢true (subst (λ (b : ℕ). is_in_number b ≡ true) e
     (and_parts (is_in_number c) (list_all is_in_number cs) letters).0))) refl
 
 -- what std reads is the number that the digits write
-pub numeral_parsed : {E : Type 0} (radix : ℕ) (digits : List ℕ) (r : Result ℕ E) → Passes is_in_number digits →
+pub numeral_parsed : {E : Type 0} (radix : ℕ) (digits : List ℕ) (r : Result ℕ E) → AllOf is_in_number digits →
     ParsesUnsigned 64 radix digits r → result_ok r ≡ numeral radix digits
 unfolding numeral
 numeral_parsed {E} radix digits r letters parsed =

@@ -2,7 +2,7 @@
 use Rattle.std.proofs.Common.{◌≡◌, ◌≢◌, ℕ, Bool, true, List, [], ◌∷◌, Result, Ok, Err, refl, sym, ap, ◌∙◌}
 use Rattle.std.specs.List.{flat_map}
 use Rattle.std.specs.Result.{IfOk, IfErr}
-use Rattle.xg_lex.specs.Grammar.{spelling, IsTokensOf, IsFirstFault, fault_at, line_after, line_feeds, last_line, starts_after}
+use Rattle.xg_lex.specs.Grammar.{spelling, IsTokensOf, IsFirstFault, fault_from, line_after, line_feeds, last_line, starts_after}
 use Rattle.xg_lex.specs.Steps.{IsLexed}
 use Rattle.xg_lex.specs.declared.token.Token.{Token}
 use Rattle.xg_lex.specs.declared.token.Tokens.{Tokens}
@@ -28,10 +28,10 @@ one_fault text f g a b =
     (stuck a.first a.rest a.stuck) b.reads (stuck b.first b.rest b.stuck) in
     let rests : a.first ∷ a.rest ≡ b.first ∷ b.rest = same.rest in
     let firsts : a.first ≡ b.first = cc in
-    a.is ∙ (ap (λ (s : Bool). fault_at s a.first (line_after (line_feeds (flat_map spelling a.parts)))) same.after
-    ∙ (ap (λ (b' : ℕ). fault_at (starts_after true b.parts) b' (line_after
+    a.is ∙ (ap (λ (s : Bool). fault_from s a.first (line_after (line_feeds (flat_map spelling a.parts)))) same.after
+    ∙ (ap (λ (b' : ℕ). fault_from (starts_after true b.parts) b' (line_after
     (line_feeds (flat_map spelling a.parts)))) firsts
-    ∙ (ap (λ (front : List ℕ). fault_at (starts_after true b.parts) b.first (line_after (line_feeds front)))
+    ∙ (ap (λ (front : List ℕ). fault_from (starts_after true b.parts) b.first (line_after (line_feeds front)))
     same.before ∙ sym b.is)))
 
 -- each fault but one is the first of the text

@@ -4,8 +4,8 @@ use Rattle.std.specs.Char.{is_ascii_digit, digit_value}
 use Rattle.std.proofs.lemmas.Bool.{cond-true}
 use Rattle.std.proofs.lemmas.Bool.Decides.{nat_tests}
 use Rattle.xg_lex.specs.Bytes.{hash, percent, star, slash, zero_digit, is_blank, is_in_line, is_in_name, is_in_number, is_sign}
-use Rattle.xg_lex.specs.Grammar.{Part, blank, comment, skipped, name, number, sign, spelling, Stands, Stops, Passes, IsName, IsNumber, IsSkipped, IsLineMark}
-use Rattle.xg_lex.specs.Steps.{gap, number_step, mark_step, is_mark_rest, sign_or_comment, step_at}
+use Rattle.xg_lex.specs.Grammar.{Lexeme, blank, comment, skipped, name, number, sign, spelling, CanStand, Stops, AllOf, IsName, IsNumber, IsSkipped, IsLineMark}
+use Rattle.xg_lex.specs.Steps.{gap_step, number_step, mark_step, is_mark_rest, sign_or_comment, step_at}
 use Rattle.xg_lex.specs.declared.token.TokenKind.{TokenKind}
 use Rattle.xg_lex.specs.declared.token.TokenKind.TheVariants as kinds
 use Rattle.xg_lex.specs.declared.part.Step.{Step}
@@ -16,7 +16,7 @@ use Rattle.xg_lex.proofs.CloseLaws.{close_len-body}
 use Rattle.xg_lex.proofs.MarkLaws.{is_mark_rest-mark}
 
 -- which token a part is
-abbrev pub kind_of : Part → Option TokenKind
+abbrev pub kind_of : Lexeme → Option TokenKind
 kind_of (blank b) = None
 kind_of (comment body) = None
 kind_of (skipped text) = None
@@ -24,7 +24,7 @@ kind_of (name text) = Some kinds.Name
 kind_of (number n text) = Some (kinds.Number n)
 kind_of (sign b) = Some kinds.Sign
 
-abbrev pub step_of : Part → Step
+abbrev pub step_of : Lexeme → Step
 step_of p = record { len = length (spelling p); kind = kind_of p }
 
 -- ---- what can stand there is found
@@ -49,12 +49,12 @@ found_name starts [] more is stops = absurd (omega (arith, is.1.0))
 found_name starts (b ∷ bs) more is stops =
     rw (name_not_blank b is.0, is.0, prefix_len-run is_in_name (b ∷ bs) more is.1.1 stops) refl
 
-number_step-run : (n : ℕ) (text more : List ℕ) → IsNumber n text → Passes is_in_number text →
+number_step-run : (n : ℕ) (text more : List ℕ) → IsNumber n text → AllOf is_in_number text →
     Stops is_in_number more → number_step (text ++ more) ≡ Ok (step_of (number n text))
 number_step-run n text more is passes stops =
     rw (prefix_len-run is_in_number text more passes stops, take-front text more, number_of-IsNumber n text is) refl
 
-found_number : (starts : Bool) (n : ℕ) (text more : List ℕ) → IsNumber n text → Passes is_in_number text →
+found_number : (starts : Bool) (n : ℕ) (text more : List ℕ) → IsNumber n text → AllOf is_in_number text →
     Stops is_in_number more → step_at starts (text ++ more) ≡ Ok (step_of (number n text))
 unfolding step_at
 found_number starts n [] more is passes stops = absurd (empty_is_none n is)
@@ -74,19 +74,20 @@ found_blank : (starts : Bool) (b : ℕ) (more : List ℕ) → is_blank b ≡ tru
 unfolding step_at
 found_blank starts b more is = rw is refl
 
-found_comment : (starts : Bool) (body more : List ℕ) → Stands starts (comment body) more →
+found_comment : (starts : Bool) (body more : List ℕ) → CanStand starts (comment body) more →
     step_at starts (slash ∷ star ∷ (body ++ star ∷ slash ∷ more)) ≡ Ok (step_of (comment body))
 unfolding step_at
 found_comment starts body more apart =
-    rw (close_len-body body more apart) (ap (λ (n : ℕ). gap n) (omega (arith, length-append body (star ∷ slash ∷ []))))
+    rw (close_len-body body more apart) (ap (λ (n : ℕ). gap_step n)
+    (omega (arith, length-append body (star ∷ slash ∷ []))))
 
-found_percent : (rest more : List ℕ) → Passes is_in_line (percent ∷ rest) → Stops is_in_line more →
+found_percent : (rest more : List ℕ) → AllOf is_in_line (percent ∷ rest) → Stops is_in_line more →
     step_at true (percent ∷ (rest ++ more)) ≡ Ok (step_of (skipped (percent ∷ rest)))
 unfolding step_at
-found_percent rest more passes stops = ap (λ (n : ℕ). gap n) (prefix_len-run is_in_line (percent ∷ rest) more
+found_percent rest more passes stops = ap (λ (n : ℕ). gap_step n) (prefix_len-run is_in_line (percent ∷ rest) more
     passes stops)
 
-mark_step-run : (text more : List ℕ) → is_mark_rest (drop 1 text) ≡ true → Passes is_in_line text →
+mark_step-run : (text more : List ℕ) → is_mark_rest (drop 1 text) ≡ true → AllOf is_in_line text →
     Stops is_in_line more → mark_step (text ++ more) ≡ Ok (step_of (skipped text))
 mark_step-run text more mark passes stops = rw (
   prefix_len-run is_in_line text more passes stops,
@@ -95,12 +96,12 @@ mark_step-run text more mark passes stops = rw (
   mark,
 ) refl
 
-found_mark : (rest more : List ℕ) → IsLineMark (hash ∷ rest) → Passes is_in_line (hash ∷ rest) →
+found_mark : (rest more : List ℕ) → IsLineMark (hash ∷ rest) → AllOf is_in_line (hash ∷ rest) →
     Stops is_in_line more → step_at true (hash ∷ (rest ++ more)) ≡ Ok (step_of (skipped (hash ∷ rest)))
 unfolding step_at
 found_mark rest more mark passes stops = mark_step-run (hash ∷ rest) more (is_mark_rest-mark rest mark) passes stops
 
-found_skipped : (text more : List ℕ) → IsSkipped text → Passes is_in_line text → Stops is_in_line more →
+found_skipped : (text more : List ℕ) → IsSkipped text → AllOf is_in_line text → Stops is_in_line more →
     step_at true (text ++ more) ≡ Ok (step_of (skipped text))
 found_skipped text more (inl (rest, e)) passes stops = rw e (found_percent rest more (rw e at passes) stops)
 found_skipped text more (inr mark) passes stops =
@@ -110,7 +111,7 @@ respaced : (body more : List ℕ) → spelling (comment body) ++ more ≡ slash 
 respaced body more = ap (λ (ds : List ℕ). slash ∷ star ∷ ds) (append_assoc body (star ∷ slash ∷ []) more)
 
 -- a part that can stand there is found
-pub step_at-part : (starts : Bool) (p : Part) (more : List ℕ) → Stands starts p more →
+pub step_at-part : (starts : Bool) (p : Lexeme) (more : List ℕ) → CanStand starts p more →
     step_at starts (spelling p ++ more) ≡ Ok (step_of p)
 step_at-part starts (blank b) more h = found_blank starts b more h
 step_at-part starts (comment body) more h = ap (step_at starts) (respaced body more) ∙ found_comment starts body more h

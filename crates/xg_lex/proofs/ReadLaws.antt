@@ -3,7 +3,7 @@ use Rattle.std.proofs.Common.{◌≡◌, ℕ, ◌+◌, Bool, true, false, Option
 use Rattle.std.specs.List.{flat_map}
 use Rattle.std.proofs.lemmas.Bool.{and_parts, ne_eqb, false≢true}
 use Rattle.xg_lex.specs.Bytes.{line_feed, slash, star, is_in_line, is_in_name, is_in_number, is_sign}
-use Rattle.xg_lex.specs.Grammar.{Part, blank, comment, skipped, name, number, sign, spelling, Stands, Reads, begins_line, starts_after, IsStuck, line_feeds, tokens_of, token_of, Passes}
+use Rattle.xg_lex.specs.Grammar.{Lexeme, blank, comment, skipped, name, number, sign, spelling, CanStand, Reads, begins_line, starts_after, IsStuck, line_feeds, tokens_of, token_of, AllOf}
 use Rattle.xg_lex.specs.Steps.{step_at, is_line_end, token_with}
 use Rattle.xg_lex.specs.declared.token.TokenKind.{TokenKind}
 use Rattle.xg_lex.specs.declared.token.Token.{Token}
@@ -17,7 +17,7 @@ pub data Ends (starts : Bool) : List ℕ → Type 0 where
   stuck : (b : ℕ) (bs : List ℕ) → IsStuck starts (b ∷ bs) → Ends starts (b ∷ bs)
 
 -- one byte that isn't a line end, or none
-other_byte : (test : ℕ → Bool) → test line_feed ≡ false → (text : List ℕ) → Passes test text → is_line_end text ≡ false
+other_byte : (test : ℕ → Bool) → test line_feed ≡ false → (text : List ℕ) → AllOf test text → is_line_end text ≡ false
 other_byte test fails [] passes = refl
 other_byte test fails (b ∷ []) passes =
     let first : test b ≡ true = (and_parts (test b) true passes).0 in
@@ -25,7 +25,7 @@ other_byte test fails (b ∷ []) passes =
 other_byte test fails (b ∷ c ∷ bs) passes = refl
 
 -- a line begins behind a part that is one line end
-pub begins_line-is : (starts : Bool) (p : Part) (more : List ℕ) → Stands starts p more →
+pub begins_line-is : (starts : Bool) (p : Lexeme) (more : List ℕ) → CanStand starts p more →
     begins_line p ≡ is_line_end (spelling p)
 begins_line-is starts (blank b) more h = refl
 begins_line-is starts (comment body) more h = two_bytes slash star (body ++ star ∷ slash ∷ [])
@@ -38,7 +38,7 @@ begins_line-is starts (number n text) more h = sym (other_byte is_in_number refl
 begins_line-is starts (sign b) more h = sym (ne_eqb b line_feed (λ e. false≢true (ap is_sign (sym e) ∙ h)))
 
 -- the token of a part is of its kind, with its text
-pub token_of-is : (feeds : ℕ) (p : Part) → token_of feeds p ≡ token_with feeds (kind_of p) (spelling p)
+pub token_of-is : (feeds : ℕ) (p : Lexeme) → token_of feeds p ≡ token_with feeds (kind_of p) (spelling p)
 token_of-is feeds (blank b) = refl
 token_of-is feeds (comment body) = refl
 token_of-is feeds (skipped text) = refl
@@ -47,13 +47,13 @@ token_of-is feeds (number n text) = refl
 token_of-is feeds (sign b) = refl
 
 -- two parts that stand there are as long and of one kind
-pub record SamePart (p q : Part) (m n : List ℕ) : Type 0 where
+pub record SamePart (p q : Lexeme) (m n : List ℕ) : Type 0 where
   pub spelled : spelling p ≡ spelling q
   pub kind : kind_of p ≡ kind_of q
   pub more : m ≡ n
 
-pub same_part : (starts : Bool) (p q : Part) (m n : List ℕ) → spelling p ++ m ≡ spelling q ++ n →
-    Stands starts p m → Stands starts q n → SamePart p q m n
+pub same_part : (starts : Bool) (p q : Lexeme) (m n : List ℕ) → spelling p ++ m ≡ spelling q ++ n →
+    CanStand starts p m → CanStand starts q n → SamePart p q m n
 same_part starts p q m n e a b =
     let first : Ok (step_of p) ≡ step_at starts (spelling q ++ n) = sym (step_at-part starts p m a) ∙ ap
     (step_at starts) e in
@@ -72,23 +72,23 @@ unfolding step_at
 nothing_there starts s e = cc
 
 -- a part has a byte at least
-spelled_some : (starts : Bool) (p : Part) (more : List ℕ) → Stands starts p more → [] ≡ spelling p ++ more → ⊥
+spelled_some : (starts : Bool) (p : Lexeme) (more : List ℕ) → CanStand starts p more → [] ≡ spelling p ++ more → ⊥
 spelled_some starts p more h e =
     nothing_there starts (step_of p) (ap (step_at starts) e ∙ step_at-part starts p more h)
 
-no_part : (starts : Bool) (rest : List ℕ) → Ends starts rest → (p : Part) (more : List ℕ) →
-    rest ≡ spelling p ++ more → Stands starts p more → ⊥
+no_part : (starts : Bool) (rest : List ℕ) → Ends starts rest → (p : Lexeme) (more : List ℕ) →
+    rest ≡ spelling p ++ more → CanStand starts p more → ⊥
 no_part starts [] ended p more e h = spelled_some starts p more h e
 no_part starts (b ∷ bs) (stuck b' bs' is) p more e h = is p more e h
 
 -- two readings of one text are one
-pub record Agree (starts : Bool) (feeds : ℕ) (ps qs : List Part) (r r' : List ℕ) : Type 0 where
+pub record Agree (starts : Bool) (feeds : ℕ) (ps qs : List Lexeme) (r r' : List ℕ) : Type 0 where
   pub rest : r ≡ r'
   pub tokens : tokens_of feeds ps ≡ tokens_of feeds qs
   pub before : flat_map spelling ps ≡ flat_map spelling qs
   pub after : starts_after starts ps ≡ starts_after starts qs
 
-more_agrees : (starts : Bool) (feeds : ℕ) (p q : Part) (m n : List ℕ) (ps qs : List Part) (r r' : List ℕ) →
+more_agrees : (starts : Bool) (feeds : ℕ) (p q : Lexeme) (m n : List ℕ) (ps qs : List Lexeme) (r r' : List ℕ) →
     SamePart p q m n → begins_line p ≡ begins_line q → Agree (begins_line p) (feeds + line_feeds (spelling p)) ps
     qs r r' → Agree starts feeds (p ∷ ps) (q ∷ qs) r r'
 more_agrees starts feeds p q m n ps qs r r' same lines a =
@@ -105,7 +105,7 @@ more_agrees starts feeds p q m n ps qs r r' same lines a =
       after = a.after ∙ ap (λ (b : Bool). starts_after b qs) lines;
     }
 
-pub readings_agree : (starts : Bool) (feeds : ℕ) (text : List ℕ) (ps qs : List Part) (r r' : List ℕ) →
+pub readings_agree : (starts : Bool) (feeds : ℕ) (text : List ℕ) (ps qs : List Lexeme) (r r' : List ℕ) →
     Reads starts text ps r → Ends (starts_after starts ps) r → Reads starts text qs r' → Ends
     (starts_after starts qs) r' → Agree starts feeds ps qs r r'
 readings_agree starts feeds text [] [] r r' a x b y = record {

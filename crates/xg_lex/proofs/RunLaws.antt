@@ -2,7 +2,7 @@
 use Rattle.std.proofs.Common.{◌≡◌, ◌≢◌, ℕ, suc, ◌+◌, Bool, true, false, cond, List, [], ◌∷◌, ◌++◌, length, take, drop, Some, refl, ap, arith}
 use Rattle.std.specs.List.{prefix_len, list_all}
 use Rattle.std.proofs.lemmas.Bool.{ne_eqb, and_parts}
-use Rattle.xg_lex.specs.Grammar.{Stops, Passes, IsRun}
+use Rattle.xg_lex.specs.Grammar.{Stops, AllOf, IsRun}
 use Rattle.xg_lex.specs.Steps.{past_run}
 
 stops_at : (test : ℕ → Bool) (more : List ℕ) → Stops test more → prefix_len test more ≡ 0
@@ -10,7 +10,7 @@ stops_at test [] h = refl
 stops_at test (b ∷ bs) h = rw h refl
 
 -- a run before what stops it
-pub prefix_len-run : (test : ℕ → Bool) (run more : List ℕ) → Passes test run → Stops test more →
+pub prefix_len-run : (test : ℕ → Bool) (run more : List ℕ) → AllOf test run → Stops test more →
     prefix_len test (run ++ more) ≡ length run
 prefix_len-run test [] more passes stops = stops_at test more stops
 prefix_len-run test (b ∷ bs) more passes stops =

@@ -8,19 +8,19 @@ use Rattle.std.proofs.lemmas.Bool.Decides.{nat_tests}
 use Rattle.std.proofs.lemmas.Str.{IsCharBoundary-start, IsCharBoundary-after_ascii}
 use Rattle.std.proofs.lemmas.List.{take_all}
 use Rattle.xg_lex.specs.Bytes.{is_in_number, is_in_name}
-use Rattle.xg_lex.specs.Grammar.{Passes}
+use Rattle.xg_lex.specs.Grammar.{AllOf}
 use Rattle.xg_lex.specs.Steps.{past_run}
 
 pub take_one : (n b : ℕ) (bs : List ℕ) → take (1 + n) (b ∷ bs) ≡ b ∷ take n bs
 take_one n b bs = let e : 1 + n ≡ suc n = omega arith in rw e refl
 
 run_passes_at : (test : ℕ → Bool) (b : ℕ) (bs : List ℕ) (t : Bool) → test b ≡ t →
-    Passes test (take (prefix_len test bs) bs) → Passes test (take (cond t (1 + prefix_len test bs) 0) (b ∷ bs))
+    AllOf test (take (prefix_len test bs) bs) → AllOf test (take (cond t (1 + prefix_len test bs) 0) (b ∷ bs))
 run_passes_at test b bs true e rest = rw take_one (and_from (test b) _ e rest)
 run_passes_at test b bs false e rest = refl
 
 -- a run passes its test
-pub run_passes : (test : ℕ → Bool) (bytes : List ℕ) → Passes test (take (prefix_len test bytes) bytes)
+pub run_passes : (test : ℕ → Bool) (bytes : List ℕ) → AllOf test (take (prefix_len test bytes) bytes)
 run_passes test [] = refl
 run_passes test (b ∷ bs) = run_passes_at test b bs (test b) refl (run_passes test bs)
 

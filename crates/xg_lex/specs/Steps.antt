@@ -15,11 +15,11 @@ use Rattle.xg_lex.specs.declared.part.Step.{Step}
 use Rattle.xg_lex.specs.declared.part.Why.{Why}
 use Rattle.xg_lex.specs.declared.part.Why.TheVariants as whys
 
-abbrev pub gap : ℕ → Result Step Why
-gap len = Ok (record { len = len; kind = None })
+abbrev pub gap_step : ℕ → Result Step Why
+gap_step len = Ok (record { len = len; kind = None })
 
-abbrev pub token : TokenKind → ℕ → Result Step Why
-token kind len = Ok (record { len = len; kind = Some kind })
+abbrev pub token_step : TokenKind → ℕ → Result Step Why
+token_step kind len = Ok (record { len = len; kind = Some kind })
 
 -- the digits write a number of at most 64 bits in the radix
 abbrev pub is_numeral : ℕ → List ℕ → Bool
@@ -40,7 +40,7 @@ number_of word =
 
 abbrev pub numbered : ℕ → Option ℕ → Result Step Why
 numbered len None = Err whys.Number
-numbered len (Some n) = token (kinds.Number n) len
+numbered len (Some n) = token_step (kinds.Number n) len
 
 abbrev pub number_step : List ℕ → Result Step Why
 number_step text = numbered (prefix_len is_in_number text) (number_of (take (prefix_len is_in_number text) text))
@@ -56,7 +56,7 @@ close_len (b ∷ bs) = if b == star && begins_with slash bs then Some 2 else opt
 
 abbrev pub closed : Option ℕ → Result Step Why
 closed None = Err whys.Char
-closed (Some n) = gap (2 + n)
+closed (Some n) = gap_step (2 + n)
 
 -- at a `/`
 abbrev pub comment_step : List ℕ → Result Step Why
@@ -89,30 +89,31 @@ is_mark_rest bytes = has_quoted (after_mark bytes)
 -- at a `#` that begins a line
 abbrev pub mark_step : List ℕ → Result Step Why
 mark_step text =
-    if is_mark_rest (drop 1 (take (prefix_len is_in_line text) text)) then gap (prefix_len is_in_line text)
+    if is_mark_rest (drop 1 (take (prefix_len is_in_line text) text)) then gap_step (prefix_len is_in_line text)
     else Err whys.Line
 
 -- by the first byte: a line to skip, or nothing
 abbrev pub line_or_nothing : Bool → ℕ → List ℕ → Result Step Why
 line_or_nothing starts b text =
-    if starts && b == percent then gap (prefix_len is_in_line text)
+    if starts && b == percent then gap_step (prefix_len is_in_line text)
     else if starts && b == hash then mark_step text
     else Err whys.Char
 
 -- or a sign or a comment
 abbrev pub sign_or_comment : Bool → ℕ → List ℕ → Result Step Why
 sign_or_comment starts b text =
-    if is_sign b then token kinds.Sign 1 else if b == slash then comment_step text else line_or_nothing starts b text
+    if is_sign b then token_step kinds.Sign 1
+    else if b == slash then comment_step text else line_or_nothing starts b text
 
 -- or a name or a number
 abbrev pub name_or_number : Bool → ℕ → List ℕ → Result Step Why
 name_or_number starts b text =
-    if begins_name b then token kinds.Name (prefix_len is_in_name text)
+    if begins_name b then token_step kinds.Name (prefix_len is_in_name text)
     else if is_ascii_digit b then number_step text else sign_or_comment starts b text
 
 -- or a blank
 abbrev pub step_from : Bool → ℕ → List ℕ → Result Step Why
-step_from starts b text = if is_blank b then gap 1 else name_or_number starts b text
+step_from starts b text = if is_blank b then gap_step 1 else name_or_number starts b text
 
 -- the part at the front, which is as long and of that kind, or why there is none
 unfoldable pub step_at : Bool → List ℕ → Result Step Why

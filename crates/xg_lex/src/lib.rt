@@ -2,7 +2,7 @@
 //!
 //! A contract sees `Tokens`, a `Token` and a `LexFault` as they are written here, a `Text` as its
 //! bytes and `Items` as their list, so two are equal where their parts are.
-//! `Reads` and `Stands` of `specs/Grammar.antt` say which parts a text has: blanks, comments,
+//! `Reads` and `CanStand` of `specs/Grammar.antt` say which parts a text has: blanks, comments,
 //! lines that count for nothing, and tokens. `IsTokensOf` and `IsFirstFault` are said over them.
 //! A token's text is copied from the file; its kind has the value of a number.
 #![tactic(auto)]

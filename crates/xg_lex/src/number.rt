@@ -2,13 +2,13 @@
 
 ghost use Rattle.std.specs.Prelude.{◌≡◌, ◌≤◌};
 ghost use Rattle.xg_lex.specs.Bytes.{is_in_number};
-ghost use Rattle.xg_lex.specs.Grammar.{Passes};
+ghost use Rattle.xg_lex.specs.Grammar.{AllOf};
 ghost use Rattle.xg_lex.specs.Steps.{numeral, number_of};
 
 fn numeral(digits: &str, radix: u32) -> Option<u64>
     requires low { 2 ≤ radix }
     requires high { radix ≤ 16 }
-    requires digits { Passes is_in_number digits.now }
+    requires digits { AllOf is_in_number digits.now }
     ensures { result ≡ numeral radix digits.now }
 {
     u64::from_str_radix(digits, radix).ok()
@@ -18,7 +18,7 @@ fn numeral(digits: &str, radix: u32) -> Option<u64>
 /// hexadecimal with `0x`.
 #[tactic(auto, unfolding(crate::specs::Steps::number_of))]
 pub fn number_of(word: &str) -> Option<u64>
-    requires { Passes is_in_number word.now }
+    requires { AllOf is_in_number word.now }
     ensures { result ≡ number_of word.now }
 {
     let bytes = word.as_bytes();

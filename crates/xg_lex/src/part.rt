@@ -5,7 +5,8 @@ ghost use Rattle.std.specs.Option.{option_copied};
 ghost use Rattle.std.specs.List.{prefix_len};
 ghost use Rattle.std.specs.Char.{is_ascii_digit};
 ghost use Rattle.xg_lex.specs.Bytes.{is_space, is_in_line};
-ghost use Rattle.xg_lex.specs.Steps.{gap, token, close_len, comment_step, past_run, after_mark, is_quoted, is_mark_rest, mark_step, number_step, step_at};
+ghost use Rattle.xg_lex.specs.Steps.{gap_step, token_step, close_len, comment_step, past_run, after_mark};
+ghost use Rattle.xg_lex.specs.Steps.{is_quoted, is_mark_rest, mark_step, number_step, step_at};
 
 use crate::bytes::{
     begins_name, digit_len, is_blank, is_sign, line_len, name_len, number_len, space_len,
@@ -29,13 +30,13 @@ pub enum Why {
 }
 
 fn gap(len: usize) -> Step
-    ensures { Ok result ≡ gap len }
+    ensures { Ok result ≡ gap_step len }
 {
     Step { len, kind: None }
 }
 
 fn token(kind: TokenKind, len: usize) -> Step
-    ensures { Ok result ≡ token kind len }
+    ensures { Ok result ≡ token_step kind len }
 {
     Step {
         len,

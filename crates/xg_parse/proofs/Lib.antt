@@ -1,0 +1,9 @@
+pub mod TerminalLaws
+pub mod RuleLaws
+pub mod TokenFor
+pub mod SampleLaws
+pub mod OutcomeLaws
+pub mod RuleOutcomes
+pub mod Decided
+pub mod LoopLaws
+pub mod FileLaws
