@@ -4,3 +4,8 @@ pub mod Firsts
 pub mod Leads
 pub mod Rows
 pub mod Pieces
+pub mod Undisturbed
+pub mod CallsAt
+pub mod KeyLaws
+pub mod Making
+pub mod Spare

@@ -1,15 +1,14 @@
 -- The piece that a sending window gives next, as the rules have it.
-use Rattle.std.proofs.Common.{◌≡◌, inl, inr, ◌<◌, ◌≤◌, ◌==◌, ◌∙◌, nat_le, cond, is_some, true, false, ℕ, suc}
-use Rattle.std.proofs.Common.{List, [], ◌∷◌, ◌++◌, Option, Some, None, refl, sym, ap, arith}
+use Rattle.std.proofs.Common.{◌≡◌, nat_le, cond, true, false, ℕ, suc}
+use Rattle.std.proofs.Common.{List, [], ◌∷◌, ◌++◌, Option, Some, None, refl, sym, arith}
 use Rattle.std.specs.Prelude.{filter, option_map, option_and_then}
-use Rattle.std.proofs.lemmas.Bool.{cases_lt, false≢true}
 use Rattle.std.proofs.lemmas.Bool.Decides.{nat_tests}
 use Rattle.rx_rules.specs.CallItems.{CallItem, Sending, piece_items, fresh_items, again_items, can_give, asks}
 use Rattle.rx_rules.specs.CallItems as items
 use Rattle.rx_rules.specs.CallLooks.{CallLooks}
 use Rattle.rx_rules.specs.Least.{least_by, lesser_by}
 use Rattle.rx_rules.specs.Rates.{Cwnd}
-use Rattle.rx_rules.specs.Sent.{Sent, Giving, LastGiving, given_of, greatest_given, last_giving, lowest_of}
+use Rattle.rx_rules.specs.Sent.{Sent, LastGiving, given_of, last_giving, lowest_of}
 use Rattle.rx_rules.proofs.SentLaws.{given-within}
 use Rattle.rx_sendwin.specs.declared.next.NextPiece.{NextPiece}
 use Rattle.rx_sendwin.specs.Next.{next_piece_item, next_piece, piece_of}

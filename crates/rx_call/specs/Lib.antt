@@ -1,2 +1,5 @@
 pub mod Standing
 pub mod Choosing
+pub mod Kept
+pub mod Keys
+pub mod Lending

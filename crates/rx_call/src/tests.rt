@@ -10,7 +10,7 @@ use std::process::Abort;
 use std::test::*;
 
 /// The header of a message of call 1 on channel 0.
-fn head(seq: u32, serial: u32, flags: u8) -> Head {
+pub fn head(seq: u32, serial: u32, flags: u8) -> Head {
     Head {
         epoch: 1,
         cid: 4,
