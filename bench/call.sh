@@ -1,6 +1,6 @@
 #!/bin/sh
 # A stream from one end of a call to the other: rx_call_bench beside call.c, which copies the same bytes three times.
-# Prints at both windows the instructions of a piece, of ours, of the C code, and what ours takes beside it.
+# Prints for each window the instructions of a piece, of ours, of the C code, and what ours takes beside it.
 # Wants rt, clang and valgrind, and the repository's root as the working folder: bench/call.sh
 set -e
 work=$(mktemp -d)
@@ -23,7 +23,7 @@ per_piece() {
     echo $(((many - few) / pieces))
 }
 
-for window in 32 255; do
+for window in 32 64 128 255; do
     ours=$(per_piece crates/rx_call_bench/out/rx_call_bench $window)
     copies=$(per_piece "$work/call_c" $window)
     echo "window $window: ours $ours, copies $copies, beside the copies $((ours - copies)) instructions a piece"
