@@ -1,6 +1,6 @@
 //! Texts that are too long, and values that are too deep or too large.
 
-use super::shown::{plan, script};
+use super::shown::{peer_plan, plan, script};
 use std::alloc::{AllocError, Global};
 use std::process::Abort;
 use std::test::Fail;
@@ -21,6 +21,10 @@ fn a_line_too_many_is_refused(rt: HostRuntime) -> Result<(), Fail> {
     assert_eq!(rt; plan(alloc, most.as_str())?.as_str(), "");
     let over = with_lines(alloc, "", 1_000_001)?;
     assert_eq!(rt; plan(alloc, over.as_str())?.as_str(), "1000001 toomany");
+    assert_eq!(rt;
+        peer_plan(alloc, over.as_str())?.as_str(),
+        "1000001 toomany"
+    );
     assert_eq!(rt; script(alloc, over.as_str())?.as_str(), "1000001 toomany");
     // before the checks of the open block, and whatever it holds
     let open = with_lines(alloc, "on FetchStatus\nup", 1_000_000)?;

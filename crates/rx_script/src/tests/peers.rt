@@ -5,7 +5,7 @@ use std::process::Abort;
 use std::test::Fail;
 
 /// Texts, and the lines or the fault of each.
-static PEERS: [(&str, &str); 24] = [
+static PEERS: [(&str, &str); 44] = [
     (
         "peer 10.0.0.1:7000 epoch=4",
         "1 peer 167772161:7000 4 1 1024,64,2048,32;",
@@ -57,6 +57,29 @@ static PEERS: [(&str, &str); 24] = [
     ("accept", "1 word"),
     ("jumbo %1 %2", "1 word"),
     ("forge p1 10.0.0.1:1 -", "1 word"),
+    ("peer", "1 word"),
+    ("peer 10.0.0.1:7000 epoch=", "1 number"),
+    ("peer 10.0.0.1:7000 epoch=1 window=4294967296", "1 number"),
+    ("peer 10.0.0.1:7000 epoch=1 first=1", "1 word"),
+    (
+        "peer 10.0.0.1:7000 epoch=1\n\npeer 10.0.0.1:07000",
+        "3 twice",
+    ),
+    ("connect p1 p2 p3", "1 word"),
+    ("invoke c1 4 FetchData []", "1 word"),
+    ("invoke p1 4 Nothing []", "1 proc"),
+    ("invoke p1 4 FetchStatus down []", "1 kind"),
+    ("turn s", "1 word"),
+    ("turn all", "1 word"),
+    ("clock s 1", "1 word"),
+    ("clock p1 4611686018427387904", "1 number"),
+    ("cancel #1 0", "1 number"),
+    ("ask @1", "1 word"),
+    ("poll p4294967296", "1 number"),
+    ("deliver #1", "1 word"),
+    ("rounds 1000001", "1 number"),
+    ("lossy -1 1", "1 number"),
+    ("on FetchData", "1 word"),
 ];
 
 #[test]

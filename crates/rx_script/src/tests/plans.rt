@@ -5,7 +5,7 @@ use std::process::Abort;
 use std::test::Fail;
 
 /// Plans, and their lines.
-static PLANS: [(&str, &str); 46] = [
+static PLANS: [(&str, &str); 48] = [
     ("", ""),
     ("\n", ""),
     ("# ", ""),
@@ -129,6 +129,14 @@ static PLANS: [(&str, &str); 46] = [
     (
         "invoke c1 4 FetchData down up=- [{\"Volume\":1,\"Vnode\":2,\"Unique\":3},-1,3]",
         "1 invoke 1 4 FetchData up= true [[1,2,3],-1,3];",
+    ),
+    (
+        "invoke c1 4 FetchStatus [{\"\\u0056olume\":1,\"Vnode\":2,\"Unique\":3},\"\\u0020\",0]",
+        "1 invoke 1 4 FetchStatus - false [[1,2,3],20,0];",
+    ),
+    (
+        "invoke c1 4 FetchData up=3*5a [{\"Volume\":1,\"Vnode\":2,\"Unique\":3},0,3]",
+        "1 invoke 1 4 FetchData up=5a5a5a false [[1,2,3],0,3];",
     ),
 ];
 

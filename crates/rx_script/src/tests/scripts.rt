@@ -5,7 +5,7 @@ use std::process::Abort;
 use std::test::Fail;
 
 /// Scripts, and their blocks.
-static SCRIPTS: [(&str, &str); 22] = [
+static SCRIPTS: [(&str, &str); 25] = [
     ("", ""),
     ("# c\n\n", ""),
     ("on FetchStatus", "FetchStatus{}"),
@@ -42,6 +42,15 @@ static SCRIPTS: [(&str, &str); 22] = [
         "on FetchStatus\nwhen Fid {\"Vnode\":2,\"Unique\":3,\"Volume\":1} 1",
         "FetchStatus{when Fid [1,2,3] 1;}",
     ),
+    (
+        "on FetchStatus\nwhen Fid {\"\\u0056olume\":1,\"Vnode\":2,\"Unique\":3} 1",
+        "FetchStatus{when Fid [1,2,3] 1;}",
+    ),
+    (
+        "on FetchData\ncopy Left Pos\ncopy Left Length",
+        "FetchData{copy Left Pos;copy Left Length;}",
+    ),
+    ("on FetchData\nsend 0*5a\ndown", "FetchData{send ;down;}"),
     (
         "on FetchStatus\nsize Mode Name",
         "FetchStatus{size Mode Name;}",
