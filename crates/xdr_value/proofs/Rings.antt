@@ -9,7 +9,7 @@ use Rattle.std.proofs.lemmas.Bool.{and_parts, and_from, or_cases, false_from_ne_
 use Rattle.xdr_value.specs.Data.{Kind, basic, array, array_up_to, maybe, named, Form, Types}
 use Rattle.xdr_value.specs.Heads.{form_named}
 use Rattle.xdr_value.specs.Hollow.{core}
-use Rattle.xdr_value.specs.Facts.{IsDefined, IsKnown, form_kinds, OneHolds, Holds, at_once, through, IsEndless, names_of}
+use Rattle.xdr_value.specs.Facts.{IsDefined, IsKnown, form_kinds, OneHolds, TypeHolds, at_once, through, IsEndless, names_of}
 use Rattle.xdr_value.specs.Tests.{core_ends, kinds_end, form_ends, name_ends, all_end}
 use Rattle.xdr_value.proofs.Forms.{of_name, name_laws, is_name, all_map, each_defined}
 
@@ -37,7 +37,7 @@ step_ends (suc n) t s u f e o h = (
       (subst (λ (x : Option Form). form_ends (name_ends n t) x ≡ true) e h),
 )
 
-all_steps_end : (t : Types) (n : ℕ) (s u : List ℕ) → Holds t s u → name_ends n t s ≡ true
+all_steps_end : (t : Types) (n : ℕ) (s u : List ℕ) → TypeHolds t s u → name_ends n t s ≡ true
     → (m : ℕ) × (m < n) × (name_ends m t u ≡ true)
 all_steps_end t n s u (at_once s' u' f e o) h = step_ends n t s u f e o h
 all_steps_end t n s v (through s' u v' f e o rest) h =
@@ -45,7 +45,7 @@ all_steps_end t n s v (through s' u v' f e o rest) h =
     let b = all_steps_end t a.0 u v rest a.2 in
     (b.0, omega (arith, a.1, b.1), b.2)
 
-no_ring : (n m : ℕ) (t : Types) (s : List ℕ) → m ≤ n → Holds t s s → name_ends m t s ≡ true → ⊥
+no_ring : (n m : ℕ) (t : Types) (s : List ℕ) → m ≤ n → TypeHolds t s s → name_ends m t s ≡ true → ⊥
 no_ring zero m t s le holds h = let a = all_steps_end t m s s holds h in omega (arith, a.1, le)
 no_ring (suc n) m t s le holds h =
     let a = all_steps_end t m s s holds h in
@@ -61,7 +61,7 @@ pub ends_named : (t : Types) (s : List ℕ) (f : Form) → all_end t t ≡ true 
     → name_ends (length t) t s ≡ true
 ends_named t s f h e = of_name (λ (s : List ℕ). name_ends (length t) t s ≡ true) t s f (each_ends t t h) e
 
-first_form : (t : Types) (s u : List ℕ) → Holds t s u → IsDefined t s
+first_form : (t : Types) (s u : List ℕ) → TypeHolds t s u → IsDefined t s
 first_form t s u (at_once s' u' f e o) = (f, e)
 first_form t s u (through s' v u' f e o rest) = (f, e)
 
@@ -73,17 +73,17 @@ none_endless t h s holds =
 -- ---- where none holds itself, types end
 
 -- one name more
-longer : (t : Types) (v s u : List ℕ) (f : Form) → form_named s t ≡ Some f → OneHolds (form_kinds f) u → Holds t v s
-    → Holds t v u
+longer : (t : Types) (v s u : List ℕ) (f : Form) → form_named s t ≡ Some f → OneHolds (form_kinds f) u → TypeHolds t v s
+    → TypeHolds t v u
 longer t v s u f e o (at_once v' s' g d p) = through v s u g d p (at_once s u f e o)
 longer t v s u f e o (through v' w s' g d p rest) = through v w u g d p (longer t w s u f e o rest)
 
 not_seen : (t : Types) (s : List ℕ) → (IsEndless t s → ⊥) → (seen : List (List ℕ))
-    → AllByRecursion (λ v. Holds t v s) seen → AllByRecursion (λ v. bytes_eq s v ≡ false) seen
+    → AllByRecursion (λ v. TypeHolds t v s) seen → AllByRecursion (λ v. bytes_eq s v ≡ false) seen
 not_seen t s none [] h = tt
 not_seen t s none (v ∷ seen) h = (
   false_from_ne_true (bytes_eq s v)
-      (λ e. let is : s ≡ v = (bytes_eq-Decides s v).0 e in none (subst (λ (w : List ℕ). Holds t w s) (sym is) h.0)),
+      (λ e. let is : s ≡ v = (bytes_eq-Decides s v).0 e in none (subst (λ (w : List ℕ). TypeHolds t w s) (sym is) h.0)),
   not_seen t s none seen h.1,
 )
 
@@ -128,7 +128,7 @@ FormsKnown t = (s : List ℕ) (f : Form) → form_named s t ≡ Some f → AllBy
 -- the names that were seen on the way to s hold it, so s is none of them, and there are no more than definitions
 ends_within : (t : Types) → FormsKnown t → ((s : List ℕ) → IsEndless t s → ⊥)
     → (n : ℕ) (s : List ℕ) (seen : List (List ℕ))
-    → IsDefined t s → AllByRecursion (IsDefined t) seen → AllByRecursion (λ v. Holds t v s) seen
+    → IsDefined t s → AllByRecursion (IsDefined t) seen → AllByRecursion (λ v. TypeHolds t v s) seen
     → IsDistinct bytes_eq seen → length t ≤ length seen + n → name_ends n t s ≡ true
 unfolding name_ends IsDistinct
 ends_within t known none zero s seen defined defs held differ le =
@@ -139,7 +139,7 @@ ends_within t known none (suc n) s seen defined defs held differ le =
     (λ u is_defined o.
     ends_within t known none n u (s ∷ seen) is_defined (defined, defs) (
       at_once s u defined.0 defined.1 o,
-      all_map (λ v. Holds t v s) (λ v. Holds t v u)
+      all_map (λ v. TypeHolds t v s) (λ v. TypeHolds t v u)
           (λ v h. longer t v s u defined.0 defined.1 o h) seen held,
     )
     (not_seen t s (none s) seen held, differ) (omega (arith, le))))

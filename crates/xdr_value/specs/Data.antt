@@ -13,6 +13,8 @@ pub data Kind : Type 0 where
 
 -- a value, and a list of values
 mutual
+  -- a value: a number or a member's number, a bool, content, the values of a list or a struct, a tag with its arm,
+  -- optional data that is not there or is, or void
   pub data Datum : Type 0 where
     number : ℤ → Datum
     flag : Bool → Datum
@@ -23,6 +25,7 @@ mutual
     some : Datum → Datum
     nothing : Datum
 
+  -- values one after the other
   pub data Data : Type 0 where
     end : Data
     more : Datum → Data → Data

@@ -20,6 +20,7 @@ IsKnown t (array_up_to k n) = IsKnown t k
 IsKnown t (maybe k) = IsKnown t k
 IsKnown t (named s) = IsDefined t s
 
+-- the types of the fields
 abbrev pub part_kinds : List Part → List Kind
 part_kinds ps = map (λ (p : Part). p.kind) ps
 
@@ -37,14 +38,14 @@ OneHolds (k ∷ ks) s = (core k ≡ named s) ⊎ OneHolds ks s
 
 -- the first name's type holds the second's, at once or through others, other than through optional data or a variable
 -- array
-pub data Holds (t : Types) : List ℕ → List ℕ → Type 0 where
-  at_once : (s u : List ℕ) (f : Form) → form_named s t ≡ Some f → OneHolds (form_kinds f) u → Holds t s u
-  through : (s u v : List ℕ) (f : Form) → form_named s t ≡ Some f → OneHolds (form_kinds f) u → Holds t u v
-      → Holds t s v
+pub data TypeHolds (t : Types) : List ℕ → List ℕ → Type 0 where
+  at_once : (s u : List ℕ) (f : Form) → form_named s t ≡ Some f → OneHolds (form_kinds f) u → TypeHolds t s u
+  through : (s u v : List ℕ) (f : Form) → form_named s t ≡ Some f → OneHolds (form_kinds f) u → TypeHolds t u v
+      → TypeHolds t s v
 
 -- the type holds itself
 abbrev pub IsEndless : Types → List ℕ → Type 0
-IsEndless t s = Holds t s s
+IsEndless t s = TypeHolds t s s
 
 -- the number is one of the tag's type
 abbrev pub IsCase : Tag → ℤ → Type 0
@@ -65,6 +66,7 @@ same_case None (Some z) = false
 same_case (Some z) None = false
 same_case (Some z) (Some y) = int_eq z y
 
+-- the names of a list of things that have one each
 abbrev pub names_of : {X : Type 0} → List (List ℕ × X) → List (List ℕ)
 names_of {X} ds = map (λ (d : List ℕ × X). d.0) ds
 

@@ -1,5 +1,5 @@
 -- Which values a type has, and how deep a value is. Public clauses cite this module.
-use Rattle.std.specs.Prelude.{◌≡◌, ℕ, ℤ, suc, ◌≤◌, ◌<◌, ◌^◌, max, List, [], ◌∷◌, length, ⊤, true, Option, Some, None}
+use Rattle.std.specs.Prelude.{◌≡◌, ℕ, ℤ, suc, ◌≤◌, ◌<◌, ◌^◌, max, List, [], ◌∷◌, length, ⊤, true, false, Option, Some, None}
 use Rattle.xdr_value.specs.Ranges.{IsBelow, IsWithin, has_number}
 use lib.IntN.{pos}
 use Rattle.xdr_value.specs.declared.ty.Basic.TheVariants as basics
@@ -65,8 +65,14 @@ TagFits _ _ = ⊥
 -- the number by which a tag chooses its arm: that of a bool is 0 or 1
 abbrev pub tag_number : Datum → ℤ
 tag_number (number z) = z
+tag_number (flag false) = pos 0
 tag_number (flag true) = pos 1
-tag_number _ = pos 0
+tag_number (octets bytes) = pos 0
+tag_number (items vs) = pos 0
+tag_number (union tag arm) = pos 0
+tag_number none = pos 0
+tag_number (some v) = pos 0
+tag_number nothing = pos 0
 
 -- the arm that was chosen has it
 abbrev pub ArmFits : Option Choice → (Kind → Type 0) → Type 0
@@ -104,6 +110,7 @@ abbrev mutual
 
 -- structs, unions, arrays and optional data within one another; a tag is no level
 abbrev mutual
+  -- how many levels a value has at its deepest
   pub depth : Datum → ℕ
   depth (number z) = 0
   depth (flag b) = 0
@@ -114,6 +121,7 @@ abbrev mutual
   depth (some v) = suc (depth v)
   depth nothing = 0
 
+  -- the same of several values
   pub depths : Data → ℕ
   depths end = 0
   depths (more v vs) = max (depth v) (depths vs)

@@ -7,6 +7,7 @@ use Rattle.xdr_value.specs.declared.head.Head.TheVariants as code
 use Rattle.xdr_value.specs.declared.head.Tag.{Tag as CodeTag}
 use Rattle.xdr_value.specs.declared.head.Tag.TheVariants as tags
 
+-- the tag
 abbrev pub tag_view : CodeTag → Tag
 tag_view tags.Int = tag_int
 tag_view tags.Uint = tag_uint
@@ -14,6 +15,7 @@ tag_view tags.Bool = tag_bool
 tag_view (tags.Enum ms) = tag_enum (map member_of ms.now.items)
 tag_view tags.Other = tag_other
 
+-- the type, its names followed
 abbrev pub head_view : CodeHead → Head
 head_view (code.Basic b) = is_basic b
 head_view (code.Enum ms) = is_enum (map member_of ms.now.items)

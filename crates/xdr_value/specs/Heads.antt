@@ -14,6 +14,7 @@ pub data Tag : Type 0 where
   tag_enum : List (List ℕ × ℤ) → Tag
   tag_other : Tag
 
+-- a type whose names were followed
 pub data Head : Type 0 where
   is_basic : Basic → Head
   is_enum : List (List ℕ × ℤ) → Head
@@ -28,9 +29,24 @@ pub data Head : Type 0 where
 abbrev pub tag_of : Head → Tag
 tag_of (is_basic basics.Int) = tag_int
 tag_of (is_basic basics.Uint) = tag_uint
+tag_of (is_basic basics.Hyper) = tag_other
+tag_of (is_basic basics.Uhyper) = tag_other
+tag_of (is_basic basics.Short) = tag_other
+tag_of (is_basic basics.Ushort) = tag_other
+tag_of (is_basic basics.Char) = tag_other
+tag_of (is_basic basics.Uchar) = tag_other
 tag_of (is_basic basics.Bool) = tag_bool
+tag_of (is_basic basics.Void) = tag_other
+tag_of (is_basic (basics.Opaque n)) = tag_other
+tag_of (is_basic (basics.OpaqueUpTo n)) = tag_other
+tag_of (is_basic (basics.Text n)) = tag_other
 tag_of (is_enum ms) = tag_enum ms
-tag_of _ = tag_other
+tag_of (is_struct ps) = tag_other
+tag_of (is_union tag cs) = tag_other
+tag_of (is_array k n) = tag_other
+tag_of (is_array_up_to k n) = tag_other
+tag_of (is_maybe k) = tag_other
+tag_of is_unknown = tag_other
 
 -- what a name stands for
 abbrev pub form_named : List ℕ → Types → Option Form
@@ -58,10 +74,12 @@ head_within (suc n) t (named s) = head_of_form (head_within n t) (form_named s t
 unfoldable pub head_of : Types → Kind → Head
 head_of t k = head_within (length t) t k
 
+-- the arm has this case
 abbrev pub is_case : ℤ → Option ℤ → Bool
 is_case z None = false
 is_case z (Some case) = int_eq case z
 
+-- the arm is a default
 abbrev pub is_default : Option ℤ → Bool
 is_default None = true
 is_default (Some case) = false
@@ -76,6 +94,7 @@ abbrev pub default_arm : List Choice → Option Choice
 default_arm [] = None
 default_arm (c ∷ cs) = if is_default c.case then Some c else default_arm cs
 
+-- the first, or else the other
 abbrev pub or_else : Option Choice → Option Choice → Option Choice
 or_else (Some c) other = Some c
 or_else None other = other
@@ -89,5 +108,6 @@ abbrev pub part_kind : Option Part → Kind
 part_kind None = basic basics.Void
 part_kind (Some p) = p.kind
 
+-- the type of what this arm holds, which is void where it has no field
 abbrev pub arm_kind : Choice → Kind
 arm_kind c = part_kind c.part

@@ -14,23 +14,42 @@ core (named s) = named s
 
 -- one of the fixed arrays has no element
 abbrev pub has_zero : Kind → Bool
+has_zero (basic b) = false
 has_zero (array k n) = n == 0 || has_zero k
-has_zero _ = false
+has_zero (array_up_to k n) = false
+has_zero (maybe k) = false
+has_zero (named s) = false
 
 -- what no fixed array holds takes no bytes, where held says so of names
 abbrev pub core_hollow : (List ℕ → Bool) → Kind → Bool
+core_hollow held (basic basics.Int) = false
+core_hollow held (basic basics.Uint) = false
+core_hollow held (basic basics.Hyper) = false
+core_hollow held (basic basics.Uhyper) = false
+core_hollow held (basic basics.Short) = false
+core_hollow held (basic basics.Ushort) = false
+core_hollow held (basic basics.Char) = false
+core_hollow held (basic basics.Uchar) = false
+core_hollow held (basic basics.Bool) = false
 core_hollow held (basic basics.Void) = true
 core_hollow held (basic (basics.Opaque n)) = n == 0
+core_hollow held (basic (basics.OpaqueUpTo n)) = false
+core_hollow held (basic (basics.Text n)) = false
+core_hollow held (array k n) = false
+core_hollow held (array_up_to k n) = false
+core_hollow held (maybe k) = false
 core_hollow held (named s) = held s
-core_hollow held _ = false
 
+-- a value of the type takes no bytes, where held says so of names
 abbrev pub kind_hollow : (List ℕ → Bool) → Kind → Bool
 kind_hollow held k = has_zero k || core_hollow held (core k)
 
+-- no field takes bytes
 abbrev pub parts_hollow : (List ℕ → Bool) → List Part → Bool
 parts_hollow held [] = true
 parts_hollow held (p ∷ ps) = kind_hollow held p.kind && parts_hollow held ps
 
+-- what a name stands for takes no bytes
 abbrev pub form_hollow : (List ℕ → Bool) → Option Form → Bool
 form_hollow held None = false
 form_hollow held (Some (alias k)) = kind_hollow held k

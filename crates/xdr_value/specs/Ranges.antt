@@ -13,11 +13,12 @@ abbrev pub IsWithin : ℕ → ℤ → Type 0
 IsWithin n (pos m) = m < n
 IsWithin n (negsuc m) = m < n
 
--- the tests for them
+-- from 0 to n - 1, as a test
 abbrev pub is_below : ℕ → ℤ → Bool
 is_below n (pos m) = nat_lt m n
 is_below n (negsuc m) = false
 
+-- from -n to n - 1, as a test
 abbrev pub is_within : ℕ → ℤ → Bool
 is_within n (pos m) = nat_lt m n
 is_within n (negsuc m) = nat_lt m n

@@ -15,6 +15,7 @@ use Rattle.xdr_value.specs.declared.def.Arg.{Arg}
 use Rattle.xdr_value.specs.declared.def.Proc.{Proc}
 use Rattle.xdr_value.specs.declared.def.Shape.TheVariants.{Alias, Enum, Struct, Union}
 
+-- the type, where those that it holds were looked at
 abbrev pub ty_step : Ty-F Kind → Kind
 ty_step Ty-F.Int = basic basics.Int
 ty_step Ty-F.Uint = basic basics.Uint
@@ -38,10 +39,12 @@ ty_step (Ty-F.Named s) = named (string_bytes s)
 abbrev pub kind_of : Ty → Kind
 kind_of = fold-Ty Kind ty_step
 
+-- a list as data
 abbrev pub data_of : List Datum → Data
 data_of [] = end
 data_of (d ∷ ds) = more d (data_of ds)
 
+-- the value, where those that it holds were looked at
 abbrev pub value_step : Value-F Datum → Datum
 value_step (Value-F.Number n) = number n
 value_step (Value-F.Flag b) = flag b
@@ -56,24 +59,30 @@ value_step Value-F.Void = nothing
 abbrev pub value_of : Value → Datum
 value_of = fold-Value Datum value_step
 
+-- the values
 abbrev pub values_of : List Value → Data
 values_of vs = data_of (map value_of vs)
 
+-- the field
 abbrev pub part_of : Field → Part
 part_of f = record { name = string_bytes f.name; kind = kind_of f.ty }
 
+-- the member: its name and its number
 abbrev pub member_of : Member → List ℕ × ℤ
 member_of m = (string_bytes m.name, m.number)
 
+-- the arm
 abbrev pub choice_of : Arm → Choice
 choice_of a = record { case = a.case; part = option_map part_of a.field }
 
+-- what a name stands for
 abbrev pub form_of : Shape → Form
 form_of (Alias t) = alias (kind_of t)
 form_of (Enum ms) = enum (map member_of ms.items)
 form_of (Struct fs) = struct (map part_of fs.items)
 form_of (Union t arms) = choice (kind_of t) (map choice_of arms.items)
 
+-- the name with what it stands for
 abbrev pub def_of : Def → List ℕ × Form
 def_of d = (string_bytes d.name, form_of d.shape)
 
@@ -81,9 +90,11 @@ def_of d = (string_bytes d.name, form_of d.shape)
 abbrev pub types_of : List Def → Types
 types_of = map def_of
 
+-- the argument
 abbrev pub param_of : Arg → Param
 param_of a = record { name = string_bytes a.name; mode = a.mode; kind = kind_of a.ty }
 
+-- the procedure
 abbrev pub proc_of : Proc → Procedure
 proc_of p = record {
   name = string_bytes p.name;

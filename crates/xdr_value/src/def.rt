@@ -7,7 +7,7 @@ use crate::ty::Ty;
 use std::alloc::{AllocError, Global};
 
 /// A field of a struct, or what an arm of a union holds.
-#[derive(Drop)]
+#[derive(Debug, Drop)]
 pub struct Field {
     pub name: String,
     pub ty: Ty,
@@ -24,7 +24,7 @@ impl Field {
 }
 
 /// A member of an enum.
-#[derive(Drop)]
+#[derive(Debug, Drop)]
 pub struct Member {
     pub name: String,
     pub number: i64,
@@ -41,14 +41,14 @@ impl Member {
 }
 
 /// An arm of a union: without a case it is the default, without a field it is void.
-#[derive(Drop)]
+#[derive(Debug, Drop)]
 pub struct Arm {
     pub case: Option<i64>,
     pub field: Option<Field>,
 }
 
 /// What a name stands for: RFC 4506, sections 4.18, 4.3, 4.14 and 4.15.
-#[derive(Drop)]
+#[derive(Debug, Drop)]
 pub enum Shape {
     Alias(Ty),
     Enum(Vec<Member>),
@@ -57,7 +57,7 @@ pub enum Shape {
 }
 
 /// A name with what it stands for.
-#[derive(Drop)]
+#[derive(Debug, Drop)]
 pub struct Def {
     pub name: String,
     pub shape: Shape,
@@ -82,7 +82,7 @@ pub enum Mode {
 }
 
 /// An argument of a procedure.
-#[derive(Drop)]
+#[derive(Debug, Drop)]
 pub struct Arg {
     pub name: String,
     pub mode: Mode,
@@ -100,7 +100,7 @@ impl Arg {
 }
 
 /// A procedure. A split one has streams of bytes beside its arguments.
-#[derive(Drop)]
+#[derive(Debug, Drop)]
 pub struct Proc {
     pub name: String,
     pub opcode: u32,

@@ -9,7 +9,7 @@ use crate::def::{Arm, Def, Field, Member, Shape};
 use crate::ty::{Basic, Ty};
 
 /// The kinds of tag that a union may have (RFC 4506, section 4.15); a sound interface has no other.
-#[derive(Clone, Copy)]
+#[derive(Clone, Copy, Debug)]
 pub enum Tag<'a> {
     Int,
     Uint,
@@ -19,7 +19,7 @@ pub enum Tag<'a> {
 }
 
 /// A type, its names followed. In a sound interface no name is unknown.
-#[derive(Clone, Copy)]
+#[derive(Clone, Copy, Debug)]
 pub enum Head<'a> {
     Basic(Basic),
     Enum(&'a Vec<Member>),

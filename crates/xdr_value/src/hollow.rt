@@ -10,7 +10,7 @@ use crate::head::shape_of;
 use crate::ty::Ty;
 
 /// How many elements that take no bytes a variable array may have.
-const MOST_HOLLOW: u32 = 65_536;
+pub const MOST_HOLLOW: u32 = 65_536;
 
 fn has_zero(ty: &Ty) -> bool
     ensures { result ≡ has_zero (kind_of ty.now) }

@@ -7,7 +7,7 @@ ghost use Rattle.xdr_value.specs.Tests.{is_sound};
 use crate::def::{Def, Proc};
 
 /// Types that name one another, and procedures over them.
-#[derive(Drop)]
+#[derive(Debug, Drop)]
 pub struct Interface {
     pub package: Option<String>,
     pub prefix: Option<String>,

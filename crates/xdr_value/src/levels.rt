@@ -6,9 +6,12 @@ ghost use Rattle.xdr_value.specs.Fits.{depth, depths};
 
 use crate::value::Value;
 
-/// Whether at most so many structs, unions, arrays and optional data stand within one another,
-/// which is what a value that is written may have 64 of. A number, a bool, content and void are
-/// no level, nor is a union's tag.
+/// How many structs, unions, arrays and optional data may stand within one another in a value that is
+/// written or read.
+pub const MAX_LEVELS: u32 = 64;
+
+/// Whether at most so many structs, unions, arrays and optional data stand within one another. A
+/// number, a bool, content and void are no level, nor is a union's tag.
 #[cycle(levels)]
 pub fn has_levels_within(value: &Value, levels: u32) -> bool
     ensures { IsTrue result ↔ depth (value_of value.now) ≤ levels }

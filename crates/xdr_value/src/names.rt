@@ -25,6 +25,7 @@ pub fn known(types: &[Def], ty: &Ty) -> bool
     }
 }
 
+/// Whether each name in the types of the fields is.
 pub fn fields_known(types: &[Def], fields: &Vec<Field>) -> bool
     ensures { result ≡ kinds_known (types_of types.now) (part_kinds (map part_of fields.now.items)) }
 {
@@ -45,6 +46,7 @@ fn arm_known(types: &[Def], arm: &Arm) -> bool
     }
 }
 
+/// Whether each name in what the arms hold is.
 pub fn arms_known(types: &[Def], arms: &Vec<Arm>) -> bool
     ensures { result ≡ kinds_known (types_of types.now) (map arm_kind (map choice_of arms.now.items)) }
 {
@@ -56,6 +58,7 @@ pub fn arms_known(types: &[Def], arms: &Vec<Arm>) -> bool
     true
 }
 
+/// Whether each name in the types of the arguments is.
 pub fn args_known(types: &[Def], args: &Vec<Arg>) -> bool
     ensures { result ≡ params_known (types_of types.now) (map param_of args.now.items) }
 {

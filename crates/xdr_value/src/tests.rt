@@ -1,3 +1,5 @@
+//! Types and values of RFC 4506, by example.
+
 use super::*;
 use std::alloc::{AllocError, Global};
 use std::test::*;

@@ -8,7 +8,7 @@ use std::alloc::{AllocError, Global};
 
 /// A type of an interface. The number of `Opaque` and `Array` is how many there are, that of
 /// `OpaqueUpTo`, `Text` and `ArrayUpTo` how many there are at most.
-#[derive(Drop)]
+#[derive(Debug, Drop)]
 pub enum Ty {
     Int,
     Uint,

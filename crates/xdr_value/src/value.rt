@@ -10,6 +10,7 @@ use std::alloc::{AllocError, Global};
 /// A value of a type: `Number` of the numbers and enums, `Octets` of opaque data and strings,
 /// `List` of arrays and structs, `Union` of a tag and its arm, `Maybe` of optional data. It is
 /// matched by reference, since it has a `drop` of its own.
+#[derive(Debug)]
 pub enum Value {
     Number(i128),
     Flag(bool),
