@@ -1,6 +1,5 @@
 -- Going through lists, one element after the other.
-use Rattle.std.proofs.Common.{◌≡◌, ◌≢◌, ℕ, suc, ◌+◌, ◌<◌, Bool, true, false, cond, ◌||◌, List, [], ◌∷◌, ◌++◌, length, drop, get_or, map, refl, sym, ap, ◌∙◌}
-use Rattle.std.proofs.lemmas.List.{drop_more}
+use Rattle.std.proofs.Common.{◌≡◌, ◌≢◌, suc, ◌+◌, Bool, true, false, cond, ◌||◌, List, [], ◌∷◌, ◌++◌, length, map, refl, sym, ap, ◌∙◌}
 use Rattle.std.proofs.lemmas.Bool.{and_parts, and_right}
 use Rattle.stub_table.specs.declared.stream.Stream.TheVariants as streams
 use Rattle.stub_table.specs.Streams.{goes_with}
@@ -13,13 +12,10 @@ use Rattle.xdr_value.specs.Tests.{is_known, params_known}
 use Rattle.xdr_value.specs.Fits.{count}
 use Rattle.xdr_value.specs.View.{param_of, values_of}
 use Rattle.xdr_value.proofs.Lists.{append, append_end, append_more}
+pub use Rattle.xdr_value.proofs.Lists.{in_left}
 use Rattle.rx_script.specs.Answers.{values_by}
 use Rattle.rx_script.specs.Hosts.{has_host}
 use Rattle.rx_script.specs.Same.{same_value, same_values}
-
--- an argument that is met is the first of those that are left
-pub in_left : (xs : List Arg) (i : ℕ) (a : Arg) → i < length xs → a ≡ get_or xs i a → drop i xs ≡ a ∷ drop (i + 1) xs
-in_left xs i a lt is = drop_more xs i a lt ∙ ap (λ (b : Arg). b ∷ drop (i + 1) xs) (sym is)
 
 -- known types of those that are left: of the first, and of the others
 pub known_rest : (t : Types) (left rest : List Arg) (a : Arg) → left ≡ a ∷ rest
@@ -68,7 +64,8 @@ or_swap false true = refl
 or_swap false false = refl
 
 -- one host more
-pub has_host-push : (hosts : List Host) (h q : Host) → has_host (hosts ++ h ∷ []) q ≡ (same_host h q || has_host hosts q)
+pub has_host-push : (hosts : List Host) (h q : Host)
+    → has_host (hosts ++ h ∷ []) q ≡ (same_host h q || has_host hosts q)
 has_host-push [] h q = refl
 has_host-push (other ∷ hosts) h q =
     ap (λ (b : Bool). same_host other q || b) (has_host-push hosts h q)

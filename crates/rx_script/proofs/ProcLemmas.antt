@@ -9,7 +9,7 @@ use Rattle.xdr_value.specs.Fitting.{parts_fit, does_fit}
 use Rattle.xdr_value.specs.Tests.{is_known, params_known}
 use Rattle.xdr_value.proofs.FitsLaw.{fits_is}
 use Rattle.xdr_value.proofs.Tells.{always, never, both}
-use Rattle.xdr_code.specs.declared.reading.TheConstants.{MAX_LEVELS}
+use Rattle.xdr_value.specs.declared.levels.TheConstants.{MAX_LEVELS}
 use Rattle.stub_table.specs.declared.codes.TheConstants.{MAX_STREAM_BYTES}
 use Rattle.stub_table.specs.declared.stream.Stream.TheVariants as streams
 use Rattle.stub_table.specs.Streams.{parts_with, request_spelling, stream_spelling}

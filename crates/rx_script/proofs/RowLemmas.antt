@@ -79,7 +79,8 @@ pub server_host-push : (rs : List (Row PlanLine)) (r : Row PlanLine)
     → server_host (rs ++ r ∷ []) ≡ option_or (server_host rs) (server_in r.1)
 server_host-push [] r = or_none (server_in r.1)
 server_host-push (q ∷ rs) r =
-    ap (option_or (server_in q.1)) (server_host-push rs r) ∙ sym (or_first (server_in q.1) (server_host rs) (server_in r.1))
+    ap (option_or (server_in q.1)) (server_host-push rs r)
+    ∙ sym (or_first (server_in q.1) (server_host rs) (server_in r.1))
 
 append_none : (hs : List Host) → hs ++ [] ≡ hs
 append_none [] = refl

@@ -6,7 +6,7 @@ use Rattle.rx_script.specs.declared.fault.LineFault.TheVariants.{BadLine, OutOfM
 use Rattle.rx_script.specs.declared.limits.TheConstants.{MAX_LINES}
 use Rattle.rx_script.specs.Pieces.{lines_of}
 use Rattle.rx_script.specs.Reading.{IsFaultOf}
-use Rattle.rx_script.specs.Texts.{Given, Step, after, read_back, read_text, with_line}
+use Rattle.rx_script.specs.Texts.{Given, Step, after, read_back, text_given, with_line}
 
 -- ---- from the first line on
 
@@ -46,7 +46,7 @@ read_back-behind {S} step start (line ∷ more) done =
 pub record IsReadSoFar {S : Type 0} (step : Step S) (start : S) (text : List ℕ) (before : S) (n : ℕ)
     (left : List (List ℕ)) : Type 0 where
   pub few : n ≤ MAX_LINES
-  pub whole : read_after step before n left ≡ read_text step start text
+  pub whole : read_after step before n left ≡ text_given step start text
 
 -- no line was read
 pub read_none : {S : Type 0} (step : Step S) (start : S) (text : List ℕ)
@@ -69,7 +69,7 @@ read_one {S} {step} {start} {text} {line} {more} {n} {before} {next} so_far few 
 -- no line is left
 pub read_all : {S : Type 0} {step : Step S} {start : S} {text : List ℕ} {n : ℕ} {before : S}
     → IsReadSoFar step start text before n []
-    → read_text step start text ≡ Ok before
+    → text_given step start text ≡ Ok before
 read_all so_far = sym so_far.whole
 
 -- a line was refused, so the text is
@@ -77,7 +77,7 @@ pub read_refused : {S : Type 0} {step : Step S} {start : S} {text line : List �
     {before : S} (fault : LineFault)
     → IsReadSoFar step start text before n (line ∷ more)
     → IsFaultOf (with_line step (n + 1) line before) fault
-    → IsFaultOf (read_text step start text) fault
+    → IsFaultOf (text_given step start text) fault
 read_refused {S} {step} {start} {text} {line} {more} {n} {before} (BadLine place why) so_far refused =
     let here : with_line step (suc n) line before ≡ Err (BadLine place why) = rw add-one at refused in
     sym (rw here at so_far.whole)

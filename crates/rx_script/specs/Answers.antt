@@ -105,14 +105,14 @@ sends (send bytes) = true
 sends _ = false
 
 -- what a line sends down
-abbrev pub sent : List ℕ → Option Saying → List ℕ
-sent upload (Some echo) = upload
-sent upload (Some (send bytes)) = bytes
-sent upload _ = []
+abbrev pub sent_down : List ℕ → Option Saying → List ℕ
+sent_down upload (Some echo) = upload
+sent_down upload (Some (send bytes)) = bytes
+sent_down upload _ = []
 
 -- what the last `echo` or `send` sends down, or else nothing
 abbrev pub download : List ℕ → List Saying → List ℕ
-download upload ls = sent upload (last_of sends ls)
+download upload ls = sent_down upload (last_of sends ls)
 
 -- ---- the answer
 

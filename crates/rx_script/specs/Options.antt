@@ -12,7 +12,7 @@ use Rattle.rx_script.specs.declared.options.OptionName.TheVariants as option_nam
 use Rattle.rx_script.specs.declared.options.Options.{Options}
 use Rattle.rx_script.specs.declared.options.TheConstants.{NO_OPTIONS}
 use Rattle.rx_script.specs.Numbers.{number_within, key_in}
-use Rattle.rx_script.specs.Words.{Form, and_then}
+use Rattle.rx_script.specs.Words.{LineForm, and_then}
 
 -- the text in front of an option's value
 abbrev pub option_text : OptionName → List ℕ
@@ -83,7 +83,7 @@ abbrev pub with_option : List OptionName → Bool → Options → List ℕ → R
 with_option row keyed given word = with_found keyed given (option_in row word)
 
 -- the options with more words, from the left
-abbrev pub options_from : List OptionName → Bool → Options → Form Options
+abbrev pub options_from : List OptionName → Bool → Options → LineForm Options
 options_from row keyed given [] = Ok given
 options_from row keyed given (word ∷ words) =
     and_then (with_option row keyed given word) (λ next. options_from row keyed next words)
@@ -94,7 +94,7 @@ has_key [] = false
 has_key (word ∷ words) = is_some (value_text option_names.Key word) || has_key words
 
 -- the options of a line, of which it may have these
-abbrev pub options_word : List OptionName → Form Options
+abbrev pub options_word : List OptionName → LineForm Options
 options_word row words = options_from row (has_key words) NO_OPTIONS words
 
 -- ---- what they mean

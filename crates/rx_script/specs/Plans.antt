@@ -13,7 +13,7 @@ use Rattle.rx_script.specs.Hosts.{is_host, has_host}
 use Rattle.rx_script.specs.Pieces.{words_of}
 use Rattle.rx_script.specs.Rows.{plan_line, peer_line}
 use Rattle.rx_script.specs.Saying.{Said, plain, Row}
-use Rattle.rx_script.specs.Texts.{Given, Step, read_text}
+use Rattle.rx_script.specs.Texts.{Given, Step, text_given}
 
 -- the lines with one more, whose words say this, at this place of the text
 abbrev pub with_said : {L : Type 0} → ℕ → List (Row L) → Result (Said L) LineWhy → Given (List (Row L))
@@ -38,7 +38,7 @@ plan_step t ps n line before = with_said n before (plan_line t ps (is_host (serv
 
 -- the plan that a text gives, or its first fault
 abbrev pub plan_of : Types → Procs → List ℕ → Given (List (Row PlanLine))
-plan_of t ps text = read_text (plan_step t ps) [] text
+plan_of t ps text = text_given (plan_step t ps) [] text
 
 -- ---- plans of peers
 
@@ -58,4 +58,4 @@ peer_step t ps n line before = with_said n before (peer_line t ps (has_host (pee
 
 -- the plan of peers that a text gives, or its first fault
 abbrev pub peer_plan_of : Types → Procs → List ℕ → Given (List (Row PeerLine))
-peer_plan_of t ps text = read_text (peer_step t ps) [] text
+peer_plan_of t ps text = text_given (peer_step t ps) [] text

@@ -6,7 +6,7 @@ use Rattle.xdr_value.specs.Data.{Kind, Param, Procedure, Procs, Types, Datum, Da
 use Rattle.xdr_value.specs.Heads.{Head, is_basic, head_of}
 use Rattle.xdr_value.specs.Fits.{depths}
 use Rattle.xdr_value.specs.Fitting.{parts_fit}
-use Rattle.xdr_code.specs.declared.reading.TheConstants.{MAX_LEVELS}
+use Rattle.xdr_value.specs.declared.levels.TheConstants.{MAX_LEVELS}
 use Rattle.xdr_json.specs.Answers.{value_in}
 use Rattle.xdr_json.specs.Args.{args_in}
 use Rattle.xdr_json.specs.Judged.{Judged}

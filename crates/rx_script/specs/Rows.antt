@@ -28,7 +28,7 @@ use Rattle.rx_script.specs.Options.{options_word, limits_in, service_in, nonce_i
 use Rattle.rx_script.specs.Procs.{proc_word, args_word}
 use Rattle.rx_script.specs.Saying.{Said, invoked, Invocation, plan_said, peer_said}
 use Rattle.rx_script.specs.Verbs.{verb_in}
-use Rattle.rx_script.specs.Words.{Form, and_then, word, end, no_more, number_word, host_word, bytes_word, code_word, fault_word, cid_word, max_word, moment_word, seed_word, epoch_word, name_word, caller_word, node_word, nodes_word, call_word}
+use Rattle.rx_script.specs.Words.{LineForm, and_then, word, end, no_more, number_word, host_word, bytes_word, code_word, fault_word, cid_word, max_word, moment_word, seed_word, epoch_word, name_word, caller_word, node_word, nodes_word, call_word}
 
 -- ---- calls with their callers
 
@@ -48,7 +48,7 @@ abbrev pub up_head : List ℕ
 up_head = codes "up="
 
 -- [up=BYTES] [down] JSON
-abbrev pub invoke_rest : Types → ℕ → ℕ → Procedure → Option (List ℕ) → Bool → Form Invocation
+abbrev pub invoke_rest : Types → ℕ → ℕ → Procedure → Option (List ℕ) → Bool → LineForm Invocation
 invoke_rest t node cid p up down [] = Err whys.Word
 invoke_rest t node cid p up down (word ∷ words) =
     if starts_with nat_eq word up_head
@@ -65,7 +65,7 @@ invoke_rest t node cid p up down (word ∷ words) =
     })))
 
 -- invoke NODE CID PROC [up=BYTES] [down] JSON
-abbrev pub invoke_line : Types → Procs → Names → Form Invocation
+abbrev pub invoke_line : Types → Procs → Names → LineForm Invocation
 invoke_line t ps which =
     word (caller_word which) (λ node. word cid_word (λ cid. word (proc_word ps)
     (λ p. invoke_rest t node cid p None false)))
@@ -77,8 +77,9 @@ abbrev pub rounds_word : List ℕ → Result ℕ LineWhy
 rounds_word = number_word 1 MAX_ROUNDS
 
 -- the lines that plans and plans of peers share, by their first word
-abbrev pub shared_line : Names → Verb → Form SharedLine
-shared_line which verbs.Cancel = word (name_word CALLED) (λ call. word fault_word (λ code. end (shareds.Cancel call code)))
+abbrev pub shared_line : Names → Verb → LineForm SharedLine
+shared_line which verbs.Cancel =
+    word (name_word CALLED) (λ call. word fault_word (λ code. end (shareds.Cancel call code)))
 shared_line which verbs.Ask = word (name_word CALLED) (λ call. end (shareds.Ask call))
 shared_line which verbs.Poll = word (node_word which) (λ node. end (shareds.Poll node))
 shared_line which verbs.Deliver = word (name_word PACKET) (λ packet. end (shareds.Deliver packet))
@@ -119,19 +120,19 @@ abbrev pub new_host : (Host → Bool) → List ℕ → Result Host LineWhy
 new_host taken word = and_then (host_word word) (λ host. if taken host then Err whys.Twice else Ok host)
 
 -- server HOST [service=N] [conns=N] [calls=N] [slots=N] [window=N] [key=HEX] [nonce=N]
-abbrev pub server_line : Form PlanLine
+abbrev pub server_line : LineForm PlanLine
 server_line =
     word host_word (λ host words. and_then (options_word SERVER_OPTIONS words)
     (λ given. Ok (lines.Server host (service_in given) (limits_in given) given.key (nonce_in given))))
 
 -- client HOST epoch=N [conns=N] [calls=N] [slots=N] [window=N] [key=HEX]
-abbrev pub client_line : (Host → Bool) → Form PlanLine
+abbrev pub client_line : (Host → Bool) → LineForm PlanLine
 client_line taken =
     word (new_host taken) (λ host. word epoch_word (λ epoch words. and_then (options_word CLIENT_OPTIONS words)
     (λ given. Ok (lines.Client host epoch (limits_in given) given.key))))
 
 -- connect cI [first=N]
-abbrev pub connect_line : Form PlanLine
+abbrev pub connect_line : LineForm PlanLine
 connect_line =
     word (name_word CLIENT) (λ client words. and_then (options_word CONNECT_OPTIONS words)
     (λ given. Ok (lines.Connect client (first_in given))))
@@ -142,11 +143,11 @@ write_of (calls.Called call) bytes = lines.Write call bytes
 write_of (calls.Accepted call) bytes = lines.HandlerWrite call bytes
 
 -- write #K or @K, BYTES
-abbrev pub write_line : Form PlanLine
+abbrev pub write_line : LineForm PlanLine
 write_line = word call_word (λ call. word bytes_word (λ bytes. end (write_of call bytes)))
 
 -- forge NODE HOST BYTES
-abbrev pub forge_line : Form PlanLine
+abbrev pub forge_line : LineForm PlanLine
 forge_line =
     word (node_word names.Plan) (λ node. word host_word (λ host. word bytes_word
     (λ bytes. end (lines.Forge node host bytes))))
@@ -157,7 +158,7 @@ read_of (calls.Called call) max = lines.Read call max
 read_of (calls.Accepted call) max = lines.HandlerRead call max
 
 -- a line of names and numbers, by its first word
-abbrev pub numbers_line : Verb → Form PlanLine
+abbrev pub numbers_line : Verb → LineForm PlanLine
 numbers_line verbs.Call =
     word (name_word CLIENT) (λ client. word cid_word (λ cid. end (lines.Call client cid)))
 numbers_line verbs.Shut = word (name_word CALLED) (λ call. end (lines.Shut call))
@@ -170,7 +171,7 @@ numbers_line verbs.Jumbo =
 numbers_line verb = λ words. and_then (shared_line names.Plan verb words) (λ line. Ok (plan_of_shared line))
 
 -- a line of a plan that holds no value, by its first word
-abbrev pub plain_line : (Host → Bool) → Verb → Form PlanLine
+abbrev pub plain_line : (Host → Bool) → Verb → LineForm PlanLine
 plain_line taken verbs.Server = server_line
 plain_line taken verbs.Client = client_line taken
 plain_line taken verbs.Connect = connect_line
@@ -179,43 +180,43 @@ plain_line taken verbs.Forge = forge_line
 plain_line taken verb = numbers_line verb
 
 -- what a line says that its words give
-abbrev pub seen_by : {L : Type 0} → (L → Said L) → Form L → Form (Said L)
+abbrev pub seen_by : {L : Type 0} → (L → Said L) → LineForm L → LineForm (Said L)
 seen_by said form words = and_then (form words) (λ line. Ok (said line))
 
 -- a line of a plan, by its first word
-abbrev pub plan_by : Types → Procs → (Host → Bool) → Verb → Form (Said PlanLine)
+abbrev pub plan_by : Types → Procs → (Host → Bool) → Verb → LineForm (Said PlanLine)
 plan_by t ps taken verbs.Invoke = λ words. and_then (invoke_line t ps names.Plan words) (λ call. Ok (invoked call))
 plan_by t ps taken verb = seen_by plan_said (plain_line taken verb)
 
 -- the line that words say, where an unknown first word is `Word`
-abbrev pub by_first : {L : Type 0} → (Verb → Form L) → Form L
+abbrev pub by_first : {L : Type 0} → (Verb → LineForm L) → LineForm L
 by_first by [] = Err whys.Word
 by_first by (first ∷ words) = and_then (ok_or (verb_in VERBS first) whys.Word) (λ verb. by verb words)
 
 -- a line of a plan
-abbrev pub plan_line : Types → Procs → (Host → Bool) → Form (Said PlanLine)
+abbrev pub plan_line : Types → Procs → (Host → Bool) → LineForm (Said PlanLine)
 plan_line t ps taken = by_first (plan_by t ps taken)
 
 -- ---- plans of peers
 
 -- peer HOST epoch=N [service=N] [conns=N] [calls=N] [slots=N] [window=N]
-abbrev pub peer_node_line : (Host → Bool) → Form PeerLine
+abbrev pub peer_node_line : (Host → Bool) → LineForm PeerLine
 peer_node_line taken =
     word (new_host taken) (λ host. word epoch_word (λ epoch words. and_then (options_word PEER_OPTIONS words)
     (λ given. Ok (peers.Peer host epoch (service_in given) (limits_in given)))))
 
 -- a line of a plan of peers that holds no value, by its first word
-abbrev pub plain_peer_line : (Host → Bool) → Verb → Form PeerLine
+abbrev pub plain_peer_line : (Host → Bool) → Verb → LineForm PeerLine
 plain_peer_line taken verbs.Peer = peer_node_line taken
 plain_peer_line taken verbs.Connect =
     word (name_word PEER) (λ peer. word (name_word PEER) (λ to. end (peers.Connect peer to)))
 plain_peer_line taken verb = λ words. and_then (shared_line names.Peers verb words) (λ line. Ok (peer_of_shared line))
 
 -- a line of a plan of peers, by its first word
-abbrev pub peer_by : Types → Procs → (Host → Bool) → Verb → Form (Said PeerLine)
+abbrev pub peer_by : Types → Procs → (Host → Bool) → Verb → LineForm (Said PeerLine)
 peer_by t ps taken verbs.Invoke = λ words. and_then (invoke_line t ps names.Peers words) (λ call. Ok (invoked call))
 peer_by t ps taken verb = seen_by peer_said (plain_peer_line taken verb)
 
 -- a line of a plan of peers
-abbrev pub peer_line : Types → Procs → (Host → Bool) → Form (Said PeerLine)
+abbrev pub peer_line : Types → Procs → (Host → Bool) → LineForm (Said PeerLine)
 peer_line t ps taken = by_first (peer_by t ps taken)

@@ -12,9 +12,9 @@ use Rattle.rx_script.specs.declared.verb.TheConstants.{VERBS}
 use Rattle.rx_script.specs.Pieces.{words_of}
 use Rattle.rx_script.specs.Saying.{Saying, up, down, count, echo, send, Answering}
 use Rattle.rx_script.specs.ScriptRows.{is_up, is_down, script_line}
-use Rattle.rx_script.specs.Texts.{Given, Step, after, read_text}
+use Rattle.rx_script.specs.Texts.{Given, Step, after, text_given}
 use Rattle.rx_script.specs.Verbs.{verb_in}
-use Rattle.rx_script.specs.Words.{Form, and_then, word, end}
+use Rattle.rx_script.specs.Words.{LineForm, and_then, word, end}
 
 -- ---- a block while it is read
 
@@ -97,13 +97,13 @@ block_word ps done [] = Err whys.Word
 block_word ps done (b ∷ bs) = and_then (ok_or (placed_from 0 (b ∷ bs) ps) whys.Proc) (new_block done)
 
 -- on PROC
-abbrev pub on_line : Procs → List Answering → Form Opened
+abbrev pub on_line : Procs → List Answering → LineForm Opened
 on_line ps done = word (block_word ps done) end
 
 -- the draft with a block that begins at this line
-abbrev pub opened : ℕ → List Answering → Result Opened LineWhy → Given Draft
-opened n done (Err why) = Err (BadLine n why)
-opened n done (Ok b) = Ok (record { done = done; block = Some b })
+abbrev pub block_begun : ℕ → List Answering → Result Opened LineWhy → Given Draft
+block_begun n done (Err why) = Err (BadLine n why)
+block_begun n done (Ok b) = Ok (record { done = done; block = Some b })
 
 -- ---- one more line
 
@@ -125,7 +125,7 @@ in_block t ps n done (Some b) verb words = said_in t n done b verb words (slice_
 
 -- one more line, by its first word: `on` ends the block before it
 abbrev pub by_verb : Types → Procs → ℕ → Draft → Verb → List (List ℕ) → Given Draft
-by_verb t ps n d verbs.On words = after (closed d) (λ done. opened n done (on_line ps done words))
+by_verb t ps n d verbs.On words = after (closed d) (λ done. block_begun n done (on_line ps done words))
 by_verb t ps n d verb words = in_block t ps n d.done d.block verb words
 
 -- one more line, whose first word may be one of the table
@@ -148,4 +148,4 @@ no_lines = record { done = []; block = None }
 
 -- the script that a text gives, or its first fault
 abbrev pub script_of : Types → Procs → List ℕ → Given (List Answering)
-script_of t ps text = after (read_text (script_step t ps) no_lines text) closed
+script_of t ps text = after (text_given (script_step t ps) no_lines text) closed

@@ -6,10 +6,10 @@ use Rattle.xdr_value.specs.Data.{Procedure, Procs, Types, Data}
 use Rattle.xdr_value.specs.Fits.{depths}
 use Rattle.xdr_value.specs.Fitting.{parts_fit}
 use Rattle.xdr_value.specs.Spelling.{word}
-use Rattle.xdr_code.specs.declared.reading.TheConstants.{MAX_LEVELS}
+use Rattle.xdr_value.specs.declared.levels.TheConstants.{MAX_LEVELS}
 use Rattle.stub_table.specs.declared.codes.TheConstants.{MAX_STREAM_BYTES, OPCODE, SS_MARSHAL, SS_UNMARSHAL}
 use Rattle.stub_table.specs.declared.stream.Stream.TheVariants as streams
-use Rattle.stub_table.specs.Requests.{Answer, whole, more_wanted, refused, request_answer}
+use Rattle.stub_table.specs.Requests.{RequestAnswer, whole, more_wanted, refused, request_answer}
 use Rattle.stub_table.specs.Streams.{parts_with, stream_spelling}
 use Rattle.rx_script.specs.declared.limits.TheConstants.{MAX_BYTES}
 use Rattle.rx_script.specs.declared.served.Served.{Served as CodeServed}
@@ -81,14 +81,14 @@ served_by t script args rest None = refusal OPCODE
 served_by t script args rest (Some p) = served_with t script p args (upload_of script p rest)
 
 -- what is served for a request of which no more comes
-abbrev pub served_from : Types → Procs → List Answering → List ℕ → Answer → Served
+abbrev pub served_from : Types → Procs → List Answering → List ℕ → RequestAnswer → Served
 served_from t ps script request (refused c) = refusal c
 served_from t ps script request more_wanted = refusal SS_UNMARSHAL
 served_from t ps script request (whole index args used) =
     served_by t script args (drop used request) (slice_get ps index)
 
--- What is served for a whole request: the code of a request that can't be read, or of an upload that is cut short or too
--- long; else the answer's code, or that of a reply that can't be written; else the reply.
+-- What is served for a whole request: the code of a request that can't be read, or of an upload that is cut short or
+-- too long; else the answer's code, or that of a reply that can't be written; else the reply.
 abbrev pub served_of : Types → Procs → List Answering → List ℕ → Served
 served_of t ps script request = served_from t ps script request (request_answer t ps request true)
 

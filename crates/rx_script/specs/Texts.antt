@@ -41,5 +41,5 @@ read_back step start (line ∷ before) =
     after (read_back step start before) (with_line step (suc (length before)) line)
 
 -- what a text says, or its first fault
-abbrev pub read_text : {S : Type 0} → Step S → S → List ℕ → Given S
-read_text step start text = read_back step start (reverse (lines_of text))
+abbrev pub text_given : {S : Type 0} → Step S → S → List ℕ → Given S
+text_given step start text = read_back step start (reverse (lines_of text))

@@ -16,8 +16,8 @@ use Rattle.rx_script.specs.Numbers.{is_decimal, number_within, host_in, code_in,
 -- ---- words one after the other
 
 -- what a line's words say, or their first fault
-abbrev pub Form : Type 0 → Type 0
-Form L = List (List ℕ) → Result L LineWhy
+abbrev pub LineForm : Type 0 → Type 0
+LineForm L = List (List ℕ) → Result L LineWhy
 
 -- the second step, if the first found no fault
 abbrev pub and_then : {A B : Type 0} → Result A LineWhy → (A → Result B LineWhy) → Result B LineWhy
@@ -25,21 +25,21 @@ and_then (Ok a) next = next a
 and_then (Err why) next = Err why
 
 -- what the first word stands for; a missing one is `Word`
-abbrev pub first_as : {A : Type 0} → (List ℕ → Result A LineWhy) → Form A
+abbrev pub first_as : {A : Type 0} → (List ℕ → Result A LineWhy) → LineForm A
 first_as read [] = Err Word
 first_as read (word ∷ more) = read word
 
 -- a word of this kind, and then more words
-abbrev pub word : {A L : Type 0} → (List ℕ → Result A LineWhy) → (A → Form L) → Form L
+abbrev pub word : {A L : Type 0} → (List ℕ → Result A LineWhy) → (A → LineForm L) → LineForm L
 word read more words = and_then (first_as read words) (λ a. more a (drop 1 words))
 
 -- a surplus word is `Word`
-abbrev pub no_more : Form (Unit {0})
+abbrev pub no_more : LineForm (Unit {0})
 no_more [] = Ok tt
 no_more (word ∷ more) = Err Word
 
 -- no more words
-abbrev pub end : {L : Type 0} → L → Form L
+abbrev pub end : {L : Type 0} → L → LineForm L
 end line words = and_then (no_more words) (λ _. Ok line)
 
 -- ---- numbers, hosts and bytes

@@ -18,7 +18,7 @@ use xdr_value::{Arg, Interface, Proc, Value, zero};
 
 /// What is answered for a call: a code that isn't 0, or the INOUT and OUT values in order with the
 /// bytes of the download.
-#[derive(Drop)]
+#[derive(Debug, Drop)]
 pub enum Answer<'a> {
     Code(i32),
     Reply {
@@ -99,7 +99,8 @@ fn fail_code(line: &ScriptLine) -> Option<i32>
 }
 
 fn first_held(args: &[Arg], values: &[Value], lines: &[ScriptLine]) -> Option<i32>
-    ensures { result ≡ first_given (held_code (map param_of args.now) (values_of values.now)) (map saying_of lines.now) }
+    ensures { result ≡ first_given (held_code (map param_of args.now) (values_of values.now))
+        (map saying_of lines.now) }
 {
     for line in lines {
         let code = held_code(args, values, line);

@@ -7,7 +7,7 @@ use xdr_value::Value;
 /// A line of a plan of a server and its clients. A `call` or a `packet` is the K of its name, a
 /// `client` the I of its name, and a `node` 0 for the server or the client's I. What a line doesn't
 /// name is filled in.
-#[derive(Drop)]
+#[derive(Debug, Drop)]
 pub enum PlanLine {
     /// Makes the server.
     Server {
@@ -123,21 +123,21 @@ pub enum PlanLine {
 }
 
 /// A line with its number in the text, from 1.
-#[derive(Drop)]
+#[derive(Debug, Drop)]
 pub struct Numbered {
     pub line: u32,
     pub what: PlanLine,
 }
 
 /// The lines of a plan, in order.
-#[derive(Drop)]
+#[derive(Debug, Drop)]
 pub struct Plan {
     pub lines: Vec<Numbered>,
 }
 
 /// A line of a plan of peers. A `peer` or `to` is the I of the peer's name, a `call` or a `packet`
 /// the K of its name. What a line doesn't name is filled in.
-#[derive(Drop)]
+#[derive(Debug, Drop)]
 pub enum PeerLine {
     /// Makes the next peer.
     Peer {
@@ -198,14 +198,14 @@ pub enum PeerLine {
 }
 
 /// A line with its number in the text, from 1.
-#[derive(Drop)]
+#[derive(Debug, Drop)]
 pub struct PeerNumbered {
     pub line: u32,
     pub what: PeerLine,
 }
 
 /// The lines of a plan of peers, in order.
-#[derive(Drop)]
+#[derive(Debug, Drop)]
 pub struct PeerPlan {
     pub lines: Vec<PeerNumbered>,
 }

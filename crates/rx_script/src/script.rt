@@ -4,7 +4,7 @@ use rx_model::Bytes;
 use xdr_value::Value;
 
 /// A line of a block. `arg` and `from` are names of the procedure's arguments.
-#[derive(Drop)]
+#[derive(Debug, Drop)]
 pub enum ScriptLine {
     /// So many turns pass before the answer.
     Wait(u32),
@@ -44,14 +44,14 @@ pub enum ScriptLine {
 }
 
 /// What is answered for a procedure, which goes by its name.
-#[derive(Drop)]
+#[derive(Debug, Drop)]
 pub struct Block {
     pub proc: String,
     pub lines: Vec<ScriptLine>,
 }
 
 /// What is answered: a block for each procedure that it speaks of, in the order of the text.
-#[derive(Drop)]
+#[derive(Debug, Drop)]
 pub struct Script {
     pub blocks: Vec<Block>,
 }

@@ -23,7 +23,7 @@ use xdr_value::{Interface, Proc};
 
 /// A block while it is read: the place of its procedure in the interface, its name, whether it is
 /// split, and the lines so far.
-#[derive(Drop)]
+#[derive(Debug, Drop)]
 pub struct Opened {
     pub place: usize,
     pub proc: String,
@@ -32,7 +32,7 @@ pub struct Opened {
 }
 
 /// The blocks that ended, and the one that didn't.
-#[derive(Drop)]
+#[derive(Debug, Drop)]
 pub struct Draft {
     pub done: Vec<Block>,
     pub block: Option<Opened>,

@@ -20,7 +20,7 @@ use std::alloc::Global;
 use xdr_value::{Interface, Proc};
 
 /// A line of a block with its number in the text, from 1.
-#[derive(Drop)]
+#[derive(Debug, Drop)]
 pub struct Marked {
     pub line: u32,
     pub what: ScriptLine,

@@ -21,7 +21,7 @@ use stub_table::{OPCODE, Request, SS_MARSHAL, SS_UNMARSHAL, StubFault, read_requ
 use xdr_value::{Interface, Proc, Value};
 
 /// What is served: a code that isn't 0, or the bytes of the reply.
-#[derive(Drop)]
+#[derive(Debug, Drop)]
 pub enum Served {
     Code(i32),
     Reply(Vec<u8>),

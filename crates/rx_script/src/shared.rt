@@ -41,7 +41,7 @@ pub enum SharedLine {
 }
 
 /// A call that is made with its caller.
-#[derive(Drop)]
+#[derive(Debug, Drop)]
 pub struct Invocation {
     pub node: u32,
     pub cid: u32,

@@ -9,7 +9,7 @@ use std::collections::HashSet;
 use std::marker::Model;
 
 /// Hosts in the order in which they were taken, of which one is found without looking at the others.
-#[derive(Drop)]
+#[derive(Debug, Drop)]
 pub struct Taken {
     hosts: Vec<Host>,
     found: HashSet<(u32, u16)>,

@@ -1,3 +1,5 @@
+//! Texts and what they give, by example.
+
 mod afs;
 mod answered;
 mod bad_plans;

@@ -12,7 +12,7 @@ use Rattle.xdr_value.specs.Tests.{is_sound}
 use Rattle.xdr_value.specs.View.{values_of}
 use Rattle.xdr_value.specs.declared.value.Value.{Value}
 use Rattle.xdr_value.proofs.SoundLaw.{tests}
-use Rattle.xdr_code.specs.Reading.{Front}
+use Rattle.xdr_code.specs.Reading.{AtFront}
 use Rattle.stub_table.specs.declared.fault.StubFault.{StubFault}
 use Rattle.stub_table.specs.declared.fault.StubFault.TheVariants.{Code, OutOfMemory}
 use Rattle.stub_table.specs.declared.stream.Stream.{Stream}
@@ -59,7 +59,7 @@ request_again t ps index p vs rest ended sound at lt can =
 
 -- ---- replies
 
-ok_parts : (a c : Data) (b d : List ℕ) (r : Front Data) → r ≡ Ok (a, b) → r ≡ Ok (c, d) → a ≡ c
+ok_parts : (a c : Data) (b d : List ℕ) (r : AtFront Data) → r ≡ Ok (a, b) → r ≡ Ok (c, d) → a ≡ c
 ok_parts a c b d r e f =
     let x : Data × List ℕ = (a, b) in
     let y : Data × List ℕ = (c, d) in

@@ -5,8 +5,8 @@ use Rattle.xdr_value.specs.Data.{Procedure, Data, Types}
 use Rattle.xdr_value.specs.Fits.{PartsFit, depths}
 use Rattle.xdr_value.specs.Spelling.{parts_spelling}
 use Rattle.xdr_code.specs.declared.fault.Fault.{Fault}
-use Rattle.xdr_code.specs.Bytes.{IsBytes}
-use Rattle.xdr_code.specs.Reading.{Front, parts_at, value_at}
+use Rattle.hex.specs.Hex.{IsBytes}
+use Rattle.xdr_code.specs.Reading.{AtFront, parts_at, value_at}
 use Rattle.xdr_code.proofs.Again.{parts_again}
 use Rattle.xdr_code.proofs.Found.{parts_first, value_meets}
 use Rattle.xdr_code.proofs.Meets.{Meets}
@@ -14,7 +14,7 @@ use Rattle.stub_table.specs.declared.stream.Stream.{Stream}
 use Rattle.stub_table.specs.Streams.{FitStream, parts_with, stream_spelling}
 
 -- what is read from the bytes as the values of a stream
-abbrev pub read_stream : Types → Stream → Procedure → List ℕ → Front Data
+abbrev pub read_stream : Types → Stream → Procedure → List ℕ → AtFront Data
 read_stream t s p bytes = parts_at (value_at 64 t) (parts_with s p.params) bytes
 
 -- values that were read are spelled in front of the rest
@@ -23,7 +23,7 @@ pub values_read : (t : Types) (s : Stream) (p : Procedure) (bytes rest : List �
     → FitStream t s p vs × (bytes ≡ stream_spelling t s p vs ++ rest)
 values_read t s p bytes rest vs fits e =
     let ps = parts_with s p.params in
-    let meets = subst (λ (r : Front Data). Meets bytes (parts_spelling t ps) (λ ws. PartsFit t ps ws × (depths ws ≤ 64))
+    let meets = subst (λ (r : AtFront Data). Meets bytes (parts_spelling t ps) (λ ws. PartsFit t ps ws × (depths ws ≤ 64))
     r) e
     (parts_first 64 t (value_at 64 t) (value_meets 64 t) ps bytes fits) in
     (meets.2, meets.0)

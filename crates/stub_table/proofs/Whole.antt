@@ -7,11 +7,11 @@ use Rattle.std.proofs.lemmas.List.{length-append, take-append-drop, length-take}
 use Rattle.xdr_value.specs.Data.{Procedure, Procs, Data, Types}
 use Rattle.xdr_value.specs.Spelling.{word}
 use Rattle.xdr_code.specs.declared.fault.Fault.TheVariants.{Deep, Short, Bad}
-use Rattle.xdr_code.specs.Reading.{Front}
+use Rattle.xdr_code.specs.Reading.{AtFront}
 use Rattle.xdr_code.proofs.Bytes.{IsBytes, IsBytes-take, IsBytes-drop, wide32}
 use Rattle.stub_table.specs.declared.stream.Stream.TheVariants as streams
 use Rattle.stub_table.specs.Streams.{FitStream, stream_spelling, request_spelling}
-use Rattle.stub_table.specs.Requests.{whole, or_wait, found_from, args_answer, found_answer, is_open, seen_answer, request_answer, IsWhole}
+use Rattle.stub_table.specs.Requests.{whole, or_wait, found_from, args_answer, found_answer, is_open, seen_answer, request_answer, IsWholeRequest}
 use Rattle.stub_table.specs.declared.codes.TheConstants.{DECODE}
 use Rattle.stub_table.proofs.Opcodes.{pair_is}
 use Rattle.stub_table.proofs.Fronts.{read_stream, values_read}
@@ -91,7 +91,7 @@ front_from t ps seen f vs rest long fits found e =
     }
 
 args_say : (t : Types) (ps : Procs) (seen : List ℕ) (waits : Bool) (f : ℕ × Procedure) (index : ℕ) (vs : Data)
-    (used : ℕ) (r : Front Data) → 4 ≤ length seen → IsBytes seen
+    (used : ℕ) (r : AtFront Data) → 4 ≤ length seen → IsBytes seen
     → IsFound 0 (from_be_bytes w32 seen) ps f → read_stream t streams.Request f.1 (drop 4 seen) ≡ r
     → args_answer f.0 (length seen) waits r ≡ whole index vs used
     → IsFront t ps seen index vs used
@@ -127,7 +127,7 @@ seen_says t ps seen ended waits false index vs used fits test e =
 -- a whole request is the front of the bytes, and no longer than what is looked at
 pub whole_says : (t : Types) (ps : Procs) (bytes : List ℕ) (ended : Bool) (index : ℕ) (vs : Data) (used : ℕ)
     → IsBytes bytes
-    → request_answer t ps bytes ended ≡ whole index vs used → IsWhole t ps bytes index vs used
+    → request_answer t ps bytes ended ≡ whole index vs used → IsWholeRequest t ps bytes index vs used
 whole_says t ps bytes ended index vs used fits e =
     let seen : List ℕ = take 65536 bytes in
     let h = seen_says t ps seen ended (is_open (length bytes) ended) (ltb (length seen) 4) index vs used

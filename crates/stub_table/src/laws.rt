@@ -1,17 +1,30 @@
 //! Laws over the definitions that contracts cite.
 
+ghost use lib.IntN.{negsuc};
 ghost use Rattle.std.specs.Prelude.{◌≡◌, ◌<◌, ◌^◌, ◌++◌, ℕ, Bool, List, Result, Vec as VecOf, Some, IsTrue, length};
 ghost use Rattle.std.specs.Global.{Global as GlobalType};
 ghost use Rattle.std.specs.List.{slice_get};
 ghost use Rattle.xdr_value.specs.Data.{Types, Procs, Procedure, Data};
 ghost use Rattle.xdr_value.specs.Tests.{is_sound};
 ghost use Rattle.xdr_value.specs.declared.value.Value.{Value as ValueType};
-ghost use Rattle.xdr_code.specs.Bytes.{IsBytes};
+ghost use Rattle.hex.specs.Hex.{IsBytes};
 ghost use Rattle.stub_table.specs.declared.fault.StubFault.{StubFault as Fault};
 ghost use Rattle.stub_table.specs.declared.stream.Stream.TheVariants as streams;
 ghost use Rattle.stub_table.specs.Streams.{FitStream, stream_spelling, request_spelling};
 ghost use Rattle.stub_table.specs.Answers.{CanRequest, IsReplyRead, AreValues};
-ghost use Rattle.stub_table.specs.Requests.{request_answer, whole, IsWhole};
+ghost use Rattle.stub_table.specs.Requests.{request_answer, whole, IsWholeRequest};
+
+use crate::codes::{
+    CC_MARSHAL, CC_UNMARSHAL, DECODE, MAX_STREAM_BYTES, OPCODE, SS_MARSHAL, SS_UNMARSHAL,
+};
+
+/// The codes, and the greatest request and reply in bytes.
+pub fn numbers()
+    ensures client { (CC_MARSHAL ≡ negsuc 449) × (CC_UNMARSHAL ≡ negsuc 450) }
+    ensures server { (SS_MARSHAL ≡ negsuc 451) × (SS_UNMARSHAL ≡ negsuc 452) × (DECODE ≡ negsuc 453)
+        × (OPCODE ≡ negsuc 454) }
+    ensures bytes { MAX_STREAM_BYTES ≡ 65536 }
+{}
 
 /// A request that can be made is found at the front of its bytes, whatever follows: its procedure,
 /// its values, and all of its bytes are used.
@@ -34,5 +47,5 @@ pub fn reply_is_read_again()
 /// bytes as were used.
 pub fn whole_request_is_spelled()
     ensures { (t : Types) (ps : Procs) (bytes : List ℕ) (ended : Bool) (index : ℕ) (vs : Data) (used : ℕ)
-        → IsBytes bytes → request_answer t ps bytes ended ≡ whole index vs used → IsWhole t ps bytes index vs used }
+        → IsBytes bytes → request_answer t ps bytes ended ≡ whole index vs used → IsWholeRequest t ps bytes index vs used }
 {}

@@ -21,7 +21,7 @@ pub use codes::{
     CC_MARSHAL, CC_UNMARSHAL, DECODE, MAX_STREAM_BYTES, OPCODE, SS_MARSHAL, SS_UNMARSHAL,
 };
 pub use fault::StubFault;
-pub use laws::{reply_is_read_again, request_is_read_again, whole_request_is_spelled};
+pub use laws::{numbers, reply_is_read_again, request_is_read_again, whole_request_is_spelled};
 pub use reading::{Request, read_reply, read_request};
 pub use stream::Stream;
 pub use writing::{reply, request};

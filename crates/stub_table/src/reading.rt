@@ -6,7 +6,7 @@ ghost use Rattle.xdr_value.specs.Tests.{params_known};
 ghost use Rattle.xdr_value.specs.View.{types_of, param_of, procs_of, proc_of};
 ghost use Rattle.stub_table.specs.Answers.{IsReplyRead};
 ghost use Rattle.stub_table.specs.Requests.{opcode_at, is_open, found_from, found_answer, seen_answer, request_answer};
-ghost use Rattle.stub_table.specs.Requests.{IsAnswer};
+ghost use Rattle.stub_table.specs.Requests.{IsRequestAnswer};
 
 use crate::codes::{CC_UNMARSHAL, DECODE, MAX_STREAM_BYTES, OPCODE, SS_UNMARSHAL};
 use crate::fault::StubFault;
@@ -17,7 +17,7 @@ use xdr_value::{Interface, Proc, Value};
 
 /// What the front of a request is: a procedure by its index, its IN and INOUT values and how many
 /// bytes they take with the opcode; or more bytes are wanted; or one of the server's codes.
-#[derive(Drop)]
+#[derive(Debug, Drop)]
 pub enum Request {
     Whole {
         index: usize,
@@ -85,7 +85,7 @@ fn read_args(
 ) -> Request
     requires known { IsTrue (params_known (types_of iface.now.types.items) (map param_of proc.now.args.items)) }
     requires within { length bytes.now ≤ seen }
-    ensures { IsAnswer result (found_answer (types_of iface.now.types.items) seen waits bytes.now
+    ensures { IsRequestAnswer result (found_answer (types_of iface.now.types.items) seen waits bytes.now
         (Some (index, proc_of proc.now))) }
 {
     match read_values(alloc, iface, Stream::Request, &proc.args, bytes) {
@@ -113,7 +113,7 @@ fn read_args(
 
 // What the bytes that are looked at are.
 fn read_seen(alloc: Global, iface: &Interface, seen: &[u8], ended: bool, waits: bool) -> Request
-    ensures { IsAnswer result (seen_answer (types_of iface.now.types.items) (procs_of iface.now.procs.items) seen.now
+    ensures { IsRequestAnswer result (seen_answer (types_of iface.now.types.items) (procs_of iface.now.procs.items) seen.now
         ended waits) }
 {
     match opcode_at(seen) {
@@ -134,7 +134,7 @@ fn read_seen(alloc: Global, iface: &Interface, seen: &[u8], ended: bool, waits: 
 /// What the front of a request is, of which these bytes have come and, where `ended` is true, no
 /// more will. It looks at the first `MAX_STREAM_BYTES` bytes alone.
 pub fn read_request(alloc: Global, iface: &Interface, bytes: &[u8], ended: bool) -> Request
-    ensures { IsAnswer result (request_answer (types_of iface.now.types.items) (procs_of iface.now.procs.items)
+    ensures { IsRequestAnswer result (request_answer (types_of iface.now.types.items) (procs_of iface.now.procs.items)
         bytes.now ended) }
 {
     read_seen(alloc, iface, looked_at(bytes), ended, is_open(bytes, ended))

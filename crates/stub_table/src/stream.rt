@@ -9,8 +9,8 @@ ghost use Rattle.xdr_code.specs.Reading.{Gives, parts_at, value_at};
 ghost use Rattle.stub_table.specs.Streams.{goes_with, parts_with, PartsFitWithin};
 
 use std::alloc::{AllocError, Global};
-use xdr_code::{MAX_LEVELS, Stop, encode, read_value};
-use xdr_value::{Arg, Interface, Mode, Value, fits, has_levels_within};
+use xdr_code::{Stop, encode, read_value};
+use xdr_value::{Arg, Interface, MAX_LEVELS, Mode, Value, fits, has_levels_within};
 
 /// The stream from the client to the server, or the one back.
 #[derive(Clone, Copy, Debug, PartialEq, Eq)]

@@ -1,3 +1,5 @@
+//! Streams of calls, by example.
+
 mod afs;
 mod limits;
 mod replies;

@@ -19,21 +19,21 @@ use Rattle.xdr_code.proofs.TagLaws.{tag_again}
 use Rattle.xdr_code.proofs.Numbers.{back32, back64, word32, word64, within_around, wider}
 use Rattle.xdr_code.proofs.Reach.{IsBetween, of_one, of_enum}
 use Rattle.xdr_value.proofs.Tells.{within}
-use Rattle.xdr_code.specs.Reading.{◌>>=◌, Front, Read, item_at, number_at, padding_at, octets_at, counted_octets_at, basic_at, enum_at, parts_at, elements_at, arm_at, head_at, value_at}
-use Rattle.xdr_code.specs.Items.{around, among, numbers}
+use Rattle.xdr_code.specs.Reading.{◌>>=◌, AtFront, Read, in_set_at, any_number_at, padding_at, octets_at, counted_octets_at, basic_at, enum_at, parts_at, elements_at, arm_at, head_at, value_at}
+use Rattle.xdr_code.specs.NumberSets.{around, among, numbers}
 use Rattle.xdr_value.specs.Hollow.{list_limit}
 
 -- ---- items
 
-word_again : (n : ℕ) (rest : List ℕ) → n < 2 ^ 32 → number_at w32 (to_be_bytes w32 n ++ rest) ≡ Ok (n, rest)
-unfolding number_at
+word_again : (n : ℕ) (rest : List ℕ) → n < 2 ^ 32 → any_number_at w32 (to_be_bytes w32 n ++ rest) ≡ Ok (n, rest)
+unfolding any_number_at
 word_again n rest lt =
     let is : from_be_bytes w32 (word n ++ rest) ≡ n = from_be_bytes-to_be_bytes_4 n lt in
     let b : ltb (length (word n ++ rest)) 4 ≡ false = le-ltb _ _ (omega arith) in
     rw (b, is) refl
 
-double_again : (n : ℕ) (rest : List ℕ) → n < 2 ^ 64 → number_at w64 (to_be_bytes w64 n ++ rest) ≡ Ok (n, rest)
-unfolding number_at
+double_again : (n : ℕ) (rest : List ℕ) → n < 2 ^ 64 → any_number_at w64 (to_be_bytes w64 n ++ rest) ≡ Ok (n, rest)
+unfolding any_number_at
 double_again n rest lt =
     let is : from_be_bytes w64 (to_be_bytes w64 n ++ rest) ≡ n = from_be_bytes-to_be_bytes_8 n lt in
     let b : ltb (length (to_be_bytes w64 n ++ rest)) 8 ≡ false = le-ltb _ _ (omega arith) in
@@ -81,11 +81,11 @@ value_is zero t k bytes = refl
 value_is (suc n) t k bytes = refl
 
 -- r is the value and the rest, or too deep where the value is deeper than n
-abbrev pub Again : {A : Type 0} → ℕ → ℕ → A → List ℕ → Front A → Type 0
+abbrev pub Again : {A : Type 0} → ℕ → ℕ → A → List ℕ → AtFront A → Type 0
 Again n deep x rest r = (deep ≤ n → r ≡ Ok (x, rest)) × (n < deep → r ≡ Err Deep)
 
-again_then : {A B : Type 0} (n d e : ℕ) (x : A) (after : List ℕ) (y : B) (rest : List ℕ) (r : Front A)
-    (f : A × List ℕ → Front B) → Again n d x after r → Again n e y rest (f (x, after))
+again_then : {A B : Type 0} (n d e : ℕ) (x : A) (after : List ℕ) (y : B) (rest : List ℕ) (r : AtFront A)
+    (f : A × List ℕ → AtFront B) → Again n d x after r → Again n e y rest (f (x, after))
     → Again n (max d e) y rest (r >>= f)
 again_then n d e x after y rest r f p q = (
   λ h. rw (p.0 (omega arith)) (q.0 (omega arith)),
@@ -95,21 +95,21 @@ again_then n d e x after y rest r f p q = (
   ],
 )
 
-again_as : {A B : Type 0} (n d : ℕ) (x : A) (g : A → B) (rest : List ℕ) (r : Front A) → Again n d x rest r
+again_as : {A B : Type 0} (n d : ℕ) (x : A) (g : A → B) (rest : List ℕ) (r : AtFront A) → Again n d x rest r
     → Again n d (g x) rest (r >>= λ a. Ok (g a.0, a.1))
 again_as n d x g rest r p = (λ h. rw (p.0 h) refl, λ h. rw (p.1 h) refl)
 
 -- one level up
-again_up : {A B : Type 0} (n d : ℕ) (x : A) (g : A → B) (rest : List ℕ) (r : Front A) → Again n d x rest r
+again_up : {A B : Type 0} (n d : ℕ) (x : A) (g : A → B) (rest : List ℕ) (r : AtFront A) → Again n d x rest r
     → Again (suc n) (suc d) (g x) rest (r >>= λ a. Ok (g a.0, a.1))
 again_up n d x g rest r p = (λ h. rw (p.0 (omega arith)) refl, λ h. rw (p.1 (omega arith)) refl)
 
-leaf : {A : Type 0} (n : ℕ) (x : A) (rest : List ℕ) (r : Front A) → r ≡ Ok (x, rest) → Again n 0 x rest r
+leaf : {A : Type 0} (n : ℕ) (x : A) (rest : List ℕ) (r : AtFront A) → r ≡ Ok (x, rest) → Again n 0 x rest r
 leaf n x rest r e = (λ h. e, λ h. absurd (omega arith))
 
 -- the number of a range that is around 0
 around_again : (m : ℕ) (z : ℤ) (why : Why) (rest : List ℕ) → m ≤ 2 ^ 31 → IsWithin m z
-    → item_at (around m) why (word (cast_unsigned w32 z) ++ rest) ≡ Ok (cast_unsigned w32 z, rest)
+    → in_set_at (around m) why (word (cast_unsigned w32 z) ++ rest) ≡ Ok (cast_unsigned w32 z, rest)
 around_again m z why rest le h = item_again (around m) why (cast_unsigned w32 z) rest
     (within_around m z le h, word32 z (wider m (2 ^ 31) z le h))
 

@@ -6,7 +6,7 @@ use Rattle.std.proofs.lemmas.List.{take-append-drop, length-append, length-take,
 use Rattle.xdr_value.specs.Spelling.{padding, padded}
 use Rattle.xdr_code.specs.declared.fault.Fault.{Fault}
 use Rattle.xdr_code.specs.declared.fault.Fault.TheVariants.{Short}
-use Rattle.xdr_code.specs.Reading.{◌>>=◌, Front, number_at, padding_at, octets_at}
+use Rattle.xdr_code.specs.Reading.{◌>>=◌, AtFront, any_number_at, padding_at, octets_at}
 use Rattle.xdr_code.proofs.Bytes.{IsBytes, IsBytes-drop, IsBytes-take, IsBytes-rest, IsWide}
 use Rattle.xdr_code.proofs.Meets.{Meets, LeftWithin-more}
 
@@ -30,14 +30,14 @@ number_meets_at w limit wide bytes false e fits =
     )
 
 pub number_meets : (w : Width) (limit : ℕ) (wide : IsWide w limit) (bytes : List ℕ) → IsBytes bytes
-    → Meets bytes (to_be_bytes w) (λ n. n < limit) (number_at w bytes)
-unfolding number_at
+    → Meets bytes (to_be_bytes w) (λ n. n < limit) (any_number_at w bytes)
+unfolding any_number_at
 number_meets w limit wide bytes fits = number_meets_at w limit wide bytes _ refl fits
 
 -- ---- padding
 
 -- the reading of padding, as that of a value that says nothing
-abbrev pub unit_front : Result (List ℕ) Fault → Front (Unit {0})
+abbrev pub unit_front : Result (List ℕ) Fault → AtFront (Unit {0})
 unit_front (Ok rest) = Ok (tt, rest)
 unit_front (Err f) = Err f
 

@@ -12,8 +12,8 @@ use Rattle.xdr_code.proofs.Again.{again}
 use Rattle.xdr_value.specs.Spelling.{word, tag_spelling, spelling, padding}
 use Rattle.xdr_code.specs.declared.fault.Why.TheVariants as whys
 use Rattle.xdr_code.specs.declared.fault.Fault.TheVariants.{Deep, Short, Bad}
-use Rattle.xdr_code.specs.Reading.{◌>>=◌, Front, Read, item_at, limited_at, number_at, padding_at, octets_at, counted_octets_at, basic_at, enum_at, tag_at, parts_at, elements_at, optional_at, arm_at, chosen_at, head_at, value_at}
-use Rattle.xdr_code.specs.Items.{around, among, numbers}
+use Rattle.xdr_code.specs.Reading.{◌>>=◌, AtFront, Read, in_set_at, limited_at, any_number_at, padding_at, octets_at, counted_octets_at, basic_at, enum_at, tag_at, parts_at, elements_at, optional_at, arm_at, chosen_at, head_at, value_at}
+use Rattle.xdr_code.specs.NumberSets.{around, among, numbers}
 use Rattle.xdr_value.specs.Hollow.{list_limit}
 use Rattle.xdr_code.specs.Opens.{HasLevel, There, InParts, InElements, InArm, InHead, Opens}
 use Rattle.xdr_code.proofs.Bytes.{IsBytes}
@@ -24,15 +24,15 @@ use Rattle.xdr_code.proofs.TagLaws.{TagHasArm, tag_never, tag_meets, tag_again}
 use Rattle.xdr_value.specs.Fits.{tag_number}
 use Rattle.xdr_code.proofs.Found.{ReadMeets, FitsWithin, value_meets}
 
-deepens_as : {A : Type 0} (P Q : Type 0) (r : Front A) → (P → Q) → Deepens P r → Deepens Q r
+deepens_as : {A : Type 0} (P Q : Type 0) (r : AtFront A) → (P → Q) → Deepens P r → Deepens Q r
 deepens_as P Q (Ok x) go h = tt
 deepens_as P Q (Err Deep) go h = go h
 deepens_as P Q (Err Short) go h = tt
 deepens_as P Q (Err (Bad left why)) go h = tt
 
 -- what was read first is known to meet its spelling
-deepens_then : {A B : Type 0} (bytes : List ℕ) (first : A → List ℕ) (M : A → Type 0) (P Q : Type 0) (r : Front A)
-    (f : A × List ℕ → Front B) → Meets bytes first M r → Deepens P r → (P → Q)
+deepens_then : {A B : Type 0} (bytes : List ℕ) (first : A → List ℕ) (M : A → Type 0) (P Q : Type 0) (r : AtFront A)
+    (f : A × List ℕ → AtFront B) → Meets bytes first M r → Deepens P r → (P → Q)
     → ((x : A) (rest : List ℕ) → bytes ≡ first x ++ rest → IsBytes rest → M x → Deepens Q (f (x, rest)))
     → Deepens Q (r >>= f)
 deepens_then bytes first M P Q (Ok x) f meets h up go = go x.0 x.1 meets.0 meets.1 meets.2
@@ -40,7 +40,7 @@ deepens_then bytes first M P Q (Err Deep) f meets h up go = up h
 deepens_then bytes first M P Q (Err Short) f meets h up go = tt
 deepens_then bytes first M P Q (Err (Bad left why)) f meets h up go = tt
 
-deepens_done : {A B : Type 0} (P : Type 0) (r : Front A) (g : A → B) → Deepens P r
+deepens_done : {A B : Type 0} (P : Type 0) (r : AtFront A) (g : A → B) → Deepens P r
     → Deepens P (r >>= λ a. Ok (g a.0, a.1))
 deepens_done P (Ok x) g h = tt
 deepens_done P (Err Deep) g h = h
@@ -49,7 +49,7 @@ deepens_done P (Err (Bad left why)) g h = tt
 
 -- ---- items are never too deep
 
-never_short : {A : Type 0} (P : Type 0) (b : Bool) (r : Front A) → Deepens P r → Deepens P (cond b (Err Short) r)
+never_short : {A : Type 0} (P : Type 0) (b : Bool) (r : AtFront A) → Deepens P r → Deepens P (cond b (Err Short) r)
 never_short P true r h = tt
 never_short P false r h = h
 
@@ -65,15 +65,15 @@ never_octets P n bytes = unfold octets_at in never_short P (ltb (length bytes) n
     (padding_at (padding n) (drop n bytes) >>= λ rest. Ok (take n bytes, rest))
     (never_padding P (padding n) (drop n bytes) (take n bytes))
 
-any_then : {A B : Type 0} (P : Type 0) (r : Front A) (f : A × List ℕ → Front B) → Deepens P r
+any_then : {A B : Type 0} (P : Type 0) (r : AtFront A) (f : A × List ℕ → AtFront B) → Deepens P r
     → ((x : A × List ℕ) → Deepens P (f x)) → Deepens P (r >>= f)
 any_then P (Ok x) f h go = go x
 any_then P (Err Deep) f h go = h
 any_then P (Err Short) f h go = tt
 any_then P (Err (Bad left why)) f h go = tt
 
-never_number : (P : Type 0) (w : Width) (bytes : List ℕ) → Deepens P (number_at w bytes)
-never_number P w bytes = unfold number_at in never_short P (ltb (length bytes) (byte_len w))
+never_number : (P : Type 0) (w : Width) (bytes : List ℕ) → Deepens P (any_number_at w bytes)
+never_number P w bytes = unfold any_number_at in never_short P (ltb (length bytes) (byte_len w))
     (Ok (from_be_bytes w bytes, drop (byte_len w) bytes)) tt
 
 never_counted : (P : Type 0) (n : ℕ) (bytes : List ℕ) → Deepens P (counted_octets_at n bytes)
@@ -84,16 +84,16 @@ never_counted P n bytes =
 
 never_basic : (P : Type 0) (b : Basic) (bytes : List ℕ) → Deepens P (basic_at b bytes)
 unfolding basic_at
-never_basic P basics.Int bytes = deepens_done P (number_at w32 bytes) (λ n. number (cast_signed w32 n))
+never_basic P basics.Int bytes = deepens_done P (any_number_at w32 bytes) (λ n. number (cast_signed w32 n))
     (never_number P w32 bytes)
-never_basic P basics.Uint bytes = deepens_done P (number_at w32 bytes) (λ n. number (pos n)) (never_number P w32 bytes)
-never_basic P basics.Hyper bytes = deepens_done P (number_at w64 bytes) (λ n. number (cast_signed w64 n))
+never_basic P basics.Uint bytes = deepens_done P (any_number_at w32 bytes) (λ n. number (pos n)) (never_number P w32 bytes)
+never_basic P basics.Hyper bytes = deepens_done P (any_number_at w64 bytes) (λ n. number (cast_signed w64 n))
     (never_number P w64 bytes)
-never_basic P basics.Uhyper bytes = deepens_done P (number_at w64 bytes) (λ n. number (pos n))
+never_basic P basics.Uhyper bytes = deepens_done P (any_number_at w64 bytes) (λ n. number (pos n))
     (never_number P w64 bytes)
-never_basic P basics.Short bytes = deepens_done P (item_at (around 32768) whys.Range bytes)
+never_basic P basics.Short bytes = deepens_done P (in_set_at (around 32768) whys.Range bytes)
     (λ n. number (cast_signed w32 n)) (item_never P (around 32768) whys.Range bytes)
-never_basic P basics.Char bytes = deepens_done P (item_at (around 128) whys.Range bytes)
+never_basic P basics.Char bytes = deepens_done P (in_set_at (around 128) whys.Range bytes)
     (λ n. number (cast_signed w32 n)) (item_never P (around 128) whys.Range bytes)
 never_basic P basics.Ushort bytes = deepens_done P (limited_at 65535 whys.Range bytes) (λ n. number (pos n))
     (never_limited P 65535 whys.Range bytes)
@@ -108,7 +108,7 @@ never_basic P (basics.Text n) bytes = never_counted P n bytes
 
 enum_never : (P : Type 0) (ms : List (List ℕ × ℤ)) (bytes : List ℕ) → Deepens P (enum_at ms bytes)
 unfolding enum_at
-enum_never P ms bytes = deepens_done P (item_at (among true (numbers ms)) whys.Enum bytes)
+enum_never P ms bytes = deepens_done P (in_set_at (among true (numbers ms)) whys.Enum bytes)
     (λ n. number (cast_signed w32 n)) (item_never P (among true (numbers ms)) whys.Enum bytes)
 
 -- ---- values
@@ -215,7 +215,7 @@ abbrev pub Deepest : There → Read → Type 0
 Deepest there read = (k : Kind) (bytes : List ℕ) → there k bytes → read k bytes ≡ Err Deep
 
 whole_then : {B : Type 0} (n : ℕ) (t : Types) (k : Kind) (bytes rest : List ℕ) (d : Datum)
-    (f : Datum × List ℕ → Front B) → Fits t k d → bytes ≡ spelling t k d ++ rest → f (d, rest) ≡ Err Deep
+    (f : Datum × List ℕ → AtFront B) → Fits t k d → bytes ≡ spelling t k d ++ rest → f (d, rest) ≡ Err Deep
     → (value_at n t k bytes >>= f) ≡ Err Deep
 whole_then n t k bytes rest d f fits is e =
     let a = again d n t k rest fits in

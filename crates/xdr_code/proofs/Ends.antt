@@ -18,8 +18,8 @@ use Rattle.xdr_code.specs.declared.fault.Fault.TheVariants.{Deep, Short, Bad}
 use Rattle.xdr_value.specs.Values.{EnumHas, PartsHave, HaveValues}
 use Rattle.xdr_value.specs.Zero.{first_number}
 use Rattle.xdr_value.proofs.Tells.{within}
-use Rattle.xdr_code.specs.Reading.{◌>>=◌, Front, Read, item_at, limited_at, number_at, padding_at, octets_at, counted_octets_at, basic_at, enum_at, tag_at, parts_at, elements_at, optional_at, arm_at, chosen_at, head_at, value_at}
-use Rattle.xdr_code.specs.Items.{around, among, numbers}
+use Rattle.xdr_code.specs.Reading.{◌>>=◌, AtFront, Read, in_set_at, limited_at, any_number_at, padding_at, octets_at, counted_octets_at, basic_at, enum_at, tag_at, parts_at, elements_at, optional_at, arm_at, chosen_at, head_at, value_at}
+use Rattle.xdr_code.specs.NumberSets.{around, among, numbers}
 use Rattle.xdr_value.specs.Hollow.{list_limit}
 use Rattle.xdr_code.proofs.Bytes.{IsBytes, wide32, wide64}
 use Rattle.xdr_code.proofs.Lows.{short32, short64}
@@ -34,7 +34,7 @@ use Rattle.xdr_code.proofs.Found.{ReadMeets, FitsWithin, value_meets}
 
 -- up: what was begun by x can be completed
 ends_then : {A B : Type 0} (bytes : List ℕ) (first : A → List ℕ) (M N : A → Type 0) (whole : B → List ℕ)
-    (Q : B → Type 0) (r : Front A) (f : A × List ℕ → Front B) → Meets bytes first M r → Ends bytes first N r
+    (Q : B → Type 0) (r : AtFront A) (f : A × List ℕ → AtFront B) → Meets bytes first M r → Ends bytes first N r
     → ((x : A) → N x → (b : B) × (z : List ℕ) × Q b × (first x ++ z ≡ whole b))
     → ((x : A) (rest : List ℕ) → bytes ≡ first x ++ rest → IsBytes rest → M x → Ends bytes whole Q (f (x, rest)))
     → Ends bytes whole Q (r >>= f)
@@ -46,14 +46,14 @@ ends_then bytes first M N whole Q (Err Short) f meets (x, y, p, e) up go =
 ends_then bytes first M N whole Q (Err (Bad left why)) f meets h up go = tt
 
 ends_as : {A B : Type 0} (bytes : List ℕ) (first : A → List ℕ) (M : A → Type 0) (whole : B → List ℕ) (Q : B → Type 0)
-    (g : A → B) (r : Front A) → Ends bytes first M r → ((x : A) → M x → (first x ≡ whole (g x)) × Q (g x))
+    (g : A → B) (r : AtFront A) → Ends bytes first M r → ((x : A) → M x → (first x ≡ whole (g x)) × Q (g x))
     → Ends bytes whole Q (r >>= λ a. Ok (g a.0, a.1))
 ends_as bytes first M whole Q g (Ok x) h go = tt
 ends_as bytes first M whole Q g (Err Deep) h go = tt
 ends_as bytes first M whole Q g (Err Short) (x, y, p, e) go = (g x, y, (go x p).1, e ∙ (go x p).0)
 ends_as bytes first M whole Q g (Err (Bad left why)) h go = tt
 
-ends_behind : {B : Type 0} (bytes front rest : List ℕ) (second : B → List ℕ) (P : B → Type 0) (r : Front B)
+ends_behind : {B : Type 0} (bytes front rest : List ℕ) (second : B → List ℕ) (P : B → Type 0) (r : AtFront B)
     → bytes ≡ front ++ rest → Ends rest second P r → Ends bytes (λ b. front ++ second b) P r
 ends_behind bytes front rest second P (Ok x) is h = tt
 ends_behind bytes front rest second P (Err Deep) is h = tt
@@ -74,8 +74,8 @@ word_ends_at bytes true g fits = (
       (ltb-true _ _ g),
 )
 
-word_ends : (bytes : List ℕ) → IsBytes bytes → Ends bytes (to_be_bytes w32) (λ n. n < 2 ^ 32) (number_at w32 bytes)
-word_ends bytes fits = unfold number_at in word_ends_at bytes _ refl fits
+word_ends : (bytes : List ℕ) → IsBytes bytes → Ends bytes (to_be_bytes w32) (λ n. n < 2 ^ 32) (any_number_at w32 bytes)
+word_ends bytes fits = unfold any_number_at in word_ends_at bytes _ refl fits
 
 double_ends_at : (bytes : List ℕ) (c : Bool) → ltb (length bytes) 8 ≡ c → IsBytes bytes
     → Ends bytes (to_be_bytes w64) (λ n. n < 2 ^ 64) (cond c (Err Short) (Ok (from_be_bytes w64 bytes, drop 8 bytes)))
@@ -88,8 +88,8 @@ double_ends_at bytes true g fits = (
       (ltb-true _ _ g),
 )
 
-double_ends : (bytes : List ℕ) → IsBytes bytes → Ends bytes (to_be_bytes w64) (λ n. n < 2 ^ 64) (number_at w64 bytes)
-double_ends bytes fits = unfold number_at in double_ends_at bytes _ refl fits
+double_ends : (bytes : List ℕ) → IsBytes bytes → Ends bytes (to_be_bytes w64) (λ n. n < 2 ^ 64) (any_number_at w64 bytes)
+double_ends bytes fits = unfold any_number_at in double_ends_at bytes _ refl fits
 
 -- ---- content
 
@@ -172,23 +172,23 @@ basic_ends : (t : Types) (k : Kind) (b : Basic) → head_of t k ≡ is_basic b �
 unfolding basic_at
 basic_ends t k basics.Int e bytes fits =
     ends_as bytes (to_be_bytes w32) (λ m. m < 2 ^ 32) (spelling t k) (Fits t k) (λ m. number (cast_signed w32 m))
-    (number_at w32 bytes) (word_ends bytes fits) (λ m lt. (rw (e, of_z-to_z w32 m lt) refl, rw e (within32 m lt)))
+    (any_number_at w32 bytes) (word_ends bytes fits) (λ m lt. (rw (e, of_z-to_z w32 m lt) refl, rw e (within32 m lt)))
 basic_ends t k basics.Uint e bytes fits =
     ends_as bytes (to_be_bytes w32) (λ m. m < 2 ^ 32) (spelling t k) (Fits t k) (λ m. number (pos m))
-    (number_at w32 bytes) (word_ends bytes fits) (λ m lt. (rw e refl, rw e lt))
+    (any_number_at w32 bytes) (word_ends bytes fits) (λ m lt. (rw e refl, rw e lt))
 basic_ends t k basics.Hyper e bytes fits =
     ends_as bytes (to_be_bytes w64) (λ m. m < 2 ^ 64) (spelling t k) (Fits t k) (λ m. number (cast_signed w64 m))
-    (number_at w64 bytes) (double_ends bytes fits) (λ m lt. (rw (e, of_z-to_z w64 m lt) refl, rw e (within64 m lt)))
+    (any_number_at w64 bytes) (double_ends bytes fits) (λ m lt. (rw (e, of_z-to_z w64 m lt) refl, rw e (within64 m lt)))
 basic_ends t k basics.Uhyper e bytes fits =
     ends_as bytes (to_be_bytes w64) (λ m. m < 2 ^ 64) (spelling t k) (Fits t k) (λ m. number (pos m))
-    (number_at w64 bytes) (double_ends bytes fits) (λ m lt. (rw e refl, rw e lt))
+    (any_number_at w64 bytes) (double_ends bytes fits) (λ m lt. (rw e refl, rw e lt))
 basic_ends t k basics.Short e bytes fits =
     ends_as bytes word (Allowed (around 32768)) (spelling t k) (Fits t k) (λ m. number (cast_signed w32 m))
-    (item_at (around 32768) whys.Range bytes) (item_ends (around 32768) whys.Range 0 bytes fits (refl, omega arith))
+    (in_set_at (around 32768) whys.Range bytes) (item_ends (around 32768) whys.Range 0 bytes fits (refl, omega arith))
     (λ m h. (rw (e, of_z-to_z w32 m h.1) refl, rw e (around_within 32768 m (omega arith) h.1 h.0)))
 basic_ends t k basics.Char e bytes fits =
     ends_as bytes word (Allowed (around 128)) (spelling t k) (Fits t k) (λ m. number (cast_signed w32 m))
-    (item_at (around 128) whys.Range bytes) (item_ends (around 128) whys.Range 0 bytes fits (refl, omega arith))
+    (in_set_at (around 128) whys.Range bytes) (item_ends (around 128) whys.Range 0 bytes fits (refl, omega arith))
     (λ m h. (rw (e, of_z-to_z w32 m h.1) refl, rw e (around_within 128 m (omega arith) h.1 h.0)))
 basic_ends t k basics.Ushort e bytes fits =
     ends_as bytes word (λ m. (m ≤ 65535) × (m < 2 ^ 32)) (spelling t k) (Fits t k) (λ m. number (pos m))
@@ -221,7 +221,7 @@ enum_ends t k ms e has bytes fits =
       word32 z in_range,
     ) in
     ends_as bytes word (Allowed (among true (numbers ms))) (spelling t k) (Fits t k) (λ m. number (cast_signed w32 m))
-    (item_at (among true (numbers ms)) whys.Enum bytes)
+    (in_set_at (among true (numbers ms)) whys.Enum bytes)
     (item_ends (among true (numbers ms)) whys.Enum (cast_unsigned w32 z) bytes fits allowed)
     (λ m h. (
       rw (e, of_z-to_z w32 m h.1) refl,

@@ -18,7 +18,7 @@ use Rattle.xdr_code.specs.Opens.{Opens}
 use Rattle.xdr_value.specs.Data.{Procs}
 use Rattle.xdr_value.specs.Tests.{is_sound, is_known}
 use Rattle.xdr_value.proofs.Filled.{sound_values}
-use Rattle.xdr_code.specs.Answers.{IsRead, Agrees, Begins, Tells, IsWhole, IsDeep, IsBad, IsShort}
+use Rattle.xdr_code.specs.Answers.{IsRead, Agrees, BeginsValue, Tells, IsWhole, IsDeep, IsBad, IsShort}
 use Rattle.xdr_code.proofs.Bytes.{IsBytes, IsBytes-take, IsBytes-drop}
 use Rattle.xdr_code.proofs.Again.{again}
 use Rattle.xdr_code.proofs.Relations.{Stays, Ends, Deepens}
@@ -41,9 +41,9 @@ spelled t k d z fits =
       | inr le ↦ inl (le, a.0 le)
     ]
 
-stayed : (t : Types) (k : Kind) (bytes y : List ℕ) → IsBytes y → (r : reading.Front Datum) → value_at 64 t k bytes ≡ r
+stayed : (t : Types) (k : Kind) (bytes y : List ℕ) → IsBytes y → (r : reading.AtFront Datum) → value_at 64 t k bytes ≡ r
     → Stays y r (value_at 64 t k (bytes ++ y))
-stayed t k bytes y fits r e = subst (λ (s : reading.Front Datum). Stays y s (value_at 64 t k (bytes ++ y))) e
+stayed t k bytes y fits r e = subst (λ (s : reading.AtFront Datum). Stays y s (value_at 64 t k (bytes ++ y))) e
     (value_stays 64 t y fits k bytes)
 
 no_value : (t : Types) (k : Kind) (bytes : List ℕ) (left : ℕ) (why : Why)
@@ -73,13 +73,13 @@ no_front t k bytes e d z fits is =
     ]
 
 -- before the place of a refused item the bytes only run short
-abbrev as_bad : ℕ → Why → reading.Front Datum
+abbrev as_bad : ℕ → Why → reading.AtFront Datum
 as_bad left why = Err (faults.Bad left why)
 
 bad_left : (m n : ℕ) (v w : Why) → as_bad m v ≡ as_bad n w → m ≡ n
 bad_left m n v w e = cc
 
-placed_at : (t : Types) (k : Kind) (front y : List ℕ) (why : Why) (r : reading.Front Datum) → value_at 64 t k front ≡ r
+placed_at : (t : Types) (k : Kind) (front y : List ℕ) (why : Why) (r : reading.AtFront Datum) → value_at 64 t k front ≡ r
     → IsBytes y → IsBytes front → value_at 64 t k (front ++ y) ≡ Err (faults.Bad (length y) why)
     → value_at 64 t k front ≡ Err faults.Short
 placed_at t k front y why (Ok x) e y_fits fits h = absurd (cc (stayed t k front y y_fits (Ok x) e, h))
@@ -102,10 +102,10 @@ placed t k bytes at why lt fits e =
 
 -- bytes that run short can be completed by bytes
 begun : (t : Types) (procs : Procs) (k : Kind) (bytes : List ℕ) → IsTrue (is_sound t procs) → IsTrue (is_known t k)
-    → IsBytes bytes → value_at 64 t k bytes ≡ Err faults.Short → Begins t k bytes
+    → IsBytes bytes → value_at 64 t k bytes ≡ Err faults.Short → BeginsValue t k bytes
 begun t procs k bytes sound known fits h =
     let e : Ends bytes (spelling t k) (Fits t k) (Err faults.Short) = subst
-    (λ (r : reading.Front Datum). Ends bytes (spelling t k) (Fits t k) r) h
+    (λ (r : reading.AtFront Datum). Ends bytes (spelling t k) (Fits t k) r) h
     (value_ends 64 t (λ e. is_known t e ≡ true) (sound_values t procs sound) k bytes known fits) in
     by_bytes t k bytes fits e.0 e.1 e.2 e.3
 
@@ -119,7 +119,7 @@ tells t procs k bytes Short sound known fits h = (
   no_front t k bytes h,
   begun t procs k bytes sound known fits h,
   subst
-      (λ (r : reading.Front Datum). Faulty (λ f. Reaches f 64 t k bytes) r) h (value_faults 64 t k bytes fits),
+      (λ (r : reading.AtFront Datum). Faulty (λ f. Reaches f 64 t k bytes) r) h (value_faults 64 t k bytes fits),
 )
 tells t procs k bytes (Bad at why) sound known fits h = (
   h.0,
@@ -127,10 +127,10 @@ tells t procs k bytes (Bad at why) sound known fits h = (
       (placed t k bytes at why h.0 fits h.1),
   no_value t k bytes (length bytes - at) why h.1,
   subst
-      (λ (r : reading.Front Datum). Faulty (λ f. Reaches f 64 t k bytes) r) h.1 (value_faults 64 t k bytes fits),
+      (λ (r : reading.AtFront Datum). Faulty (λ f. Reaches f 64 t k bytes) r) h.1 (value_faults 64 t k bytes fits),
 )
 tells t procs k bytes Deep sound known fits h = (
-  subst (λ (r : reading.Front Datum). Deepens (Opens 64 t k bytes) r) h (value_deepens 64 t k bytes fits),
+  subst (λ (r : reading.AtFront Datum). Deepens (Opens 64 t k bytes) r) h (value_deepens 64 t k bytes fits),
   deeper t
       k bytes h,
 )
@@ -181,7 +181,7 @@ whole_only t k bytes f h d rest fits le is =
 pub deep_only : (t : Types) (k : Kind) (bytes : List ℕ) (f : Front) → IsRead t k bytes f → Opens 64 t k bytes → IsDeep f
 deep_only t k bytes f h opens = deep_of t k bytes f h (value_opens 64 t k bytes opens)
 
-bad_parts : (m n : ℕ) (v w : Why) (r : reading.Front Datum) → r ≡ Err (faults.Bad m v) → r ≡ Err (faults.Bad n w)
+bad_parts : (m n : ℕ) (v w : Why) (r : reading.AtFront Datum) → r ≡ Err (faults.Bad m v) → r ≡ Err (faults.Bad n w)
     → (m ≡ n) × (v ≡ w)
 bad_parts m n v w r e f = (cc, cc)
 

@@ -10,8 +10,8 @@ use Rattle.xdr_value.specs.Heads.{Tag, arm_of, arm_kind, Head, is_basic, is_enum
 use Rattle.xdr_value.specs.Spelling.{word, tag_spelling, padded, spelling, parts_spelling, all_spelling}
 use Rattle.xdr_value.specs.Fits.{Fits, PartsFit, AllFit, TagFits, tag_number, count, depth, depths}
 use Rattle.xdr_code.specs.declared.fault.Why.TheVariants as whys
-use Rattle.xdr_code.specs.Reading.{◌>>=◌, Front, Read, item_at, limited_at, number_at, octets_at, counted_octets_at, basic_at, enum_at, tag_at, parts_at, elements_at, optional_at, arm_at, chosen_at, head_at, value_at}
-use Rattle.xdr_code.specs.Items.{around, among, numbers}
+use Rattle.xdr_code.specs.Reading.{◌>>=◌, AtFront, Read, in_set_at, limited_at, any_number_at, octets_at, counted_octets_at, basic_at, enum_at, tag_at, parts_at, elements_at, optional_at, arm_at, chosen_at, head_at, value_at}
+use Rattle.xdr_code.specs.NumberSets.{around, among, numbers}
 use Rattle.xdr_value.specs.Hollow.{list_limit}
 use Rattle.xdr_code.proofs.Bytes.{IsBytes, wide32, wide64}
 use Rattle.xdr_code.proofs.Meets.{Meets, meets_then, meets_behind}
@@ -34,7 +34,7 @@ ReadMeets n t read = (k : Kind) (bytes : List ℕ) → IsBytes bytes
 -- ---- types without parts
 
 counted_rest : (limit n : ℕ) (bytes rest : List ℕ) → bytes ≡ word n ++ rest → (n ≤ limit) × (n < 2 ^ 32)
-    → (r : Front (List ℕ)) → Meets rest padded (λ c. length c ≡ n) r
+    → (r : AtFront (List ℕ)) → Meets rest padded (λ c. length c ≡ n) r
     → Meets bytes (λ c. word (length c) ++ padded c) (λ c. (length c ≤ limit) × (length c < 2 ^ 32)) r
 counted_rest limit n bytes rest is le (Ok x) h =
     let b = meets_behind bytes (word n) rest padded (λ c. length c ≡ n) (Ok x) is h in
@@ -53,17 +53,17 @@ counted_meets limit bytes fits =
 
 -- an answer that becomes a value
 pub meets_as : {A : Type 0} (bytes : List ℕ) (first : A → List ℕ) (P : A → Type 0) (whole : Datum → List ℕ)
-    (Q : Datum → Type 0) (g : A → Datum) (r : Front A)
+    (Q : Datum → Type 0) (g : A → Datum) (r : AtFront A)
     → Meets bytes first P r → ((x : A) → P x → (first x ≡ whole (g x)) × Q (g x))
     → Meets bytes whole Q (r >>= λ x. Ok (g x.0, x.1))
 meets_as bytes first P whole Q g (Ok x) h go =
     let e = go x.0 h.2 in (h.0 ∙ ap (λ (s : List ℕ). s ++ x.1) e.0, h.1, e.1)
 meets_as bytes first P whole Q g (Err f) h go = h
 
-abbrev as_octets : List ℕ × List ℕ → Front Datum
+abbrev as_octets : List ℕ × List ℕ → AtFront Datum
 as_octets c = Ok (octets c.0, c.1)
 
-assoc : (r : Front ℕ) → ((r >>= λ n. octets_at n.0 n.1) >>= as_octets) ≡ (r >>= λ n. octets_at n.0 n.1 >>= as_octets)
+assoc : (r : AtFront ℕ) → ((r >>= λ n. octets_at n.0 n.1) >>= as_octets) ≡ (r >>= λ n. octets_at n.0 n.1 >>= as_octets)
 assoc (Ok x) = refl
 assoc (Err f) = refl
 
@@ -73,7 +73,7 @@ counted_value : (n limit : ℕ) (t : Types) (k : Kind) (bytes : List ℕ) → Is
     → Meets bytes (spelling t k) (FitsWithin n t k) (counted_octets_at limit bytes)
 unfolding counted_octets_at
 counted_value n limit t k bytes fits go =
-    subst (λ (r : Front Datum). Meets bytes (spelling t k) (FitsWithin n t k) r)
+    subst (λ (r : AtFront Datum). Meets bytes (spelling t k) (FitsWithin n t k) r)
     (assoc (limited_at limit whys.Length bytes))
     (meets_as bytes (λ c. word (length c) ++ padded c) (λ c. (length c ≤ limit) × (length c < 2 ^ 32)) (spelling t k)
     (FitsWithin n t k) octets (limited_at limit whys.Length bytes >>= λ n. octets_at n.0 n.1)
@@ -84,27 +84,27 @@ basic_meets : (n : ℕ) (t : Types) (k : Kind) (b : Basic) → head_of t k ≡ i
 unfolding basic_at
 basic_meets n t k basics.Int e bytes fits =
     meets_as bytes (to_be_bytes w32) (λ m. m < 2 ^ 32) (spelling t k) (FitsWithin n t k)
-    (λ m. number (cast_signed w32 m)) (number_at w32 bytes) (number_meets w32 (2 ^ 32) wide32 bytes fits)
+    (λ m. number (cast_signed w32 m)) (any_number_at w32 bytes) (number_meets w32 (2 ^ 32) wide32 bytes fits)
     (λ m lt. (rw (e, of_z-to_z w32 m lt) refl, (rw e (within32 m lt), omega arith)))
 basic_meets n t k basics.Uint e bytes fits =
     meets_as bytes (to_be_bytes w32) (λ m. m < 2 ^ 32) (spelling t k) (FitsWithin n t k) (λ m. number (pos m))
-    (number_at w32 bytes) (number_meets w32 (2 ^ 32) wide32 bytes fits)
+    (any_number_at w32 bytes) (number_meets w32 (2 ^ 32) wide32 bytes fits)
     (λ m lt. (rw e refl, (rw e lt, omega arith)))
 basic_meets n t k basics.Hyper e bytes fits =
     meets_as bytes (to_be_bytes w64) (λ m. m < 2 ^ 64) (spelling t k) (FitsWithin n t k)
-    (λ m. number (cast_signed w64 m)) (number_at w64 bytes) (number_meets w64 (2 ^ 64) wide64 bytes fits)
+    (λ m. number (cast_signed w64 m)) (any_number_at w64 bytes) (number_meets w64 (2 ^ 64) wide64 bytes fits)
     (λ m lt. (rw (e, of_z-to_z w64 m lt) refl, (rw e (within64 m lt), omega arith)))
 basic_meets n t k basics.Uhyper e bytes fits =
     meets_as bytes (to_be_bytes w64) (λ m. m < 2 ^ 64) (spelling t k) (FitsWithin n t k) (λ m. number (pos m))
-    (number_at w64 bytes) (number_meets w64 (2 ^ 64) wide64 bytes fits)
+    (any_number_at w64 bytes) (number_meets w64 (2 ^ 64) wide64 bytes fits)
     (λ m lt. (rw e refl, (rw e lt, omega arith)))
 basic_meets n t k basics.Short e bytes fits =
     meets_as bytes word (Allowed (around 32768)) (spelling t k) (FitsWithin n t k) (λ m. number (cast_signed w32 m))
-    (item_at (around 32768) whys.Range bytes) (item_meets (around 32768) whys.Range bytes fits)
+    (in_set_at (around 32768) whys.Range bytes) (item_meets (around 32768) whys.Range bytes fits)
     (λ m h. (rw (e, of_z-to_z w32 m h.1) refl, (rw e (around_within 32768 m (omega arith) h.1 h.0), omega arith)))
 basic_meets n t k basics.Char e bytes fits =
     meets_as bytes word (Allowed (around 128)) (spelling t k) (FitsWithin n t k) (λ m. number (cast_signed w32 m))
-    (item_at (around 128) whys.Range bytes) (item_meets (around 128) whys.Range bytes fits)
+    (in_set_at (around 128) whys.Range bytes) (item_meets (around 128) whys.Range bytes fits)
     (λ m h. (rw (e, of_z-to_z w32 m h.1) refl, (rw e (around_within 128 m (omega arith) h.1 h.0), omega arith)))
 basic_meets n t k basics.Ushort e bytes fits =
     meets_as bytes word (λ m. (m ≤ 65535) × (m < 2 ^ 32)) (spelling t k) (FitsWithin n t k) (λ m. number (pos m))
@@ -134,7 +134,7 @@ enum_meets : (n : ℕ) (t : Types) (k : Kind) (ms : List (List ℕ × ℤ)) → 
 unfolding enum_at
 enum_meets n t k ms e bytes fits =
     meets_as bytes word (Allowed (among true (numbers ms))) (spelling t k) (FitsWithin n t k)
-    (λ m. number (cast_signed w32 m)) (item_at (among true (numbers ms)) whys.Enum bytes)
+    (λ m. number (cast_signed w32 m)) (in_set_at (among true (numbers ms)) whys.Enum bytes)
     (item_meets (among true (numbers ms)) whys.Enum bytes fits)
     (λ m h. (
       rw (e, of_z-to_z w32 m h.1) refl,
@@ -147,14 +147,14 @@ enum_meets n t k ms e bytes fits =
 -- ---- types with parts
 
 data_as : (bytes : List ℕ) (first : Data → List ℕ) (P : Data → Type 0) (whole : Datum → List ℕ) (Q : Datum → Type 0)
-    (r : Front Data)
+    (r : AtFront Data)
     → Meets bytes first P r → ((vs : Data) → P vs → (first vs ≡ whole (items vs)) × Q (items vs))
     → Meets bytes whole Q (r >>= λ x. Ok (items x.0, x.1))
 data_as bytes first P whole Q r h go = meets_as bytes first P whole Q items r h go
 
 parts_more : (n : ℕ) (t : Types) (p : Part) (ps : List Part) (bytes : List ℕ) (d : Datum) (rest : List ℕ)
     → bytes ≡ spelling t p.kind d ++ rest → FitsWithin n t p.kind d
-    → (r : Front Data) → Meets rest (parts_spelling t ps) (λ vs. PartsFit t ps vs × (depths vs ≤ n)) r
+    → (r : AtFront Data) → Meets rest (parts_spelling t ps) (λ vs. PartsFit t ps vs × (depths vs ≤ n)) r
     → Meets bytes (parts_spelling t (p ∷ ps)) (λ vs. PartsFit t (p ∷ ps) vs × (depths vs ≤ n))
     (r >>= λ others. Ok (more d others.0, others.1))
 parts_more n t p ps bytes d rest is within (Ok x) h =
@@ -166,7 +166,7 @@ parts_more n t p ps bytes d rest is within (Err f) h = meets_behind bytes (spell
 
 elements_more : (n : ℕ) (t : Types) (k : Kind) (m : ℕ) (bytes : List ℕ) (d : Datum) (rest : List ℕ)
     → bytes ≡ spelling t k d ++ rest → FitsWithin n t k d
-    → (r : Front Data) → Meets rest (all_spelling t k) (λ vs. AllFit t k vs × (depths vs ≤ n) × (count vs ≡ m)) r
+    → (r : AtFront Data) → Meets rest (all_spelling t k) (λ vs. AllFit t k vs × (depths vs ≤ n) × (count vs ≡ m)) r
     → Meets bytes (all_spelling t k) (λ vs. AllFit t k vs × (depths vs ≤ n) × (count vs ≡ suc m))
     (r >>= λ others. Ok (more d others.0, others.1))
 elements_more n t k m bytes d rest is within (Ok x) h =

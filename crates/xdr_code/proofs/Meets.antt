@@ -3,7 +3,7 @@ use Rattle.std.proofs.Common.{◌≡◌, ℕ, ◌≤◌, ◌<◌, List, ◌++◌
 use Rattle.std.proofs.lemmas.List.{length-append}
 use Rattle.xdr_code.specs.declared.fault.Fault.{Fault}
 use Rattle.xdr_code.specs.declared.fault.Fault.TheVariants.{Deep, Short, Bad}
-use Rattle.xdr_code.specs.Reading.{◌>>=◌, Front}
+use Rattle.xdr_code.specs.Reading.{◌>>=◌, AtFront}
 use Rattle.xdr_code.proofs.Bytes.{IsBytes}
 
 -- the place of a refused item is in the bytes
@@ -13,7 +13,7 @@ LeftWithin Short n = Unit {0}
 LeftWithin (Bad left why) n = (0 < left) × (left ≤ n)
 
 -- What was read is spelled at the front, has P, and has the rest behind it.
-abbrev pub Meets : {A : Type 0} → List ℕ → (A → List ℕ) → (A → Type 0) → Front A → Type 0
+abbrev pub Meets : {A : Type 0} → List ℕ → (A → List ℕ) → (A → Type 0) → AtFront A → Type 0
 Meets bytes spell P (Ok x) = (bytes ≡ spell x.0 ++ x.1) × IsBytes x.1 × P x.0
 Meets bytes spell P (Err f) = LeftWithin f (length bytes)
 
@@ -23,7 +23,7 @@ LeftWithin-more Short m n le h = tt
 LeftWithin-more (Bad left why) m n le h = (h.0, omega (arith, h.1))
 
 pub meets_then : {A B : Type 0} (bytes : List ℕ) (first : A → List ℕ) (P : A → Type 0) (whole : B → List ℕ)
-    (Q : B → Type 0) (r : Front A) (f : A × List ℕ → Front B)
+    (Q : B → Type 0) (r : AtFront A) (f : A × List ℕ → AtFront B)
     → Meets bytes first P r
     → ((x : A) (rest : List ℕ) → bytes ≡ first x ++ rest → IsBytes rest → P x → Meets bytes whole Q (f (x, rest)))
     → Meets bytes whole Q (r >>= f)
@@ -31,7 +31,7 @@ meets_then bytes first P whole Q (Ok x) f h go = go x.0 x.1 h.0 h.1 h.2
 meets_then bytes first P whole Q (Err e) f h go = h
 
 -- behind what was read before
-pub meets_behind : {B : Type 0} (bytes front rest : List ℕ) (second : B → List ℕ) (P : B → Type 0) (r : Front B)
+pub meets_behind : {B : Type 0} (bytes front rest : List ℕ) (second : B → List ℕ) (P : B → Type 0) (r : AtFront B)
     → bytes ≡ front ++ rest → Meets rest second P r → Meets bytes (λ b. front ++ second b) P r
 meets_behind bytes front rest second P (Ok x) is h =
     (is ∙ ap (λ r. front ++ r) h.0 ∙ sym (append_assoc front (second x.0) x.1), h.1, h.2)

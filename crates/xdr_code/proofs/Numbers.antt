@@ -7,7 +7,7 @@ use Rattle.std.proofs.lemmas.Int.{of_z-to_z, to_z-of_z}
 use Rattle.std.proofs.lemmas.Bool.{or_cases, or_left, or_right, ltb-true, lt-ltb, leb-true, le-leb}
 use Rattle.xdr_value.specs.Ranges.{IsWithin}
 use Rattle.xdr_value.specs.Spelling.{word, flag_spelling}
-use Rattle.xdr_code.specs.Items.{around, reached}
+use Rattle.xdr_code.specs.NumberSets.{around, reached}
 
 pub fits32 : (z : ℤ) → IsWithin (2 ^ 31) z → FitsSigned w32 z
 fits32 (pos n) h = record { sfits = h }

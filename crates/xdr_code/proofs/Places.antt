@@ -5,15 +5,15 @@ use Rattle.xdr_value.specs.Data.{Kind, Datum, Types}
 use Rattle.xdr_value.specs.Spelling.{spelling}
 use Rattle.xdr_code.specs.declared.fault.Why.{Why}
 use Rattle.xdr_code.specs.declared.fault.Fault.TheVariants.{Bad}
-use Rattle.xdr_code.specs.Reading.{Front, value_at}
-use Rattle.xdr_code.specs.Answers.{Spells}
+use Rattle.xdr_code.specs.Reading.{AtFront, value_at}
+use Rattle.xdr_code.specs.Answers.{SpellsValue}
 use Rattle.xdr_code.proofs.Bytes.{IsBytes}
 use Rattle.xdr_code.proofs.Meets.{Meets}
 use Rattle.xdr_code.proofs.Found.{value_meets, FitsWithin}
 
 pub record IsFront (t : Types) (k : Kind) (bytes : List ℕ) (d : Datum) (rest : List ℕ) : Type 0 where
   pub within : length rest ≤ length bytes
-  pub spells : Spells t k d (take (length bytes - length rest) bytes)
+  pub spells : SpellsValue t k d (take (length bytes - length rest) bytes)
   pub left : drop (length bytes - length rest) bytes ≡ rest
 
 from_parts : (t : Types) (k : Kind) (bytes : List ℕ) (d : Datum) (rest : List ℕ) → bytes ≡ spelling t k d ++ rest
@@ -37,11 +37,11 @@ from_parts t k bytes d rest is fits =
 pub read_front : (t : Types) (k : Kind) (bytes : List ℕ) (d : Datum) (rest : List ℕ) → IsBytes bytes
     → value_at 64 t k bytes ≡ Ok (d, rest) → IsFront t k bytes d rest
 read_front t k bytes d rest fits e =
-    let m = subst (λ (r : Front Datum). Meets bytes (spelling t k) (FitsWithin 64 t k) r) e
+    let m = subst (λ (r : AtFront Datum). Meets bytes (spelling t k) (FitsWithin 64 t k) r) e
     (value_meets 64 t k bytes fits) in
     from_parts t k bytes d rest m.0 m.2
 
 pub refused_within : (t : Types) (k : Kind) (bytes : List ℕ) (left : ℕ) (why : Why) → IsBytes bytes
     → value_at 64 t k bytes ≡ Err (Bad left why) → (0 < left) × (left ≤ length bytes)
 refused_within t k bytes left why fits e = subst
-    (λ (r : Front Datum). Meets bytes (spelling t k) (FitsWithin 64 t k) r) e (value_meets 64 t k bytes fits)
+    (λ (r : AtFront Datum). Meets bytes (spelling t k) (FitsWithin 64 t k) r) e (value_meets 64 t k bytes fits)

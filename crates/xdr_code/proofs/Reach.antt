@@ -10,7 +10,7 @@ use Rattle.xdr_value.specs.Ranges.{IsWithin, has_number}
 use Rattle.xdr_value.specs.Heads.{own_arm, is_case}
 use Rattle.xdr_value.specs.Spelling.{word}
 use Rattle.xdr_value.proofs.Tells.{within, below}
-use Rattle.xdr_code.specs.Items.{Item, up_to, around, among, in_word, between, some_between, reached, high_word, numbers, with_case, case_numbers}
+use Rattle.xdr_code.specs.NumberSets.{NumberSet, up_to, around, among, in_word, between, some_between, reached, high_word, numbers, with_case, case_numbers}
 use Rattle.xdr_code.proofs.Bytes.{IsBytes}
 use Rattle.xdr_code.proofs.Numbers.{word32}
 
@@ -86,7 +86,7 @@ exactly signed zs n back h =
 
 -- ---- wider and narrower
 
-pub grows : (item : Item) (low high low' high' : ℕ) → low ≤ low' → high' ≤ high → reached item low' high' ≡ true
+pub grows : (item : NumberSet) (low high low' high' : ℕ) → low ≤ low' → high' ≤ high → reached item low' high' ≡ true
     → reached item low high ≡ true
 grows (up_to n) low high low' high' le ge h = le-leb low n (omega (arith, le, leb-true low' n h))
 grows (around m) low high low' high' le ge h =
@@ -101,13 +101,13 @@ grows (among signed zs) low high low' high' le ge h =
     (record { holds = r.1.holds; above = omega (arith, le, r.1.above); under = omega (arith, ge, r.1.under) })
 
 -- a number of the item that is reached
-pub record IsReached (item : Item) (low high : ℕ) : Type 0 where
+pub record IsReached (item : NumberSet) (low high : ℕ) : Type 0 where
   pub number : ℕ
   pub above : low ≤ number
   pub under : number ≤ high
   pub allowed : reached item number number ≡ true
 
-pub some_number : (item : Item) (low high : ℕ) → low ≤ high → reached item low high ≡ true → IsReached item low high
+pub some_number : (item : NumberSet) (low high : ℕ) → low ≤ high → reached item low high ≡ true → IsReached item low high
 some_number (up_to n) low high le h = record { number = low; above = omega arith; under = le; allowed = h }
 some_number (around m) low high le h =
     elim (or_cases (ltb low m) (leb (2 ^ 32 - m) high) h) [

@@ -9,7 +9,7 @@ use Rattle.xdr_value.specs.Spelling.{word, tag_spelling, spelling}
 use Rattle.xdr_code.specs.declared.fault.Why.TheVariants as whys
 use Rattle.xdr_code.specs.declared.fault.Fault.{Fault}
 use Rattle.xdr_code.specs.declared.fault.Fault.TheVariants.{Deep, Short, Bad}
-use Rattle.xdr_code.specs.Reading.{◌>>=◌, Front, Read, limited_at, basic_at, enum_at, tag_at, parts_at, elements_at, optional_at, arm_at, chosen_at, head_at, value_at}
+use Rattle.xdr_code.specs.Reading.{◌>>=◌, AtFront, Read, limited_at, basic_at, enum_at, tag_at, parts_at, elements_at, optional_at, arm_at, chosen_at, head_at, value_at}
 use Rattle.xdr_value.specs.Hollow.{list_limit}
 use Rattle.xdr_code.specs.Opens.{There, InParts, InElements, InArm, InHead}
 use Rattle.xdr_code.proofs.Bytes.{IsBytes}
@@ -22,26 +22,26 @@ use Rattle.xdr_code.proofs.Found.{ReadMeets, FitsWithin, value_meets}
 use Rattle.xdr_code.specs.Reaches.{ItemStops, Reaches}
 
 -- where r is a fault other than Deep, P holds of it
-abbrev pub Faulty : {A : Type 0} → (Fault → Type 0) → Front A → Type 0
+abbrev pub Faulty : {A : Type 0} → (Fault → Type 0) → AtFront A → Type 0
 Faulty P (Ok x) = Unit {0}
 Faulty P (Err Deep) = Unit {0}
 Faulty P (Err Short) = P Short
 Faulty P (Err (Bad left why)) = P (Bad left why)
 
-faulty_as : {A : Type 0} (P Q : Fault → Type 0) (r : Front A) → ((f : Fault) → P f → Q f) → Faulty P r → Faulty Q r
+faulty_as : {A : Type 0} (P Q : Fault → Type 0) (r : AtFront A) → ((f : Fault) → P f → Q f) → Faulty P r → Faulty Q r
 faulty_as P Q (Ok x) go h = tt
 faulty_as P Q (Err Deep) go h = tt
 faulty_as P Q (Err Short) go h = go Short h
 faulty_as P Q (Err (Bad left why)) go h = go (Bad left why) h
 
-faulty_itself : {A : Type 0} (r : Front A) → Faulty (λ f. r ≡ Err f) r
+faulty_itself : {A : Type 0} (r : AtFront A) → Faulty (λ f. r ≡ Err f) r
 faulty_itself (Ok x) = tt
 faulty_itself (Err Deep) = tt
 faulty_itself (Err Short) = refl
 faulty_itself (Err (Bad left why)) = refl
 
 faulty_then : {A B : Type 0} (bytes : List ℕ) (first : A → List ℕ) (M : A → Type 0) (P Q : Fault → Type 0)
-    (r : Front A) (f : A × List ℕ → Front B) → Meets bytes first M r → Faulty P r → ((f : Fault) → P f → Q f)
+    (r : AtFront A) (f : A × List ℕ → AtFront B) → Meets bytes first M r → Faulty P r → ((f : Fault) → P f → Q f)
     → ((x : A) (rest : List ℕ) → bytes ≡ first x ++ rest → IsBytes rest → M x → Faulty Q (f (x, rest)))
     → Faulty Q (r >>= f)
 faulty_then bytes first M P Q (Ok x) f meets h up go = go x.0 x.1 meets.0 meets.1 meets.2
@@ -49,7 +49,7 @@ faulty_then bytes first M P Q (Err Deep) f meets h up go = tt
 faulty_then bytes first M P Q (Err Short) f meets h up go = up Short h
 faulty_then bytes first M P Q (Err (Bad left why)) f meets h up go = up (Bad left why) h
 
-faulty_done : {A B : Type 0} (P : Fault → Type 0) (r : Front A) (g : A → B) → Faulty P r
+faulty_done : {A B : Type 0} (P : Fault → Type 0) (r : AtFront A) (g : A → B) → Faulty P r
     → Faulty P (r >>= λ a. Ok (g a.0, a.1))
 faulty_done P (Ok x) g h = tt
 faulty_done P (Err Deep) g h = tt
@@ -172,15 +172,15 @@ value_faults (suc n) t k bytes fits = head_faults n t (λ f. Reaches f n t) (val
 
 -- ---- and wherever an item stops it, unless a level too many begins before
 
-abbrev pub OrDeep : {A : Type 0} → Fault → Front A → Type 0
+abbrev pub OrDeep : {A : Type 0} → Fault → AtFront A → Type 0
 OrDeep f r = (r ≡ Err f) ⊎ (r ≡ Err Deep)
 
-or_then : {A B : Type 0} (f : Fault) (r : Front A) (go : A × List ℕ → Front B) → OrDeep f r → OrDeep f (r >>= go)
+or_then : {A B : Type 0} (f : Fault) (r : AtFront A) (go : A × List ℕ → AtFront B) → OrDeep f r → OrDeep f (r >>= go)
 or_then f r go (inl e) = inl (rw e refl)
 or_then f r go (inr e) = inr (rw e refl)
 
 or_whole : {B : Type 0} (f : Fault) (n : ℕ) (t : Types) (k : Kind) (bytes rest : List ℕ) (d : Datum)
-    (go : Datum × List ℕ → Front B) → Fits t k d → bytes ≡ spelling t k d ++ rest → OrDeep f (go (d, rest))
+    (go : Datum × List ℕ → AtFront B) → Fits t k d → bytes ≡ spelling t k d ++ rest → OrDeep f (go (d, rest))
     → OrDeep f (value_at n t k bytes >>= go)
 or_whole f n t k bytes rest d go fits is h =
     let a = again d n t k rest fits in

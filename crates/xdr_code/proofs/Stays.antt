@@ -13,8 +13,8 @@ use Rattle.xdr_value.specs.Fits.{tag_number}
 use Rattle.xdr_code.specs.declared.fault.Why.TheVariants as whys
 use Rattle.xdr_code.specs.declared.fault.Fault.{Fault}
 use Rattle.xdr_code.specs.declared.fault.Fault.TheVariants.{Deep, Short, Bad}
-use Rattle.xdr_code.specs.Reading.{◌>>=◌, Front, Read, item_at, limited_at, number_at, padding_at, octets_at, counted_octets_at, basic_at, enum_at, tag_at, parts_at, elements_at, optional_at, arm_at, chosen_at, head_at, value_at}
-use Rattle.xdr_code.specs.Items.{around, among, numbers}
+use Rattle.xdr_code.specs.Reading.{◌>>=◌, AtFront, Read, in_set_at, limited_at, any_number_at, padding_at, octets_at, counted_octets_at, basic_at, enum_at, tag_at, parts_at, elements_at, optional_at, arm_at, chosen_at, head_at, value_at}
+use Rattle.xdr_code.specs.NumberSets.{around, among, numbers}
 use Rattle.xdr_value.specs.Hollow.{list_limit}
 use Rattle.xdr_code.proofs.Bytes.{IsBytes, IsWide, wide32, wide64}
 use Rattle.xdr_code.proofs.Relations.{Stays}
@@ -22,14 +22,14 @@ use Rattle.xdr_code.proofs.ItemLaws.{item_stays, limited_stays}
 use Rattle.xdr_code.proofs.TagLaws.{tag_stays}
 use Rattle.xdr_code.proofs.Content.{unit_front}
 
-stays_then : {A B : Type 0} (y : List ℕ) (r r' : Front A) (f : A × List ℕ → Front B) → Stays y r r'
+stays_then : {A B : Type 0} (y : List ℕ) (r r' : AtFront A) (f : A × List ℕ → AtFront B) → Stays y r r'
     → ((x : A) (rest : List ℕ) → Stays y (f (x, rest)) (f (x, rest ++ y))) → Stays y (r >>= f) (r' >>= f)
 stays_then y (Ok x) r' f h go = rw h (go x.0 x.1)
 stays_then y (Err Short) r' f h go = tt
 stays_then y (Err Deep) r' f h go = rw h refl
 stays_then y (Err (Bad left why)) r' f h go = (h.0, rw h.1 refl)
 
-stays_done : {A B : Type 0} (y : List ℕ) (r r' : Front A) (g : A → B) → Stays y r r'
+stays_done : {A B : Type 0} (y : List ℕ) (r r' : AtFront A) (g : A → B) → Stays y r r'
     → Stays y (r >>= λ a. Ok (g a.0, a.1)) (r' >>= λ a. Ok (g a.0, a.1))
 stays_done y r r' g h = stays_then y r r' (λ a. Ok (g a.0, a.1)) h (λ x rest. refl)
 
@@ -37,8 +37,8 @@ stays_done y r r' g h = stays_then y r r' (λ a. Ok (g a.0, a.1)) h (λ x rest. 
 
 number_stays_at : (w : Width) (limit : ℕ) (wide : IsWide w limit) (bytes y : List ℕ) (b : Bool)
     → ltb (length bytes) (byte_len w) ≡ b
-    → Stays y (cond b (Err Short) (Ok (from_be_bytes w bytes, drop (byte_len w) bytes))) (number_at w (bytes ++ y))
-unfolding number_at
+    → Stays y (cond b (Err Short) (Ok (from_be_bytes w bytes, drop (byte_len w) bytes))) (any_number_at w (bytes ++ y))
+unfolding any_number_at
 number_stays_at w limit wide bytes y true e = tt
 number_stays_at w limit wide bytes y false e =
     let long : byte_len w ≤ length bytes = ltb-false _ _ e in
@@ -48,8 +48,8 @@ number_stays_at w limit wide bytes y false e =
     rw (h, is, drop-append-le (byte_len w) bytes y long) refl
 
 number_stays : (w : Width) (limit : ℕ) (wide : IsWide w limit) (bytes y : List ℕ)
-    → Stays y (number_at w bytes) (number_at w (bytes ++ y))
-number_stays w limit wide bytes y = unfold number_at in number_stays_at w limit wide bytes y _ refl
+    → Stays y (any_number_at w bytes) (any_number_at w (bytes ++ y))
+number_stays w limit wide bytes y = unfold any_number_at in number_stays_at w limit wide bytes y _ refl
 
 padding_stays : (n : ℕ) (bytes y : List ℕ)
     → Stays y (unit_front (padding_at n bytes)) (unit_front (padding_at n (bytes ++ y)))
@@ -61,10 +61,10 @@ padding_stays (suc n) (suc b ∷ bytes) y =
     let e : suc (length (bytes ++ y)) ≡ suc (length bytes) + length y = omega (arith, length-append bytes y) in
     (whys.Padding, ap (λ (m : ℕ). Err (Bad m whys.Padding)) e)
 
-abbrev kept : List ℕ → List ℕ → Front (List ℕ)
+abbrev kept : List ℕ → List ℕ → AtFront (List ℕ)
 kept c rest = Ok (c, rest)
 
-abbrev kept_unit : List ℕ → Unit {0} × List ℕ → Front (List ℕ)
+abbrev kept_unit : List ℕ → Unit {0} × List ℕ → AtFront (List ℕ)
 kept_unit c u = Ok (c, u.1)
 
 as_unit : (c : List ℕ) (r : Result (List ℕ) Fault) → (r >>= kept c) ≡ (unit_front r >>= kept_unit c)
@@ -105,19 +105,19 @@ counted_stays limit bytes y fits =
 
 basic_stays : (b : Basic) (bytes y : List ℕ) → IsBytes y → Stays y (basic_at b bytes) (basic_at b (bytes ++ y))
 unfolding basic_at
-basic_stays basics.Int bytes y fits = stays_done y (number_at w32 bytes) (number_at w32 (bytes ++ y))
+basic_stays basics.Int bytes y fits = stays_done y (any_number_at w32 bytes) (any_number_at w32 (bytes ++ y))
     (λ n. number (cast_signed w32 n)) (number_stays w32 (2 ^ 32) wide32 bytes y)
-basic_stays basics.Uint bytes y fits = stays_done y (number_at w32 bytes) (number_at w32 (bytes ++ y))
+basic_stays basics.Uint bytes y fits = stays_done y (any_number_at w32 bytes) (any_number_at w32 (bytes ++ y))
     (λ n. number (pos n)) (number_stays w32 (2 ^ 32) wide32 bytes y)
-basic_stays basics.Hyper bytes y fits = stays_done y (number_at w64 bytes) (number_at w64 (bytes ++ y))
+basic_stays basics.Hyper bytes y fits = stays_done y (any_number_at w64 bytes) (any_number_at w64 (bytes ++ y))
     (λ n. number (cast_signed w64 n)) (number_stays w64 (2 ^ 64) wide64 bytes y)
-basic_stays basics.Uhyper bytes y fits = stays_done y (number_at w64 bytes) (number_at w64 (bytes ++ y))
+basic_stays basics.Uhyper bytes y fits = stays_done y (any_number_at w64 bytes) (any_number_at w64 (bytes ++ y))
     (λ n. number (pos n)) (number_stays w64 (2 ^ 64) wide64 bytes y)
-basic_stays basics.Short bytes y fits = stays_done y (item_at (around 32768) whys.Range bytes)
-    (item_at (around 32768) whys.Range (bytes ++ y)) (λ n. number (cast_signed w32 n))
+basic_stays basics.Short bytes y fits = stays_done y (in_set_at (around 32768) whys.Range bytes)
+    (in_set_at (around 32768) whys.Range (bytes ++ y)) (λ n. number (cast_signed w32 n))
     (item_stays (around 32768) whys.Range bytes y fits)
-basic_stays basics.Char bytes y fits = stays_done y (item_at (around 128) whys.Range bytes)
-    (item_at (around 128) whys.Range (bytes ++ y)) (λ n. number (cast_signed w32 n))
+basic_stays basics.Char bytes y fits = stays_done y (in_set_at (around 128) whys.Range bytes)
+    (in_set_at (around 128) whys.Range (bytes ++ y)) (λ n. number (cast_signed w32 n))
     (item_stays (around 128) whys.Range bytes y fits)
 basic_stays basics.Ushort bytes y fits = stays_done y (limited_at 65535 whys.Range bytes)
     (limited_at 65535 whys.Range (bytes ++ y)) (λ n. number (pos n)) (limited_stays 65535 whys.Range bytes y fits)
@@ -135,8 +135,8 @@ enum_stays : (ms : List (List ℕ × ℤ)) (bytes y : List ℕ) → IsBytes y
     → Stays y (enum_at ms bytes) (enum_at ms (bytes ++ y))
 unfolding enum_at
 enum_stays ms bytes y fits =
-    stays_done y (item_at (among true (numbers ms)) whys.Enum bytes)
-    (item_at (among true (numbers ms)) whys.Enum (bytes ++ y)) (λ n. number (cast_signed w32 n))
+    stays_done y (in_set_at (among true (numbers ms)) whys.Enum bytes)
+    (in_set_at (among true (numbers ms)) whys.Enum (bytes ++ y)) (λ n. number (cast_signed w32 n))
     (item_stays (among true (numbers ms)) whys.Enum bytes y fits)
 
 -- ---- values

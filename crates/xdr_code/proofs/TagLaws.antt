@@ -20,8 +20,8 @@ use Rattle.xdr_value.proofs.Tells.{within, below}
 use Rattle.xdr_code.specs.declared.fault.Why.{Why}
 use Rattle.xdr_code.specs.declared.fault.Why.TheVariants as whys
 use Rattle.xdr_code.specs.declared.fault.Fault.TheVariants.{Short, Bad}
-use Rattle.xdr_code.specs.Items.{Item, among, in_word, reached, high_word, numbers, with_case, case_numbers, is_signed, tag_item, case_item}
-use Rattle.xdr_code.specs.Reading.{◌>>=◌, Front, item_at, tag_datum, tag_why, tag_at}
+use Rattle.xdr_code.specs.NumberSets.{NumberSet, among, in_word, reached, high_word, numbers, with_case, case_numbers, is_signed, tag_set, case_set}
+use Rattle.xdr_code.specs.Reading.{◌>>=◌, AtFront, in_set_at, tag_datum, tag_why, tag_at}
 use Rattle.xdr_code.proofs.Bytes.{IsBytes}
 use Rattle.xdr_code.proofs.Meets.{Meets}
 use Rattle.xdr_code.proofs.Numbers.{within32, back32, word32, within_around}
@@ -41,7 +41,7 @@ bool_spelled (suc zero) h = refl
 bool_spelled (suc (suc n)) h = absurd (omega arith)
 
 -- a number of the tag, and the tag that has it
-pub tag_fits : (tag : Tag) (n : ℕ) → Allowed (tag_item tag) n
+pub tag_fits : (tag : Tag) (n : ℕ) → Allowed (tag_set tag) n
     → TagFits tag (tag_datum tag n) × (tag_spelling (tag_datum tag n) ≡ word n)
 tag_fits tag_int n h = (within32 n h.1, ap word (of_z-to_z w32 n h.1))
 tag_fits tag_uint n h = (h.1, refl)
@@ -68,7 +68,7 @@ itself : (signed : Bool) (z : ℤ) → in_word signed z ≡ true
 itself signed z h = record { holds = h; above = omega arith; under = omega arith }
 
 pub tag_allowed : (tag : Tag) (d : Datum) → TagFits tag d
-    → Allowed (tag_item tag) (tag_word d) × (tag_datum tag (tag_word d) ≡ d)
+    → Allowed (tag_set tag) (tag_word d) × (tag_datum tag (tag_word d) ≡ d)
 tag_allowed tag_int (number z) h = ((within_around (2 ^ 31) z (omega arith) h, word32 z h), ap number (back32 z h))
 tag_allowed tag_uint (number (pos n)) h = ((le-leb n (2 ^ 32 - 1) (omega (arith, h)), h), refl)
 tag_allowed tag_uint (number (negsuc n)) h = absurd h
@@ -89,7 +89,7 @@ bool_number zero h = refl
 bool_number (suc zero) h = refl
 bool_number (suc (suc n)) h = absurd (omega arith)
 
-same_number : (tag : Tag) (n : ℕ) → Allowed (tag_item tag) n → tag_number (tag_datum tag n) ≡ numbered (is_signed tag) n
+same_number : (tag : Tag) (n : ℕ) → Allowed (tag_set tag) n → tag_number (tag_datum tag n) ≡ numbered (is_signed tag) n
 same_number tag_int n h = refl
 same_number tag_uint n h = refl
 same_number tag_bool n h = bool_number n (leb-true n 1 h.0)
@@ -111,10 +111,10 @@ no_default (Some d) default c e h = h
 no_default None default c e h = absurd (cc (e, h))
 
 -- the item of the cases, by whether there is a default
-abbrev cases_of : Tag → List Choice → Option Choice → Item
-cases_of tag cs o = cond (is_some o) (tag_item tag) (among (is_signed tag) (case_numbers cs))
+abbrev cases_of : Tag → List Choice → Option Choice → NumberSet
+cases_of tag cs o = cond (is_some o) (tag_set tag) (among (is_signed tag) (case_numbers cs))
 
-arm_by : (tag : Tag) (cs : List Choice) (n : ℕ) (o : Option Choice) → default_arm cs ≡ o → Allowed (tag_item tag) n
+arm_by : (tag : Tag) (cs : List Choice) (n : ℕ) (o : Option Choice) → default_arm cs ≡ o → Allowed (tag_set tag) n
     → reached (cases_of tag cs o) n n ≡ true
     → (c : Choice) × (arm_of (tag_number (tag_datum tag n)) cs ≡ Some c)
 arm_by tag cs n (Some c) e h r = with_default (tag_number (tag_datum tag n))
@@ -128,7 +128,7 @@ arm_by tag cs n None e h r =
     )
 
 -- a number that is a tag and one of the cases has an arm
-pub arm_is : (tag : Tag) (cs : List Choice) (n : ℕ) → Allowed (tag_item tag) n → reached (case_item tag cs) n n ≡ true
+pub arm_is : (tag : Tag) (cs : List Choice) (n : ℕ) → Allowed (tag_set tag) n → reached (case_set tag cs) n n ≡ true
     → TagHasArm tag cs (tag_datum tag n)
 arm_is tag cs n h r = ((tag_fits tag n h).0, arm_by tag cs n (default_arm cs) refl h r)
 
@@ -141,35 +141,35 @@ case_by tag cs d c None is h has =
     (itself (is_signed tag) (tag_number d) (tag_holds tag d h))
 
 pub case_allowed : (tag : Tag) (cs : List Choice) (d : Datum) (c : Choice) → TagFits tag d
-    → arm_of (tag_number d) cs ≡ Some c → Allowed (case_item tag cs) (tag_word d)
+    → arm_of (tag_number d) cs ≡ Some c → Allowed (case_set tag cs) (tag_word d)
 case_allowed tag cs d c h has = (case_by tag cs d c (default_arm cs) refl h has, (tag_allowed tag d h).0.1)
 
 -- ---- what is read
 
-reached_at : (item : Item) (n : ℕ) (bytes rest : List ℕ) → n < 2 ^ 32 → bytes ≡ word n ++ rest → may item bytes ≡ true
+reached_at : (item : NumberSet) (n : ℕ) (bytes rest : List ℕ) → n < 2 ^ 32 → bytes ≡ word n ++ rest → may item bytes ≡ true
     → reached item n n ≡ true
 reached_at item n bytes rest lt is h =
     let front : may item (word n ++ rest) ≡ true = subst (λ (s : List ℕ). may item s ≡ true) is h in
     sym (ap (λ (m : ℕ). reached item m (high_word (word n ++ rest))) (word_low n rest lt) ∙ ap (reached item n)
     (word_high n rest lt)) ∙ front
 
-tag_read : (tag : Tag) (cs : List Choice) (bytes : List ℕ) (r : Front ℕ)
-    → Meets bytes word (Allowed (case_item tag cs)) r → may (tag_item tag) bytes ≡ true
+tag_read : (tag : Tag) (cs : List Choice) (bytes : List ℕ) (r : AtFront ℕ)
+    → Meets bytes word (Allowed (case_set tag cs)) r → may (tag_set tag) bytes ≡ true
     → Meets bytes tag_spelling (TagHasArm tag cs) (r >>= λ n. Ok (tag_datum tag n.0, n.1))
 tag_read tag cs bytes (Ok x) h is_tag =
-    let allowed : Allowed (tag_item tag) x.0 = (reached_at (tag_item tag) x.0 bytes x.1 h.2.1 h.0 is_tag, h.2.1) in
+    let allowed : Allowed (tag_set tag) x.0 = (reached_at (tag_set tag) x.0 bytes x.1 h.2.1 h.0 is_tag, h.2.1) in
     (h.0 ∙ ap (λ (s : List ℕ). s ++ x.1) (sym (tag_fits tag x.0 allowed).1), h.1, arm_is tag cs x.0 allowed h.2.0)
 tag_read tag cs bytes (Err f) h is_tag = h
 
 meets_at : (tag : Tag) (cs : List Choice) (bytes : List ℕ) (a b : Bool) → ltb 0 (length bytes) ≡ a
-    → may (tag_item tag) bytes ≡ b → IsBytes bytes
+    → may (tag_set tag) bytes ≡ b → IsBytes bytes
     → Meets bytes tag_spelling (TagHasArm tag cs)
-    (cond a (cond b (item_at (case_item tag cs) whys.Case bytes >>= λ n. Ok (tag_datum tag n.0, n.1))
+    (cond a (cond b (in_set_at (case_set tag cs) whys.Case bytes >>= λ n. Ok (tag_datum tag n.0, n.1))
     (Err (Bad (length bytes) (tag_why tag)))) (Err Short))
 meets_at tag cs bytes false b p q fits = tt
 meets_at tag cs bytes true false p q fits = (ltb-true _ _ p, omega arith)
-meets_at tag cs bytes true true p q fits = tag_read tag cs bytes (item_at (case_item tag cs) whys.Case bytes)
-    (item_meets (case_item tag cs) whys.Case bytes fits) q
+meets_at tag cs bytes true true p q fits = tag_read tag cs bytes (in_set_at (case_set tag cs) whys.Case bytes)
+    (item_meets (case_set tag cs) whys.Case bytes fits) q
 
 pub tag_meets : (tag : Tag) (cs : List Choice) (bytes : List ℕ) → IsBytes bytes
     → Meets bytes tag_spelling (TagHasArm tag cs) (tag_at tag cs bytes)
@@ -183,40 +183,40 @@ unfolding tag_at
 tag_again tag cs d c rest fits has =
     let allowed = tag_allowed tag d fits in
     let a : ltb 0 (length (tag_spelling d ++ rest)) ≡ true = lt-ltb _ _ (omega arith) in
-    let b : may (tag_item tag) (tag_spelling d ++ rest) ≡ true = word_may (tag_item tag) (tag_word d) rest allowed.0 in
-    let r : item_at (case_item tag cs) whys.Case (tag_spelling d ++ rest) ≡ Ok (tag_word d, rest) = item_again
-    (case_item tag cs) whys.Case (tag_word d) rest (case_allowed tag cs d c fits has) in
+    let b : may (tag_set tag) (tag_spelling d ++ rest) ≡ true = word_may (tag_set tag) (tag_word d) rest allowed.0 in
+    let r : in_set_at (case_set tag cs) whys.Case (tag_spelling d ++ rest) ≡ Ok (tag_word d, rest) = item_again
+    (case_set tag cs) whys.Case (tag_word d) rest (case_allowed tag cs d c fits has) in
     rw (a, b, r, allowed.1) refl
 
 -- ---- more bytes
 
-abbrev guarded : Tag → List ℕ → Bool → Bool → Front Datum → Front Datum
+abbrev guarded : Tag → List ℕ → Bool → Bool → AtFront Datum → AtFront Datum
 guarded tag bytes a b r = cond a (cond b r (Err (Bad (length bytes) (tag_why tag)))) (Err Short)
 
-abbrev as_tag : Tag → Front ℕ → Front Datum
+abbrev as_tag : Tag → AtFront ℕ → AtFront Datum
 as_tag tag r = r >>= λ n. Ok (tag_datum tag n.0, n.1)
 
 -- none of the cases before is none after, unless it is no tag then
-bad_after : (tag : Tag) (cs : List Choice) (bytes y : List ℕ) (b : Bool) → may (tag_item tag) (bytes ++ y) ≡ b
-    → 0 < length bytes → IsBytes y → may (case_item tag cs) bytes ≡ false
+bad_after : (tag : Tag) (cs : List Choice) (bytes y : List ℕ) (b : Bool) → may (tag_set tag) (bytes ++ y) ≡ b
+    → 0 < length bytes → IsBytes y → may (case_set tag cs) bytes ≡ false
     → (cause : Why) × (tag_at tag cs (bytes ++ y) ≡ Err (Bad (length bytes + length y) cause))
-unfolding tag_at item_at
+unfolding tag_at in_set_at
 bad_after tag cs bytes y false is some_byte fits none_does =
     let a : ltb 0 (length (bytes ++ y)) ≡ true = lt-ltb _ _ (omega (arith, some_byte, length-append bytes y)) in
     (tag_why tag, rw (a, is, length-append bytes y) refl)
 bad_after tag cs bytes y true is some_byte fits none_does =
     let a : ltb 0 (length (bytes ++ y)) ≡ true = lt-ltb _ _ (omega (arith, some_byte, length-append bytes y)) in
-    let c : may (case_item tag cs) (bytes ++ y) ≡ false = still_not (case_item tag cs) bytes y _ fits refl none_does in
+    let c : may (case_set tag cs) (bytes ++ y) ≡ false = still_not (case_set tag cs) bytes y _ fits refl none_does in
     (whys.Case, rw (a, is, c, length-append bytes y) refl)
 
 stays_at : (tag : Tag) (cs : List Choice) (bytes y : List ℕ) (a b c d : Bool) → ltb 0 (length bytes) ≡ a
-    → may (tag_item tag) bytes ≡ b → may (case_item tag cs) bytes ≡ c → ltb (length bytes) 4 ≡ d → IsBytes y
+    → may (tag_set tag) bytes ≡ b → may (case_set tag cs) bytes ≡ c → ltb (length bytes) 4 ≡ d → IsBytes y
     → Stays y (guarded tag bytes a b (as_tag tag (chosen a c d whys.Case bytes))) (tag_at tag cs (bytes ++ y))
-unfolding tag_at item_at
+unfolding tag_at in_set_at
 stays_at tag cs bytes y false b c d p q r s fits = tt
 stays_at tag cs bytes y true false c d p q r s fits =
     let a : ltb 0 (length (bytes ++ y)) ≡ true = lt-ltb _ _ (omega (arith, ltb-true _ _ p, length-append bytes y)) in
-    let b : may (tag_item tag) (bytes ++ y) ≡ false = still_not (tag_item tag) bytes y _ fits refl q in
+    let b : may (tag_set tag) (bytes ++ y) ≡ false = still_not (tag_set tag) bytes y _ fits refl q in
     (tag_why tag, rw (a, b, length-append bytes y) refl)
 stays_at tag cs bytes y true true false d p q r s fits = bad_after tag cs bytes y _ refl (ltb-true _ _ p) fits r
 stays_at tag cs bytes y true true true true p q r s fits = tt
@@ -224,14 +224,14 @@ stays_at tag cs bytes y true true true false p q r s fits =
     let long : 4 ≤ length bytes = ltb-false _ _ s in
     let is = same_word bytes y long in
     let a : ltb 0 (length (bytes ++ y)) ≡ true = lt-ltb _ _ (omega (arith, length-append bytes y)) in
-    let b : may (tag_item tag) (bytes ++ y) ≡ true = same_may (tag_item tag) bytes y long ∙ q in
-    let c : may (case_item tag cs) (bytes ++ y) ≡ true = same_may (case_item tag cs) bytes y long ∙ r in
+    let b : may (tag_set tag) (bytes ++ y) ≡ true = same_may (tag_set tag) bytes y long ∙ q in
+    let c : may (case_set tag cs) (bytes ++ y) ≡ true = same_may (case_set tag cs) bytes y long ∙ r in
     let d : ltb (length (bytes ++ y)) 4 ≡ false = le-ltb _ _ (omega (arith, length-append bytes y)) in
     rw (a, b, c, d, is, drop-append-le 4 bytes y long) refl
 
 pub tag_stays : (tag : Tag) (cs : List Choice) (bytes y : List ℕ) → IsBytes y
     → Stays y (tag_at tag cs bytes) (tag_at tag cs (bytes ++ y))
-unfolding tag_at item_at
+unfolding tag_at in_set_at
 tag_stays tag cs bytes y fits = stays_at tag cs bytes y _ _ _ _ refl refl refl refl fits
 
 -- ---- bytes that run short
@@ -290,7 +290,7 @@ complete_by K tag cs have bytes n y None e r lt is =
     )
 
 ends_at : (K : Kind → Type 0) (tag : Tag) (cs : List Choice) → ArmsHave K tag cs → (bytes : List ℕ) (a b c d : Bool)
-    → ltb 0 (length bytes) ≡ a → may (case_item tag cs) bytes ≡ c → ltb (length bytes) 4 ≡ d → IsBytes bytes
+    → ltb 0 (length bytes) ≡ a → may (case_set tag cs) bytes ≡ c → ltb (length bytes) 4 ≡ d → IsBytes bytes
     → Ends bytes tag_spelling (TagHasArm tag cs) (guarded tag bytes a b (as_tag tag (chosen a c d whys.Case bytes)))
 ends_at K tag cs have [] false b c d p r s fits = (
   tag_value tag have.number,
@@ -304,13 +304,13 @@ ends_at K tag cs have bytes true false c d p r s fits = tt
 ends_at K tag cs have bytes true true false d p r s fits = tt
 ends_at K tag cs have bytes true true true false p r s fits = tt
 ends_at K tag cs have bytes true true true true p r s fits =
-    let n = completed (case_item tag cs) bytes fits (ltb-true _ _ s)
-    (some_number (case_item tag cs) (from_be_bytes w32 bytes) (high_word bytes) (low_high bytes) r) in
+    let n = completed (case_set tag cs) bytes fits (ltb-true _ _ s)
+    (some_number (case_set tag cs) (from_be_bytes w32 bytes) (high_word bytes) (low_high bytes) r) in
     complete_by K tag cs have bytes n.0 n.1 (default_arm cs) refl n.2.0 n.2.1 n.3
 
 pub tag_ends : (K : Kind → Type 0) (tag : Tag) (cs : List Choice) → ArmsHave K tag cs → (bytes : List ℕ)
     → IsBytes bytes → Ends bytes tag_spelling (TagHasArm tag cs) (tag_at tag cs bytes)
-unfolding tag_at item_at
+unfolding tag_at in_set_at
 tag_ends K tag cs have bytes fits = ends_at K tag cs have bytes _ _ _ _ refl refl refl fits
 
 -- ---- levels
@@ -324,6 +324,6 @@ never_at P tag bytes true true true true = tt
 never_at P tag bytes true true true false = tt
 
 pub tag_never : (P : Type 0) (tag : Tag) (cs : List Choice) (bytes : List ℕ) → Deepens P (tag_at tag cs bytes)
-unfolding tag_at item_at
-tag_never P tag cs bytes = never_at P tag bytes (ltb 0 (length bytes)) (may (tag_item tag) bytes)
-    (may (case_item tag cs) bytes) (ltb (length bytes) 4)
+unfolding tag_at in_set_at
+tag_never P tag cs bytes = never_at P tag bytes (ltb 0 (length bytes)) (may (tag_set tag) bytes)
+    (may (case_set tag cs) bytes) (ltb (length bytes) 4)

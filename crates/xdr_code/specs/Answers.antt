@@ -11,11 +11,11 @@ use Rattle.xdr_code.specs.declared.front.Front.TheVariants.{Whole, Short, Bad, D
 use Rattle.xdr_code.specs.Reading.{value_at}
 use Rattle.xdr_code.specs.Opens.{Opens}
 use Rattle.xdr_code.specs.Reaches.{Reaches}
-use Rattle.xdr_code.specs.Bytes.{IsBytes}
+use Rattle.hex.specs.Hex.{IsBytes}
 
 -- a spelling of a value of the type, which is at most 64 deep
-abbrev pub Spells : Types → Kind → Datum → List ℕ → Type 0
-Spells t k d bytes = Fits t k d × (depth d ≤ 64) × (bytes ≡ spelling t k d)
+abbrev pub SpellsValue : Types → Kind → Datum → List ℕ → Type 0
+SpellsValue t k d bytes = Fits t k d × (depth d ≤ 64) × (bytes ≡ spelling t k d)
 
 -- The answer, as the reading gives it.
 abbrev pub IsRead : Types → Kind → List ℕ → Front → Type 0
@@ -30,20 +30,20 @@ abbrev pub Agrees : Types → Kind → List ℕ → Datum → Type 0
 Agrees t k bytes d = Fits t k d × (y : List ℕ) × (z : List ℕ) × IsBytes y × (bytes ++ y ≡ spelling t k d ++ z)
 
 -- The bytes, and bytes that follow, spell a value of the type, of any depth.
-abbrev pub Begins : Types → Kind → List ℕ → Type 0
-Begins t k bytes = (d : Datum) × (y : List ℕ) × IsBytes y × Fits t k d × (bytes ++ y ≡ spelling t k d)
+abbrev pub BeginsValue : Types → Kind → List ℕ → Type 0
+BeginsValue t k bytes = (d : Datum) × (y : List ℕ) × IsBytes y × Fits t k d × (bytes ++ y ≡ spelling t k d)
 
 -- what each answer says of the values of the type
 abbrev pub Tells : Types → Kind → List ℕ → Front → Type 0
-Tells t k bytes (Whole v used) = (used ≤ length bytes) × Spells t k (value_of v) (take used bytes)
+Tells t k bytes (Whole v used) = (used ≤ length bytes) × SpellsValue t k (value_of v) (take used bytes)
 Tells t k bytes Short =
     ((d : Datum) (z : List ℕ) → Fits t k d → bytes ≡ spelling t k d ++ z → ⊥)
     -- and more bytes make one
-    × Begins t k bytes
+    × BeginsValue t k bytes
     × Reaches faults.Short 64 t k bytes
 Tells t k bytes (Bad at why) =
     -- some value has the bytes before the place, and none has them all
-    (at < length bytes) × Begins t k (take at bytes)
+    (at < length bytes) × BeginsValue t k (take at bytes)
     × ((d : Datum) → Agrees t k bytes d → ⊥)
     -- and the item that stops the reading is at the place
     × Reaches (faults.Bad (length bytes - at) why) 64 t k bytes

@@ -1,6 +1,5 @@
-pub mod Bytes
-pub mod Items
-pub mod ItemView
+pub mod NumberSets
+pub mod NumberSetView
 pub mod Reading
 pub mod Words
 pub mod Opens

@@ -2,7 +2,7 @@
 -- module.
 use Rattle.std.specs.Prelude.{◌≡◌, ℕ, zero, suc, List, ◌⊎◌, Err}
 use Rattle.xdr_value.specs.Data.{Kind, Types}
-use Rattle.xdr_value.specs.Heads.{Head, is_basic, is_enum, is_union, is_array_up_to, is_maybe, is_unknown, head_of}
+use Rattle.xdr_value.specs.Heads.{Head, is_basic, is_enum, is_struct, is_union, is_array, is_array_up_to, is_maybe, is_unknown, head_of}
 use Rattle.xdr_code.specs.declared.fault.Why.TheVariants as whys
 use Rattle.xdr_code.specs.declared.fault.Fault.{Fault}
 use Rattle.xdr_code.specs.declared.fault.Fault.TheVariants.{Short}
@@ -19,7 +19,8 @@ ItemStops t f (is_maybe k) bytes = limited_at 1 whys.Bool bytes ≡ Err f
 ItemStops t f (is_union tag cs) bytes = tag_at tag cs bytes ≡ Err f
 -- no name is unknown in a sound interface
 ItemStops t f is_unknown bytes = f ≡ Short
-ItemStops t f _ bytes = ⊥
+ItemStops t f (is_struct ps) bytes = ⊥
+ItemStops t f (is_array k n) bytes = ⊥
 
 -- it stops here, or behind what is whole
 unfoldable pub Reaches : Fault → ℕ → Types → Kind → List ℕ → Type 0

@@ -29,6 +29,7 @@ abbrev pub word_spelling : Datum → List ℕ
 word_spelling (number z) = word (cast_unsigned w32 z)
 word_spelling _ = []
 
+-- each of the values is a word
 abbrev pub AreWords : Data → Type 0
 AreWords end = ⊤
 AreWords (more v vs) = IsWord v × AreWords vs

@@ -7,7 +7,7 @@ ghost use Rattle.xdr_value.specs.Tests.{is_known};
 ghost use Rattle.xdr_value.specs.Fits.{Fits, depth};
 ghost use Rattle.xdr_value.specs.Spelling.{spelling};
 ghost use Rattle.xdr_code.specs.declared.fault.Fault.TheVariants as faults;
-ghost use Rattle.xdr_code.specs.Bytes.{IsBytes};
+ghost use Rattle.hex.specs.Hex.{IsBytes};
 ghost use Rattle.xdr_code.specs.Opens.{Opens};
 ghost use Rattle.xdr_code.specs.Reaches.{Reaches};
 ghost use Rattle.xdr_code.specs.Answers.{Tells, IsWhole, IsDeep, IsBad, IsShort, IsRead};
@@ -19,7 +19,7 @@ use xdr_value::{Def, Interface, Ty, Value};
 
 /// What stands at the front of some bytes: a value and how many bytes it takes; or more bytes are
 /// wanted; or no value has the item at a place; or the 65th level begins before either.
-#[derive(Drop)]
+#[derive(Debug, Drop)]
 pub enum Front {
     Whole(Value, usize),
     Short,

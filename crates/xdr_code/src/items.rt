@@ -4,17 +4,17 @@ ghost use Rattle.std.specs.Prelude.{◌≡◌, length, map, slice_index, slice_i
 ghost use Rattle.std.specs.Int.{w32, w64, from_be_bytes};
 ghost use Rattle.xdr_value.specs.View.{value_of, member_of, choice_of};
 ghost use Rattle.xdr_value.specs.HeadView.{tag_view};
-ghost use Rattle.xdr_code.specs.Items.{high_word, in_word, between, some_between, reached, numbers, case_numbers, is_signed, tag_item, case_item};
-ghost use Rattle.xdr_code.specs.ItemView.{item_view};
-ghost use Rattle.xdr_code.specs.Reading.{Gives, item_at, limited_at, number_at, padding_at, octets_at, counted_octets_at, tag_datum, tag_why, tag_at};
+ghost use Rattle.xdr_code.specs.NumberSets.{high_word, in_word, between, some_between, reached, numbers, case_numbers, is_signed, tag_set, case_set};
+ghost use Rattle.xdr_code.specs.NumberSetView.{set_view};
+ghost use Rattle.xdr_code.specs.Reading.{Gives, in_set_at, limited_at, any_number_at, padding_at, octets_at, counted_octets_at, tag_datum, tag_why, tag_at};
 
 use crate::fault::{Fault, Stop, Why};
 use std::alloc::Global;
 use xdr_value::{Arm, Member, Tag, Value, default_arm};
 
-/// The numbers that an item of four bytes may have.
-#[derive(Clone, Copy)]
-pub enum Item<'a> {
+/// The numbers that four bytes may have at a place.
+#[derive(Clone, Copy, Debug)]
+pub enum NumberSet<'a> {
     UpTo(u32),
     Around(u32),
     Members(&'a Vec<Member>),
@@ -100,22 +100,26 @@ fn is_case_between(signed: bool, arms: &Vec<Arm>, low: u32, high: u32) -> bool
     false
 }
 
-fn is_reached(item: Item<'_>, low: u32, high: u32) -> bool
-    ensures { result ≡ reached (item_view item.entry) low high }
+fn is_reached(item: NumberSet<'_>, low: u32, high: u32) -> bool
+    ensures { result ≡ reached (set_view item.entry) low high }
 {
     match item {
-        Item::UpTo(limit) => low <= limit,
-        Item::Around(limit) => low < limit || 0x1_0000_0000 - limit as u64 <= high as u64,
-        Item::Members(members) => is_member_between(members, low, high),
-        Item::Cases(signed, arms) => is_case_between(signed, arms, low, high),
-        Item::Nothing => false,
+        NumberSet::UpTo(limit) => low <= limit,
+        NumberSet::Around(limit) => low < limit || 0x1_0000_0000 - limit as u64 <= high as u64,
+        NumberSet::Members(members) => is_member_between(members, low, high),
+        NumberSet::Cases(signed, arms) => is_case_between(signed, arms, low, high),
+        NumberSet::Nothing => false,
     }
 }
 
-/// A number of the item.
-#[tactic(auto, unfolding(crate::specs::Reading::item_at))]
-pub fn read_item<'a>(item: Item<'_>, why: Why, bytes: &'a [u8]) -> Result<(u32, &'a [u8]), Stop>
-    ensures { Gives (λ x. (x.0, x.1.now)) result (item_at (item_view item.entry) why bytes.now) }
+/// A number of the set.
+#[tactic(auto, unfolding(crate::specs::Reading::in_set_at))]
+pub fn read_in_set<'a>(
+    item: NumberSet<'_>,
+    why: Why,
+    bytes: &'a [u8],
+) -> Result<(u32, &'a [u8]), Stop>
+    ensures { Gives (λ x. (x.0, x.1.now)) result (in_set_at (set_view item.entry) why bytes.now) }
 {
     if bytes.is_empty() {
         return Err(Stop::Fault(Fault::Short));
@@ -138,14 +142,14 @@ pub fn read_item<'a>(item: Item<'_>, why: Why, bytes: &'a [u8]) -> Result<(u32, 
 pub fn limited(bytes: &[u8], limit: u32, why: Why) -> Result<(u32, &[u8]), Stop>
     ensures { Gives (λ x. (x.0, x.1.now)) result (limited_at limit why bytes.now) }
 {
-    read_item(Item::UpTo(limit), why, bytes)
+    read_in_set(NumberSet::UpTo(limit), why, bytes)
 }
 
 /// Any number of four bytes.
 #[inline]
-#[tactic(auto, unfolding(crate::specs::Reading::number_at))]
+#[tactic(auto, unfolding(crate::specs::Reading::any_number_at))]
 pub fn word(bytes: &[u8]) -> Result<(u32, &[u8]), Stop>
-    ensures { Gives (λ x. (x.0, x.1.now)) result (number_at w32 bytes.now) }
+    ensures { Gives (λ x. (x.0, x.1.now)) result (any_number_at w32 bytes.now) }
 {
     if bytes.len() < 4 {
         return Err(Stop::Fault(Fault::Short));
@@ -156,9 +160,9 @@ pub fn word(bytes: &[u8]) -> Result<(u32, &[u8]), Stop>
 }
 
 /// Any number of eight bytes.
-#[tactic(auto, unfolding(crate::specs::Reading::number_at))]
+#[tactic(auto, unfolding(crate::specs::Reading::any_number_at))]
 pub fn double_word(bytes: &[u8]) -> Result<(u64, &[u8]), Stop>
-    ensures { Gives (λ x. (x.0, x.1.now)) result (number_at w64 bytes.now) }
+    ensures { Gives (λ x. (x.0, x.1.now)) result (any_number_at w64 bytes.now) }
 {
     if bytes.len() < 8 {
         return Err(Stop::Fault(Fault::Short));
@@ -220,25 +224,25 @@ fn is_signed(tag: Tag<'_>) -> bool
     }
 }
 
-fn tag_item<'a>(tag: Tag<'a>) -> Item<'a>
-    ensures { item_view result ≡ tag_item (tag_view tag.entry) }
+fn tag_set<'a>(tag: Tag<'a>) -> NumberSet<'a>
+    ensures { set_view result ≡ tag_set (tag_view tag.entry) }
 {
     match tag {
-        Tag::Int => Item::Around(0x8000_0000),
-        Tag::Uint => Item::UpTo(0xffff_ffff),
-        Tag::Bool => Item::UpTo(1),
-        Tag::Enum(members) => Item::Members(members),
-        Tag::Other => Item::Nothing,
+        Tag::Int => NumberSet::Around(0x8000_0000),
+        Tag::Uint => NumberSet::UpTo(0xffff_ffff),
+        Tag::Bool => NumberSet::UpTo(1),
+        Tag::Enum(members) => NumberSet::Members(members),
+        Tag::Other => NumberSet::Nothing,
     }
 }
 
-fn case_item<'a>(tag: Tag<'a>, arms: &'a Vec<Arm>) -> Item<'a>
-    ensures { item_view result ≡ case_item (tag_view tag.entry) (map choice_of arms.now.items) }
+fn case_set<'a>(tag: Tag<'a>, arms: &'a Vec<Arm>) -> NumberSet<'a>
+    ensures { set_view result ≡ case_set (tag_view tag.entry) (map choice_of arms.now.items) }
 {
     if default_arm(arms).is_some() {
-        tag_item(tag)
+        tag_set(tag)
     } else {
-        Item::Cases(is_signed(tag), arms)
+        NumberSet::Cases(is_signed(tag), arms)
     }
 }
 
@@ -274,12 +278,12 @@ pub fn read_tag<'a>(
     if bytes.is_empty() {
         return Err(Stop::Fault(Fault::Short));
     }
-    if !is_reached(tag_item(tag), low_word(bytes), greatest_word(bytes)) {
+    if !is_reached(tag_set(tag), low_word(bytes), greatest_word(bytes)) {
         return Err(Stop::Fault(Fault::Bad {
             left: bytes.len(),
             why: tag_why(tag),
         }));
     }
-    let (n, rest) = read_item(case_item(tag, arms), Why::Case, bytes)?;
+    let (n, rest) = read_in_set(case_set(tag, arms), Why::Case, bytes)?;
     Ok((tag_value(tag, n), rest))
 }

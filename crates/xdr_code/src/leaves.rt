@@ -10,7 +10,7 @@ ghost use Rattle.xdr_value.specs.declared.ty.Basic.TheVariants as basics;
 ghost use Rattle.xdr_code.specs.Reading.{Gives, basic_at, enum_at, head_at};
 
 use crate::fault::{Fault, Stop, Why};
-use crate::items::{Item, content, counted_content, double_word, limited, read_item, word};
+use crate::items::{NumberSet, content, counted_content, double_word, limited, read_in_set, word};
 use std::alloc::Global;
 use xdr_value::{Basic, Head, Member, Value};
 
@@ -66,7 +66,7 @@ fn uhyper(bytes: &[u8]) -> Result<(Value, &[u8]), Stop>
 fn short(bytes: &[u8]) -> Result<(Value, &[u8]), Stop>
     ensures { Gives (λ x. (value_of x.0, x.1.now)) result (basic_at basics.Short bytes.now) }
 {
-    let (n, rest) = read_item(Item::Around(0x8000), Why::Range, bytes)?;
+    let (n, rest) = read_in_set(NumberSet::Around(0x8000), Why::Range, bytes)?;
     Ok((Value::Number(n.cast_signed() as i128), rest))
 }
 
@@ -82,7 +82,7 @@ fn ushort(bytes: &[u8]) -> Result<(Value, &[u8]), Stop>
 fn char_number(bytes: &[u8]) -> Result<(Value, &[u8]), Stop>
     ensures { Gives (λ x. (value_of x.0, x.1.now)) result (basic_at basics.Char bytes.now) }
 {
-    let (n, rest) = read_item(Item::Around(0x80), Why::Range, bytes)?;
+    let (n, rest) = read_in_set(NumberSet::Around(0x80), Why::Range, bytes)?;
     Ok((Value::Number(n.cast_signed() as i128), rest))
 }
 
@@ -137,7 +137,7 @@ pub fn basic(alloc: Global, kind: Basic, bytes: &[u8]) -> Result<(Value, &[u8]),
 pub fn member<'a>(members: &Vec<Member>, bytes: &'a [u8]) -> Result<(Value, &'a [u8]), Stop>
     ensures { Gives (λ x. (value_of x.0, x.1.now)) result (enum_at (map member_of members.now.items) bytes.now) }
 {
-    let (n, rest) = read_item(Item::Members(members), Why::Enum, bytes)?;
+    let (n, rest) = read_in_set(NumberSet::Members(members), Why::Enum, bytes)?;
     Ok((Value::Number(n.cast_signed() as i128), rest))
 }
 

@@ -19,7 +19,7 @@ mod writing;
 pub use fault::{Fault, Stop, Why};
 pub use front::{Front, decode_front};
 pub use laws::{item_is, one_form};
-pub use reading::{MAX_LEVELS, read_fields, read_value};
+pub use reading::{read_fields, read_value};
 pub use writing::encode;
 
 #[cfg(test)]

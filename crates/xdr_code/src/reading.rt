@@ -1,6 +1,6 @@
 //! Reading values from left to right.
 
-ghost use Rattle.std.specs.Prelude.{◌≡◌, ◌/◌, Some, length, map, min};
+ghost use Rattle.std.specs.Prelude.{◌≡◌, ◌≤◌, ◌/◌, IfOk, Some, [], length, map, vec_capacity};
 ghost use Rattle.xdr_value.specs.Data.{Kind};
 ghost use Rattle.xdr_value.specs.View.{kind_of, types_of, value_of, values_of, part_of, choice_of};
 ghost use Rattle.xdr_value.specs.Heads.{is_struct, arm_kind, head_of};
@@ -11,13 +11,11 @@ ghost use Rattle.xdr_code.specs.Reading.{Gives, Adds, basic_at, maybe_at, chosen
 use crate::fault::{Fault, Stop, Why};
 use crate::items::{limited, read_tag, word};
 use crate::leaves::{basic, leaf, member, signed_number, unsigned_number};
-use std::alloc::Global;
+use std::alloc::{AllocError, Global};
 use xdr_value::{
-    Arm, Basic, Def, Field, Head, Interface, Ty, Value, arm_of, list_limit, resolve, tag_number,
+    Arm, Basic, Def, Field, Head, Interface, MAX_LEVELS, Ty, Value, arm_of, list_limit, resolve,
+    tag_number,
 };
-
-/// How many structs, unions, arrays and optional data may stand within one another.
-pub const MAX_LEVELS: u32 = 64;
 
 #[cycle(value)]
 fn value<'a>(
@@ -287,12 +285,14 @@ fn parts<'a>(
     Ok((items, rest))
 }
 
-// For how many elements a list has room at first. An element that takes bytes takes at least four,
-// so a count that lies makes room for no more than the bytes could hold.
-fn room_for(n: u32, bytes: &[u8]) -> usize
-    ensures { result ≡ min n (length bytes.now / 4) }
+// An empty list, with room for as many elements as its count says, but for no more than the bytes
+// can hold: an element that takes bytes takes at least four.
+fn room_for(alloc: Global, n: u32, bytes: &[u8]) -> Result<Vec<Value>, AllocError>
+    ensures empty { IfOk result (λ v. v.items ≡ []) }
+    ensures counted { IfOk result (λ v. vec_capacity v ≤ n) }
+    ensures held { IfOk result (λ v. vec_capacity v ≤ length bytes.now / 4) }
 {
-    (n as usize).min(bytes.len() / 4)
+    Vec::with_capacity(alloc, (n as usize).min(bytes.len() / 4))
 }
 
 #[cycle(value)]
@@ -307,8 +307,29 @@ fn elements<'a>(
     ensures { Gives (λ x. (values_of x.0.items, x.1.now)) result
         (elements_at (value_at levels (types_of types.now)) (kind_of of.now) n bytes.now) }
 {
+    let room = room_for(alloc, n, bytes)?;
+    elements_in(room, alloc, types, levels, of, n, bytes)
+}
+
+// The elements in an empty list, whose room is no more than the bytes can hold.
+#[inline(always)]
+#[cycle(value)]
+fn elements_in<'a>(
+    room: Vec<Value>,
+    alloc: Global,
+    types: &[Def],
+    levels: u32,
+    of: &Ty,
+    n: u32,
+    bytes: &'a [u8],
+) -> Result<(Vec<Value>, &'a [u8]), Stop>
+    requires empty { room.items ≡ [] }
+    requires held { vec_capacity room ≤ length bytes.now / 4 }
+    ensures { Gives (λ x. (values_of x.0.items, x.1.now)) result
+        (elements_at (value_at levels (types_of types.now)) (kind_of of.now) n bytes.now) }
+{
     let head = resolve(types, of);
-    let mut items = Vec::with_capacity(alloc, room_for(n, bytes))?;
+    let mut items = room;
     let mut rest = bytes;
     for _ in 0..n {
         rest = element_onto(&mut items, alloc, types, levels, head, rest)?;

@@ -1,3 +1,5 @@
+//! Values and their bytes, by example.
+
 use super::*;
 use crate::test_types::all_types;
 use std::alloc::{AllocError, Global};
@@ -26,31 +28,18 @@ pub fn interface(alloc: Global) -> Result<Interface, AllocError> {
     Ok(Interface::make(None, None, types, procs))
 }
 
-fn digit(c: u8) -> u8 {
-    match c {
-        b'0'..=b'9' => c - b'0',
-        b'a'..=b'f' => c - b'a' + 10,
-        _ => 0,
-    }
-}
-
 // The bytes of a text of hex digits, whose spaces count for nothing.
-pub fn bytes_of(alloc: Global, hex: &str) -> Result<Vec<u8>, AllocError> {
-    let mut bytes = Vec::new(alloc);
-    let mut high = None;
-    for c in hex.as_bytes() {
-        if *c == b' ' {
-            continue;
-        }
-        match high {
-            None => high = Some(digit(*c)),
-            Some(first) => {
-                bytes.push(first << 4 | digit(*c))?;
-                high = None;
-            }
+pub fn bytes_of(alloc: Global, text: &str) -> Result<Vec<u8>, AllocError> {
+    let mut digits = Vec::new(alloc);
+    for c in text.as_bytes() {
+        if *c != b' ' {
+            digits.push(*c)?;
         }
     }
-    Ok(bytes)
+    match hex::decode(alloc, digits.as_slice()) {
+        Ok(bytes) => Ok(bytes),
+        Err(_) => Err(AllocError),
+    }
 }
 
 // A value that was found is spelled again, and the bytes have to be those that it was found in.
@@ -301,6 +290,32 @@ fn a_chain_of_33_is_too_deep(rt: HostRuntime) -> Result<(), AllocError> {
     assert_eq!(rt; tell_chain(alloc, 31, 1)?, Told::Short);
     assert_eq!(rt; tell_chain(alloc, 32, 1)?, Told::Deep);
     assert_eq!(rt; tell_chain(alloc, 32, 2)?, Told::Bad(252, Why::Bool));
+    Ok(())
+}
+
+// Behind this first word so many bytes that are 0.
+fn zeros(alloc: Global, first: u32, count: usize) -> Result<Vec<u8>, AllocError> {
+    let mut bytes = Vec::from_slice(alloc, &first.to_be_bytes())?;
+    for _ in 0..count {
+        bytes.push(0)?;
+    }
+    Ok(bytes)
+}
+
+// The words name more than there is: content of 150,000 bytes, and ints of which the greatest
+// number would take gigabytes.
+#[test]
+fn more_is_wanted_behind_100000_bytes(rt: HostRuntime) -> Result<(), AllocError> {
+    let alloc = rt.alloc();
+    let iface = interface(alloc)?;
+    let long = zeros(alloc, 150_000, 99_996)?;
+    let content = Ty::OpaqueUpTo(u32::MAX);
+    assert_eq!(rt; answer(alloc, &iface, &content, &long)?, Told::Short);
+    let ints = Ty::up_to(alloc, Ty::Int, u32::MAX)?;
+    assert_eq!(rt; answer(alloc, &iface, &ints, &long)?, Told::Short);
+    let most = zeros(alloc, u32::MAX, 99_996)?;
+    assert_eq!(rt; answer(alloc, &iface, &content, &most)?, Told::Short);
+    assert_eq!(rt; answer(alloc, &iface, &ints, &most)?, Told::Short);
     Ok(())
 }
 

@@ -1,7 +1,7 @@
 //! Tests of values that are written many at once.
 
-use crate::encode;
 use crate::tests::{Told, answer, bytes_of, interface};
+use crate::{Front, decode_front, encode};
 use std::alloc::{AllocError, Global};
 use std::test::*;
 use xdr_value::{Def, Field, Interface, Shape, Ty, Value, fits, has_levels_within, known, sound};
@@ -106,5 +106,39 @@ fn ints_are_spelled_in_order_with_their_signs(rt: HostRuntime) -> Result<(), All
         &bytes_of(alloc, wanted)?,
     )?;
     assert_eq!(rt; told, Told::Whole(56));
+    Ok(())
+}
+
+// Two hundred structs of three words, behind their count.
+fn many_rows(alloc: Global) -> Result<Vec<u8>, AllocError> {
+    let mut types = Vec::new(alloc);
+    types.push(row(alloc, 3)?)?;
+    let procs = Vec::new(alloc);
+    if !sound(&types, &procs) {
+        return Ok(Vec::new(alloc));
+    }
+    let iface = Interface::make(None, None, types, procs);
+    let ty = Ty::up_to(alloc, Ty::named(alloc, "row")?, 200)?;
+    let mut bytes = bytes_of(alloc, "000000c8")?;
+    put_numbered(&mut bytes, 600)?;
+    if !known(&iface.types, &ty) {
+        return Ok(Vec::new(alloc));
+    }
+    match decode_front(alloc, &iface, &ty, &bytes) {
+        Front::Whole(value, _) => encode(alloc, &iface, &ty, &value),
+        Front::Short | Front::Bad { .. } | Front::Deep | Front::OutOfMemory => Ok(Vec::new(alloc)),
+    }
+}
+
+// No clause can say how much room is kept at most, since none of a vector does.
+#[test]
+fn what_is_written_keeps_little_room(rt: HostRuntime) -> Result<(), AllocError> {
+    let alloc = rt.alloc();
+    let rows = many_rows(alloc)?;
+    assert_eq!(rt; rows.len(), 2404);
+    assert!(rt; rows.capacity() < 5000);
+    let words = ints(alloc, &[7; 500])?;
+    assert_eq!(rt; words.len(), 2004);
+    assert!(rt; words.capacity() < 5000);
     Ok(())
 }

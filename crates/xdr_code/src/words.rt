@@ -64,7 +64,8 @@ fn word_bytes(value: &Value) -> [u8; 4]
 {
     match value {
         Value::Number(n) => low_word(*n).to_be_bytes(),
-        _ => unreachable!(),
+        Value::Flag(_) | Value::Octets(_) | Value::List(_) => unreachable!(),
+        Value::Union(_, _) | Value::Maybe(_) | Value::Void => unreachable!(),
     }
 }
 
@@ -167,7 +168,8 @@ pub fn put_rows(out: &mut Vec<u8>, items: &[Value], width: usize) -> Result<(), 
     for item in items {
         match item {
             Value::List(words) => put_many(out, words)?,
-            _ => unreachable!(),
+            Value::Number(_) | Value::Flag(_) | Value::Octets(_) => unreachable!(),
+            Value::Union(_, _) | Value::Maybe(_) | Value::Void => unreachable!(),
         }
     }
     Ok(())

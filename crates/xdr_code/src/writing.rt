@@ -9,11 +9,11 @@ ghost use Rattle.xdr_value.specs.Heads.{head_of, arm_of, arm_kind};
 ghost use Rattle.xdr_value.specs.Fits.{Fits, PartsFit, AllFit, NumberFits, OctetsFit, ItemsFit, TagFits, ArmFits, tag_number, count, depth};
 ghost use Rattle.xdr_value.specs.Spelling.{word, padded, spelling, parts_spelling, all_spelling, number_spelling, octets_spelling, items_spelling, tag_spelling, arm_spelling};
 
-use crate::reading::MAX_LEVELS;
 use crate::words::{are_words, is_word, low_word, put_one, put_rows, put_word, put_words};
 use std::alloc::{AllocError, Global};
 use xdr_value::{
-    Arm, Basic, Def, Field, Head, Interface, Tag, Ty, Value, arm_of, resolve, tag_number,
+    Arm, Basic, Def, Field, Head, Interface, MAX_LEVELS, Tag, Ty, Value, arm_of, resolve,
+    tag_number,
 };
 
 fn put_hyper(out: &mut Vec<u8>, n: i128) -> Result<(), AllocError>
@@ -40,9 +40,14 @@ fn put_number(out: &mut Vec<u8>, n: i128, head: Head) -> Result<(), AllocError>
         Head::Basic(kind) => match kind {
             Basic::Hyper => put_hyper(out, n),
             Basic::Uhyper => put_uhyper(out, n),
-            _ => put_word(out, low_word(n)),
+            Basic::Int | Basic::Uint | Basic::Short | Basic::Ushort | Basic::Char | Basic::Uchar =>
+                { put_word(out, low_word(n)) }
+            Basic::Bool | Basic::Void => Ok(()),
+            Basic::Opaque(_) | Basic::OpaqueUpTo(_) | Basic::Text(_) => Ok(()),
         },
-        _ => put_word(out, low_word(n)),
+        Head::Enum(_) => put_word(out, low_word(n)),
+        Head::Struct(_) | Head::Union(_, _) | Head::Array(_, _) => Ok(()),
+        Head::ArrayUpTo(_, _) | Head::Maybe(_) | Head::Unknown => Ok(()),
     }
 }
 
@@ -53,10 +58,11 @@ fn put_tag(out: &mut Vec<u8>, value: &Value, tag: Tag) -> Result<(), AllocError>
     match value {
         Value::Number(n) => match tag {
             Tag::Int | Tag::Uint | Tag::Enum(_) => put_word(out, low_word(*n)),
-            _ => Ok(()),
+            Tag::Bool | Tag::Other => Ok(()),
         },
         Value::Flag(b) => put_word(out, if *b { 1 } else { 0 }),
-        _ => Ok(()),
+        Value::Octets(_) | Value::List(_) | Value::Union(_, _) => Ok(()),
+        Value::Maybe(_) | Value::Void => Ok(()),
     }
 }
 
@@ -81,9 +87,12 @@ fn put_octets(out: &mut Vec<u8>, bytes: &Vec<u8>, head: Head) -> Result<(), Allo
                 put_word(out, bytes.len() as u32)?;
                 put_padded(out, bytes)
             }
-            _ => Ok(()),
+            Basic::Int | Basic::Uint | Basic::Hyper | Basic::Uhyper => Ok(()),
+            Basic::Short | Basic::Ushort | Basic::Char | Basic::Uchar => Ok(()),
+            Basic::Bool | Basic::Void => Ok(()),
         },
-        _ => Ok(()),
+        Head::Enum(_) | Head::Struct(_) | Head::Union(_, _) | Head::Array(_, _) => Ok(()),
+        Head::ArrayUpTo(_, _) | Head::Maybe(_) | Head::Unknown => Ok(()),
     }
 }
 
@@ -103,7 +112,8 @@ fn put_value(out: &mut Vec<u8>, v: &Value, types: &[Def], ty: &Ty) -> Result<(),
         Value::List(items) => put_items(out, items, types, resolve(types, ty)),
         Value::Union(chosen, inner) => match resolve(types, ty) {
             Head::Union(tag, arms) => put_union(out, inner, chosen, types, tag, arms),
-            _ => Ok(()),
+            Head::Basic(_) | Head::Enum(_) | Head::Struct(_) | Head::Array(_, _) => Ok(()),
+            Head::ArrayUpTo(_, _) | Head::Maybe(_) | Head::Unknown => Ok(()),
         },
         Value::Maybe(inner) => match inner {
             None => put_word(out, 0),
@@ -113,7 +123,8 @@ fn put_value(out: &mut Vec<u8>, v: &Value, types: &[Def], ty: &Ty) -> Result<(),
                     put_value(out, inner, types, of)?;
                     Ok(())
                 }
-                _ => Ok(()),
+                Head::Basic(_) | Head::Enum(_) | Head::Struct(_) | Head::Union(_, _) => Ok(()),
+                Head::Array(_, _) | Head::ArrayUpTo(_, _) | Head::Unknown => Ok(()),
             },
         },
         Value::Void => Ok(()),
@@ -142,7 +153,8 @@ fn put_items(
             put_all(out, items, types, of)?;
             Ok(())
         }
-        _ => Ok(()),
+        Head::Basic(_) | Head::Enum(_) | Head::Union(_, _) => Ok(()),
+        Head::Maybe(_) | Head::Unknown => Ok(()),
     }
 }
 

@@ -1,25 +1,20 @@
 -- Judging the values of arguments one after the other.
-use Rattle.std.proofs.Common.{◌≡◌, ℕ, suc, ◌+◌, ◌≤◌, ◌<◌, Bool, true, false, List, [], ◌∷◌, ◌++◌, length, length-append, take, drop, ◌-◌, get_or, map, Ok, Err, refl, sym, ap, ◌∙◌, subst, arith}
-use Rattle.std.proofs.lemmas.List.{drop_more, take_all}
-use Rattle.std.proofs.Math.Nat.{le-max_right}
+use Rattle.std.proofs.Common.{◌≡◌, ℕ, suc, ◌+◌, ◌≤◌, true, false, List, [], ◌∷◌, ◌++◌, length, length-append, take, drop, ◌-◌, get_or, map, Ok, refl, sym, ap, ◌∙◌, subst, arith}
+use Rattle.std.proofs.lemmas.List.{take_all}
 use Rattle.serde_json.specs.Data.{depth as nesting, items_depth}
 use Rattle.serde_json.specs.View.{view, items_view}
 use Rattle.serde_json.specs.declared.value.Value.{Value as JsonValue}
 use Rattle.xdr_value.specs.declared.def.Arg.{Arg}
 use Rattle.xdr_value.specs.Data.{Datum, Data, end, more, Kind, Param, Types}
 use Rattle.xdr_value.specs.View.{param_of}
-use Rattle.xdr_value.proofs.Lists.{append, append_end, append_more}
+use Rattle.xdr_value.proofs.Lists.{append, append_end}
 use Rattle.xdr_json.specs.declared.fault.Stop.{Stop}
 use Rattle.xdr_json.specs.declared.fault.Stop.TheVariants as stops
 use Rattle.xdr_json.specs.Answers.{Fails}
-use Rattle.xdr_json.specs.Args.{args_judged, comes_in, in_kinds, no_args}
-use Rattle.xdr_json.specs.Judged.{Judged, ◌>>=◌, below, index_step}
+use Rattle.xdr_json.specs.Args.{args_judged, comes_in, in_kinds}
+use Rattle.xdr_json.specs.Judged.{Judged, below, index_step}
 use Rattle.xdr_json.specs.Judging.{judged}
-use Rattle.xdr_json.proofs.Loop.{with_front}
-
--- an argument that is met is the first of those that are left
-pub in_left : (xs : List Arg) (i : ℕ) (a : Arg) → i < length xs → a ≡ get_or xs i a → drop i xs ≡ a ∷ drop (i + 1) xs
-in_left xs i a lt is = drop_more xs i a lt ∙ ap (λ (b : Arg). b ∷ drop (i + 1) xs) (sym is)
+use Rattle.xdr_json.proofs.Loop.{with_front, regroup}
 
 -- what stands first in a list that isn't empty, and what follows it
 pub first_is : {X : Type 0} (xs : List X) (x : X) → 1 ≤ length xs → x ≡ get_or xs 0 x
@@ -54,11 +49,6 @@ pub less_deep : (j : JsonValue) (js left : List JsonValue) (n : ℕ) → left �
 less_deep j js left n is deep =
     let all : items_depth (items_view (j ∷ js)) ≤ n = subst (λ xs. items_depth (items_view xs) ≤ n) is deep in
     grind (arith, all)
-
-regroup : (front : Data) (d : Datum) (r : Judged Data)
-    → with_front front (r >>= λ ds. Ok (more d ds)) ≡ with_front (append front (more d end)) r
-regroup front d (Ok ds) = ap Ok (sym (append_more front d ds))
-regroup front d (Err m) = refl
 
 -- one value more was judged
 pub args_go_on : (t : Types) (k : Kind) (ks all : List Kind) (front : Data) (i : ℕ) (j : JsonValue)

@@ -13,7 +13,7 @@ use Rattle.xdr_json.specs.Answers.{value_in}
 use Rattle.hex.specs.Hex.{IsBytes}
 use Rattle.hex.proofs.HexLemmas.{decode_of-encode_lower}
 use Rattle.serde_json.specs.Data as json
-use Rattle.serde_json.specs.Data.{Data as Json, Items}
+use Rattle.serde_json.specs.Data.{Data as Json}
 use Rattle.serde_json.specs.Find.{as_integer, of_integer}
 use Rattle.serde_json.specs.Events.{items_len}
 use Rattle.xdr_value.specs.declared.ty.Basic.TheVariants as basics
@@ -26,9 +26,9 @@ use Rattle.xdr_value.specs.Fits.{count, tag_number}
 use Rattle.xdr_value.specs.Fitting.{number_fits, flag_fits, octets_fit, nothing_fits, items_fit, maybe_fits, tag_fits, arm_fits, union_fits, does_fit, parts_fit, all_fit}
 use Rattle.xdr_json.specs.Json.{member_name, number_json, is_text, text_or_hex, tag_json, arm_json, union_json, items_json, maybe_json, json_of, members_json, elements_json}
 use Rattle.xdr_json.specs.Judged.{Judged, below}
-use Rattle.xdr_json.specs.Judging.{member_number, tag_value, arm_judged, parts_judged, judged, elements_judged, member_judge}
-use Rattle.xdr_json.specs.Bytes.{HasBytes, AllHaveBytes}
-use Rattle.xdr_json.proofs.Names.{TagDiffers, NamesDiffer, Forms, names_differ}
+use Rattle.xdr_json.specs.Judging.{member_number, tag_of_json, arm_judged, parts_judged, judged, elements_judged, member_judge}
+use Rattle.xdr_json.specs.Bytes.{OctetsAreBytes, AllAreBytes}
+use Rattle.xdr_json.proofs.Names.{TagSound, HeadSound, Forms, head_sound}
 use Rattle.xdr_json.proofs.Fields.{HasAll, has_all, judge_of, fields_there}
 
 no : {A : Type 0} → false ≡ true → A
@@ -68,12 +68,12 @@ name_back (m ∷ ms) z differ has =
     name_back_at m ms z _ refl (among (λ y. bytes_eq m.0 y ≡ false) ms z differ.0) (name_back ms z differ.1) has
 
 -- ---- what has no parts
-number_back : (t : Types) (k : Kind) (h : Head) (z : ℤ) → head_of t k ≡ h → NamesDiffer h → number_fits h z ≡ true
+number_back : (t : Types) (k : Kind) (h : Head) (z : ℤ) → head_of t k ≡ h → HeadSound h → number_fits h z ≡ true
     → judged t (number_json h z) k ≡ Ok (number z)
 number_back t k (is_basic b) z is differ fit = rw (is, integer_back z, fit) refl
 number_back t k (is_enum ms) z is differ fit =
     let has = (and_parts (is_within (2 ^ 31) z) (has_number ms z) fit).1 in
-    rw (is, name_back ms z differ has) refl
+    rw (is, name_back ms z differ.0 has) refl
 number_back t k (is_struct ps) z is differ fit = no fit
 number_back t k (is_union tag cs) z is differ fit = no fit
 number_back t k (is_array e n) z is differ fit = no fit
@@ -161,7 +161,7 @@ octets_back t k is_unknown bytes is held fit = no fit
 
 -- ---- unions
 
-tag_back : (tag : Tag) (d : Datum) → TagDiffers tag → tag_fits tag d ≡ true → tag_value tag (tag_json tag d) ≡ Some d
+tag_back : (tag : Tag) (d : Datum) → TagSound tag → tag_fits tag d ≡ true → tag_of_json tag (tag_json tag d) ≡ Some d
 tag_back tag_int (number z) differ fit = rw (integer_back z, fit) refl
 tag_back tag_int (flag b) differ fit = no fit
 tag_back tag_int (octets bytes) differ fit = no fit
@@ -187,7 +187,7 @@ tag_back tag_bool none differ fit = no fit
 tag_back tag_bool (some d) differ fit = no fit
 tag_back tag_bool nothing differ fit = no fit
 tag_back (tag_enum ms) (number z) differ fit =
-    rw (name_back ms z differ (and_parts (is_within (2 ^ 31) z) (has_number ms z) fit).1) refl
+    rw (name_back ms z differ.0 (and_parts (is_within (2 ^ 31) z) (has_number ms z) fit).1) refl
 tag_back (tag_enum ms) (flag b) differ fit = no fit
 tag_back (tag_enum ms) (octets bytes) differ fit = no fit
 tag_back (tag_enum ms) (items vs) differ fit = no fit
@@ -210,7 +210,7 @@ arm_back : (t : Types) (k : Kind) (tag arm : Datum) (o : Option Choice) (f : Kin
 arm_back t k tag arm None f fit go = no fit
 arm_back t k tag arm (Some c) f fit go = rw (go (arm_kind c) fit) refl
 
-union_back : (t : Types) (k : Kind) (h : Head) (d arm : Datum) (f : Kind → Bool) → head_of t k ≡ h → NamesDiffer h
+union_back : (t : Types) (k : Kind) (h : Head) (d arm : Datum) (f : Kind → Bool) → head_of t k ≡ h → HeadSound h
     → union_fits h d f ≡ true
     → ((e : Kind) → f e ≡ true → judged t (json_of t e arm) e ≡ Ok arm)
     → judged t (union_json h d (λ e. json_of t e arm)) k ≡ Ok (union d arm)
@@ -256,7 +256,7 @@ counted : (t : Types) (k : Kind) (vs : Data) → items_len (elements_json t k vs
 counted t k end = refl
 counted t k (more v vs) = ap suc (counted t k vs)
 
-list_back : (t : Types) (k : Kind) (h : Head) (vs : Data) → head_of t k ≡ h → NamesDiffer h
+list_back : (t : Types) (k : Kind) (h : Head) (vs : Data) → head_of t k ≡ h → HeadSound h
     → items_fit t h (λ ps. parts_fit t ps vs) (λ e. all_fit t e vs) (count vs) ≡ true
     → ((e : Kind) → all_fit t e vs ≡ true → elements_judged t (elements_json t e vs) e 0 ≡ Ok vs)
     → ((ps : List Part) (ms : json.Members) → parts_fit t ps vs ≡ true → HasAll t ps vs ms
@@ -279,29 +279,29 @@ list_back t k is_unknown vs is differ fit all parts = no fit
 
 mutual
   -- the JSON of a value is judged to be the value
-  pub value_back : (t : Types) → Forms t → (k : Kind) (d : Datum) → HasBytes d → does_fit t k d ≡ true
+  pub value_back : (t : Types) → Forms t → (k : Kind) (d : Datum) → OctetsAreBytes d → does_fit t k d ≡ true
       → judged t (json_of t k d) k ≡ Ok d
-  value_back t sound k (number z) held fit = number_back t k (head_of t k) z refl (names_differ t sound k) fit
+  value_back t sound k (number z) held fit = number_back t k (head_of t k) z refl (head_sound t sound k) fit
   value_back t sound k (flag b) held fit = flag_back t k (head_of t k) b refl fit
   value_back t sound k (octets bytes) held fit = octets_back t k (head_of t k) bytes refl held fit
   value_back t sound k (items vs) held fit =
-      list_back t k (head_of t k) vs refl (names_differ t sound k) fit (λ e f. elements_back t sound e vs 0 held f)
+      list_back t k (head_of t k) vs refl (head_sound t sound k) fit (λ e f. elements_back t sound e vs 0 held f)
       (λ ps ms f has. parts_back t sound ps vs ms held f has)
   value_back t sound k (union tag arm) held fit =
-      union_back t k (head_of t k) tag arm _ refl (names_differ t sound k) fit (λ e f. value_back t sound e arm held f)
+      union_back t k (head_of t k) tag arm _ refl (head_sound t sound k) fit (λ e f. value_back t sound e arm held f)
   value_back t sound k none held fit = none_back t k (head_of t k) refl fit
   value_back t sound k (some d) held fit =
       some_back t k (head_of t k) d _ refl fit (λ e f. value_back t sound e d held f)
   value_back t sound k nothing held fit = null_back t k (head_of t k) refl fit
 
-  elements_back : (t : Types) → Forms t → (k : Kind) (vs : Data) (i : ℕ) → AllHaveBytes vs → all_fit t k vs ≡ true
+  elements_back : (t : Types) → Forms t → (k : Kind) (vs : Data) (i : ℕ) → AllAreBytes vs → all_fit t k vs ≡ true
       → elements_judged t (elements_json t k vs) k i ≡ Ok vs
   elements_back t sound k end i held fit = refl
   elements_back t sound k (more v vs) i held fit =
       let both = and_parts (does_fit t k v) (all_fit t k vs) fit in
       rw (value_back t sound k v held.0 both.0, elements_back t sound k vs (i + 1) held.1 both.1) refl
 
-  parts_back : (t : Types) → Forms t → (ps : List Part) (vs : Data) (ms : json.Members) → AllHaveBytes vs
+  parts_back : (t : Types) → Forms t → (ps : List Part) (vs : Data) (ms : json.Members) → AllAreBytes vs
       → parts_fit t ps vs ≡ true → HasAll t ps vs ms → parts_judged ps (member_judge t ms) ≡ Ok vs
   parts_back t sound [] end ms held fit has = refl
   parts_back t sound [] (more v vs) ms held fit has = no fit

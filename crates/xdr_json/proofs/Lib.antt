@@ -6,3 +6,8 @@ pub mod Plain
 pub mod Fields
 pub mod Names
 pub mod Back
+pub mod Said
+pub mod ArgsSaid
+pub mod Heard
+pub mod Answered
+pub mod Printed

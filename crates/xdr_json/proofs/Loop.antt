@@ -17,7 +17,7 @@ use Rattle.xdr_json.specs.Answers.{Fails}
 abbrev pub with_front : Data → Judged Data → Judged Data
 with_front front r = r >>= λ ds. Ok (append front ds)
 
-regroup : (front : Data) (d : Datum) (r : Judged Data)
+pub regroup : (front : Data) (d : Datum) (r : Judged Data)
     → with_front front (r >>= λ ds. Ok (more d ds)) ≡ with_front (append front (more d end)) r
 regroup front d (Ok ds) = ap Ok (sym (append_more front d ds))
 regroup front d (Err m) = refl

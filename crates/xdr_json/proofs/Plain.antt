@@ -12,7 +12,7 @@ use Rattle.serde_json.specs.Written.{has_float, items_have_float, members_have_f
 use Rattle.xdr_value.specs.Data.{Kind, Part, Choice, Datum, number, flag, octets, items, union, none, some, nothing, Data, end, more, Types}
 use Rattle.xdr_value.specs.Heads.{Tag, tag_int, tag_uint, tag_bool, tag_enum, tag_other, Head, is_basic, is_enum, is_struct, is_union, is_array, is_array_up_to, is_maybe, is_unknown, head_of, arm_kind}
 use Rattle.xdr_value.specs.Fits.{depth, depths}
-use Rattle.xdr_json.specs.Json.{whole, number_json, is_text, text_or_hex, number_tag_json, tag_json, union_object, arm_json, union_json, items_json, maybe_json, json_of, members_json, elements_json}
+use Rattle.xdr_json.specs.Json.{integer_json, number_json, is_text, text_or_hex, number_tag_json, tag_json, union_object, arm_json, union_json, items_json, maybe_json, json_of, members_json, elements_json}
 
 -- no float, and at most n deep
 pub record Plain (n : ℕ) (j : Json) : Type 0 where
@@ -36,7 +36,7 @@ string_plain n s = record { whole = refl; shallow = omega arith }
 null_plain : (n : ℕ) → Plain n json.null
 null_plain n = record { whole = refl; shallow = omega arith }
 
-whole_plain : (n : ℕ) (z : ℤ) → Plain n (whole z)
+whole_plain : (n : ℕ) (z : ℤ) → Plain n (integer_json z)
 whole_plain n (pos m) = record { whole = refl; shallow = omega arith }
 whole_plain n (negsuc m) = record { whole = refl; shallow = omega arith }
 

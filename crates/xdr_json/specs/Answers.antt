@@ -13,6 +13,7 @@ use Rattle.xdr_json.specs.declared.fault.JsonFault.TheVariants as faults
 use Rattle.xdr_json.specs.Judged.{Judged, Misfit, below}
 use Rattle.xdr_json.specs.Judging.{judged}
 
+-- the place, as the code has it
 abbrev pub misfit_of : CodeMisfit → Misfit
 misfit_of m = record { path = string_bytes m.path; want = string_bytes m.want }
 
@@ -21,6 +22,7 @@ abbrev pub Fails : {Y : Type 0} → Stop → Judged Y → Type 0
 Fails stops.Memory r = Unit {0}
 Fails (stops.Misfit m) r = r ≡ Err (misfit_of m)
 
+-- what a function gave, or why it gave nothing
 abbrev pub Gives : {X Y : Type 0} → (X → Y) → Result X Stop → Judged Y → Type 0
 Gives view (Ok x) r = r ≡ Ok (view x)
 Gives view (Err e) r = Fails e r
@@ -36,3 +38,10 @@ IsJudged t k text (Err faults.NotJson) = read text ≡ None
 IsJudged t k text (Err (faults.Mismatch path want)) =
     value_in t k text ≡ Some (Err (record { path = string_bytes path; want = string_bytes want }))
 IsJudged t k text (Err faults.OutOfMemory) = Unit {0}
+
+-- the answer is this value, unless memory ran out
+abbrev pub IsValue : Datum → Result Value JsonFault → Type 0
+IsValue d (Ok v) = value_of v ≡ d
+IsValue d (Err faults.NotJson) = ⊥
+IsValue d (Err (faults.Mismatch path want)) = ⊥
+IsValue d (Err faults.OutOfMemory) = Unit {0}

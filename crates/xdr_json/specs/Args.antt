@@ -54,3 +54,10 @@ AreArgs t ps text (Err faults.NotJson) = read text ≡ None
 AreArgs t ps text (Err (faults.Mismatch path want)) =
     args_in t ps text ≡ Some (Err (record { path = string_bytes path; want = string_bytes want }))
 AreArgs t ps text (Err faults.OutOfMemory) = Unit {0}
+
+-- the answer is these values, unless memory ran out
+abbrev pub IsValues : Data → Result (Vec Value Global) JsonFault → Type 0
+IsValues ds (Ok vs) = values_of vs.items ≡ ds
+IsValues ds (Err faults.NotJson) = ⊥
+IsValues ds (Err (faults.Mismatch path want)) = ⊥
+IsValues ds (Err faults.OutOfMemory) = Unit {0}

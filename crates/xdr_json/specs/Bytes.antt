@@ -4,16 +4,18 @@ use Rattle.hex.specs.Hex.{IsBytes}
 use Rattle.xdr_value.specs.Data.{Datum, number, flag, octets, items, union, none, some, nothing, Data, end, more}
 
 abbrev mutual
-  pub HasBytes : Datum → Type 0
-  HasBytes (number z) = Unit {0}
-  HasBytes (flag b) = Unit {0}
-  HasBytes (octets bytes) = IsBytes bytes
-  HasBytes (items vs) = AllHaveBytes vs
-  HasBytes (union tag arm) = HasBytes arm
-  HasBytes none = Unit {0}
-  HasBytes (some d) = HasBytes d
-  HasBytes nothing = Unit {0}
+  -- each octet of the value is a byte
+  pub OctetsAreBytes : Datum → Type 0
+  OctetsAreBytes (number z) = Unit {0}
+  OctetsAreBytes (flag b) = Unit {0}
+  OctetsAreBytes (octets bytes) = IsBytes bytes
+  OctetsAreBytes (items vs) = AllAreBytes vs
+  OctetsAreBytes (union tag arm) = OctetsAreBytes arm
+  OctetsAreBytes none = Unit {0}
+  OctetsAreBytes (some d) = OctetsAreBytes d
+  OctetsAreBytes nothing = Unit {0}
 
-  pub AllHaveBytes : Data → Type 0
-  AllHaveBytes end = Unit {0}
-  AllHaveBytes (more d ds) = HasBytes d × AllHaveBytes ds
+  -- the same of several values
+  pub AllAreBytes : Data → Type 0
+  AllAreBytes end = Unit {0}
+  AllAreBytes (more d ds) = OctetsAreBytes d × AllAreBytes ds

@@ -8,10 +8,12 @@ pub record Misfit : Type 0 where
   pub path : List ℕ
   pub want : List ℕ
 
+-- what JSON was judged to be, or the first place that doesn't fit
 abbrev pub Judged : Type 0 → Type 0
 Judged A = Result A Misfit
 
 infixl 10 ◌>>=◌
+-- what is judged next, where the first fitted
 abbrev pub ◌>>=◌ : {A B : Type 0} → Judged A → (A → Judged B) → Judged B
 (Ok x) >>= f = f x
 (Err m) >>= f = Err m

@@ -28,16 +28,19 @@ abbrev pub member_number : List (List ℕ × ℤ) → List ℕ → Option ℤ
 member_number [] name = None
 member_number (m ∷ ms) name = if bytes_eq m.0 name then Some m.1 else member_number ms name
 
+-- the value of the number, where there is one
 abbrev pub as_number : Option ℤ → Option Datum
 as_number None = None
 as_number (Some z) = Some (number z)
 
 -- ---- what has no parts
 
+-- what null is: void
 abbrev pub null_value : Head → Option Datum
 null_value (is_basic basics.Void) = Some nothing
 null_value _ = None
 
+-- what true or false is: a bool
 abbrev pub bool_value : Head → Bool → Option Datum
 bool_value (is_basic basics.Bool) b = Some (flag b)
 bool_value _ b = None
@@ -51,6 +54,7 @@ whole_value _ _ = None
 abbrev pub octets_value : Head → List ℕ → Option Datum
 octets_value head bytes = if octets_fit head (length bytes) then Some (octets bytes) else None
 
+-- the octets that hex is, where it is hex
 abbrev pub hex_value : Head → Result (List ℕ) FromHexError → Option Datum
 hex_value head (Ok bytes) = octets_value head bytes
 hex_value head (Err e) = None
@@ -87,33 +91,38 @@ tag_kind_within (suc n) t (named s) = tag_kind_of (named s) (tag_kind_within n t
 unfoldable pub tag_kind : Types → Kind → Kind
 tag_kind t k = tag_kind_within (length t) t k
 
+-- the number, where it is in range
 abbrev pub in_range : Bool → ℤ → Option Datum
 in_range b z = if b then Some (number z) else None
 
+-- the tag that a whole number is
 abbrev pub whole_tag : Tag → Option ℤ → Option Datum
 whole_tag tag_int (Some z) = in_range (is_within (2 ^ 31) z) z
 whole_tag tag_uint (Some z) = in_range (is_below (2 ^ 32) z) z
 whole_tag _ _ = None
 
+-- the tag that a name is
 abbrev pub name_tag : Tag → List ℕ → Option Datum
 name_tag (tag_enum ms) s = as_number (member_number ms s)
 name_tag _ s = None
 
+-- the tag that true or false is
 abbrev pub bool_tag : Tag → Bool → Option Datum
 bool_tag tag_bool b = Some (flag b)
 bool_tag _ b = None
 
 -- the value of the tag's type that JSON is
-abbrev pub tag_value : Tag → Json → Option Datum
-tag_value tag (json.number n) = whole_tag tag (as_integer n)
-tag_value tag (json.string s) = name_tag tag s
-tag_value tag (json.boolean b) = bool_tag tag b
-tag_value tag json.null = None
-tag_value tag (json.array js) = None
-tag_value tag (json.object ms) = None
+abbrev pub tag_of_json : Tag → Json → Option Datum
+tag_of_json tag (json.number n) = whole_tag tag (as_integer n)
+tag_of_json tag (json.string s) = name_tag tag s
+tag_of_json tag (json.boolean b) = bool_tag tag b
+tag_of_json tag json.null = None
+tag_of_json tag (json.array js) = None
+tag_of_json tag (json.object ms) = None
 
 -- ---- objects
 
+-- each field is a member
 abbrev pub all_there : List Part → Members → Bool
 all_there [] ms = true
 all_there (p ∷ ps) ms = is_some (get_member p.name ms) && all_there ps ms
@@ -122,6 +131,7 @@ all_there (p ∷ ps) ms = is_some (get_member p.name ms) && all_there ps ms
 abbrev pub has_fields : List Part → Members → Bool
 has_fields ps ms = (members_len ms == length ps) && all_there ps ms
 
+-- the octets of a string of hex
 abbrev pub hex_string : Head → Option Json → Option Datum
 hex_string head (Some (json.string s)) = hex_value head (decode_of s)
 hex_string head _ = None
@@ -134,6 +144,7 @@ hex_form head ms = if members_len ms == 1 then hex_string head (get_member (code
 abbrev pub Judge : Type 0
 Judge = Kind → Judged Datum
 
+-- what the member is judged to be, which doesn't fit where it isn't there
 abbrev pub asked : Option Judge → Judge
 asked None k = misfit k
 asked (Some judge) k = judge k
@@ -150,9 +161,10 @@ arm_judged k tag None value = misfit k
 arm_judged k tag (Some c) value =
     below (field_step (codes "value")) (asked value (arm_kind c)) >>= λ d. Ok (union tag d)
 
+-- the tag that the member `case` is
 abbrev pub tag_found : Tag → Option Json → Option Datum
 tag_found tag None = None
-tag_found tag (Some j) = tag_value tag j
+tag_found tag (Some j) = tag_of_json tag j
 
 -- the tag before the arm
 abbrev pub chosen_judged : Types → Kind → List Choice → Option Datum → Option Judge → Judged Datum
@@ -164,6 +176,7 @@ abbrev pub has_union : Members → Bool
 has_union ms =
     (members_len ms == 2) && (is_some (get_member (codes "case") ms) && is_some (get_member (codes "value") ms))
 
+-- what an object is: a struct, a union, or a string in hex
 abbrev pub object_judged : Types → Kind → Head → Members → (List ℕ → Option Judge) → Judged Datum
 object_judged t k (is_struct ps) ms found =
     if has_fields ps ms then (parts_judged ps found >>= λ ds. Ok (items ds)) else misfit k
@@ -175,6 +188,7 @@ object_judged t k _ ms found = misfit k
 
 -- ---- arrays
 
+-- a list, where its length fits
 abbrev pub list_judged : Bool → Kind → Judged Data → Judged Datum
 list_judged fits k elements = if fits then (elements >>= λ ds. Ok (items ds)) else misfit k
 
@@ -184,6 +198,7 @@ optional_judged k zero first = Ok none
 optional_judged k (suc zero) first = first >>= λ d. Ok (some d)
 optional_judged k (suc (suc n)) first = misfit k
 
+-- what an array is: an array, or optional data
 abbrev pub array_judged : Types → Kind → Head → ℕ → (Kind → Judged Data) → Judge → Judged Datum
 array_judged t k (is_array e m) n elements first = list_judged (n == m) k (elements e)
 array_judged t k (is_array_up_to e m) n elements first =
@@ -208,6 +223,7 @@ abbrev mutual
   elements_judged t (json.item j js) k i =
       below (index_step i) (judged t j k) >>= λ d. elements_judged t js k (i + 1) >>= λ ds. Ok (more d ds)
 
+  -- the one element of optional data
   pub first_judged : Types → Items → Judge
   first_judged t json.no_items k = misfit k
   first_judged t (json.item j js) k = below (index_step 0) (judged t j k)

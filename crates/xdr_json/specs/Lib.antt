@@ -5,3 +5,4 @@ pub mod Judging
 pub mod Answers
 pub mod Bytes
 pub mod Args
+pub mod Says

@@ -8,6 +8,7 @@ use Rattle.xdr_value.specs.Data.{Kind, basic, array, array_up_to, maybe, named}
 abbrev pub bracketed : List ℕ → ℕ → List ℕ → List ℕ
 bracketed open_by n closed_by = open_by ++ (decimal n ++ closed_by)
 
+-- a type without parts as an interface writes it
 abbrev pub basic_text : Basic → List ℕ
 basic_text basics.Int = codes "int"
 basic_text basics.Uint = codes "uint"

@@ -7,19 +7,20 @@ ghost use Rattle.xdr_value.specs.Data.{Data};
 ghost use Rattle.xdr_value.specs.Tests.{params_known};
 ghost use Rattle.xdr_value.specs.View.{types_of, values_of, param_of};
 ghost use Rattle.xdr_json.specs.Answers.{Fails, Gives};
-ghost use Rattle.xdr_json.specs.Args.{AreArgs, args_judged, array_of_args, comes_in, in_kinds, no_args};
+ghost use Rattle.xdr_json.specs.Args.{AreArgs, IsValues, args_judged, array_of_args, comes_in, in_kinds, no_args};
 ghost use Rattle.xdr_json.specs.Judged.{below};
-ghost use Rattle.std.specs.Prelude.{codes};
+ghost use Rattle.std.specs.Prelude.{codes, IfOk};
+ghost use Rattle.xdr_json.specs.Says.{EachFits, TextSaysArgs};
 
 use crate::fault::{JsonFault, Misfit, Stop, below_root};
-use crate::judging::{above_index, judge};
+use crate::judging::{MAX_NESTING, above_index, judge};
 use crate::objects::array_len;
 use serde_json::Value as Json;
 use std::alloc::Global;
 use xdr_value::{Arg, Def, Interface, Mode, Value};
 
 /// How deep the elements of an array may nest in JSON that is read.
-const ELEMENT_NESTING: u32 = 126;
+const ELEMENT_NESTING: u32 = MAX_NESTING - 1;
 
 fn comes_in(mode: Mode) -> bool
     ensures { result ≡ comes_in mode }
@@ -118,6 +119,25 @@ pub fn args_from_json(
 ) -> Result<Vec<Value>, JsonFault>
     requires { IsTrue (params_known (types_of iface.now.types.items) (map param_of args.now)) }
     ensures exact { AreArgs (types_of iface.now.types.items) (map param_of args.now) text.now result }
+    // Each value is one of its argument's type, and the text says them, by the format alone.
+    ensures fits { IfOk result (λ vs. EachFits (types_of iface.now.types.items) (in_kinds (map param_of args.now))
+        (values_of vs.items)) }
+    ensures says { IfOk result (λ vs. TextSaysArgs (types_of iface.now.types.items) (map param_of args.now) text.now
+        (values_of vs.items)) }
+    // Values that the text says and that fit are read, unless memory runs out.
+    ensures only { (ds : Data) → EachFits (types_of iface.now.types.items) (in_kinds (map param_of args.now)) ds
+        → TextSaysArgs (types_of iface.now.types.items) (map param_of args.now) text.now ds → IsValues ds result }
+{
+    read_args(alloc, &iface.types, args, text)
+}
+
+fn read_args(
+    alloc: Global,
+    types: &[Def],
+    args: &[Arg],
+    text: &str,
+) -> Result<Vec<Value>, JsonFault>
+    ensures { AreArgs (types_of types.now) (map param_of args.now) text.now result }
 {
     match Json::from_str(alloc, text) {
         Err(e) => Err(if e.is_memory() {
@@ -125,7 +145,7 @@ pub fn args_from_json(
         } else {
             JsonFault::NotJson
         }),
-        Ok(json) => match whole_values(alloc, &iface.types, args, &json) {
+        Ok(json) => match whole_values(alloc, types, args, &json) {
             Ok(values) => Ok(values),
             Err(stop) => match stop {
                 Stop::Memory => Err(JsonFault::OutOfMemory),

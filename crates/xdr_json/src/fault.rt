@@ -11,28 +11,32 @@ ghost use Rattle.xdr_json.specs.declared.fault.Stop.TheVariants.{Memory};
 
 use crate::type_name::write_type;
 use std::alloc::{AllocError, AllocFailed, Global};
+use thiserror::Error;
 use xdr_value::Ty;
 
 /// Why a text is no value of a type.
-#[derive(Drop)]
+#[derive(Debug, Drop, Error)]
 pub enum JsonFault {
     /// It is no JSON, or has a number that no float holds, or nests more than 127 deep.
+    #[error("no JSON")]
     NotJson,
     /// The JSON at the path is no value of the type `want`, the first one from the outside in and
     /// in the order of the type. `$` is the whole, `.FIELD` and `[INDEX]` are parts.
+    #[error("at {path} no {want}")]
     Mismatch { path: String, want: String },
+    #[error("out of memory")]
     OutOfMemory,
 }
 
 /// A place that doesn't fit: the steps to it, and the type that is wanted there.
-#[derive(Drop)]
+#[derive(Debug, Drop)]
 pub struct Misfit {
     pub path: String,
     pub want: String,
 }
 
 /// Why a judging gave nothing.
-#[derive(Drop)]
+#[derive(Debug, Drop)]
 pub enum Stop {
     Memory,
     Misfit(Misfit),
@@ -78,9 +82,9 @@ pub fn unfit(alloc: Global, ty: &Ty) -> Stop
 fn joined(alloc: Global, step: &str, path: &str) -> Result<String, AllocError>
     ensures { IfOk result (λ s. string_bytes s ≡ step.now ++ path.now) }
 {
-    let mut whole = String::from_str(alloc, step)?;
-    whole.push_str(path)?;
-    Ok(whole)
+    let mut both = String::from_str(alloc, step)?;
+    both.push_str(path)?;
+    Ok(both)
 }
 
 /// What stops one step up.

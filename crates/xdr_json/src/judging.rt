@@ -1,6 +1,6 @@
 //! Reading values from JSON.
 
-ghost use Rattle.std.specs.Prelude.{◌≡◌, ◌≤◌, ℕ, List, Option, codes, map, option_map, IsTrue};
+ghost use Rattle.std.specs.Prelude.{◌≡◌, ◌≤◌, ℕ, List, Option, codes, map, option_map, IfOk, IsTrue};
 ghost use Rattle.xdr_value.specs.Data.{Datum, Types};
 ghost use Rattle.serde_json.specs.Data.{depth as nesting, items_depth, members_depth};
 ghost use Rattle.serde_json.specs.Events.{items_len};
@@ -10,15 +10,16 @@ ghost use Rattle.xdr_value.specs.View.{kind_of, types_of, value_of, values_of, p
 ghost use Rattle.xdr_value.specs.HeadView.{head_view, tag_view};
 ghost use Rattle.xdr_value.specs.Heads.{arm_of, is_basic};
 ghost use Rattle.xdr_value.specs.Tests.{is_known};
-ghost use Rattle.xdr_value.specs.Fits.{tag_number};
+ghost use Rattle.xdr_value.specs.Fits.{Fits, tag_number};
 ghost use Rattle.xdr_json.specs.Judged.{Judged, below, field_step, index_step};
 ghost use Rattle.xdr_json.specs.Judging.{Judge, or_misfit, asked, parts_judged, arm_judged, tag_found, chosen_judged};
 ghost use Rattle.xdr_json.specs.Judging.{object_judged, list_judged, optional_judged, array_judged, judged};
 ghost use Rattle.xdr_json.specs.Judging.{elements_judged, first_judged, member_judge};
-ghost use Rattle.xdr_json.specs.Answers.{Gives, IsJudged};
+ghost use Rattle.xdr_json.specs.Answers.{Gives, IsJudged, IsValue};
+ghost use Rattle.xdr_json.specs.Says.{TextSays};
 
 use crate::fault::{JsonFault, Misfit, Stop, below, below_field, below_index, unfit};
-use crate::leaves::{bool_value, null_value, string_value, tag_value, whole_value};
+use crate::leaves::{bool_value, null_value, string_value, tag_of_json, whole_value};
 use crate::objects::{array_len, has_fields, has_union, hex_form, member, tag_type};
 use serde_json::{Map, Value as Json};
 use std::alloc::Global;
@@ -28,7 +29,7 @@ use xdr_value::{
 };
 
 /// How deep arrays and objects may nest in JSON that is read.
-const MAX_NESTING: u32 = 127;
+pub const MAX_NESTING: u32 = 127;
 
 fn or_misfit(alloc: Global, ty: &Ty, value: Option<Value>) -> Result<Value, Stop>
     ensures { Gives value_of result (or_misfit (kind_of ty.now) (option_map value_of value)) }
@@ -285,7 +286,7 @@ fn judge_tag(tag: Tag<'_>, members: &Map<String, Json>) -> Option<Value>
 {
     match member(members, "case") {
         None => None,
-        Some(json) => tag_value(tag, json),
+        Some(json) => tag_of_json(tag, json),
     }
 }
 
@@ -353,6 +354,18 @@ fn judge_whole(alloc: Global, types: &[Def], json: &Json, ty: &Ty) -> Result<Val
 pub fn from_json(alloc: Global, iface: &Interface, ty: &Ty, text: &str) -> Result<Value, JsonFault>
     requires { IsTrue (is_known (types_of iface.now.types.items) (kind_of ty.now)) }
     ensures exact { IsJudged (types_of iface.now.types.items) (kind_of ty.now) text.now result }
+    // What is read is a value of the type, and the text says it, by the format alone.
+    ensures fits { IfOk result (λ v. Fits (types_of iface.now.types.items) (kind_of ty.now) (value_of v)) }
+    ensures says { IfOk result (λ v. TextSays (types_of iface.now.types.items) (kind_of ty.now) text.now (value_of v)) }
+    // A value that the text says and that fits is read, unless memory runs out.
+    ensures only { (d : Datum) → Fits (types_of iface.now.types.items) (kind_of ty.now) d
+        → TextSays (types_of iface.now.types.items) (kind_of ty.now) text.now d → IsValue d result }
+{
+    read_text(alloc, &iface.types, ty, text)
+}
+
+fn read_text(alloc: Global, types: &[Def], ty: &Ty, text: &str) -> Result<Value, JsonFault>
+    ensures { IsJudged (types_of types.now) (kind_of ty.now) text.now result }
 {
     match Json::from_str(alloc, text) {
         Err(e) => Err(if e.is_memory() {
@@ -360,7 +373,7 @@ pub fn from_json(alloc: Global, iface: &Interface, ty: &Ty, text: &str) -> Resul
         } else {
             JsonFault::NotJson
         }),
-        Ok(json) => match judge_whole(alloc, &iface.types, &json, ty) {
+        Ok(json) => match judge_whole(alloc, types, &json, ty) {
             Ok(value) => Ok(value),
             Err(stop) => match stop {
                 Stop::Memory => Err(JsonFault::OutOfMemory),

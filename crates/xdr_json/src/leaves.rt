@@ -8,7 +8,7 @@ ghost use Rattle.xdr_value.specs.View.{value_of, member_of};
 ghost use Rattle.xdr_value.specs.Heads.{is_basic};
 ghost use Rattle.xdr_value.specs.HeadView.{head_view, tag_view};
 ghost use Rattle.xdr_json.specs.Judging.{null_value, bool_value, whole_value, member_number, hex_value, string_value};
-ghost use Rattle.xdr_json.specs.Judging.{octets_value, tag_value, whole_tag, name_tag, bool_tag, in_range, as_number};
+ghost use Rattle.xdr_json.specs.Judging.{octets_value, tag_of_json, whole_tag, name_tag, bool_tag, in_range, as_number};
 
 use hex::FromHexError;
 use serde_json::Value as Json;
@@ -171,8 +171,8 @@ fn bool_tag(tag: Tag<'_>, b: bool) -> Option<Value>
 }
 
 /// The value of the tag's type that JSON is.
-pub fn tag_value(tag: Tag<'_>, json: &Json) -> Option<Value>
-    ensures { option_map value_of result ≡ tag_value (tag_view tag.entry) (view json.now) }
+pub fn tag_of_json(tag: Tag<'_>, json: &Json) -> Option<Value>
+    ensures { option_map value_of result ≡ tag_of_json (tag_view tag.entry) (view json.now) }
 {
     match json {
         Json::Bool(b) => bool_tag(tag, *b),

@@ -13,18 +13,17 @@ ghost use Rattle.xdr_value.specs.Heads.{arm_of, arm_kind};
 ghost use Rattle.xdr_value.specs.Fits.{Fits, PartsFit, AllFit, NumberFits, OctetsFit, TagFits, ArmFits, tag_number};
 ghost use Rattle.xdr_value.specs.Fits.{depth};
 ghost use Rattle.xdr_json.specs.Answers.{value_in};
-ghost use Rattle.xdr_json.specs.Bytes.{HasBytes, AllHaveBytes};
-ghost use Rattle.xdr_json.specs.Json.{IsWhole, whole, member_name, number_json, hex_object, text_or_hex, octets_json};
+ghost use Rattle.xdr_json.specs.Bytes.{OctetsAreBytes, AllAreBytes};
+ghost use Rattle.xdr_json.specs.Says.{TextSays};
+ghost use Rattle.xdr_json.specs.Json.{FitsInteger, integer_json, member_name, number_json, hex_object, text_or_hex, octets_json};
 ghost use Rattle.xdr_json.specs.Json.{tag_json, union_object, arm_json, json_of, members_json, elements_json};
 
 use serde_json::{Map, Value as Json};
 use std::alloc::{AllocError, Global};
 use xdr_value::{
-    Arm, Basic, Def, Field, Head, Interface, Member, Tag, Ty, Value, arm_of, resolve, tag_number,
+    Arm, Basic, Def, Field, Head, Interface, MAX_LEVELS, Member, Tag, Ty, Value, arm_of, resolve,
+    tag_number,
 };
-
-/// How many structs, unions, arrays and optional data may stand within one another.
-const MAX_LEVELS: u32 = 64;
 
 fn member_name(members: &Vec<Member>, number: i128) -> &str
     ensures { result.now ≡ member_name (map member_of members.now.items) number }
@@ -37,9 +36,9 @@ fn member_name(members: &Vec<Member>, number: i128) -> &str
     ""
 }
 
-fn whole(n: i128) -> Json
-    requires { IsWhole n }
-    ensures { view result ≡ whole n }
+fn integer_json(n: i128) -> Json
+    requires { FitsInteger n }
+    ensures { view result ≡ integer_json n }
 {
     if n < 0 {
         Json::from(n as i64)
@@ -55,8 +54,8 @@ fn number_json(alloc: Global, head: Head<'_>, n: i128) -> Result<Json, AllocErro
     match head {
         Head::Enum(members) => Json::try_from_str(alloc, member_name(members, n)),
         Head::Basic(basic) => match basic {
-            Basic::Int | Basic::Uint | Basic::Hyper | Basic::Uhyper => Ok(whole(n)),
-            Basic::Short | Basic::Ushort | Basic::Char | Basic::Uchar => Ok(whole(n)),
+            Basic::Int | Basic::Uint | Basic::Hyper | Basic::Uhyper => Ok(integer_json(n)),
+            Basic::Short | Basic::Ushort | Basic::Char | Basic::Uchar => Ok(integer_json(n)),
             Basic::Bool | Basic::Void => Ok(Json::Null),
             Basic::Opaque(_) | Basic::OpaqueUpTo(_) | Basic::Text(_) => Ok(Json::Null),
         },
@@ -114,7 +113,7 @@ fn tag_json(alloc: Global, tag: Tag<'_>, value: &Value) -> Result<Json, AllocErr
     match value {
         Value::Number(n) => match tag {
             Tag::Enum(members) => Json::try_from_str(alloc, member_name(members, *n)),
-            Tag::Int | Tag::Uint => Ok(whole(*n)),
+            Tag::Int | Tag::Uint => Ok(integer_json(*n)),
             Tag::Bool | Tag::Other => Ok(Json::Null),
         },
         Value::Flag(b) => Ok(Json::Bool(*b)),
@@ -137,7 +136,7 @@ fn union_object(alloc: Global, tag: Json, arm: Json) -> Result<Json, AllocError>
 fn value_json(v: &Value, alloc: Global, types: &[Def], ty: &Ty) -> Result<Json, AllocError>
     requires { Fits (types_of types.now) (kind_of ty.now) (value_of v.now) }
     ensures json { IfOk result (λ j. view j ≡ json_of (types_of types.now) (kind_of ty.now) (value_of v.now)) }
-    ensures held { OnOk result (HasBytes (value_of v.now)) }
+    ensures held { OnOk result (OctetsAreBytes (value_of v.now)) }
 {
     match v {
         Value::Number(n) => number_json(alloc, resolve(types, ty), *n),
@@ -195,7 +194,7 @@ fn union_json(
     ensures json { IfOk result (λ j. view j ≡ union_object (tag_json (tag_view tag.entry) (value_of chosen.now))
         (arm_json (arm_of (tag_number (value_of chosen.now)) (map choice_of arms.now.items))
         (λ k. json_of (types_of types.now) k (value_of inner.now)))) }
-    ensures held { OnOk result (HasBytes (value_of inner.now)) }
+    ensures held { OnOk result (OctetsAreBytes (value_of inner.now)) }
 {
     let case = tag_json(alloc, tag, chosen)?;
     let value = match arm_of(arms, tag_number(chosen)) {
@@ -210,7 +209,7 @@ fn chosen_json(inner: &Value, alloc: Global, types: &[Def], arm: &Arm) -> Result
     requires { Fits (types_of types.now) (arm_kind (choice_of arm.now)) (value_of inner.now) }
     ensures json { IfOk result (λ j. view j
         ≡ json_of (types_of types.now) (arm_kind (choice_of arm.now)) (value_of inner.now)) }
-    ensures held { OnOk result (HasBytes (value_of inner.now)) }
+    ensures held { OnOk result (OctetsAreBytes (value_of inner.now)) }
 {
     match &arm.field {
         None => value_json(inner, alloc, types, &Ty::Void),
@@ -228,7 +227,7 @@ fn members_json(
     requires { PartsFit (types_of types.now) (map part_of fields.now.items) (values_of items.now.items) }
     ensures json { IfOk result (λ m. members_view m.entries
         ≡ members_json (types_of types.now) (map part_of fields.now.items) (values_of items.now.items) no_members) }
-    ensures held { OnOk result (AllHaveBytes (values_of items.now.items)) }
+    ensures held { OnOk result (AllAreBytes (values_of items.now.items)) }
 {
     let mut members = Map::new(alloc);
     for i in 0..items.len() {
@@ -248,7 +247,7 @@ fn elements_json(
     requires { AllFit (types_of types.now) (kind_of of.now) (values_of items.now.items) }
     ensures json { IfOk result (λ js. items_view js.items
         ≡ elements_json (types_of types.now) (kind_of of.now) (values_of items.now.items)) }
-    ensures held { OnOk result (AllHaveBytes (values_of items.now.items)) }
+    ensures held { OnOk result (AllAreBytes (values_of items.now.items)) }
 {
     let mut elements = Vec::new(alloc);
     for item in items {
@@ -269,6 +268,8 @@ pub fn to_json(alloc: Global, iface: &Interface, ty: &Ty, v: &Value) -> Result<S
         ≡ Some (json_of (types_of iface.now.types.items) (kind_of ty.now) (value_of v.now))) }
     ensures back { IfOk result (λ s. value_in (types_of iface.now.types.items) (kind_of ty.now) (string_bytes s)
         ≡ Some (Ok (value_of v.now))) }
+    ensures says { IfOk result (λ s. TextSays (types_of iface.now.types.items) (kind_of ty.now) (string_bytes s)
+        (value_of v.now)) }
 {
     let json = value_json(v, alloc, &iface.types, ty)?;
     json.to_string(alloc)

@@ -1,3 +1,5 @@
+//! Values and their JSON, by example.
+
 mod args;
 mod forms;
 mod misfits;

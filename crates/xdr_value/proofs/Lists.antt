@@ -1,8 +1,8 @@
 -- Lists of values, one after the other.
-use Rattle.std.proofs.Common.{◌≡◌, ℕ, zero, suc, ◌+◌, ◌<◌, List, [], ◌∷◌, ◌++◌, map, take, get_or, length, refl, sym, ap, ◌∙◌, arith}
+use Rattle.std.proofs.Common.{◌≡◌, ℕ, zero, suc, ◌+◌, ◌<◌, List, [], ◌∷◌, ◌++◌, map, take, drop, get_or, length, refl, sym, ap, ◌∙◌, arith}
 use Rattle.std.proofs.Common.{Bool, true, false, ◌&&◌, eqb, leb, ltb, ◌^◌}
 use Rattle.std.proofs.lemmas.Bool.{and_right}
-use Rattle.std.proofs.lemmas.List.{take_more, map-append}
+use Rattle.std.proofs.lemmas.List.{take_more, drop_more, map-append}
 use Rattle.xdr_value.specs.Data.{Kind, Part, Datum, Data, items, end, more, Types}
 use Rattle.xdr_value.specs.Heads.{is_array, is_array_up_to, head_of}
 use Rattle.xdr_value.specs.Hollow.{list_limit}
@@ -12,6 +12,11 @@ use Rattle.xdr_value.specs.View.{value_of, values_of, part_of, kind_of}
 use Rattle.xdr_value.specs.Zero.{copies, kind_zero, parts_zero}
 use Rattle.xdr_value.specs.declared.value.Value.{Value}
 use Rattle.xdr_value.specs.declared.def.Field.{Field}
+
+-- what is met at a place is the first of those that are left
+pub in_left : {X : Type 0} (xs : List X) (i : ℕ) (x : X) → i < length xs → x ≡ get_or xs i x
+    → drop i xs ≡ x ∷ drop (i + 1) xs
+in_left {X} xs i x lt is = drop_more xs i x lt ∙ ap (λ (y : X). y ∷ drop (i + 1) xs) (sym is)
 
 -- the values of both lists
 abbrev pub append : Data → Data → Data

@@ -223,7 +223,8 @@ static OTHERS: [(&str, &str); 57] = [
     ("server 10.0.0.1:7000 nonce=1 key=aa", "1 number"),
     ("server 10.0.0.1:7000 key=aa nonce=x", "1 number"),
     (
-        "server 10.0.0.1:7000 nonce=18446744073709551616 key=aaaaaaaaaaaaaaaaaaaaaaaaaaaaaaaaaaaaaaaaaaaaaaaaaaaaaaaaaaaaaaaa",
+        "server 10.0.0.1:7000 nonce=18446744073709551616 \
+            key=aaaaaaaaaaaaaaaaaaaaaaaaaaaaaaaaaaaaaaaaaaaaaaaaaaaaaaaaaaaaaaaa",
         "1 number",
     ),
     // options twice: a value that is none comes first

@@ -1,3 +1,5 @@
+//! Requests and replies at their greatest size and depth.
+
 use super::afs::{LINK, STORE, interface};
 use super::told::{Told, answer, answered, asked, receive, send, written};
 use super::values::{chain, chain_bytes, stored, zeros_behind};

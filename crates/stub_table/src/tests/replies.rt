@@ -1,3 +1,5 @@
+//! Replies, by example.
+
 use super::afs::{FETCH_DATA, FETCH_STATUS, interface};
 use super::told::{Told, answer, answered, written};
 use super::values::{STATUS_REPLY, bytes_of, status_args, status_values};

@@ -1,3 +1,5 @@
+//! Requests, by example.
+
 use super::afs::{FETCH_DATA, FETCH_STATUS, LAST, LINK, interface};
 use super::told::{Told, asked, send, written};
 use super::values::{STATUS_REQUEST, bytes_of, fid, status_args};

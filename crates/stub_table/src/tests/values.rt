@@ -8,31 +8,18 @@ pub const STATUS_REQUEST: &str = "00000084 00000001 00000002 00000003 00000001 6
 
 pub const STATUS_REPLY: &str = "000001a4 00000001 00000001 00000002 00000003";
 
-fn digit(c: u8) -> u8 {
-    match c {
-        b'0'..=b'9' => c - b'0',
-        b'a'..=b'f' => c - b'a' + 10,
-        _ => 0,
-    }
-}
-
 // The bytes of a text of hex digits, whose spaces count for nothing.
-pub fn bytes_of(alloc: Global, hex: &str) -> Result<Vec<u8>, AllocError> {
-    let mut bytes = Vec::new(alloc);
-    let mut high = None;
-    for c in hex.as_bytes() {
-        if *c == b' ' {
-            continue;
-        }
-        match high {
-            None => high = Some(digit(*c)),
-            Some(first) => {
-                bytes.push(first << 4 | digit(*c))?;
-                high = None;
-            }
+pub fn bytes_of(alloc: Global, text: &str) -> Result<Vec<u8>, AllocError> {
+    let mut digits = Vec::new(alloc);
+    for c in text.as_bytes() {
+        if *c != b' ' {
+            digits.push(*c)?;
         }
     }
-    Ok(bytes)
+    match hex::decode(alloc, digits.as_slice()) {
+        Ok(bytes) => Ok(bytes),
+        Err(_) => Err(AllocError),
+    }
 }
 
 // n zero bytes behind those of a text.

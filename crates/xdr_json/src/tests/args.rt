@@ -1,3 +1,5 @@
+//! Arguments as one JSON array.
+
 ghost use Rattle.std.specs.Prelude.{◌≡◌, map};
 ghost use Rattle.xdr_value.specs.Tests.{params_known};
 ghost use Rattle.xdr_value.specs.View.{types_of, param_of};

@@ -1,3 +1,5 @@
+//! Each type as JSON, both ways.
+
 use super::told::{again, check, printed, value_in};
 use std::alloc::{AllocError, Global};
 use std::process::Abort;

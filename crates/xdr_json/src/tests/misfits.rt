@@ -1,3 +1,5 @@
+//! Places that don't fit.
+
 use super::told::check;
 use std::alloc::AllocError;
 use std::process::Abort;

@@ -1,3 +1,5 @@
+//! Texts that are JSON, and that are none.
+
 use super::told::{again, check};
 use std::alloc::{AllocError, Global};
 use std::process::Abort;

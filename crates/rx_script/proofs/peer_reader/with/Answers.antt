@@ -10,6 +10,10 @@ invariant_of-result c =
     let more : peer_rows c.push.new.self.items ≡ rows ++ (c.args.line, peer_said c.args.what) ∷ [] =
     ap peer_rows c.in_ok-push.ensures.items ∙ map-append peer_row c.args.draft.lines.items _ in
     record {
-      hosts = rw (more, peer_hosts-push rows (c.args.line, peer_said c.args.what), c.in_ok-taken.ensures, c.args.draft.hosts)
-          refl;
+      hosts = rw (
+        more,
+        peer_hosts-push rows (c.args.line, peer_said c.args.what),
+        c.in_ok-taken.ensures,
+        c.args.draft.hosts,
+      ) refl;
     }

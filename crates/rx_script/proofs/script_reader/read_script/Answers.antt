@@ -1,7 +1,7 @@
 use Rattle.std.proofs.lemmas.Result.{err_from_is_err_and}
 use Rattle.xdr_value.specs.View.{types_of, procs_of}
 use Rattle.rx_script.specs.Scripts.{closed, no_lines, script_step}
-use Rattle.rx_script.specs.Texts.{read_text}
+use Rattle.rx_script.specs.Texts.{text_given}
 use Rattle.rx_script.proofs.TextLemmas.{fault_after, read_none, read_one, read_refused}
 use Rattle.rx_script.proofs.script_reader.read_script.Goals as goal
 
@@ -22,5 +22,5 @@ returns-in_err-draft-clause-err c =
     let given = err_from_is_err_and c.from_residual.result c.from_residual.ensures.1 in
     let refused = c.in_err-draft.ensures.err in
     let fault = c.in_err-draft.field-0.0 in
-    rw (given.1, given.2) (fault_after (read_text step no_lines c.args.text.now) closed fault
+    rw (given.1, given.2) (fault_after (text_given step no_lines c.args.text.now) closed fault
     (read_refused fault so_far refused))

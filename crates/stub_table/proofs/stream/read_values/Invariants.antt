@@ -1,6 +1,6 @@
 use Rattle.std.proofs.Common.{◌≡◌, map, drop}
 use Rattle.xdr_value.specs.View.{types_of, values_of, param_of}
-use Rattle.xdr_code.specs.declared.reading.TheConstants.{MAX_LEVELS}
+use Rattle.xdr_value.specs.declared.levels.TheConstants.{MAX_LEVELS}
 use Rattle.xdr_code.specs.Reading.{parts_at, value_at}
 use Rattle.xdr_code.proofs.Loop.{with_front}
 use Rattle.stub_table.specs.Streams.{parts_with}

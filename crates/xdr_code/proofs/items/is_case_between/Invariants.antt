@@ -1,6 +1,6 @@
 use Rattle.std.proofs.Common.{◌≡◌, drop, map}
 use Rattle.xdr_value.specs.View.{choice_of}
-use Rattle.xdr_code.specs.Items.{some_between, case_numbers}
+use Rattle.xdr_code.specs.NumberSets.{some_between, case_numbers}
 use Rattle.xdr_code.proofs.items.is_case_between.Given as goal
 
 abbrev pub invariant-loop-arm : goal.invariant-loop-arm

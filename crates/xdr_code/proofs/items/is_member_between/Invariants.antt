@@ -1,6 +1,6 @@
 use Rattle.std.proofs.Common.{◌≡◌, true, drop, map}
 use Rattle.xdr_value.specs.View.{member_of}
-use Rattle.xdr_code.specs.Items.{some_between, numbers}
+use Rattle.xdr_code.specs.NumberSets.{some_between, numbers}
 use Rattle.xdr_code.proofs.items.is_member_between.Given as goal
 
 abbrev pub invariant-loop-member : goal.invariant-loop-member

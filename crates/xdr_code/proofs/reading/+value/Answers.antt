@@ -1,6 +1,5 @@
-use Rattle.std.proofs.Common.{rules, ◌≡◌, ◌+◌, ◌∷◌, drop, sym, ap, ◌∙◌, ℕ, List, length, map, get_or, ◌<◌}
-use Rattle.std.proofs.lemmas.List.{drop_more, drop_all}
-use Rattle.xdr_value.specs.declared.def.Field.{Field}
+use Rattle.std.proofs.Common.{rules, ◌≡◌, sym, ap, ◌∙◌, map}
+use Rattle.std.proofs.lemmas.List.{drop_all}
 use Rattle.std.proofs.lemmas.Result.{err_from_is_err_and}
 use Rattle.xdr_value.specs.Data.{end, more}
 use Rattle.xdr_value.specs.HeadView.{head_view}
@@ -8,27 +7,23 @@ use Rattle.xdr_value.specs.declared.head.Head.TheVariants as heads
 use Rattle.xdr_value.specs.declared.ty.Basic.TheVariants as basics
 use Rattle.xdr_value.specs.View.{kind_of, types_of, value_of, values_of, part_of}
 use Rattle.xdr_code.specs.Reading.{elements_at, parts_at, value_at}
-use Rattle.xdr_value.proofs.Lists.{append, values_of-push}
+use Rattle.xdr_value.proofs.Lists.{append, in_left, values_of-push}
 use Rattle.xdr_code.proofs.Loop.{elements_go_on, elements_end, elements_done, parts_go_on, parts_end, parts_done}
 use Rattle.xdr_code.proofs.Plain.{plain_at, plain_head, int_kind, uint_kind}
 use Rattle.xdr_code.proofs.reading.+value.Goals as goal
 
-pub elements-returns : goal.elements-returns
-elements-returns t c = elements_done (value_at c.args.levels (types_of c.args.types.now)) (kind_of c.args.of.now)
+pub elements_in-returns : goal.elements_in-returns
+elements_in-returns t c = elements_done (value_at c.args.levels (types_of c.args.types.now)) (kind_of c.args.of.now)
     (values_of c.loop.items.items) c.args.n c.loop.counter c.loop.rest.now
     (elements_at (value_at c.args.levels (types_of c.args.types.now)) (kind_of c.args.of.now) c.args.n
     c.args.bytes.now) c.loop-test.false c.loop.invariant
-
--- a field that is met is the first of those that are left
-in_left : (fs : List Field) (i : ℕ) (f : Field) → i < length fs → f ≡ get_or fs i f → drop i fs ≡ f ∷ drop (i + 1) fs
-in_left fs i f lt is = drop_more fs i f lt ∙ ap (λ (g : Field). g ∷ drop (i + 1) fs) (sym is)
 
 pub parts-returns : goal.parts-returns
 parts-returns t c =
     let read = value_at c.args.levels (types_of c.args.types.now) in
     parts_done read (values_of c.loop-field.items.items) _ c.loop-field.rest.now
     (parts_at read (map part_of c.args.fields.now.items) c.args.bytes.now)
-    (drop_all c.loop-field.field-index c.deref-field-items.result.now c.loop-field-test.false)
+    (ap (map part_of) (drop_all c.loop-field.field-index c.deref-field-items.result.now c.loop-field-test.false))
     c.loop-field.invariant
 
 pub part_onto-returns-in-Int : goal.part_onto-returns-in-Int
@@ -57,8 +52,8 @@ element_onto-returns-in-Basic-Uint t c = λ k same.
     rw (plain_at c.args.levels (types_of c.args.types.now) k basics.Uint c.args.bytes.now (sym same ∙ ap head_view is))
     c.uint_onto.ensures
 
-pub elements-loop-preserved : goal.elements-loop-preserved
-elements-loop-preserved t c =
+pub elements_in-loop-preserved : goal.elements_in-loop-preserved
+elements_in-loop-preserved t c =
     let a = c.in_ok-rest.ensures (kind_of c.args.of.now) c.resolve-head.ensures in
     let e : values_of c.element_onto.new.items.items ≡ append (values_of c.loop.items.items)
     (more (value_of a.0) end) = rw a.1 (values_of-push c.loop.items.items a.0) in
@@ -67,9 +62,9 @@ elements-loop-preserved t c =
     (elements_at (value_at c.args.levels (types_of c.args.types.now)) (kind_of c.args.of.now) c.args.n
     c.args.bytes.now) c.loop-test.true a.2 c.loop.invariant)
 
-pub elements-returns-in_err-rest : goal.elements-returns-in_err-rest
-elements-returns-in_err-rest t c =
-    let p = err_from_is_err_and c.from_residual-in_err-rest.result c.from_residual-in_err-rest.ensures.1 in
+pub elements_in-returns-in_err-rest : goal.elements_in-returns-in_err-rest
+elements_in-returns-in_err-rest t c =
+    let p = err_from_is_err_and c.from_residual.result c.from_residual.ensures.1 in
     rw (p.1, p.2) (elements_end (value_at c.args.levels (types_of c.args.types.now)) (kind_of c.args.of.now)
     c.in_err-rest.field-0.0 (values_of c.loop.items.items) c.args.n c.loop.counter c.loop.rest.now
     (elements_at (value_at c.args.levels (types_of c.args.types.now)) (kind_of c.args.of.now) c.args.n
@@ -82,8 +77,9 @@ parts-returns-in_err-rest t c =
     let read = value_at c.args.levels (types_of c.args.types.now) in
     let left = in_left c.deref-field-items.result.now c.loop-field.field-index c.field-item.result
     c.loop-field-test.true c.field-item.is in
-    rw (p.1, p.2) (parts_end read c.in_err-rest.field-0.0 (values_of c.loop-field.items.items) c.field-item.result _ _
-    c.loop-field.rest.now (parts_at read (map part_of c.args.fields.now.items) c.args.bytes.now) left
+    rw (p.1, p.2) (parts_end read c.in_err-rest.field-0.0 (values_of c.loop-field.items.items) (part_of c.field-item.result) _ _
+    c.loop-field.rest.now (parts_at read (map part_of c.args.fields.now.items) c.args.bytes.now)
+    (ap (map part_of) left)
     c.in_err-rest.ensures c.loop-field.invariant)
 
 pub parts-loop-field-preserved : goal.parts-loop-field-preserved
@@ -94,6 +90,7 @@ parts-loop-field-preserved t c =
     let read = value_at c.args.levels (types_of c.args.types.now) in
     let left = in_left c.deref-field-items.result.now c.loop-field.field-index c.field-item.result
     c.loop-field-test.true c.field-item.is in
-    rw e (parts_go_on read (values_of c.loop-field.items.items) c.field-item.result _ _ c.loop-field.rest.now
+    rw e (parts_go_on read (values_of c.loop-field.items.items) (part_of c.field-item.result) _ _ c.loop-field.rest.now
     (value_of a.0) c.in_ok-rest.rest.now
-    (parts_at read (map part_of c.args.fields.now.items) c.args.bytes.now) left a.2 c.loop-field.invariant)
+    (parts_at read (map part_of c.args.fields.now.items) c.args.bytes.now)
+    (ap (map part_of) left) a.2 c.loop-field.invariant)

@@ -5,43 +5,46 @@ use Rattle.xdr_code.proofs.Loop.{with_front}
 use Rattle.xdr_code.proofs.reading.+value.Given as goal
 
 abbrev pub decreases-value : goal.decreases-value
-decreases-value l = 5 * l.levels + 1
+decreases-value l = 6 * l.levels + 1
 
 abbrev pub decreases-headed : goal.decreases-headed
-decreases-headed l = 5 * l.levels
+decreases-headed l = 6 * l.levels
 
 abbrev pub decreases-parts : goal.decreases-parts
-decreases-parts l = 5 * l.levels + 3
+decreases-parts l = 6 * l.levels + 3
 
 abbrev pub decreases-elements : goal.decreases-elements
-decreases-elements l = 5 * l.levels + 3
+decreases-elements l = 6 * l.levels + 4
+
+abbrev pub decreases-elements_in : goal.decreases-elements_in
+decreases-elements_in l = 6 * l.levels + 3
 
 abbrev pub decreases-chosen_arm : goal.decreases-chosen_arm
-decreases-chosen_arm l = 5 * l.levels + 3
+decreases-chosen_arm l = 6 * l.levels + 3
 
 abbrev pub decreases-arm : goal.decreases-arm
-decreases-arm l = 5 * l.levels + 2
+decreases-arm l = 6 * l.levels + 2
 
 abbrev pub decreases-headed_onto : goal.decreases-headed_onto
-decreases-headed_onto l = 5 * l.levels + 1
+decreases-headed_onto l = 6 * l.levels + 1
 
 abbrev pub decreases-part_onto : goal.decreases-part_onto
-decreases-part_onto l = 5 * l.levels + 2
+decreases-part_onto l = 6 * l.levels + 2
 
 abbrev pub decreases-struct_onto : goal.decreases-struct_onto
-decreases-struct_onto l = 5 * l.levels + 4
+decreases-struct_onto l = 6 * l.levels + 4
 
 abbrev pub decreases-element_onto : goal.decreases-element_onto
-decreases-element_onto l = 5 * l.levels + 2
+decreases-element_onto l = 6 * l.levels + 2
 
 abbrev pub decreases-inside : goal.decreases-inside
-decreases-inside l = 5 * l.levels + 4
+decreases-inside l = 6 * l.levels + 5
 
 abbrev pub decreases-optional : goal.decreases-optional
-decreases-optional l = 5 * l.levels + 2
+decreases-optional l = 6 * l.levels + 2
 
-abbrev pub invariant-elements-loop : goal.invariant-elements-loop
-invariant-elements-loop l = with_front (values_of l.items.items)
+abbrev pub invariant-elements_in-loop : goal.invariant-elements_in-loop
+invariant-elements_in-loop l = with_front (values_of l.items.items)
     (elements_at (value_at l.levels (types_of l.types)) (kind_of l.of) (l.n - l.counter) l.rest) ≡ elements_at
     (value_at l.levels (types_of l.types)) (kind_of l.of) l.n l.bytes
 

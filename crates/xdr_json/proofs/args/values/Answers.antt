@@ -2,10 +2,10 @@ use Rattle.std.proofs.Common.{◌≡◌, length, map, sym, ap, ◌∙◌}
 use Rattle.std.proofs.lemmas.List.{drop_all}
 use Rattle.xdr_value.specs.View.{kind_of, types_of, value_of, values_of, param_of}
 use Rattle.serde_json.specs.View.{view}
-use Rattle.xdr_value.proofs.Lists.{values_of-push}
+use Rattle.xdr_value.proofs.Lists.{in_left, values_of-push}
 use Rattle.xdr_json.specs.Judging.{judged}
 use Rattle.xdr_json.specs.Args.{in_kinds}
-use Rattle.xdr_json.proofs.ArgsLoop.{args_done, args_go_on, first_is, in_left, length-push, left_go, left_stay, less_deep}
+use Rattle.xdr_json.proofs.ArgsLoop.{args_done, args_go_on, first_is, length-push, left_go, left_stay, less_deep}
 use Rattle.xdr_json.proofs.args.values.Goals as goal
 use Rattle.xdr_json.proofs.args.values.Goals.{then-comes_in+in-len1-up+in_ok-value-in-len1-up+in_ok-push-in-len1-up, else-comes_in}
 

@@ -1,5 +1,5 @@
-use Rattle.std.proofs.Common.{◌≡◌, ℕ, ◌+◌, ◌≤◌, ◌∷◌, ◌<◌, List, drop, length, get_or, map, option_map, sym, ap, ◌∙◌, subst, arith}
-use Rattle.std.proofs.lemmas.List.{drop_more, drop_all}
+use Rattle.std.proofs.Common.{◌≡◌, ℕ, ◌+◌, ◌≤◌, ◌∷◌, ◌<◌, List, drop, length, map, option_map, sym, ap, ◌∙◌, subst, arith}
+use Rattle.std.proofs.lemmas.List.{drop_all}
 use Rattle.std.proofs.lemmas.Bool.{eqb-false}
 use Rattle.std.proofs.Math.Nat.{le-max_right}
 use Rattle.serde_json.specs.Data.{depth as nesting, items_depth}
@@ -7,7 +7,7 @@ use Rattle.serde_json.specs.View.{view, items_view, members_view}
 use Rattle.serde_json.specs.declared.value.Value.{Value as Json}
 use Rattle.xdr_value.specs.Data.{more, end}
 use Rattle.xdr_value.specs.View.{kind_of, types_of, value_of, values_of, part_of}
-use Rattle.xdr_value.proofs.Lists.{append, values_of-push}
+use Rattle.xdr_value.proofs.Lists.{append, in_left, values_of-push}
 use Rattle.xdr_json.specs.Judging.{judged, parts_judged, elements_judged, member_judge}
 use Rattle.xdr_json.specs.Judged.{misfit}
 use Rattle.xdr_json.proofs.Fields.{judge_of, member_depth, many}
@@ -15,11 +15,6 @@ use Rattle.serde_json.proofs.Views.{items_len-items_view}
 use Rattle.serde_json.specs.Events.{items_len}
 use Rattle.xdr_json.proofs.Loop.{elements_go_on, elements_done, parts_go_on, parts_done}
 use Rattle.xdr_json.proofs.judging.+judge.Goals as goal
-
--- what is met is the first of those that are left
-in_left : {X : Type 0} (xs : List X) (i : ℕ) (x : X) → i < length xs → x ≡ get_or xs i x
-    → drop i xs ≡ x ∷ drop (i + 1) xs
-in_left {X} xs i x lt is = drop_more xs i x lt ∙ ap (λ (y : X). y ∷ drop (i + 1) xs) (sym is)
 
 less_deep : (j : Json) (js left : List Json) (n : ℕ) → left ≡ j ∷ js → items_depth (items_view left) ≤ n
     → items_depth (items_view js) ≤ n

@@ -1,17 +1,13 @@
-use Rattle.std.proofs.Common.{◌≡◌, ℕ, ◌+◌, ◌∷◌, ◌<◌, List, drop, length, get_or, sym, ap, ◌∙◌, subst}
-use Rattle.std.proofs.lemmas.List.{drop_more, drop_all}
+use Rattle.std.proofs.Common.{◌≡◌, ◌+◌, drop, ap, subst}
+use Rattle.std.proofs.lemmas.List.{drop_all}
 use Rattle.xdr_value.specs.View.{kind_of, types_of, value_of, values_of}
 use Rattle.xdr_value.specs.Fits.{AllFit}
-use Rattle.xdr_value.specs.declared.value.Value.{Value}
-use Rattle.xdr_json.specs.Bytes.{AllHaveBytes}
+use Rattle.xdr_value.proofs.Lists.{in_left}
+use Rattle.xdr_json.specs.Bytes.{AllAreBytes}
 use Rattle.xdr_json.specs.Json.{elements_json}
 use Rattle.serde_json.specs.View.{items_view}
 use Rattle.xdr_json.proofs.Lists.{joined, elements_go_on, elements_end}
 use Rattle.xdr_json.proofs.printing.+json.Goals as goal
-
--- a value that is met is the first of those that are left
-in_left : (vs : List Value) (i : ℕ) (v : Value) → i < length vs → v ≡ get_or vs i v → drop i vs ≡ v ∷ drop (i + 1) vs
-in_left vs i v lt is = drop_more vs i v lt ∙ ap (λ (w : Value). w ∷ drop (i + 1) vs) (sym is)
 
 pub elements_json-loop-item-preserved : goal.elements_json-loop-item-preserved
 elements_json-loop-item-preserved t c =
@@ -22,7 +18,7 @@ elements_json-loop-item-preserved t c =
     let total = elements_json types of (values_of c.args.items.now.items) in
     record {
       fits = (subst (λ vs. AllFit types of (values_of vs)) left c.loop-item.invariant.fits).1;
-      held = λ h. (subst (λ vs. AllHaveBytes (values_of vs) → AllHaveBytes (values_of c.args.items.now.items)) left
+      held = λ h. (subst (λ vs. AllAreBytes (values_of vs) → AllAreBytes (values_of c.args.items.now.items)) left
           c.loop-item.invariant.held) (c.in_ok-element.ensures.held, h);
       told =
           elements_go_on types of c.loop-item.elements.items c.in_ok-element.element (value_of c.item-item.result)

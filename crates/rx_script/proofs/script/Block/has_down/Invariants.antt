@@ -6,4 +6,5 @@ use Rattle.rx_script.proofs.script.Block.has_down.Given as goal
 
 abbrev pub invariant-loop-line : goal.invariant-loop-line
 invariant-loop-line l =
-    list_any is_down (map saying_of (drop l.line-index l.line-items)) ≡ list_any is_down (map saying_of l.self.lines.items)
+    list_any is_down (map saying_of (drop l.line-index l.line-items)) ≡
+    list_any is_down (map saying_of l.self.lines.items)
