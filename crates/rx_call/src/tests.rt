@@ -9,6 +9,10 @@ use rx_pool::Pool;
 use std::process::Abort;
 use std::test::*;
 
+mod acks;
+mod packets;
+mod pieces;
+
 /// The header of a message of call 1 on channel 0.
 pub fn head(seq: u32, serial: u32, flags: u8) -> Head {
     Head {
