@@ -29,7 +29,6 @@ for blocks in 100 1000; do
     lines=$(wc -l <"$text")
     line="$lines lines: ours $(seconds "$ours" compile "$text") s"
     if command -v rxgen >"$work/which"; then
-        rm -f "$work/header"
         line="$line, rxgen $(seconds rxgen -h -o "$work/header" "$text") s"
     fi
     if command -v valgrind >"$work/which"; then
