@@ -1,7 +1,8 @@
 #!/bin/sh
-# Reading and writing messages: rx_packet_bench beside packet.c. Prints messages per second and instructions per message.
-# Wants rt, clang and valgrind, and the repository's root as the working folder: bench/packet.sh
+# Reading and writing messages: rx_packet_bench beside packet.c. Prints messages per second and instructions per
+# message. Wants rt, clang and valgrind. Run it from any folder.
 set -e
+cd "$(dirname "$0")/.."
 work=$(mktemp -d)
 trap 'rm -rf "$work"' EXIT
 (cd crates/rx_packet_bench && rt run -- 1 >"$work/build" 2>&1) || { tail "$work/build"; exit 1; }

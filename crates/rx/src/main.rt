@@ -1,19 +1,28 @@
 //! Rx over the system: its words, files and streams.
 #![tactic(auto)]
 
-use rx_base::{DiskFiles, ErrSink, StdSink};
-use rx_top::rx_main;
+use rx_base::{DiskFiles, StdSink};
+use rx_top::{end_without_words, rx_main};
 use std::process::ExitCode;
 use std::{env, io};
 
-fn main(rt: HostRuntime) -> io::Result<ExitCode> {
+fn main(rt: HostRuntime) -> ExitCode {
+    let (stdout, stderr) = (rt.stdout(), rt.stderr());
+    let mut files = DiskFiles::make(&rt);
+    let mut out = StdSink::make(&stdout);
+    let mut err = StdSink::make(&stderr);
+    let status = match words(&rt) {
+        Ok(words) => rx_main(rt.alloc(), &words, &mut files, &mut out, &mut err),
+        Err(error) => end_without_words(error, &mut err),
+    };
+    ExitCode::from(status.number())
+}
+
+/// The words behind the program's name.
+fn words(rt: &HostRuntime) -> io::Result<Vec<String>> {
     let mut words = Vec::new(rt.alloc());
-    for word in env::args(&rt)?.skip(1) {
+    for word in env::args(rt)?.skip(1) {
         words.push(word)?;
     }
-    let mut files = DiskFiles::make(&rt);
-    let mut out = StdSink::make(&rt);
-    let mut err = ErrSink::make(&rt);
-    let status = rx_main(rt.alloc(), &words, &mut files, &mut out, &mut err);
-    Ok(ExitCode::from(status.number()))
+    Ok(words)
 }

@@ -1,1 +1,2 @@
+mod DiskLemmas
 pub mod SinkLemmas

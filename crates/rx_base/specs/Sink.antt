@@ -13,3 +13,10 @@ GainedSome before after bytes = (part rest : List ℕ) × (part ++ rest ≡ byte
 -- a count of faults that rose, or stands at its end
 abbrev pub HasRisen : ℕ → ℕ → Type 0
 HasRisen old new = (old < new) ⊎ (new ≡ 2 ^ 64 - 1)
+
+-- these bytes were put whole and no fault was counted; or a put failed and was counted, and the first of them were put,
+-- or none
+abbrev pub IsPut : Option (List ℕ) → Option (List ℕ) → ℕ → ℕ → List ℕ → Type 0
+IsPut before after old_faults new_faults bytes =
+    (Gained before after bytes × (new_faults ≡ old_faults)) ⊎
+    (GainedSome before after bytes × HasRisen old_faults new_faults)

@@ -1,5 +1,6 @@
 //! The files of the system.
-ghost use Rattle.std.specs.Prelude.{◌≡◌, ◌≤◌, ℕ, IfOk, vec_len};
+ghost use Rattle.std.specs.Prelude.{◌≡◌, ◌≢◌, ◌<◌, ◌≤◌, ◌-◌, ◌^◌, ℕ, IfOk, IfErr, IfSome, vec_len};
+ghost use Rattle.std.specs.IoError.{error_kind};
 ghost use Rattle.rx_base.specs.Files.{HasFile, IsNoted, OnFailed, UnlessFailed, untold_contents, untold_name};
 ghost use Rattle.rx_base.specs.Sink.{HasRisen};
 
@@ -14,7 +15,7 @@ use std::{io, rt};
 pub const MAX_FILE_BYTES: u64 = 1 << 30;
 
 /// The files of the system. They tell nothing of names and bytes.
-#[derive(Drop)]
+#[derive(Debug, Drop)]
 pub struct DiskFiles<'a, R: rt::Files> {
     rt: &'a R,
     faults: u64,
@@ -56,7 +57,7 @@ impl<'a, R: rt::Files> Files for DiskFiles<'a, R> {
         // What these files add to the trait's clauses.
         ensures within { IfOk result (λ bytes. vec_len bytes ≤ MAX_FILE_BYTES) }
     {
-        // No clause can say what a file of the system has: a test reads one.
+        // No clause can say what a file of the system has: tests read some.
         match read_file(self.rt, alloc, name) {
             Ok(bytes) => Ok(bytes),
             Err(ReadFault::OutOfMemory) => Err(ReadFault::OutOfMemory),
@@ -72,19 +73,45 @@ fn read_file<R: rt::Files>(rt: &R, alloc: Global, name: &str) -> Result<Vec<u8>,
     ensures { IfOk result (λ bytes. vec_len bytes ≤ MAX_FILE_BYTES) }
 {
     let file = File::open(rt, name).map_err(fault_of)?;
+    read_within(alloc, file, MAX_FILE_BYTES)
+}
+
+/// All the bytes that a reader has left, of which there are at most so many.
+fn read_within<R: Read + Drop>(alloc: Global, reader: R, most: u64) -> Result<Vec<u8>, ReadFault>
+    requires { most < 2 ^ 64 - 1 }
+    ensures all { IfOk result (λ bytes. IfSome (R.remaining reader) (λ left. bytes.items ≡ left)) }
+    ensures within { IfOk result (λ bytes. vec_len bytes ≤ most) }
+{
     let mut bytes = Vec::new(alloc);
-    file.take(MAX_FILE_BYTES + 1)
-        .read_to_end(&mut bytes)
-        .map_err(fault_of)?;
-    if bytes.len() as u64 > MAX_FILE_BYTES {
+    match reader.take(most + 1).read_to_end(&mut bytes) {
+        Ok(_) => bounded(bytes, most),
+        Err(error) => Err(fault_of(error)),
+    }
+}
+
+/// The same bytes, unless there are more than so many.
+fn bounded(bytes: Vec<u8>, most: u64) -> Result<Vec<u8>, ReadFault>
+    ensures ok { IfOk result (λ same. same ≡ bytes) }
+    ensures within { IfOk result (λ _. vec_len bytes ≤ most) }
+    ensures over { IfErr result (λ fault. (fault ≡ ReadFault.Failed) × (most < vec_len bytes)) }
+{
+    if bytes.len() as u64 > most {
         return Err(ReadFault::Failed);
     }
     Ok(bytes)
 }
 
-fn fault_of(error: io::Error) -> ReadFault {
-    match error.kind() {
-        ErrorKind::OutOfMemory => ReadFault::OutOfMemory,
-        _ => ReadFault::Failed,
+/// Which fault an error of the system is: want of memory, or a read that failed for any other kind.
+fn fault_of(error: io::Error) -> ReadFault
+    ensures memory { error_kind error ≡ ErrorKind.OutOfMemory → result ≡ ReadFault.OutOfMemory }
+    ensures failed { error_kind error ≢ ErrorKind.OutOfMemory → result ≡ ReadFault.Failed }
+{
+    if error.kind() == ErrorKind::OutOfMemory {
+        ReadFault::OutOfMemory
+    } else {
+        ReadFault::Failed
     }
 }
+
+#[cfg(test)]
+mod tests;

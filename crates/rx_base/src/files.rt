@@ -5,6 +5,8 @@ ghost use Rattle.rx_base.specs.Files.{HasFile, IsNoted, OnFailed, UnlessFailed};
 ghost use Rattle.rx_base.specs.declared.files.ReadFault.TheVariants.{OutOfMemory};
 
 use std::alloc::{AllocError, Global};
+use std::error::Error;
+use std::fmt;
 
 /// Why a read has no answer.
 #[derive(Clone, Copy, Debug, PartialEq, Eq)]
@@ -14,6 +16,17 @@ pub enum ReadFault {
     /// There is no memory for the answer. It isn't counted, and the read may be tried again.
     OutOfMemory,
 }
+
+impl fmt::Display for ReadFault {
+    fn fmt<W: fmt::Write>(&self, f: &mut fmt::Formatter<W>) -> fmt::Result {
+        match self {
+            ReadFault::Failed => f.write_str("the file can't be read"),
+            ReadFault::OutOfMemory => f.write_str("out of memory"),
+        }
+    }
+}
+
+impl Error for ReadFault {}
 
 impl From<AllocError> for ReadFault {
     ghost from_gives = { λ _ fault. fault ≡ OutOfMemory };

@@ -18,4 +18,4 @@ pub use files::{Files, ReadFault};
 pub use mem_files::MemFiles;
 pub use mem_sink::MemSink;
 pub use sink::{Failed, Sink};
-pub use std_sink::{ErrSink, StdSink};
+pub use std_sink::StdSink;

@@ -12,7 +12,7 @@ use std::alloc::Global;
 use std::marker::Model;
 
 /// Files in memory. They tell their names and bytes, and the name whose read failed last.
-#[derive(Drop)]
+#[derive(Debug, Drop)]
 pub struct MemFiles {
     files: Vec<(String, Vec<u8>)>,
     failing: Vec<u64>,

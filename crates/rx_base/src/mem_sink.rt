@@ -1,5 +1,6 @@
 //! A sink in memory, for tests.
-ghost use Rattle.std.specs.Prelude.{◌≡◌, ◌⊎◌, ◌<◌, ◌≤◌, ◌+◌, ◌-◌, ℕ, List, [], ◌++◌, Some, Contains, IfOk, IsErr, OnErr, OnOk, length, min, take, vec_len, vec_capacity};
+ghost use Rattle.std.specs.Prelude.{◌≡◌, ◌⊎◌, ◌<◌, ◌≤◌, ◌+◌, ◌-◌, ℕ, List, [], ◌++◌, Some, Contains, IfOk};
+ghost use Rattle.std.specs.Prelude.{IsErr, OnErr, OnOk, length, min, take, vec_len, vec_capacity};
 ghost use Rattle.rx_base.specs.Count.{one_more};
 ghost use Rattle.rx_base.specs.MemSink.{MemSinkState};
 ghost use Rattle.rx_base.specs.Sink.{Gained, GainedSome, HasRisen};
@@ -9,7 +10,7 @@ use std::alloc::{AllocError, Global};
 use std::marker::Model;
 
 /// A sink in memory, with room for a fixed number of bytes. It tells the bytes put.
-#[derive(Drop)]
+#[derive(Debug, Drop)]
 pub struct MemSink {
     bytes: Vec<u8>,
     room: usize,

@@ -2,9 +2,20 @@
 ghost use Rattle.std.specs.Prelude.{◌≡◌, ℕ, List, Option, OnOk, OnErr};
 ghost use Rattle.rx_base.specs.Sink.{Gained, GainedSome, HasRisen};
 
+use std::error::Error;
+use std::fmt;
+
 /// A put that failed. The sink has counted it.
 #[derive(Clone, Copy, Debug, PartialEq, Eq)]
 pub struct Failed;
+
+impl fmt::Display for Failed {
+    fn fmt<W: fmt::Write>(&self, f: &mut fmt::Formatter<W>) -> fmt::Result {
+        f.write_str("the sink takes no more bytes")
+    }
+}
+
+impl Error for Failed {}
 
 /// Where bytes are put, as a terminal or a buffer.
 pub trait Sink {

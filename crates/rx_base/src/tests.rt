@@ -1,9 +1,11 @@
-use crate::{DiskFiles, ErrSink, Failed, Files, MemFiles, MemSink, ReadFault, Sink, StdSink};
+//! Files and sinks in memory, and streams that take little.
+
+use crate::{Failed, Files, MemFiles, MemSink, ReadFault, Sink, StdSink};
 use std::alloc::{AllocError, Global};
 use std::fmt::Display;
-use std::io::{Eprint, ErrorKind, Print};
+use std::io;
+use std::io::{ErrorKind, Print};
 use std::test::Fail;
-use std::{env, fs, io, process};
 
 fn files_named(
     alloc: Global,
@@ -81,24 +83,7 @@ fn a_sink_fails_the_puts_that_are_listed(rt: HostRuntime) -> Result<(), Fail> {
     Ok(())
 }
 
-#[test]
-fn the_disk_gives_a_file_that_is_there(rt: HostRuntime) -> Result<(), Fail> {
-    let alloc = rt.alloc();
-    let dir = env::temp_dir(&rt)?;
-    let path = dir
-        .as_path()
-        .join(alloc, "rx_base_gives_a_file_that_is_there")?;
-    fs::write(&rt, &path, b"six\n")?;
-    let mut files = DiskFiles::make(&rt);
-    let bytes = files.read(alloc, path.as_str())?;
-    fs::remove_file(&rt, &path)?;
-    assert_eq!(rt; bytes.as_slice(), b"six\n".as_slice());
-    assert!(rt; matches!(files.read(alloc, path.as_str()), Err(ReadFault::Failed)));
-    assert!(rt; matches!(files.read(alloc, dir.as_str()), Err(ReadFault::Failed)));
-    Ok(())
-}
-
-// An output that is closed.
+/// An output that is closed.
 struct Closed;
 
 impl Print for Closed {
@@ -115,21 +100,10 @@ impl Print for Closed {
     }
 }
 
-impl Eprint for Closed {
-    fn eprint<D: Display + Drop>(&self, _value: D) -> io::Result<()> {
-        Err(io::Error::from(ErrorKind::BrokenPipe))
-    }
-
-    fn eprintln<D: Display + Drop>(&self, _value: D) -> io::Result<()> {
-        Err(io::Error::from(ErrorKind::BrokenPipe))
-    }
-}
-
 #[test]
-fn a_closed_output_fails(rt: HostRuntime) {
-    assert_eq!(rt; StdSink::make(&rt).put(b"out\n"), Ok(()));
+fn a_closed_stream_fails(rt: HostRuntime) {
+    let (out, err) = (rt.stdout(), rt.stderr());
+    assert_eq!(rt; StdSink::make(&out).put(b"out\n"), Ok(()));
+    assert_eq!(rt; StdSink::make(&err).put(&[0xff, b'\n']), Ok(()));
     assert_eq!(rt; StdSink::make(&Closed).put(b"out\n"), Err(Failed));
-    assert_eq!(rt; ErrSink::make(&rt).put("e\u{301}\n".as_bytes()), Ok(()));
-    assert_eq!(rt; ErrSink::make(&rt).put(&[0xff]), Err(Failed));
-    assert_eq!(rt; ErrSink::make(&Closed).put(b"err\n"), Err(Failed));
 }

@@ -9,4 +9,4 @@ pub mod WellLines
 pub mod OfferedLaw
 pub mod RunSteps
 pub mod RunEnds
-pub mod SimEnds
+pub mod TopLemmas

@@ -16,8 +16,8 @@ Offered = HashMap ℕ ℕ (BuildHasherDefault FoldHasher)
 abbrev pub offered_in : Offered → ℕ → ℕ
 offered_in offered call = unwrap_or (get nat_eq offered call) 0
 
--- none of the lines is refused, and they name this service first, forge so many datagrams whose connection is looked for
--- and offer so many bytes
+-- none of the lines is refused, and they name this service first, forge so many datagrams whose connection is looked
+-- for and offer so many bytes
 pub record Counts (ls : List Numbered) (named : Option ℕ) (count : ℕ) (bytes : Offered) : Type 0 where
   pub built : IsBuilt ls
   pub service : named ≡ first_service ls

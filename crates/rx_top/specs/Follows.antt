@@ -1,5 +1,6 @@
 -- Which histories follow a plan, and which lines are refused. Public clauses cite this module.
-use Rattle.std.specs.Prelude.{◌≡◌, not, if◌then◌else◌, ℕ, zero, suc, Bool, true, false, List, [], ◌∷◌, length, reverse, slice_get, take, Option, Some, None}
+use Rattle.std.specs.Prelude.{◌≡◌, not, if◌then◌else◌, ℕ, zero, suc, Bool, true, false, List, [], ◌∷◌, length}
+use Rattle.std.specs.Prelude.{reverse, slice_get, take, Option, Some, None}
 use Rattle.std.specs.Bool.{MatchBool}
 use Rattle.std.specs.List.{list_any}
 use Rattle.rx_model.specs.declared.answers.ReadGot.TheVariants as readers
@@ -21,10 +22,17 @@ name_at names (suc i) = slice_get names i
 
 -- ---- refused lines
 
+-- a line that makes the server
 abbrev pub is_server : PlanLine → Bool
 is_server (lines.Server host service limits) = true
-is_server _ = false
+is_server (lines.Forge node host bytes) = false
+is_server lines.Accept = false
+is_server (lines.HandlerRead call max) = false
+is_server (lines.HandlerWrite call bytes) = false
+is_server (lines.Finish call code) = false
+is_server (lines.Poll node) = false
 
+-- one of the lines makes the server
 abbrev pub has_server : List Numbered → Bool
 has_server ls = list_any (λ l. is_server l.what) ls
 
@@ -33,11 +41,15 @@ abbrev pub name_refusal : Option CallName → Option PlanWhy
 name_refusal None = Some causes.NoCall
 name_refusal (Some c) = None
 
+-- why a line of a handler is refused, where those names were answered
 abbrev pub call_refusal : List CallName → PlanLine → Option PlanWhy
 call_refusal names (lines.HandlerRead call max) = name_refusal (name_at names call)
 call_refusal names (lines.HandlerWrite call bytes) = name_refusal (name_at names call)
 call_refusal names (lines.Finish call code) = name_refusal (name_at names call)
-call_refusal names _ = None
+call_refusal names (lines.Server host service limits) = None
+call_refusal names (lines.Forge node host bytes) = None
+call_refusal names lines.Accept = None
+call_refusal names (lines.Poll node) = None
 
 -- a server line is the first; any other comes after it
 abbrev pub server_refusal : List Numbered → Option PlanWhy

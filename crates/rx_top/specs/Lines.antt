@@ -1,5 +1,6 @@
 -- The seven lines of a plan: each judged word by word from the left. Public clauses cite this module.
-use Rattle.std.specs.Prelude.{if◌then◌else◌, codes, is_some, unwrap_or, ℕ, List, [], ◌∷◌, drop, Option, Some, None, Result, Ok, Err, bytes_eq}
+use Rattle.std.specs.Prelude.{if◌then◌else◌, codes, is_some, unwrap_or, ℕ, List, [], ◌∷◌, drop, Option, Some, None}
+use Rattle.std.specs.Prelude.{Result, Ok, Err, bytes_eq}
 use Rattle.rx_model.specs.declared.names.Host.{Host}
 use Rattle.rx_model.specs.Names.{default_limits}
 use Rattle.rx_top.specs.declared.plan.LineWhy.{LineWhy}
@@ -7,7 +8,8 @@ use Rattle.rx_top.specs.declared.plan.LineWhy.TheVariants.{Word, Twice}
 use Rattle.rx_top.specs.declared.plan.PlanLine.{PlanLine}
 use Rattle.rx_top.specs.declared.plan.PlanLine.TheVariants as lines
 use Rattle.rx_top.specs.declared.plan.TheConstants.{DEFAULT_SERVICE}
-use Rattle.rx_top.specs.Words.{first_as, no_more, node_word, call_word, host_word, max_word, code_word, bytes_word, service_word}
+use Rattle.rx_top.specs.Words.{first_as, no_more, node_word, call_word, host_word, max_word, code_word, bytes_word}
+use Rattle.rx_top.specs.Words.{service_word}
 
 -- what a line's words say, or their first fault
 abbrev pub Form : Type 0
@@ -30,7 +32,8 @@ end line words = and_then (no_more words) (λ _. Ok line)
 
 -- the service with one more option, where this one was given so far: a second one is `Twice`
 abbrev pub with_option : Option ℕ → List ℕ → Result (Option ℕ) LineWhy
-with_option given word = and_then (service_word word) (λ service. if is_some given then Err Twice else Ok (Some service))
+with_option given word =
+    and_then (service_word word) (λ service. if is_some given then Err Twice else Ok (Some service))
 
 -- the options of a server, where this service was given so far
 abbrev pub server_options : Host → Option ℕ → Form

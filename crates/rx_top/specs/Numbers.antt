@@ -1,5 +1,6 @@
 -- What words write: numbers, hosts, codes and bytes. Public clauses cite this module.
-use Rattle.std.specs.Prelude.{◌==◌, ◌&&◌, ◌||◌, ◌+◌, ◌-◌, ◌*◌, ◌^◌, not, if◌then◌else◌, nat_le, codes, ℕ, ℤ, pos, Bool, List, [], ◌∷◌, length, map, replicate, Option, Some, None, bytes_eq}
+use Rattle.std.specs.Prelude.{◌==◌, ◌&&◌, ◌||◌, ◌+◌, ◌-◌, ◌*◌, ◌^◌, not, if◌then◌else◌, nat_le, codes, ℕ, ℤ, pos}
+use Rattle.std.specs.Prelude.{Bool, List, [], ◌∷◌, length, map, replicate, Option, Some, None, bytes_eq}
 use Rattle.std.proofs.Common.{neg_ℤ}
 use Rattle.std.specs.Char.{is_ascii_digit}
 use Rattle.std.specs.List.{slice_split, list_all}

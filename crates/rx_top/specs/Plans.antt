@@ -1,5 +1,7 @@
 -- The plan that a text gives, or its first fault. Public clauses cite this module.
-use Rattle.std.specs.Prelude.{◌≡◌, ◌==◌, ◌||◌, ◌&&◌, ◌+◌, not, if◌then◌else◌, nat_le, nat_lt, unwrap_or, ℕ, suc, ℤ, pos, Bool, true, false, List, [], ◌∷◌, ◌++◌, length, take, reverse, slice_get, sum_by, Option, Some, None, Result, Ok, Err}
+use Rattle.std.specs.Prelude.{◌≡◌, ◌==◌, ◌||◌, ◌&&◌, ◌+◌, not, if◌then◌else◌, nat_le, nat_lt, unwrap_or, ℕ, suc, ℤ}
+use Rattle.std.specs.Prelude.{pos, Bool, true, false, List, [], ◌∷◌, ◌++◌, length, take, reverse, slice_get, sum_by}
+use Rattle.std.specs.Prelude.{Option, Some, None, Result, Ok, Err}
 use Rattle.std.specs.Option.{option_or}
 use Rattle.std.specs.Str.{is_utf8}
 use Rattle.rx_model.specs.declared.wire.TheConstants.{PIECE_BYTES}

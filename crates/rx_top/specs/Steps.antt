@@ -1,5 +1,6 @@
 -- What a line needs of the server before it is made.
-use Rattle.std.specs.Prelude.{◌≡◌, ◌≤◌, ◌+◌, ◌<◌, ◌++◌, ◌∷◌, [], ℕ, pos, true, if◌then◌else◌, codes, slice_get, List, length, Option, Some, None, Result, Ok, Err}
+use Rattle.std.specs.Prelude.{◌≡◌, ◌≤◌, ◌+◌, ◌<◌, ◌++◌, ◌∷◌, [], ℕ, pos, true, if◌then◌else◌, codes, slice_get, List}
+use Rattle.std.specs.Prelude.{length, Option, Some, None, Result, Ok, Err}
 use Rattle.rx_base.specs.Sink.{Gained, GainedSome}
 use Rattle.rx_model.specs.declared.answers.ReadGot.TheVariants as readers
 use Rattle.rx_model.specs.declared.answers.WroteGot.TheVariants as writers
@@ -33,19 +34,23 @@ IsReady node names _ = Unit {0}
 
 -- ---- which event it is
 
+-- the event is the taking of this datagram from this host
 abbrev pub IsTaken : Event → Host → List ℕ → Type 0
 IsTaken (events.Taken from datagram got) host bytes = (from ≡ host) × (datagram ≡ bytes)
 IsTaken _ host bytes = ⊥
 
+-- the event is a read of at most so many bytes by the handler of this name
 abbrev pub IsReadOf : Event → CallName → ℕ → Type 0
 IsReadOf (events.HasRead c most (readers.Server got) bytes) name max = (c ≡ name) × (most ≡ max)
 IsReadOf _ name max = ⊥
 
+-- the event is the write of these bytes by the handler of this name, of which first ones are accepted
 abbrev pub IsWriteOf : Event → CallName → List ℕ → Type 0
 IsWriteOf (events.Wrote c offered (writers.Server got) accepted) name offer = (c ≡ name) × (offered ≡ length offer)
     × Begins accepted offer
 IsWriteOf _ name offer = ⊥
 
+-- the event is a poll
 abbrev pub IsPolled : Event → Type 0
 IsPolled (events.Polled got) = Unit {0}
 IsPolled _ = ⊥

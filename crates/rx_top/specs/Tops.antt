@@ -1,20 +1,31 @@
 -- What the program leaves, by how it ended. Public clauses cite this module.
-use Rattle.std.specs.Prelude.{◌≡◌, ◌⊎◌, ◌++◌, ◌==◌, ◌&&◌, not, Bool, true, if◌then◌else◌, ℕ, List, [], ◌∷◌, codes, decimal, Option, Some, None, Ok, Err}
+use Rattle.std.specs.Prelude.{◌≡◌, ◌⊎◌, ◌++◌, ◌==◌, ◌&&◌, not, Bool, true, if◌then◌else◌, ℕ, List, [], ◌∷◌}
+use Rattle.std.specs.Prelude.{codes, decimal, Option, Some, None, Ok, Err}
 use Rattle.std.specs.Str.{bytes_eq}
 use Rattle.rx_base.specs.Files.{HasFile, IsNoted}
-use Rattle.rx_base.specs.Sink.{GainedSome}
 use Rattle.rx_model.specs.declared.event.Event.{Event}
 use Rattle.rx_top.specs.declared.marks.TheConstants.{MINUS}
 use Rattle.rx_top.specs.declared.plan.LineFault.TheVariants.{BadLine}
 use Rattle.rx_top.specs.declared.plan.LineWhy.{LineWhy}
 use Rattle.rx_top.specs.declared.plan.Numbered.{Numbered}
 use Rattle.rx_top.specs.declared.outcome.PlanWhy.{PlanWhy}
+use Rattle.rx_top.specs.declared.top.SimOutcome.{SimOutcome}
+use Rattle.rx_top.specs.declared.top.SimOutcome.TheVariants as outcomes
 use Rattle.rx_top.specs.declared.top.Status.{Status}
 use Rattle.rx_top.specs.declared.top.Status.TheVariants as statuses
 use Rattle.rx_top.specs.Causes.{plan_why_text}
 use Rattle.rx_top.specs.Plans.{plan_of}
 use Rattle.rx_top.specs.Runs.{Ran, RanSome, RanTo}
 use Rattle.rx_top.specs.Words.{why_text}
+
+-- the exit status of the program, by how it ended
+abbrev pub number_of : Status → ℕ
+number_of statuses.Ok = 0
+number_of statuses.Usage = 1
+number_of statuses.Refused = 2
+number_of statuses.Memory = 5
+number_of statuses.FileFault = 6
+number_of statuses.SinkFault = 7
 
 -- a word that doesn't begin with `-`
 abbrev pub is_plain : List ℕ → Bool
@@ -26,19 +37,54 @@ abbrev pub plan_name : List (List ℕ) → Option (List ℕ)
 plan_name (command ∷ name ∷ []) = if bytes_eq command (codes "sim") && is_plain name then Some name else None
 plan_name _ = None
 
+-- how the program ends, by how `sim` ended
+abbrev pub status_of : SimOutcome → Status
+status_of outcomes.Ran = statuses.Ok
+status_of (outcomes.BadLine line why) = statuses.Refused
+status_of (outcomes.Refused line why) = statuses.Refused
+status_of outcomes.FileFault = statuses.FileFault
+status_of outcomes.SinkFault = statuses.SinkFault
+status_of outcomes.OutOfMemory = statuses.Memory
+
+-- what is said where the words are no command
+abbrev pub usage_text : List ℕ
+usage_text = codes "rx: usage\n"
+
+-- what is said where memory is wanted
+abbrev pub memory_text : List ℕ
+memory_text = codes "rx: out of memory\n"
+
 -- where in which file, and why
 abbrev pub refused_text : List ℕ → ℕ → List ℕ → List ℕ
-refused_text name line why = codes "rx: " ++ name ++ codes ":" ++ decimal line ++ codes ": " ++ why ++ 10 ∷ []
+refused_text name line why = codes "rx: " ++ name ++ codes ":" ++ decimal line ++ codes ": " ++ why ++ codes "\n"
 
--- what the files tell, and what the sinks tell before and after
+-- what `sim` of this file says of how it ended
+abbrev pub said_of : SimOutcome → List ℕ → List ℕ
+said_of outcomes.Ran name = []
+said_of (outcomes.BadLine line why) name = refused_text name line (why_text why)
+said_of (outcomes.Refused line why) name = refused_text name line (plan_why_text why)
+said_of outcomes.FileFault name = codes "rx: cannot read " ++ name ++ codes "\n"
+said_of outcomes.SinkFault name = codes "rx: cannot write\n"
+said_of outcomes.OutOfMemory name = memory_text
+
+-- what the files tell, the name whose read failed last, and what the sink tells, the latter two before and after
 pub record Seen : Type 0 where
   pub contents : Option (List (List ℕ × List ℕ))
   pub failed_before : Option (Option (List ℕ))
   pub failed : Option (Option (List ℕ))
   pub out_before : Option (List ℕ)
   pub out : Option (List ℕ)
-  pub err_before : Option (List ℕ)
-  pub err : Option (List ℕ)
+
+-- that of these files and this sink, by what such files and sinks tell
+abbrev pub seen_by : {F O : Type 0} → (F → Option (List (List ℕ × List ℕ))) → (F → Option (Option (List ℕ)))
+    → (O → Option (List ℕ)) → F → F → O → O → Seen
+seen_by contents failed_last told files_before files out_before out = record {
+  contents = contents files_before;
+  failed_before = failed_last files_before;
+  failed = failed_last files;
+  out_before = told out_before;
+  out = told out;
+}
 
 -- the file has a text that gives these lines
 pub record HasPlan (name : List ℕ) (seen : Seen) (ls : List Numbered) : Type 0 where
@@ -52,28 +98,29 @@ pub record TextRefused (name : List ℕ) (seen : Seen) (line : ℕ) (why : LineW
   pub there : HasFile seen.contents name text
   pub fault : plan_of text ≡ Err (BadLine line why)
   pub nothing : seen.out ≡ seen.out_before
-  pub said : GainedSome seen.err_before seen.err (refused_text name line (why_text why))
 
 -- the run of its plan was refused at a line
 pub record RunRefused (name : List ℕ) (seen : Seen) (line : ℕ) (why : PlanWhy) : Type 0 where
   pub lines : List Numbered
   pub plan : HasPlan name seen lines
   pub ran : (h : List Event) × RanTo lines line why seen.out_before seen.out h
-  pub said : GainedSome seen.err_before seen.err (refused_text name line (plan_why_text why))
 
 -- first lines of the plan were made
 abbrev pub SomeMade : List ℕ → Seen → Type 0
 SomeMade name seen = (lines : List Numbered) × HasPlan name seen lines × (h : List Event)
     × RanSome lines seen.out_before seen.out h
 
--- what `sim` of this file leaves
-abbrev pub SimIs : Status → List ℕ → Seen → Type 0
-SimIs statuses.Ok name seen = (lines : List Numbered) × HasPlan name seen lines × (h : List Event)
+-- what `sim` of this file does, by how it ended
+abbrev pub SimIs : SimOutcome → List ℕ → Seen → Type 0
+SimIs outcomes.Ran name seen = (lines : List Numbered) × HasPlan name seen lines × (h : List Event)
     × Ran lines seen.out_before seen.out h
-SimIs statuses.Refused name seen =
-    ((line : ℕ) × (why : LineWhy) × TextRefused name seen line why) ⊎
-    ((line : ℕ) × (why : PlanWhy) × RunRefused name seen line why)
-SimIs statuses.SinkFault name seen = SomeMade name seen
-SimIs statuses.Memory name seen = (seen.out ≡ seen.out_before) ⊎ SomeMade name seen
-SimIs statuses.FileFault name seen = IsNoted seen.failed_before seen.failed name × (seen.out ≡ seen.out_before)
-SimIs statuses.Usage name seen = ⊥
+SimIs (outcomes.BadLine line why) name seen = TextRefused name seen line why
+SimIs (outcomes.Refused line why) name seen = RunRefused name seen line why
+SimIs outcomes.SinkFault name seen = SomeMade name seen
+SimIs outcomes.OutOfMemory name seen = (seen.out ≡ seen.out_before) ⊎ SomeMade name seen
+SimIs outcomes.FileFault name seen = IsNoted seen.failed_before seen.failed name × (seen.out ≡ seen.out_before)
+
+-- what the program leaves of it: the status of how it ended, and the line of that said
+abbrev pub SimLeaves : Status → List ℕ → Seen → (List ℕ → Type 0) → Type 0
+SimLeaves status name seen IsSaid =
+    (outcome : SimOutcome) × (status ≡ status_of outcome) × SimIs outcome name seen × IsSaid (said_of outcome name)

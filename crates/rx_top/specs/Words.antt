@@ -1,5 +1,6 @@
 -- What a word of a line stands for, or its fault. Public clauses cite this module.
-use Rattle.std.specs.Prelude.{◌==◌, ◌&&◌, ◌-◌, ◌^◌, if◌then◌else◌, codes, nat_eq, ℕ, ℤ, List, [], ◌∷◌, drop, length, Option, Result, Ok, Err, bytes_eq}
+use Rattle.std.specs.Prelude.{◌==◌, ◌&&◌, ◌-◌, ◌^◌, if◌then◌else◌, codes, nat_eq, ℕ, ℤ, List, [], ◌∷◌, drop, length}
+use Rattle.std.specs.Prelude.{Option, Result, Ok, Err, bytes_eq}
 use Rattle.std.specs.List.{starts_with}
 use Rattle.std.specs.Option.{ok_or}
 use Rattle.rx_model.specs.declared.names.Host.{Host}

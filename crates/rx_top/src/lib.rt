@@ -21,5 +21,5 @@ mod world;
 pub use outcome::{Outcome, PlanWhy};
 pub use plan::{LineFault, LineWhy, Numbered, Plan, PlanLine};
 pub use reader::read_plan;
-pub use top::{Status, rx_main};
+pub use top::{SimOutcome, Status, end_without_words, rx_main};
 pub use world::run;

@@ -1,17 +1,23 @@
 //! The program behind its words, files and sinks.
 
-ghost use Rattle.std.specs.Prelude.{◌≡◌, ◌≢◌, ◌⊎◌, map, List, ℕ, Some, None, IfSome, IfNone, Result};
+ghost use Rattle.std.specs.Prelude.{◌≡◌, ◌≢◌, map, List, ℕ, Some, None, IfSome, IfNone};
+ghost use Rattle.std.specs.IoError.{error_kind};
+ghost use Rattle.std.specs.List.{flat_map};
 ghost use Rattle.std.specs.String.{string_bytes};
-ghost use Rattle.rx_base.specs.Sink.{GainedSome, HasRisen};
-ghost use Rattle.rx_top.specs.Tops.{SimIs, is_plain, plan_name, refused_text};
+ghost use Rattle.rx_base.specs.Sink.{HasRisen, IsPut};
+ghost use Rattle.rx_top.specs.Tops.{SimIs, SimLeaves, is_plain, memory_text, number_of, plan_name, refused_text};
+ghost use Rattle.rx_top.specs.Tops.{said_of, seen_by, status_of, usage_text};
 
 use crate::marks::MINUS;
-use crate::outcome::Outcome;
-use crate::plan::LineFault;
+use crate::outcome::{Outcome, PlanWhy};
+use crate::plan::{LineFault, LineWhy};
 use crate::reader::read_plan;
 use crate::world::run;
+use itoa::Buffer;
 use rx_base::{Files, ReadFault, Sink};
 use std::alloc::Global;
+use std::io;
+use std::io::ErrorKind;
 
 /// How the program ended.
 #[derive(Clone, Copy, Debug, PartialEq, Eq)]
@@ -32,7 +38,9 @@ pub enum Status {
 
 impl Status {
     /// The exit status of the program.
-    pub fn number(self) -> u8 {
+    pub fn number(self) -> u8
+        ensures { result ≡ number_of self }
+    {
         match self {
             Status::Ok => 0,
             Status::Usage => 1,
@@ -40,6 +48,37 @@ impl Status {
             Status::Memory => 5,
             Status::FileFault => 6,
             Status::SinkFault => 7,
+        }
+    }
+}
+
+/// How `sim PLAN` ended.
+#[derive(Clone, Copy, Debug, PartialEq, Eq)]
+pub enum SimOutcome {
+    /// Every line of the plan was made, and its trace put.
+    Ran,
+    /// The text gives no plan for the cause at this line; nothing was put.
+    BadLine { line: u32, why: LineWhy },
+    /// The run was refused at this line of the text; those before it were made, and their trace put.
+    Refused { line: u32, why: PlanWhy },
+    /// The file can't be read.
+    FileFault,
+    /// `out` takes no more bytes.
+    SinkFault,
+    OutOfMemory,
+}
+
+impl SimOutcome {
+    /// How the program ends then.
+    pub fn status(self) -> Status
+        ensures { result ≡ status_of self }
+    {
+        match self {
+            SimOutcome::Ran => Status::Ok,
+            SimOutcome::BadLine { .. } | SimOutcome::Refused { .. } => Status::Refused,
+            SimOutcome::FileFault => Status::FileFault,
+            SimOutcome::SinkFault => Status::SinkFault,
+            SimOutcome::OutOfMemory => Status::Memory,
         }
     }
 }
@@ -53,28 +92,54 @@ pub fn rx_main<F: Files, O: Sink, E: Sink>(
     out: &mut O,
     err: &mut E,
 ) -> Status
+    // Words that are no command.
     ensures usage { result ≡ Status.Usage → plan_name (map string_bytes words.now) ≡ None }
-    ensures sim { (name : List ℕ) → plan_name (map string_bytes words.now) ≡ Some name → SimIs result name
-        (record {
-          contents = F.contents files.old;
-          failed_before = F.failed_last files.old;
-          failed = F.failed_last files.new;
-          out_before = O.told out.old;
-          out = O.told out.new;
-          err_before = E.told err.old;
-          err = E.told err.new;
-        }) }
     ensures no_sim { plan_name (map string_bytes words.now) ≡ None → result ≡ Status.Usage }
+    ensures usage_out { result ≡ Status.Usage → O.told out.new ≡ O.told out.old }
+    ensures usage_said { result ≡ Status.Usage
+        → IsPut (E.told err.old) (E.told err.new) (E.faults err.old) (E.faults err.new) usage_text }
+
+    // What `sim PLAN` does, and what it says of that.
+    ensures sim { (name : List ℕ) → plan_name (map string_bytes words.now) ≡ Some name
+        → SimLeaves result name (seen_by F.contents F.failed_last O.told files.old files.new out.old out.new)
+        (IsPut (E.told err.old) (E.told err.new) (E.faults err.old) (E.faults err.new)) }
+    ensures quiet_told { result ≡ Status.Ok → E.told err.new ≡ E.told err.old }
+    ensures quiet_faults { result ≡ Status.Ok → E.faults err.new ≡ E.faults err.old }
+
+    // Each fault has its status, and each such status its fault.
     ensures file_fault { result ≡ Status.FileFault → HasRisen (F.faults files.old) (F.faults files.new) }
     ensures no_file_fault { result ≢ Status.FileFault → F.faults files.new ≡ F.faults files.old }
     ensures sink_fault { result ≡ Status.SinkFault → HasRisen (O.faults out.old) (O.faults out.new) }
     ensures no_sink_fault { result ≢ Status.SinkFault → O.faults out.new ≡ O.faults out.old }
+    ensures same_contents { F.contents files.new ≡ F.contents files.old }
+    ensures same_failed_last { result ≢ Status.FileFault → F.failed_last files.new ≡ F.failed_last files.old }
 {
     let Some(name) = plan_name(words) else {
-        say(err, "rx: usage\n");
+        say(err, &["rx: usage\n"]);
         return Status::Usage;
     };
-    sim(alloc, name, files, out, err)
+    let outcome = sim(alloc, name, files, out);
+    say_outcome(err, name, outcome);
+    outcome.status()
+}
+
+/// Ends the program where the system doesn't give its words: for want of memory, or because they aren't text, and so
+/// no command.
+pub fn end_without_words<E: Sink>(error: io::Error, err: &mut E) -> Status
+    ensures memory { error_kind error ≡ ErrorKind.OutOfMemory → result ≡ Status.Memory }
+    ensures usage { error_kind error ≢ ErrorKind.OutOfMemory → result ≡ Status.Usage }
+    ensures memory_said { result ≡ Status.Memory
+        → IsPut (E.told err.old) (E.told err.new) (E.faults err.old) (E.faults err.new) memory_text }
+    ensures usage_said { result ≡ Status.Usage
+        → IsPut (E.told err.old) (E.told err.new) (E.faults err.old) (E.faults err.new) usage_text }
+{
+    if error.kind() == ErrorKind::OutOfMemory {
+        say(err, &["rx: out of memory\n"]);
+        Status::Memory
+    } else {
+        say(err, &["rx: usage\n"]);
+        Status::Usage
+    }
 }
 
 /// The file that the words `sim PLAN` name.
@@ -100,89 +165,73 @@ fn is_plain(word: &str) -> bool
 }
 
 /// Runs the plan of a file.
-fn sim<F: Files, O: Sink, E: Sink>(
-    alloc: Global,
-    name: &str,
-    files: &mut F,
-    out: &mut O,
-    err: &mut E,
-) -> Status
+fn sim<F: Files, O: Sink>(alloc: Global, name: &str, files: &mut F, out: &mut O) -> SimOutcome
     ensures sim { SimIs result name.now
-        (record {
-          contents = F.contents files.old;
-          failed_before = F.failed_last files.old;
-          failed = F.failed_last files.new;
-          out_before = O.told out.old;
-          out = O.told out.new;
-          err_before = E.told err.old;
-          err = E.told err.new;
-        }) }
-    ensures file_fault { result ≡ Status.FileFault → HasRisen (F.faults files.old) (F.faults files.new) }
-    ensures no_file_fault { result ≢ Status.FileFault → F.faults files.new ≡ F.faults files.old }
-    ensures sink_fault { result ≡ Status.SinkFault → HasRisen (O.faults out.old) (O.faults out.new) }
-    ensures no_sink_fault { result ≢ Status.SinkFault → O.faults out.new ≡ O.faults out.old }
+        (seen_by F.contents F.failed_last O.told files.old files.new out.old out.new) }
+    ensures file_fault { result ≡ SimOutcome.FileFault → HasRisen (F.faults files.old) (F.faults files.new) }
+    ensures no_file_fault { result ≢ SimOutcome.FileFault → F.faults files.new ≡ F.faults files.old }
+    ensures sink_fault { result ≡ SimOutcome.SinkFault → HasRisen (O.faults out.old) (O.faults out.new) }
+    ensures no_sink_fault { result ≢ SimOutcome.SinkFault → O.faults out.new ≡ O.faults out.old }
+    ensures same_contents { F.contents files.new ≡ F.contents files.old }
+    ensures same_failed_last { result ≢ SimOutcome.FileFault
+        → F.failed_last files.new ≡ F.failed_last files.old }
 {
     let text = match files.read(alloc, name) {
         Ok(text) => text,
-        Err(ReadFault::Failed) => return unread(err, name),
-        Err(ReadFault::OutOfMemory) => return no_memory(err),
+        Err(ReadFault::Failed) => return SimOutcome::FileFault,
+        Err(ReadFault::OutOfMemory) => return SimOutcome::OutOfMemory,
     };
     let plan = match read_plan(alloc, text.as_slice()) {
         Ok(plan) => plan,
-        Err(LineFault::BadLine { line, why }) => {
-            return refused(alloc, err, name, line, why.as_str());
-        }
-        Err(LineFault::OutOfMemory) => return no_memory(err),
+        Err(LineFault::BadLine { line, why }) => return SimOutcome::BadLine { line, why },
+        Err(LineFault::OutOfMemory) => return SimOutcome::OutOfMemory,
     };
     match run(alloc, &plan, out) {
-        Outcome::Ran => Status::Ok,
-        Outcome::Refused { line, why } => refused(alloc, err, name, line, why.as_str()),
-        Outcome::SinkFault => unput(err),
-        Outcome::OutOfMemory => no_memory(err),
+        Outcome::Ran => SimOutcome::Ran,
+        Outcome::Refused { line, why } => SimOutcome::Refused { line, why },
+        Outcome::SinkFault => SimOutcome::SinkFault,
+        Outcome::OutOfMemory => SimOutcome::OutOfMemory,
+    }
+}
+
+/// Says the line of an outcome.
+fn say_outcome<E: Sink>(err: &mut E, name: &str, outcome: SimOutcome)
+    ensures said { IsPut (E.told err.old) (E.told err.new) (E.faults err.old) (E.faults err.new)
+        (said_of outcome name.now) }
+    ensures quiet_told { outcome ≡ SimOutcome.Ran → E.told err.new ≡ E.told err.old }
+    ensures quiet_faults { outcome ≡ SimOutcome.Ran → E.faults err.new ≡ E.faults err.old }
+{
+    match outcome {
+        SimOutcome::Ran => {}
+        SimOutcome::BadLine { line, why } => say_refused(err, name, line, why.as_str()),
+        SimOutcome::Refused { line, why } => say_refused(err, name, line, why.as_str()),
+        SimOutcome::FileFault => say(err, &["rx: cannot read ", name, "\n"]),
+        SimOutcome::SinkFault => say(err, &["rx: cannot write\n"]),
+        SimOutcome::OutOfMemory => say(err, &["rx: out of memory\n"]),
     }
 }
 
 /// Says which line is refused, and why.
-fn refused<E: Sink>(alloc: Global, err: &mut E, name: &str, line: u32, why: &str) -> Status
-    ensures is { (result ≡ Status.Memory) ⊎ ((result ≡ Status.Refused)
-        × GainedSome (E.told err.old) (E.told err.new) (refused_text name.now line why.now)) }
+fn say_refused<E: Sink>(err: &mut E, name: &str, line: u32, why: &str)
+    ensures { IsPut (E.told err.old) (E.told err.new) (E.faults err.old) (E.faults err.new)
+        (refused_text name.now line why.now) }
 {
-    let Ok(text) = format!(in alloc; "rx: {name}:{line}: {why}\n") else {
-        return no_memory(err);
-    };
-    say(err, text.as_str());
-    Status::Refused
+    let mut digits = Buffer::new();
+    say(
+        err,
+        &["rx: ", name, ":", digits.format(line), ": ", why, "\n"],
+    );
 }
 
-fn unread<E: Sink>(err: &mut E, name: &str) -> Status
-    ensures { result ≡ Status.FileFault }
+/// Puts the parts of a line in order, up to the first whose put fails: a fault of `err` changes no answer.
+fn say<E: Sink>(err: &mut E, parts: &[&str])
+    ensures { IsPut (E.told err.old) (E.told err.new) (E.faults err.old) (E.faults err.new)
+        (flat_map (λ part. part.now) parts.now) }
 {
-    say(err, "rx: cannot read ");
-    say(err, name);
-    say(err, "\n");
-    Status::FileFault
-}
-
-fn unput<E: Sink>(err: &mut E) -> Status
-    ensures { result ≡ Status.SinkFault }
-{
-    say(err, "rx: cannot write\n");
-    Status::SinkFault
-}
-
-fn no_memory<E: Sink>(err: &mut E) -> Status
-    ensures { result ≡ Status.Memory }
-{
-    say(err, "rx: out of memory\n");
-    Status::Memory
-}
-
-/// Puts bytes where no fault is left to answer.
-fn say<E: Sink>(err: &mut E, line: &str)
-    ensures { GainedSome (E.told err.old) (E.told err.new) line.now }
-{
-    match err.put(line.as_bytes()) {
-        Ok(()) | Err(_) => {}
+    for part in parts {
+        if err.put(part.as_bytes()).is_err() {
+            return;
+        }
     }
 }
 

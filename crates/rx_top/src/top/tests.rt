@@ -1,6 +1,10 @@
-use super::{Status, rx_main};
+//! Plans as the program is given them: their traces, lines and statuses, and words that are no command.
+
+use super::{Status, end_without_words, rx_main};
 use rx_base::{MemFiles, MemSink};
 use std::alloc::{AllocError, Global};
+use std::io;
+use std::io::ErrorKind;
 use std::process::Abort;
 use std::test::Fail;
 
@@ -386,5 +390,22 @@ fn a_full_sink_has_the_first_bytes(rt: HostRuntime) -> Result<(), Fail> {
     assert_eq!(&rt; status.number(), 7);
     assert_eq!(&rt; out.as_slice(), b"s accept -> none\ns a".as_slice());
     assert_eq!(&rt; err.as_slice(), b"rx: cannot write\n".as_slice());
+    Ok(())
+}
+
+#[test]
+fn words_that_are_not_given_are_memory_or_usage(rt: HostRuntime) -> Result<(), Fail> {
+    let alloc = rt.alloc();
+    let rows: [(ErrorKind, u8, &[u8]); 3] = [
+        (ErrorKind::OutOfMemory, 5, b"rx: out of memory\n"),
+        (ErrorKind::InvalidData, 1, b"rx: usage\n"),
+        (ErrorKind::Uncategorized, 1, b"rx: usage\n"),
+    ];
+    for (kind, status, line) in rows {
+        let mut err = MemSink::make(alloc, ROOM, Vec::new(alloc))?;
+        let ended = end_without_words(io::Error::from(kind), &mut err);
+        assert_eq!(&rt; ended.number(), status);
+        assert_eq!(&rt; err.as_slice(), line);
+    }
     Ok(())
 }

@@ -1,8 +1,10 @@
-use Rattle.std.proofs.Common.{rules, arith, List, ℕ, [], Some, ◌≡◌, ◌≤◌, ◌++◌, ◌-◌, length, min, take, drop, ap, sym, inl, inr, refl, ◌∙◌}
+use Rattle.std.proofs.Common.{rules, arith, List, ℕ, [], Some, ◌≡◌, ◌≤◌, ◌++◌, ◌-◌, length, min, take, drop}
+use Rattle.std.proofs.Common.{ap, sym, inl, inr, refl, ◌∙◌}
 use Rattle.std.proofs.lemmas.List.{append-nil, take-append-drop}
 use Rattle.rx_base.proofs.SinkLemmas.{append-take}
 use Rattle.rx_base.proofs.mem_sink.MemSinkSink.put.Goals as goal
-use Rattle.rx_base.proofs.mem_sink.MemSinkSink.put.Goals.{else-not-is_planned-via-then-not-is_planned+else-fill-bytes, else-not-is_planned-via-else-not-is_planned}
+use Rattle.rx_base.proofs.mem_sink.MemSinkSink.put.Goals.{else-not-is_planned-via-then-not-is_planned+else-fill-bytes}
+use Rattle.rx_base.proofs.mem_sink.MemSinkSink.put.Goals.{else-not-is_planned-via-else-not-is_planned}
 
 pub returns-clause-err : goal.returns-clause-err
 returns-clause-err c =

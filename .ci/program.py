@@ -1,0 +1,215 @@
+#!/usr/bin/env python3
+"""Runs the program as its callers do: .ci/program.py [PROGRAM]
+
+Compares the exit status and the bytes that arrive from standard output and standard error with the table of
+docs/FORMATS.md and with examples/*.trace, and the statuses of the script ./rx with what is said there. PROGRAM is the
+one that the gate built, or else the one that ./rx builds."""
+import contextlib
+import os
+import pathlib
+import re
+import resource
+import shutil
+import subprocess
+import sys
+import tempfile
+
+top = pathlib.Path(__file__).resolve().parent.parent
+failed = []
+
+
+def statuses():
+    """The exit status and the line on standard error of each way to end, by the table under "The command"."""
+    text = (top / "docs" / "FORMATS.md").read_text().split("\n## The command\n")[1].split("\n## ")[0]
+    rows = re.findall(r"^\| (\d) (\w+) \| (?:`(.*)`)? *\|", text, flags=re.M)
+    return {name: (int(number), line + "\n" if line else "") for number, name, line in rows}
+
+
+def program():
+    """The path of the program that the gate built, or else of the one that ./rx builds."""
+    built = top / "crates" / "rx" / "out" / "rx"
+    if len(sys.argv) > 1:
+        built = pathlib.Path(sys.argv[1]).resolve()
+    elif not built.exists():
+        subprocess.run([top / "rx"], stdout=subprocess.DEVNULL)
+        built = next(top.glob(".rx/*.d/rx"))
+    return str(built)
+
+
+STATUS = statuses()
+PROGRAM = program()
+
+
+def expect(what, got, ending, out=b"", is_said=True, **words):
+    """Notes where a run isn't as the ending has it, with these words for FILE and the like in its line."""
+    status, line = STATUS[ending]
+    err = re.sub("|".join(words) or "(?!)", lambda word: words[word[0]], line).encode() if is_said else b""
+    for part, seen, wanted in zip(("status", "standard output", "standard error"), got, (status, out, err)):
+        if seen != wanted:
+            failed.append(what)
+            print(f"{what}: {part} is {str(seen)[:300]}, and not {str(wanted)[:300]}")
+
+
+def run(*words, through=(), **how):
+    """The status, standard output and standard error of a run, as they arrive in pipes where no other place is given."""
+    how = {"stdin": subprocess.DEVNULL, "stdout": subprocess.PIPE, "stderr": subprocess.PIPE, "timeout": 100, **how}
+    ended = subprocess.run([*through, PROGRAM, *words], **how)
+    return ended.returncode, ended.stdout or b"", ended.stderr or b""
+
+
+def write(name, text):
+    """A file of this text, in the working folder."""
+    pathlib.Path(name).write_bytes(text if isinstance(text, bytes) else text.encode())
+    return name
+
+
+def examples():
+    """Each plan of examples/ prints its trace, in a pipe and in a file."""
+    for plan in sorted((top / "examples").glob("*.plan")):
+        trace = plan.with_suffix(".trace").read_bytes()
+        expect(f"examples/{plan.name}", run("sim", plan), "Ok", trace)
+        with open("out", "wb") as out, open("err", "wb") as err:
+            status, _, _ = run("sim", plan, stdout=out, stderr=err)
+        got = status, pathlib.Path("out").read_bytes(), pathlib.Path("err").read_bytes()
+        expect(f"examples/{plan.name} to files", got, "Ok", trace)
+
+
+def usage():
+    """Words that are no command, and words that are no text."""
+    write("plan", "")
+    for words in ([], [""], ["sim"], ["sim", "plan", "plan"], ["sim", "-plan"], ["Sim", "plan"], ["plan", "sim"]):
+        expect(f"the words {words}", run(*words), "Usage")
+    for words in ([b"\xff"], [b"sim", b"\xff"], [b"sim", b"plan", b"\xed\xa0\x80"]):
+        expect(f"the words {words}", run(*words), "Usage")
+
+
+def plans():
+    """Plans that are done, and plans that are refused at a line, as they are read and as they run."""
+    server = "server 10.0.0.1:7000\n"
+    rows = [
+        ("nothing", "", "Ok", "", {}),
+        ("a comment", "# nothing\n", "Ok", "", {}),
+        ("a bad line", server + "accept\nbogus\n", "Refused", "", {"LINE": "3", "WHY": "word"}),
+        ("a line that the run refuses", server + "accept\nread @1 5\naccept\n", "Refused", "s accept -> none\n",
+         {"LINE": "3", "WHY": "nocall"}),
+        ("no server", "accept\n", "Refused", "", {"LINE": "1", "WHY": "nonode"}),
+        ("no text", b"\xff", "Refused", "", {"LINE": "0", "WHY": "word"}),
+        # files of 1 MB and more, whose last line tells whether they were read to their end
+        ("a long file", "# 45678\n" * 150_000 + "bogus", "Refused", "", {"LINE": "150001", "WHY": "word"}),
+        ("a file of whole blocks", "# 45678\n" * (1 << 17), "Ok", "", {}),
+    ]
+    for what, text, ending, out, words in rows:
+        expect(what, run("sim", write("plan", text)), ending, out.encode(), FILE="plan", **words)
+    for name in ("a b", "p:1", "\u00e9\u4e16", "line\nfeed"):
+        expect(f"the name {name!r}", run("sim", write(name, "bogus")), "Refused", FILE=name, LINE="1", WHY="word")
+    # a line of the trace of 2 MB, and many lines, through a pipe that takes 64 KB at a time
+    long = write("long", server + "forge s 10.0.0.2:7001 1000000*5a\n")
+    expect("a long line", run("sim", long), "Ok", b"s take 10.0.0.2:7001 " + b"5a" * 1_000_000 + b" -> bad kind 90\n")
+    many = write("many", server + "accept\n" * 20_000)
+    expect("many lines", run("sim", many), "Ok", b"s accept -> none\n" * 20_000)
+
+
+def files():
+    """Names that are no file, or none that can be read, and long ones."""
+    os.mkdir("folder")
+    long = "n" * 150 + "/" + "m" * 150
+    os.mkdir("n" * 150)
+    expect("a path of 301 bytes", run("sim", write(long, "bogus")), "Refused", FILE=long, LINE="1", WHY="word")
+    for name in ("", "missing", "folder", "plan/below", "n" * 300, "n" * 5_000):
+        expect(f"the file {name[:20]}", run("sim", name), "FileFault", NAME=name)
+
+
+def streams():
+    """Standard output that takes nothing is a fault of it; standard error that takes nothing changes no status."""
+    plan = write("plan", "server 10.0.0.1:7000\naccept\n")
+    trace = b"s accept -> none\n"
+    read, unread = os.pipe()
+    os.close(read)
+    for place in ("/dev/full", "&-", f"&{unread}"):
+        through = ["sh", "-c", f'exec "$@" >{place}', "sh"]
+        expect(f"standard output >{place}", run("sim", plan, through=through, pass_fds=[unread]), "SinkFault")
+        through = ["sh", "-c", f'exec "$@" 2>{place}', "sh"]
+        rows = ([], "Usage", b""), (["sim", "missing"], "FileFault", b""), (["sim", plan], "Ok", trace)
+        for words, ending, out in rows:
+            status, got, _ = run(*words, through=through, pass_fds=[unread])
+            expect(f"standard error 2>{place} of {words}", (status, got, b""), ending, out, is_said=False)
+    os.close(unread)
+
+
+def within(memory, *words):
+    """The run with so many bytes of memory, or None where it didn't begin."""
+    limit = lambda: resource.setrlimit(resource.RLIMIT_AS, (memory, memory))
+    with contextlib.suppress(OSError, subprocess.SubprocessError):
+        got = run(*words, preexec_fn=limit)
+        return got if got[0] in range(10) else None
+
+
+def memory():
+    """With little memory the program says so, for its words and for a file; with more it goes on."""
+    with open("zeros", "wb") as it:
+        it.truncate(64 << 20)
+    words = ["w" * 100_000] * 10
+    for what, given, ending, more in (
+        ("the words", words, "Usage", {}),
+        ("a file", ["sim", "zeros"], "Refused", {"FILE": "zeros", "LINE": "1", "WHY": "word"}),
+    ):
+        seen = []
+        for kilobytes in [*range(1_000, 20_000, 100), *range(20_000, 400_000, 20_000)]:
+            got = within(kilobytes * 1_000, *given)
+            if got is not None and got[0] not in seen:
+                seen.append(got[0])
+                expect(f"{what} with {kilobytes} KB", got, {5: "Memory"}.get(got[0], ending), **more)
+        if seen != [STATUS["Memory"][0], STATUS[ending][0]]:
+            failed.append(what)
+            print(f"{what}: with more and more memory the statuses are {seen}")
+
+
+def script():
+    """The statuses of ./rx: without rt on PATH, with one that proves or builds nothing, and with one that builds a program."""
+    for crate in ("low", "beside", "rx", "other"):
+        os.makedirs(f"repo/crates/{crate}/src")
+        write(f"repo/crates/{crate}/src/main.rt", "")
+    shutil.copy(top / "rx", "repo/rx")
+    write("repo/crates.txt", "other:\nlow: hex # of the kit\nbeside:\nrx: beside low\n")
+    os.mkdir("bin")
+    for name in "awk bash cat chmod cp cut dirname find flock mkdir mv nproc readlink rm sha256sum sort xargs".split():
+        os.symlink(shutil.which(name), f"bin/{name}")
+
+    def tried(what, status, out, err):
+        where = {"PATH": f"{os.getcwd()}/bin"}
+        got = subprocess.run(["repo/rx", "a", "b c"], env=where, capture_output=True, timeout=100)
+        if (got.returncode, got.stdout) != (status, out) or not re.fullmatch(err, got.stderr.decode(), flags=re.S):
+            failed.append(what)
+            print(f"./rx {what}: {got.returncode}, {got.stdout[:200]}, {got.stderr[:500]}")
+
+    def toolchain(library, program="exit 1"):
+        write("bin/rt", f"#!/bin/sh\nif [ $1 = lib ]; then {library}; else {program}; fi\n")
+        os.chmod("bin/rt", 0o755)
+
+    says = "rx: proving and building[^\n]*\n"
+    ends = "rx: the program was not built[^\n]*\n"
+    builds = """mkdir -p out; printf '#!/bin/sh\\nprintf "%%s," "$@"; exit 4\\n' >out/rx; chmod +x out/rx"""
+    tried("without a toolchain", 127, b"", "rx: [^\n]*not on PATH\n")
+    toolchain("echo no proof; exit 1")
+    tried("where a library isn't proved", 125, b"", f"{says}no proof\nno proof\n{ends}")
+    toolchain("true", "echo no program; exit 1")
+    tried("where the program isn't built", 125, b"", f"{says}no program\n{ends}")
+    toolchain('echo "crate ${PWD##*/}: whole"', builds)
+    tried("that builds", 4, b"a,b c,", f"{says}(rx: (low|beside) is proved\n){{2}}")
+    toolchain("exit 1")
+    tried("that has built", 4, b"a,b c,", "")
+    write("repo/crates/rx/src/main.rt~", "a copy of an editor's")
+    write("repo/crates/rx/src/.#main.rt", "another")
+    write("repo/crates/other/src/main.rt", "a crate that the program doesn't stand on")
+    tried("beside other files", 4, b"a,b c,", "")
+    write("repo/crates/low/src/main.rt", "changed")
+    tried("with other sources", 125, b"", f"{says}{ends}")
+
+
+with tempfile.TemporaryDirectory() as folder:
+    os.chdir(folder)
+    for part in (examples, usage, plans, files, streams, memory, script):
+        part()
+    os.chdir(top)
+print(f"the program: {len(failed)} runs failed" if failed else "the program: each run ended and printed as it is to")
+sys.exit(bool(failed))
