@@ -6,7 +6,7 @@ ghost use Rattle.rx_class.specs.Writes.{WritesFront};
 use rx_model::CallName;
 
 /// A security class of connections (`rx.h`, `struct rx_securityOps`, for what a packet carries of it).
-pub trait Class {
+pub trait Class: Drop {
     // What the class keeps to itself, as bytes, and the class that goes with it.
     ghost secret: { Self → List ℕ };
 

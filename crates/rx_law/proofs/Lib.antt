@@ -65,34 +65,34 @@ mod Due
 mod Reaches
 mod UsedLaws
 pub mod WholeLaws
-mod HeldNumbers
-mod HeldLaws
+pub mod HeldNumbers
+pub mod HeldLaws
 pub mod LifeFalls
 pub mod Differ
 pub mod Tight
-mod Roomy
-mod RowsInFront
-mod RowsKept
-mod TightKept
-mod Openings
-mod RoomStarts
-mod RoomTaken
-mod RoomEvents
-mod RoomShut
-mod Suffice
-mod Pairwise
-mod Dims
-mod DimsLeave
-mod DimsTaken
-mod DimsEvents
-mod Orderly
-mod OrderlyMore
-mod OrderlyEnter
-mod OrderlyStart
-mod OrderlyOpens
-mod OrderlyTaken
-mod OrderlyClient
-mod OrderlyHistory
+pub mod Roomy
+pub mod RowsInFront
+pub mod RowsKept
+pub mod TightKept
+pub mod Openings
+pub mod RoomStarts
+pub mod RoomTaken
+pub mod RoomEvents
+pub mod RoomShut
+pub mod Suffice
+pub mod Pairwise
+pub mod Dims
+pub mod DimsLeave
+pub mod DimsTaken
+pub mod DimsEvents
+pub mod Orderly
+pub mod OrderlyMore
+pub mod OrderlyEnter
+pub mod OrderlyStart
+pub mod OrderlyOpens
+pub mod OrderlyTaken
+pub mod OrderlyClient
+pub mod OrderlyHistory
 pub mod OneCall
 pub mod NodeFacts
 pub mod FitValues
