@@ -1,12 +1,13 @@
 -- Changes that bring no call to life and leave each connection its name and its channels' numbers.
-use Rattle.std.proofs.Common.{◌≡◌, ℕ, zero, suc, cond, Bool, true, false, List, [], ◌∷◌, length}
+use Rattle.std.proofs.Common.{◌≡◌, ℕ, zero, suc, cond, is_some, Bool, true, false, List, [], ◌∷◌, length}
 use Rattle.std.proofs.Common.{refl, ◌∙◌}
 use Rattle.rx_model.specs.declared.names.CallName.{CallName}
 use Rattle.rx_model.specs.Names.{Connection, Channel, same_connection, same_name}
 use Rattle.rx_rules.specs.CallLooks.{CallLooks}
-use Rattle.rx_rules.specs.Life.{Life, is_live}
+use Rattle.rx_rules.specs.Life.{Life, is_live, is_waiting}
 use Rattle.rx_rules.specs.Looks.{CallRecord, ChannelLooks, ConnLooks, Looks, changed_at}
 use Rattle.rx_rules.specs.Looks.{on_call, on_calls, on_channel, on_conn, on_life, on_looks}
+use Rattle.rx_rules.specs.Received.{packet_at}
 use Rattle.rx_rules.proofs.CallsLaws.{changed_if}
 use Rattle.rx_rules.proofs.ConnsLaws.{conn_if, length-changed, number_in}
 use Rattle.rx_law.proofs.LifeFalls.{Falls}
@@ -14,17 +15,37 @@ use Rattle.rx_law.proofs.Pairwise.{Pairwise, pairs_map, pairs_refl, pairs_trans}
 
 -- ---- a call
 
--- a call whose life falls
+-- its packet 1 was kept
+abbrev pub has_first : CallLooks → Bool
+has_first k = is_some (packet_at k.received.kept 1)
+
+-- a change keeps it
+abbrev pub KeepsFirst : (CallLooks → CallLooks) → Type 0
+KeepsFirst change = (k : CallLooks) → has_first k ≡ true → has_first (change k) ≡ true
+
+-- a call whose life falls, and that keeps its packet 1
 pub record Fades (a b : CallRecord) : Type 0 where
   pub name : b.name ≡ a.name
   pub live : is_live b.life ≡ true → is_live a.life ≡ true
+  pub waiting : is_waiting b.life ≡ true → is_waiting a.life ≡ true
+  pub first : has_first a.looks ≡ true → has_first b.looks ≡ true
 
 -- it stays
 pub fades_refl : (k : CallRecord) → Fades k k
-fades_refl k = record { name = refl; live = λ is. is }
+fades_refl k = record { name = refl; live = λ is. is; waiting = λ is. is; first = λ is. is }
 
 fades-trans : (a b c : CallRecord) → Fades a b → Fades b c → Fades a c
-fades-trans a b c p q = record { name = q.name ∙ p.name; live = λ is. p.live (q.live is) }
+fades-trans a b c p q =
+    record {
+      name = q.name ∙ p.name;
+      live = λ is. p.live (q.live is);
+      waiting = λ is. p.waiting (q.waiting is);
+      first = λ is. q.first (p.first is);
+    }
+
+-- its life falls
+pub fades_life : (k : CallRecord) (life : Life) → Falls k.life life → Fades k (record k { life = life })
+fades_life k life falls = record { name = refl; live = falls.live; waiting = falls.waiting; first = λ is. is }
 
 -- a change that a test allows
 pub fades_if : (test : Bool) (a b : CallRecord) → Fades a b → Fades a (cond test b a)
@@ -99,12 +120,13 @@ dims_call c change l fades = dims_all (changed_if c change) l
 pub dims_life : (c : CallName) (change : Life → Life) (l : Looks) → ((x : Life) → Falls x (change x))
     → Dims l (on_life c change l)
 dims_life c change l falls =
-    dims_call c (λ k. record k { life = change k.life }) l (λ k. record { name = refl; live = (falls k.life).live })
+    dims_call c (λ k. record k { life = change k.life }) l (λ k. fades_life k (change k.life) (falls k.life))
 
 -- what passed at the end of a call
-pub dims_looks : (c : CallName) (change : CallLooks → CallLooks) (l : Looks) → Dims l (on_looks c change l)
-dims_looks c change l = dims_call c (λ k. record k { looks = change k.looks }) l
-    (λ k. record { name = refl; live = λ is. is })
+pub dims_looks : (c : CallName) (change : CallLooks → CallLooks) (l : Looks) → KeepsFirst change
+    → Dims l (on_looks c change l)
+dims_looks c change l keeps = dims_call c (λ k. record k { looks = change k.looks }) l
+    (λ k. record { name = refl; live = λ is. is; waiting = λ is. is; first = keeps k.looks })
 
 -- a connection
 pub dims_conn : (x : Connection) (change : ConnLooks → ConnLooks) (l : Looks) → ((r : ConnLooks) → Same r (change r))

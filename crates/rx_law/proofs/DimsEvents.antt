@@ -17,13 +17,13 @@ use Rattle.rx_rules.specs.After.{acknowledged, cancelled, counted, finish_done, 
 use Rattle.rx_rules.specs.After.{given_by, given_message}
 use Rattle.rx_rules.specs.After.{is_zero, owing_abort, owing_ackall, read_done}
 use Rattle.rx_rules.specs.CallLooks.{after_ack_given, after_piece, after_read, after_shut}
-use Rattle.rx_rules.specs.Life.{after_cancel, after_end, after_finish, after_gone, is_calling}
+use Rattle.rx_rules.specs.Life.{after_cancel, after_end, after_finish, after_gone, after_silence, is_calling}
 use Rattle.rx_rules.specs.Looks.{Looks, call_at, is_call, on_channel}
 use Rattle.rx_rules.specs.Looks.{on_life, on_looks}
 use Rattle.rx_rules.specs.Records.{is_silent, silence_of, silenced, unless_silent}
 use Rattle.rx_rules.specs.Setup.{Setup, named}
 use Rattle.rx_law.proofs.Dims.{Dims, dims_all, dims_channel, dims_conn, dims_if, dims_life, dims_looks}
-use Rattle.rx_law.proofs.Dims.{dims_refl, dims_trans, fades_if}
+use Rattle.rx_law.proofs.Dims.{dims_refl, dims_trans, fades_if, fades_life}
 use Rattle.rx_law.proofs.LifeFalls.{cancel_falls, end_falls, finish_falls, gone_falls}
 use Rattle.rx_law.proofs.LifeFalls.{silence_falls}
 use Rattle.rx_law.proofs.TakenLaws.{abort-number, ackall-number}
@@ -33,12 +33,12 @@ use Rattle.rx_law.proofs.TakenLaws.{abort-number, ackall-number}
 silenced-dims : (l : Looks) → Dims l (silenced l)
 silenced-dims l =
     dims_all (unless_silent l.now) l
-    (λ k. fades_if (is_silent l.now k) k _
-    (record { name = refl; live = (silence_falls (silence_of l.now k) k.life).live }))
+    (λ k. fades_if (is_silent l.now k) k (record k { life = after_silence (silence_of l.now k) k.life })
+    (fades_life k (after_silence (silence_of l.now k) k.life) (silence_falls (silence_of l.now k) k.life)))
 
 body-dims : (c : CallName) (m : Message) (body : Body) (l : Looks) → Dims l (given_body c m body l)
-body-dims c m (bodies.Chunk payload) l = dims_looks c (after_piece l.now m.seq) l
-body-dims c m (bodies.Ack a) l = dims_looks c (after_ack_given l.now) l
+body-dims c m (bodies.Chunk payload) l = dims_looks c (after_piece l.now m.seq) l (λ k is. is)
+body-dims c m (bodies.Ack a) l = dims_looks c (after_ack_given l.now) l (λ k is. is)
 body-dims c m (bodies.Abort code) l = dims_channel (channel_of c) (λ q. record q { owed_abort = None }) l (λ q. refl)
 body-dims c m bodies.Busy l = dims_channel (channel_of c) (λ q. record q { owed_busy = None }) l (λ q. refl)
 body-dims c m (bodies.Challenge bytes) l = dims_channel (channel_of c) (λ q. record q { owed_challenge = false }) l
@@ -84,7 +84,7 @@ read_dims c end bytes l =
     let second : Looks = on_looks c (after_read l.now end bytes) first in
     dims_trans l first (read_done c end bytes l)
     (dims_channel (channel_of c) (owing_ackall owes) l (ackall-number owes))
-    (dims_trans first second (read_done c end bytes l) (dims_looks c (after_read l.now end bytes) first)
+    (dims_trans first second (read_done c end bytes l) (dims_looks c (after_read l.now end bytes) first (λ k is. is))
     (dims_life c (after_end end) second (end_falls end)))
 
 -- a finish
@@ -93,7 +93,7 @@ pub finish_dims : (c : CallName) (code : ℤ) (got : Result (Unit {0}) ServeRefu
 finish_dims c code (Ok done) l =
     dims_trans l (finished c code l) (finish_done c code (Ok done) l)
     (dims_if (is_zero code) l (on_looks c after_shut l) (on_channel (channel_of c) (owing_abort (Some code)) l)
-    (dims_looks c after_shut l)
+    (dims_looks c after_shut l (λ k is. is))
     (dims_channel (channel_of c) (owing_abort (Some code)) l (abort-number (Some code))))
     (dims_life c (after_finish (is_zero code) code) (finished c code l) (finish_falls (is_zero code) code))
 finish_dims c code (Err (refusals.Gone told)) l = dims_life c after_gone l gone_falls

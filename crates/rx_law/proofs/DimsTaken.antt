@@ -1,5 +1,5 @@
 -- A datagram that starts no call and enters no connection brings no call to life.
-use Rattle.std.proofs.Common.{◌≡◌, ◌&&◌, ◌==◌, ℤ, if◌then◌else◌, not, true, false, Option}
+use Rattle.std.proofs.Common.{◌≡◌, ◌&&◌, ◌==◌, ℕ, ℤ, if◌then◌else◌, not, is_some, Bool, true, false, List, ◌∷◌, Option}
 use Rattle.std.proofs.Common.{Some, None}
 use Rattle.std.proofs.Common.{refl}
 use Rattle.rx_model.specs.declared.answers.Took.{Took}
@@ -17,19 +17,49 @@ use Rattle.rx_rules.specs.After.{stopped_all}
 use Rattle.rx_rules.specs.After.{taken_at, taken_busy, taken_data, taken_heard, taken_over, taken_stopped}
 use Rattle.rx_rules.specs.After.{taken_unserved, taken_with}
 use Rattle.rx_rules.specs.After.{turned_away}
-use Rattle.rx_rules.specs.CallLooks.{after_taken}
-use Rattle.rx_rules.specs.Life.{after_code}
+use Rattle.rx_rules.specs.CallLooks.{CallLooks, NodeView, after_body, after_chunk, after_taken}
+use Rattle.rx_rules.specs.Life.{after_acks, after_code}
 use Rattle.rx_rules.specs.Looks.{CallRecord, Looks, call_at, is_proved, latest_name, on_call, on_channel}
 use Rattle.rx_rules.specs.Looks.{on_life}
 use Rattle.rx_rules.specs.Records.{used}
+use Rattle.rx_rules.specs.Received.{Packet, packet_at, with_packet}
 use Rattle.rx_rules.specs.Sent.{is_all_acked}
 use Rattle.rx_rules.specs.Setup.{Setup, is_client}
 use Rattle.rx_rules.specs.Slots.{node_view}
 use Rattle.rx_law.proofs.Dims.{Dims, dims_all, dims_call, dims_channel, dims_conn, dims_if, dims_life, dims_looks}
-use Rattle.rx_law.proofs.Dims.{dims_refl, dims_trans, fades_if}
+use Rattle.rx_law.proofs.Dims.{KeepsFirst, dims_refl, dims_trans, fades_if, fades_life, has_first}
 use Rattle.rx_law.proofs.LifeFalls.{acks_falls, code_falls}
 use Rattle.rx_law.proofs.RowsInFront.{may_start}
 use Rattle.rx_law.proofs.TakenLaws.{abort-number, again-number}
+
+-- what was kept stays kept
+kept-stays : (got : Took) (p : Packet) (ps : List Packet) → is_some (packet_at ps 1) ≡ true
+    → is_some (packet_at (with_packet got p ps) 1) ≡ true
+kept-stays tooks.Kept p ps is = of (p.seq == 1)
+  where
+    of : (b : Bool) → is_some (if b then Some p.piece else packet_at ps 1) ≡ true
+    of true = refl
+    of false = is
+kept-stays _ p ps is = is
+
+chunk-first : (v : NodeView) (got : Took) (m : Message) (body : Body) → KeepsFirst (after_chunk v got m body)
+chunk-first v got m (bodies.Chunk payload) k is = kept-stays got _ k.received.kept is
+chunk-first v got m _ k is = is
+
+body-first : (now : ℕ) (m : Message) (body : Body) → KeepsFirst (after_body now m body)
+body-first now m (bodies.Ack a) k is = is
+body-first now m bodies.AckAll k is = is
+body-first now m _ k is = is
+
+-- a message leaves what was kept
+pub taken_first : (v : NodeView) (got : Took) (m : Message) → KeepsFirst (after_taken v got m)
+taken_first v tooks.Kept m k is = chunk-first v tooks.Kept m m.body k is
+taken_first v tooks.Repeat m k is = chunk-first v tooks.Repeat m m.body k is
+taken_first v tooks.Beyond m k is = chunk-first v tooks.Beyond m m.body k is
+taken_first v tooks.Clash m k is = chunk-first v tooks.Clash m m.body k is
+taken_first v tooks.NoSlot m k is = chunk-first v tooks.NoSlot m m.body k is
+taken_first v tooks.Heard m k is = body-first v.now m m.body k is
+taken_first v _ m k is = is
 
 challenged-dims : (s : Setup) (c : CallName) (l : Looks) → Dims l (challenged s c l)
 challenged-dims s c l =
@@ -40,13 +70,14 @@ challenged-dims s c l =
 -- data is judged
 pub data_dims : (s : Setup) (got : Took) (c : CallName) (m : Message) (l : Looks) → Dims l (taken_data s got c m l)
 data_dims s got c m l =
-    let heard = dims_looks c (after_taken (node_view s l) got m) l in
+    let heard = dims_looks c (after_taken (node_view s l) got m) l (taken_first (node_view s l) got m) in
     dims_trans l _ (taken_data s got c m l) (record { calls = heard.calls; conns = heard.conns })
     (challenged-dims s c _)
 
 settled-dims : (c : CallName) (l : Looks) → Dims l (on_call c settled l)
 settled-dims c l =
-    dims_call c settled l (λ k. record { name = refl; live = (acks_falls (is_all_acked k.looks.sent) k.life).live })
+    dims_call c settled l
+    (λ k. fades_life k (after_acks (is_all_acked k.looks.sent) k.life) (acks_falls (is_all_acked k.looks.sent) k.life))
 
 heard-dims : (s : Setup) (c : CallName) (body : Body) (l : Looks) → Dims l (taken_heard s c body l)
 heard-dims s c (bodies.Ack a) l =
@@ -66,7 +97,7 @@ all-stopped-dims : (x : Connection) (code : ℤ) (l : Looks) → Dims l (stopped
 all-stopped-dims x code l =
     dims_all (λ k. if same_connection (connection_of k.name) x then record k { life = after_code code k.life } else k) l
     (λ k. fades_if (same_connection (connection_of k.name) x) k (record k { life = after_code code k.life })
-    (record { name = refl; live = (code_falls code k.life).live }))
+    (fades_life k (after_code code k.life) (code_falls code k.life)))
 
 stopped-dims : (c : CallName) (body : Body) (l : Looks) → Dims l (taken_stopped c body l)
 stopped-dims c (bodies.Abort code) l =
@@ -104,7 +135,7 @@ with_dims s tooks.Beyond c m l other = data_dims s tooks.Beyond c m l
 with_dims s tooks.Clash c m l other = data_dims s tooks.Clash c m l
 with_dims s tooks.Heard c m l other =
     dims_trans l (taken_at s tooks.Heard c m l) (taken_with s tooks.Heard c m l)
-    (dims_looks c (after_taken (node_view s l) tooks.Heard m) l)
+    (dims_looks c (after_taken (node_view s l) tooks.Heard m) l (taken_first (node_view s l) tooks.Heard m))
     (heard-dims s c m.body (taken_at s tooks.Heard c m l))
 with_dims s tooks.Stopped c m l other = stopped-dims c m.body l
 with_dims s tooks.Busy c m l other = busy-dims c l

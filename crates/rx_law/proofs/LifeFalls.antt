@@ -1,7 +1,7 @@
 -- No step of a life brings a call to life, lets it hold slots, or begins it anew.
 use Rattle.std.proofs.Common.{◌≡◌, ℕ, ℤ, Bool, true, false, Option, refl}
 use Rattle.rx_model.specs.declared.answers.End.{End}
-use Rattle.rx_rules.specs.Life.{Life, is_active, is_calling, is_live, after_code, after_silence, after_later}
+use Rattle.rx_rules.specs.Life.{Life, is_active, is_calling, is_live, is_waiting, after_code, after_silence, after_later}
 use Rattle.rx_rules.specs.Life.{after_acks, after_accept}
 use Rattle.rx_rules.specs.Life.{after_cancel, after_end, after_finish, after_gone}
 use Rattle.rx_rules.specs.Life as lives
@@ -18,10 +18,12 @@ pub record Falls (x y : Life) : Type 0 where
   pub active : is_active y ≡ true → is_active x ≡ true
   pub begun : is_begun y ≡ true → is_begun x ≡ true
   pub calling : is_calling y ≡ true → is_calling x ≡ true
+  pub waiting : is_waiting y ≡ true → is_waiting x ≡ true
 
 -- it stays
 pub falls_refl : (x : Life) → Falls x x
-falls_refl x = record { live = λ is. is; active = λ is. is; begun = λ is. is; calling = λ is. is }
+falls_refl x =
+    record { live = λ is. is; active = λ is. is; begun = λ is. is; calling = λ is. is; waiting = λ is. is }
 
 falls-over : (x : Life) (code : Option ℤ) → Falls x (lives.Over code)
 falls-over x code = record {
@@ -30,6 +32,7 @@ falls-over x code = record {
   begun = λ is. absurd
       cc;
   calling = λ is. absurd cc;
+  waiting = λ is. absurd cc;
 }
 
 falls-ended : (x : Life) (end : End) → Falls x (lives.Ended end)
@@ -39,6 +42,7 @@ falls-ended x end = record {
   begun = λ is. absurd
       cc;
   calling = λ is. absurd cc;
+  waiting = λ is. absurd cc;
 }
 
 falls-broken : (x : Life) (code : ℤ) → is_live x ≡ true → Falls x (lives.Broken code)
@@ -48,6 +52,7 @@ falls-broken x code live = record {
   begun = λ is. absurd
       cc;
   calling = λ is. absurd cc;
+  waiting = λ is. absurd cc;
 }
 
 -- a code comes
@@ -85,13 +90,20 @@ accept_falls lives.Waiting = record {
   active = λ is. refl;
   begun = λ is. refl;
   calling = λ is. absurd cc;
+  waiting = λ is. absurd cc;
 }
 accept_falls x = falls_refl x
 
 -- a handler ends
 pub finish_falls : (fine : Bool) (code : ℤ) (x : Life) → Falls x (after_finish fine code x)
 finish_falls true code
-    lives.Accepted = record { live = λ is. refl; active = λ is. refl; begun = λ is. refl; calling = λ is. absurd cc }
+    lives.Accepted = record {
+      live = λ is. refl;
+      active = λ is. refl;
+      begun = λ is. refl;
+      calling = λ is. absurd cc;
+      waiting = λ is. absurd cc;
+    }
 finish_falls false code lives.Accepted = falls-over lives.Accepted _
 finish_falls true code x = falls_refl x
 finish_falls false code x = falls_refl x

@@ -28,7 +28,7 @@ use Rattle.rx_law.proofs.OrderlyClient.{free-call, linked-by}
 server-orderly : (s : Setup) (l : Looks) (e : Event) → AllowedServer s l e → RoomyAt s l → Orderly s l
     → Orderly s (after s e l)
 server-orderly s l (events.Wrote c offered got bytes) allowed r o =
-    orderly_dims s l (after s (events.Wrote c offered got bytes) l) (dims_looks c (after_write bytes) l) o
+    orderly_dims s l (after s (events.Wrote c offered got bytes) l) (dims_looks c (after_write bytes) l (λ k is. is)) o
 server-orderly s l (events.HasRead c max got bytes) allowed r o =
     orderly_dims s l (after s (events.HasRead c max got bytes) l) (read_dims c (is_end got) bytes l) o
 server-orderly s l (events.Accepted (Some c)) allowed r o =
@@ -63,9 +63,9 @@ client-orderly s host epoch l (events.Called cid (Ok c)) kind allowed r o =
     orderly_started s lives.Calling c l n.conn (ap (conn_at l) n.on ∙ n.there) n.chan f.free o f.room r.differ
 client-orderly s host epoch l (events.Called cid (Err refused)) kind allowed r o = o
 client-orderly s host epoch l (events.Wrote c offered got bytes) kind allowed r o =
-    orderly_dims s l (after s (events.Wrote c offered got bytes) l) (dims_looks c (after_write bytes) l) o
+    orderly_dims s l (after s (events.Wrote c offered got bytes) l) (dims_looks c (after_write bytes) l (λ k is. is)) o
 client-orderly s host epoch l (events.Shut c (Ok done)) kind allowed r o =
-    orderly_dims s l (after s (events.Shut c (Ok done)) l) (dims_looks c after_shut l) o
+    orderly_dims s l (after s (events.Shut c (Ok done)) l) (dims_looks c after_shut l (λ k is. is)) o
 client-orderly s host epoch l (events.Shut c (Err closed)) kind allowed r o = o
 client-orderly s host epoch l (events.HasRead c max got bytes) kind allowed r o =
     orderly_dims s l (after s (events.HasRead c max got bytes) l) (read_dims c (is_end got) bytes l) o

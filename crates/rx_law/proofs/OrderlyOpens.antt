@@ -16,7 +16,7 @@ use Rattle.rx_model.proofs.NameLaws.{name_itself}
 use Rattle.rx_rules.proofs.CallsLaws.{changed_if}
 use Rattle.rx_law.proofs.Calls.{call-changed}
 use Rattle.rx_law.proofs.Differ.{every_found}
-use Rattle.rx_law.proofs.Dims.{Fades, dims_life, fades_if}
+use Rattle.rx_law.proofs.Dims.{Fades, dims_life, fades_if, fades_life}
 use Rattle.rx_law.proofs.DimsLeave.{fewer_live}
 use Rattle.rx_law.proofs.LifeFalls.{later_falls}
 use Rattle.rx_law.proofs.Orderly.{Orderly, orderly_dims}
@@ -84,7 +84,7 @@ fewer-later n (j ∷ ks) k there live dead =
           let same : j ≡ k = cc (is) in
           let rest = fewer_live ks (map (changed_if n later) ks)
           (pairs_map Fades (changed_if n later) ks (λ i. fades_if (same_name i.name n) i (later i)
-          (record { name = refl; live = (later_falls i.life).live }))) in
+          (fades_life i (after_later i.life) (later_falls i.life)))) in
           count-dead (is_live (after_later j.life)) (is_live j.life) (count_live (map (changed_if n later) ks))
           (count_live ks)
           (ap (λ (i : CallRecord). is_live (after_later i.life)) same ∙ dead)
