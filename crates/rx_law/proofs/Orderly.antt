@@ -1,13 +1,15 @@
 -- A node's calls and connections in order: at most as many as its limits, no two connections of one name, four channels
 -- each, and of each channel only the latest call lives.
-use Rattle.std.proofs.Common.{◌≡◌, ◌≤◌, ◌<◌, ◌*◌, ℕ, true, List, length}
-use Rattle.std.proofs.Common.{Option, Some, None, refl, ◌∙◌, ap, arith}
+use Rattle.std.proofs.Common.{◌≡◌, ◌≤◌, ◌<◌, ◌*◌, ℕ, suc, cond, if◌then◌else◌, Bool, true, false, List, [], ◌∷◌, length, map}
+use Rattle.std.proofs.Common.{Option, Some, None, option_map, refl, ◌∙◌, ap, sym, arith}
 use Rattle.rx_model.specs.declared.names.CallName.{CallName}
-use Rattle.rx_model.specs.Names.{Connection, connection_of, same_connection}
+use Rattle.rx_model.specs.Names.{Connection, connection_of, same_connection, same_name}
 use Rattle.rx_rules.specs.Life.{is_live}
-use Rattle.rx_rules.specs.Looks.{ConnLooks, Looks, call_at, conn_at, is_call}
+use Rattle.rx_rules.specs.CallLooks.{CallLooks}
+use Rattle.rx_rules.specs.Looks.{CallRecord, ConnLooks, Looks, call_at, conn_at, is_call, on_looks}
 use Rattle.rx_rules.specs.Setup.{Setup, is_client}
-use Rattle.rx_rules.specs.Slots.{live}
+use Rattle.rx_rules.specs.Slots.{count_live, live}
+use Rattle.rx_rules.proofs.CallsLaws.{call_at-on_call, changed_if}
 use Rattle.rx_rules.proofs.ConnsLaws.{number_of}
 use Rattle.rx_rules.proofs.EveryLaws.{Every}
 use Rattle.rx_rules.proofs.KeepsLaws.{Fours}
@@ -79,6 +81,49 @@ orderly_dims s l m dims o =
           let is = o.latest c (live_stays l m c dims lives) in
           record { chan = is.chan; number = numbers_stay l m (connection_of c) c.chan dims ∙ is.number });
     }
+
+count-looks : (c : CallName) (change : CallLooks → CallLooks) (ks : List CallRecord)
+    → count_live (map (changed_if c (λ k. record k { looks = change k.looks })) ks) ≡ count_live ks
+count-looks c change [] = refl
+count-looks c change (k ∷ ks) =
+    let rest = count-looks c change ks in
+    (elim (same_name k.name c) as
+    (λ b. count_live (cond b (record k { looks = change k.looks }) k
+    ∷ map (changed_if c (λ k. record k { looks = change k.looks })) ks) ≡ count_live (k ∷ ks)) [
+      | true ↦ ap (λ (n : ℕ). if is_live k.life then suc n else n) rest
+      | false ↦ ap (λ (n : ℕ). if is_live k.life then suc n else n) rest
+    ])
+
+-- whatever passes at the end of a call
+pub orderly_looks : (s : Setup) (c : CallName) (change : CallLooks → CallLooks) (l : Looks) → Orderly s l
+    → Orderly s (on_looks c change l)
+orderly_looks s c change l o =
+    record {
+      conns = o.conns;
+      few = (let same = count-looks c change l.calls in let low = o.few in omega arith);
+      latest = λ d lives. (
+          let is = o.latest d (lived d lives) in record { chan = is.chan; number = is.number });
+    }
+  where
+    alters : CallRecord → CallRecord
+    alters k = record k { looks = change k.looks }
+
+    same-life : (k : CallRecord) → (changed_if c alters k).life ≡ k.life
+    same-life k = of (same_name k.name c)
+      where
+        of : (b : Bool) → (cond b (alters k) k).life ≡ k.life
+        of true = refl
+        of false = refl
+
+    either : (q : Option CallRecord)
+        → is_call (λ k. is_live k.life) (option_map (changed_if c alters) q) ≡ is_call (λ k. is_live k.life) q
+    either None = refl
+    either (Some k) = ap is_live (same-life k)
+
+    lived : (d : CallName) → LivesAt (on_looks c change l) d → LivesAt l d
+    lived d lives =
+        sym (either (call_at l d)) ∙ ap (λ (q : Option CallRecord). is_call (λ k. is_live k.life) q)
+        (sym (call_at-on_call d c alters l (λ k. refl))) ∙ lives
 
 -- a connection that is there has four channels
 pub four_there : (s : Setup) (l : Looks) (x : Connection) → Orderly s l → Fours (conn_at l x)
