@@ -1,0 +1,10 @@
+use Rattle.std.proofs.Common.{◌∙◌}
+use Rattle.rx_rules.specs.CallItems.{call_due}
+use Rattle.rx_ends.proofs.Changing.{of_end}
+use Rattle.rx_ends.proofs.ends.Ends.due.Goals as goal
+
+pub returns-clause-answered : goal.returns-clause-answered
+returns-clause-answered g c =
+    rw (← c.self.view_is) (λ k end.
+    let st = of_end _ c.args.key _ k c.self.invariant c.at.ensures.call end in
+    c.due.ensures _ k st.stands ∙ (λ i. call_due (st.client i) k))
