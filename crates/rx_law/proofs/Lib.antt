@@ -1,69 +1,69 @@
-mod Ends
-mod Pieces
-mod Fronts
-mod Carries
-mod Lives
-mod Calls
-mod Turns
-mod Takes
-mod Places
-mod Events
-mod Numbers
+pub mod Ends
+pub mod Pieces
+pub mod Fronts
+pub mod Carries
+pub mod Lives
+pub mod Calls
+pub mod Turns
+pub mod Takes
+pub mod Places
+pub mod Events
+pub mod Numbers
 pub mod Conns
 pub mod Data
-mod Server
-mod ServerHistory
-mod Client
-mod ClientHistory
-mod Joint
-mod Law
-mod Joins
-mod World
-mod Given
-mod Example
-mod SoundLaws
-mod TakenLaws
-mod ForgotLaws
-mod GivenLaws
-mod MessageTaken
-mod ForgotAfter
-mod OnceLaw
-mod ShownLaws
-mod PlainTaken
-mod RightLaws
-mod ProvesLaws
-mod ShownTaken
-mod PlainGiven
-mod EnteredLaw
-mod LegalTold
-mod Moments
-mod Hears
-mod HearsTaken
-mod HearsAfter
-mod Firm
-mod FirmAfter
-mod Recalls
-mod Enters
-mod Asks
-mod Gives
-mod Judges
-mod Waits
-mod Knows
-mod Learns
-mod Polls
-mod Late
-mod TimedClient
-mod TimedServer
-mod StartsTimed
-mod JoinsTimed
-mod WorldTimed
-mod WorldAsks
-mod WorldLaw
-mod ForgetsExample
-mod Clocks
-mod Due
-mod Reaches
-mod UsedLaws
+pub mod Server
+pub mod ServerHistory
+pub mod Client
+pub mod ClientHistory
+pub mod Joint
+pub mod Law
+pub mod Joins
+pub mod World
+pub mod Given
+pub mod Example
+pub mod SoundLaws
+pub mod TakenLaws
+pub mod ForgotLaws
+pub mod GivenLaws
+pub mod MessageTaken
+pub mod ForgotAfter
+pub mod OnceLaw
+pub mod ShownLaws
+pub mod PlainTaken
+pub mod RightLaws
+pub mod ProvesLaws
+pub mod ShownTaken
+pub mod PlainGiven
+pub mod EnteredLaw
+pub mod LegalTold
+pub mod Moments
+pub mod Hears
+pub mod HearsTaken
+pub mod HearsAfter
+pub mod Firm
+pub mod FirmAfter
+pub mod Recalls
+pub mod Enters
+pub mod Asks
+pub mod Gives
+pub mod Judges
+pub mod Waits
+pub mod Knows
+pub mod Learns
+pub mod Polls
+pub mod Late
+pub mod TimedClient
+pub mod TimedServer
+pub mod StartsTimed
+pub mod JoinsTimed
+pub mod WorldTimed
+pub mod WorldAsks
+pub mod WorldLaw
+pub mod ForgetsExample
+pub mod Clocks
+pub mod Due
+pub mod Reaches
+pub mod UsedLaws
 pub mod WholeLaws
 pub mod HeldNumbers
 pub mod HeldLaws
