@@ -34,12 +34,12 @@ if-room : (living crowded : Bool) → (not living && crowded) ≡ false → (liv
 if-room true crowded is = inl refl
 if-room false crowded is = inr is
 
-opens-ready : (s : Setup) (c : CallName) (m : Message) (got : Took) (l : Looks) → may_start got ≡ true
+pub opens_ready : (s : Setup) (c : CallName) (m : Message) (got : Took) (l : Looks) → may_start got ≡ true
     → enters got ≡ true → m.number ≡ c.number
     → took_named s l c m ≡ got
     → nat_lt (channel_at (prepared s got (connection_of c) l) (channel_of c)).number c.number ≡ true
     → Opens s c (prepared s got (connection_of c) l)
-opens-ready s c m got l starts enter number is above =
+opens_ready s c m got l starts enter number is above =
     let x : Connection = connection_of c in
     let ready : Looks = prepared s got x l in
     let f : Facts = facts_of s l c m in
@@ -125,7 +125,7 @@ orderly-behind s (Some row) from c m got l chan number is r o = orderly_dims s l
     (turned_dims row from m l) o
 orderly-behind s None from c m got l chan number is r o =
     orderly-with s got c m (prepared s got (connection_of c) l) chan
-    (λ starts above. opens-ready s c m got l starts (may-enter got starts) number (is refl) above)
+    (λ starts above. opens_ready s c m got l starts (may-enter got starts) number (is refl) above)
     (roomy_by s l (prepared s got (connection_of c) l) (calls-prepared s got (connection_of c) l) r)
     (orderly-prepared s c m got l (is refl) o)
 
