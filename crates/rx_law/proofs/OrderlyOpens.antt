@@ -45,10 +45,10 @@ abbrev later : CallRecord → CallRecord
 later k = record k { life = after_later k.life }
 
 -- the earlier one doesn't live behind it
-ended-dead : (s : Setup) (c : CallName) (l : Looks) → Opens s c l → RoomyAt s l
+pub ended_dead : (s : Setup) (c : CallName) (l : Looks) → Opens s c l → RoomyAt s l
     → is_call (λ k. is_live k.life)
     (latest (on_life (latest_name l (channel_of c)) after_later l) (channel_of c)) ≡ false
-ended-dead s c l opens r =
+ended_dead s c l opens r =
     let n : CallName = latest_name l (channel_of c) in
     ap (λ (o : Option CallRecord). is_call (λ k. is_live k.life) o)
     (call-changed n n later l (λ k. refl)
@@ -94,9 +94,9 @@ fewer-later n (j ∷ ks) k there live dead =
           (fewer-later n ks k is live dead)
     ]) there
 
-room-behind : (s : Setup) (c : CallName) (l : Looks) → Opens s c l → RoomyAt s l → Orderly s l
+pub room_behind : (s : Setup) (c : CallName) (l : Looks) → Opens s c l → RoomyAt s l → Orderly s l
     → live (on_life (latest_name l (channel_of c)) after_later l) < s.limits.calls
-room-behind s c l opens r o = of opens.room
+room_behind s c l opens r o = of opens.room
   where
     n : CallName
     n = latest_name l (channel_of c)
@@ -137,6 +137,6 @@ orderly_opened s c l chan opens r o =
     start opens (Some x) is known =
         let n : CallName = latest_name l (channel_of c) in
         let ended : Looks = on_life n after_later l in
-        orderly_started s lives.Waiting c ended x is chan (ended-dead s c l opens r)
+        orderly_started s lives.Waiting c ended x is chan (ended_dead s c l opens r)
         (orderly_dims s l ended (dims_life n after_later l later_falls) o)
-        (room-behind s c l opens r o) (roomy_life s n after_later l later_falls r).differ
+        (room_behind s c l opens r o) (roomy_life s n after_later l later_falls r).differ
