@@ -6,6 +6,7 @@
 
 mod disk;
 mod files;
+mod laws;
 mod mem_files;
 mod mem_sink;
 mod sink;
@@ -15,6 +16,7 @@ mod tests;
 
 pub use disk::{DiskFiles, MAX_FILE_BYTES};
 pub use files::{Files, ReadFault};
+pub use laws::numbers;
 pub use mem_files::MemFiles;
 pub use mem_sink::MemSink;
 pub use sink::{Failed, Sink};
