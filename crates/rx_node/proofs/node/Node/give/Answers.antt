@@ -1,0 +1,10 @@
+use Rattle.std.proofs.Common.{take}
+use Rattle.rx_node.proofs.GivenDatagram.{gave_datagram}
+use Rattle.rx_node.proofs.node.Node.give.Goals as goal
+
+pub returns-clause-gives : goal.returns-clause-gives
+returns-clause-gives g c =
+    λ l i m due. gave_datagram g.C.Class.class_of c.args.self.now c.count-serial.new.self c.give_item.new.self
+    c.count-serial.ensures.same l m c.args.due.now i due c.link.result.now c.link.ensures c.count-serial.result
+    c.head-head.result (take c.give_item.result c.give_item.new.to) c.count-serial.ensures.serial
+    c.count-serial.ensures.steps c.head-head.ensures.head c.give_item.ensures.gives

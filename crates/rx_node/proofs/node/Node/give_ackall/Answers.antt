@@ -1,0 +1,25 @@
+use Rattle.std.proofs.Common.{false, refl}
+use Rattle.rx_node.proofs.GivenOwing.{ackall_given}
+use Rattle.rx_node.proofs.KeptNode.{alike_with_seat, still_node, still_seated, still_set_up}
+use Rattle.rx_node.proofs.OwingSteps.{mirrors_owing}
+use Rattle.rx_node.proofs.node.Node.give_ackall.Goals as goal
+
+pub invariant_of-self : goal.invariant_of-self
+invariant_of-self g c =
+    let i = c.self.invariant in
+    let seat = c.seat_mut.result.now in
+    let like = alike_with_seat c.self.inside.table c.args.key seat (record seat { owed_ackall = false }) c.seat_mut.ensures.value refl in
+    (still_set_up g.C.Class.class_of _ _ like i.0, still_seated g.C.Class.class_of _ _ like i.1, i.2, i.3)
+
+pub returns-clause-steps : goal.returns-clause-steps
+returns-clause-steps g c =
+    let seat = c.seat_mut.result.now in
+    rw (← c.self.view_is)
+    (λ l ch m at. mirrors_owing g.C.Class.class_of _ l m c.args.key ch at seat (record seat { owed_ackall = false })
+    c.seat_mut.ensures.value (λ q. record q { owed_ackall = false }) (ackall_given seat))
+
+pub returns-clause-same : goal.returns-clause-same
+returns-clause-same g c =
+    let seat = c.seat_mut.result.now in
+    let like = alike_with_seat c.self.inside.table c.args.key seat (record seat { owed_ackall = false }) c.seat_mut.ensures.value refl in
+    rw (← c.self.view_is) (still_node g.C.Class.class_of _ _ like)

@@ -1,0 +1,35 @@
+use Rattle.std.proofs.Common.{◌≡◌, ◌++◌, ◌+◌, ◌≤◌, [], ℕ, List, length, Some, refl, ap, ◌∙◌, arith}
+use Rattle.rx_node.proofs.KeptNode.{alike_with_seat, still_node, still_seated, still_set_up}
+use Rattle.rx_node.proofs.OwingSteps.{mirrors_owing}
+use Rattle.rx_node.proofs.SeatChanges.{ok_says, response_owing}
+use Rattle.rx_node.proofs.node.Node.owe_response.Goals as goal
+
+pub invariant_of-self : goal.invariant_of-self
+invariant_of-self g c =
+    let i = c.self.invariant in
+    let seat = c.seat_mut.result.now in
+    let like = alike_with_seat c.self.inside.table c.args.key seat
+    (record seat { owed_response = Some c.try_extend_from_slice-fits.new.self }) c.seat_mut.ensures.value refl in
+    (still_set_up g.C.Class.class_of _ _ like i.0, still_seated g.C.Class.class_of _ _ like i.1, i.2, i.3)
+
+pub returns-clause-steps : goal.returns-clause-steps
+returns-clause-steps g c =
+    let seat = c.seat_mut.result.now in
+    let bytes : List ℕ = c.args.bytes.now in
+    let said = c.try_extend_from_slice-fits.ensures in
+    let empty : c.new-response.result.items ≡ [] = c.new-response.ensures in
+    let none : length c.new-response.result.items ≡ 0 = ap (λ (xs : List ℕ). length xs) empty in
+    let fits : length c.new-response.result.items + length bytes ≤ 64 = (let size = c.requires.size in omega arith) in
+    let is = ok_says c.try_extend_from_slice-fits.result _ (said.variant.1 fits) said.ok ∙ ap (λ (xs : List ℕ). xs ++ bytes) empty in
+    rw (← c.self.view_is)
+    (λ l ch m at. mirrors_owing g.C.Class.class_of _ l m c.args.key ch at seat _ c.seat_mut.ensures.value
+    (λ q. record q { owed_response = Some bytes })
+    (response_owing seat (record seat { owed_response = Some c.try_extend_from_slice-fits.new.self }) bytes
+    (ap (λ (xs : List ℕ). Some xs) is)))
+
+pub returns-clause-same : goal.returns-clause-same
+returns-clause-same g c =
+    let seat = c.seat_mut.result.now in
+    let like = alike_with_seat c.self.inside.table c.args.key seat
+    (record seat { owed_response = Some c.try_extend_from_slice-fits.new.self }) c.seat_mut.ensures.value refl in
+    rw (← c.self.view_is) (still_node g.C.Class.class_of _ _ like)

@@ -1,0 +1,6 @@
+pub mod Kinds
+pub mod Lives
+pub mod Node
+pub mod Mirrors
+pub mod Steps
+pub mod Due

@@ -1,0 +1,436 @@
+//! What a node gives when it is polled.
+
+ghost use Rattle.std.specs.Prelude.{◌≡◌, ◌≤◌, ◌<◌, ◌%◌, ◌^◌, ℕ, suc, List, length, take, drop, Some, None, IfSome, false};
+ghost use Rattle.std.specs.Prelude.{if◌then◌else◌, option_map, slice_get};
+ghost use Rattle.rx_model.specs.declared.event.Event.TheVariants as events;
+ghost use Rattle.rx_model.specs.declared.wire.TheConstants.{DATAGRAM_BYTES};
+ghost use Rattle.rx_model.specs.Body as models;
+ghost use Rattle.rx_model.specs.Names.{Channel};
+ghost use Rattle.rx_model.specs.Spelling.{made};
+ghost use Rattle.rx_packet.specs.Seen.{message_with_head};
+ghost use Rattle.rx_rules.specs.After.{counted};
+ghost use Rattle.rx_rules.specs.Items.{Item as RulesItem, channel_items, deaths, due as rules_due, items, message_on};
+ghost use Rattle.rx_rules.specs.Least.{least_by};
+ghost use Rattle.rx_rules.specs.Looks.{Looks, channel_at, conn_at, latest, latest_name, on_channel};
+ghost use Rattle.rx_rules.specs.Looks as rules;
+ghost use Rattle.rx_rules.specs.Setup.{side_flag};
+ghost use Rattle.rx_node.specs.Due.{AreDueAs, CanGive, Gave, GaveBehind, HasItem, IsDueAs, OwesAtOnce, SendsItem, at_once, challenge_of};
+ghost use Rattle.rx_node.specs.Due.{death_of, lesser_of, owed_at, unsilenced};
+ghost use Rattle.rx_node.specs.Mirrors.{IsActiveAt, IsChannel, IsKey, Mirrors, StepsAt};
+ghost use Rattle.rx_node.specs.Node.{KeepsNode, setup_of};
+ghost use Rattle.rx_node.specs.Steps.{AnswersNode, Dimmed, given_count, given_from};
+
+use crate::item::{Due, Item};
+use crate::node::Node;
+use crate::strays::{ABORT, stray_head};
+use rx_call::Giving;
+use rx_class::Class;
+use rx_due::Steps;
+use rx_model::wire::{ACK_PING, LAST_PACKET, PAYLOAD_BYTES, REQUEST_ACK, SECURITY_BYTES};
+use rx_model::{CallName, Host};
+use rx_packet::{AckBody, Body, Head, write_msg};
+use rx_table::{CHANNELS, Seat};
+use std::sync::ledger::Ledger;
+
+impl<C: Class> Node<C> {
+    /// Ends silent calls, then writes the next datagram that is due to the front of the buffer, the oldest stray abort
+    /// before all others, and answers the host that it is for and its length in bytes; none where nothing is due.
+    pub fn poll<L: Ledger>(&mut self, to: &mut [u8], steps: &mut Steps<L>) -> Option<(Host, usize)>
+        requires { DATAGRAM_BYTES ≤ length to.old }
+        ensures answered { AnswersNode C.class_of self.old self.new (events.Polled (given_from result to.new)) }
+        ensures dimmed { (l : Looks) → Mirrors C.class_of self.old l → Dimmed C.class_of self.new l }
+        ensures rest { drop (given_count result) to.new ≡ drop (given_count result) to.old }
+        ensures same { KeepsNode self.old self.new }
+    {
+        self.silence(steps);
+        if let Some(stray) = self.strays.pop_front() {
+            let count = write_msg(&stray_head(&stray), &ABORT, to);
+            return Some((stray.host, count));
+        }
+        let due = self.least_due(steps)?;
+        if due.rank > self.moment {
+            return None;
+        }
+        Some(self.give(&due, to, steps))
+    }
+
+    /// From which moment on, in milliseconds, a poll would do something; none where no call lives that isn't broken, and
+    /// nothing is owed.
+    pub fn due<L: Ledger>(&self, steps: &mut Steps<L>) -> Option<u64>
+        ensures { (l : Looks) → Mirrors C.class_of self.now l → result ≡ rules_due (setup_of C.class_of self.now) l }
+    {
+        if !self.strays.is_empty() {
+            return Some(self.moment);
+        }
+        let least = self.least_moment(steps)?;
+        Some(least.max(self.moment))
+    }
+
+    /// The least moment of an item or a death.
+    fn least_moment<L: Ledger>(&self, steps: &mut Steps<L>) -> Option<u64>
+        ensures { (l : Looks) → Mirrors C.class_of self.now l → result ≡ lesser_of (λ moment. moment)
+            (option_map (λ i. i.rank) (least_by (λ i. i.rank) (items (setup_of C.class_of self.now) (unsilenced l))))
+            (least_by (λ moment. moment) (deaths l.calls)) }
+    {
+        let item = self.least_due(steps).map(|due| due.rank);
+        earlier(item, self.first_death(steps))
+    }
+
+    /// The item of least rank, of the lowest channel among equals. It goes through all channels.
+    fn least_due<L: Ledger>(&self, steps: &mut Steps<L>) -> Option<Due>
+        ensures given { IfSome result (CanGive self.now) }
+        ensures least { (l : Looks) → Mirrors C.class_of self.now l → let s = setup_of C.class_of self.now in
+            AreDueAs s l result (least_by (λ i. i.rank) (items s (unsilenced l))) }
+    {
+        let mut least = None;
+        for key in 0..CHANNELS * self.conns() {
+            least = lesser(least, self.due_on(key, steps));
+        }
+        least
+    }
+
+    /// The moment at which the first call would die of silence. It goes through all channels.
+    fn first_death<L: Ledger>(&self, steps: &mut Steps<L>) -> Option<u64>
+        ensures { (l : Looks) → Mirrors C.class_of self.now l → result ≡ least_by (λ moment. moment) (deaths l.calls) }
+    {
+        let mut first = None;
+        for key in 0..CHANNELS * self.conns() {
+            first = earlier(first, self.death_on(key, steps));
+        }
+        first
+    }
+
+    /// The moment at which a channel's call would die.
+    fn death_on<L: Ledger>(&self, key: u32, steps: &mut Steps<L>) -> Option<u64>
+        requires { IsKey self.now key }
+        ensures { (l : Looks) (ch : Channel) → Mirrors C.class_of self.now l → IsChannel l key ch →
+            result ≡ death_of (latest l ch) }
+    {
+        let end = self.active(key)?;
+        Some(self.ends.dies(end, steps))
+    }
+
+    /// The first item of least rank of a channel.
+    fn due_on<L: Ledger>(&self, key: u32, steps: &mut Steps<L>) -> Option<Due>
+        requires { IsKey self.now key }
+        ensures given { IfSome result (CanGive self.now) }
+        ensures least { (l : Looks) (ch : Channel) → Mirrors C.class_of self.now l → IsChannel l key ch →
+            let s = setup_of C.class_of self.now in
+            AreDueAs s l result (least_by (λ i. i.rank) (channel_items s (unsilenced l) ch)) }
+    {
+        if let Some(item) = self.owed_on(key) {
+            return Some(Due { rank: 0, key, item });
+        }
+        let end = self.active(key)?;
+        let rank = self.ends.due(end, steps)?;
+        Some(Due {
+            rank,
+            key,
+            item: Item::Sending(end),
+        })
+    }
+
+    /// The first of what a channel owes at once, beside what its call sends.
+    fn owed_on(&self, key: u32) -> Option<Item>
+        requires { IsKey self.now key }
+        ensures given { IfSome result (HasItem self.now key) }
+        ensures first { (l : Looks) (ch : Channel) → Mirrors C.class_of self.now l → IsChannel l key ch →
+            OwesAtOnce (setup_of C.class_of self.now) l ch result }
+    {
+        owed_at(self.table.seat(key), self.table.proved(key / CHANNELS))
+    }
+
+    /// Writes what is due, which is owed no longer, and answers the host that it is for and its length.
+    fn give<L: Ledger>(&mut self, due: &Due, to: &mut [u8], steps: &mut Steps<L>) -> (Host, usize)
+        requires room { DATAGRAM_BYTES ≤ length to.old }
+        requires can { CanGive self.old due.now }
+        requires now { due.now.rank ≤ self.old.moment }
+        ensures gives { (l : Looks) (i : RulesItem) → Mirrors C.class_of self.old l →
+            IsDueAs (setup_of C.class_of self.old) l due.now i →
+            Gave C.class_of self.old self.new l i result.0 (take result.1 to.new) }
+        ensures rest { drop result.1 to.new ≡ drop result.1 to.old }
+        ensures same { KeepsNode self.old self.new }
+    {
+        let place = due.key / CHANNELS;
+        let peer = self.link(place).peer;
+        let serial = self.count(place);
+        let head = self.head(due.key, serial);
+        (peer, self.give_item(due, &head, to, steps))
+    }
+
+    /// Counts a datagram that is given now on the connection at a place, and answers its serial.
+    fn count(&mut self, place: u32) -> u32
+        requires { place < length self.old.table.conns }
+        ensures serial { (l : Looks) (x : rules.ConnLooks) → Mirrors C.class_of self.old l → slice_get l.conns place ≡ Some x →
+            result ≡ suc x.given % 2 ^ 32 }
+        ensures steps { (l : Looks) (x : rules.ConnLooks) → Mirrors C.class_of self.old l →
+            slice_get l.conns place ≡ Some x → Mirrors C.class_of self.new (counted x.connection l) }
+        ensures active { (key end : ℕ) → IsActiveAt self.old key end → IsActiveAt self.new key end }
+        ensures same { KeepsNode self.old self.new }
+    {
+        self.table.touch(place, self.moment);
+        self.table.serial(place)
+    }
+
+    /// Writes an item behind a header of its channel's latest call, and answers its length.
+    fn give_item<L: Ledger>(
+        &mut self,
+        due: &Due,
+        head: &Head,
+        to: &mut [u8],
+        steps: &mut Steps<L>,
+    ) -> usize
+        requires room { DATAGRAM_BYTES ≤ length to.old }
+        requires can { CanGive self.old due.now }
+        requires now { due.now.rank ≤ self.old.moment }
+        requires flags { head.now.flags ≡ side_flag self.old.kind }
+        requires seq { head.now.seq ≡ 0 }
+        ensures gives { (l : Looks) (i : RulesItem) → Mirrors C.class_of self.old l →
+            IsDueAs (setup_of C.class_of self.old) l due.now i →
+            ((ch : Channel) → IsChannel l due.now.key ch → head.now.number ≡ (channel_at l ch).number) →
+            GaveBehind C.class_of self.new l head.now i (take result to.new) }
+        ensures rest { drop result to.new ≡ drop result to.old }
+        ensures same { KeepsNode self.old self.new }
+    {
+        match due.item {
+            Item::Abort(code) => self.give_abort(due.key, code, head, to),
+            Item::Busy(number) => self.give_busy(due.key, &Head { number, ..*head }, to),
+            Item::Challenge => self.give_challenge(due.key, head, to),
+            Item::Response => self.give_response(due.key, head, to),
+            Item::AckAll => self.give_ackall(due.key, head, to),
+            Item::Sending(end) => self.give_sending(due.key, end, head, to, steps),
+        }
+    }
+
+    /// An ABORT that a channel owes.
+    fn give_abort(&mut self, key: u32, code: i32, head: &Head, to: &mut [u8]) -> usize
+        requires room { DATAGRAM_BYTES ≤ length to.old }
+        requires key { IsKey self.old key }
+        ensures steps { StepsAt C.class_of self.old self.new key
+            (λ ch l. on_channel ch (λ q. record q { owed_abort = None }) l) }
+        ensures written { take result to.new ≡ made (message_with_head head.now (models.Abort code)) }
+        ensures rest { drop result to.new ≡ drop result to.old }
+        ensures same { KeepsNode self.old self.new }
+    {
+        self.table.seat_mut(key).owed_abort = None;
+        write_msg(head, &Body::Abort(code), to)
+    }
+
+    /// A BUSY that a channel owes, for the call of the header.
+    fn give_busy(&mut self, key: u32, head: &Head, to: &mut [u8]) -> usize
+        requires room { DATAGRAM_BYTES ≤ length to.old }
+        requires key { IsKey self.old key }
+        ensures steps { StepsAt C.class_of self.old self.new key
+            (λ ch l. on_channel ch (λ q. record q { owed_busy = None }) l) }
+        ensures written { take result to.new ≡ made (message_with_head head.now models.Busy) }
+        ensures rest { drop result to.new ≡ drop result to.old }
+        ensures same { KeepsNode self.old self.new }
+    {
+        self.table.seat_mut(key).owed_busy = None;
+        write_msg(head, &Body::Busy, to)
+    }
+
+    /// The CHALLENGE of a channel's latest call.
+    fn give_challenge(&mut self, key: u32, head: &Head, to: &mut [u8]) -> usize
+        requires room { DATAGRAM_BYTES ≤ length to.old }
+        requires key { IsKey self.old key }
+        ensures steps { StepsAt C.class_of self.old self.new key
+            (λ ch l. on_channel ch (λ q. record q { owed_challenge = false }) l) }
+        ensures written { (l : Looks) (ch : Channel) → Mirrors C.class_of self.old l → IsChannel l key ch →
+            take result to.new ≡ made (message_with_head head.now
+            (challenge_of (setup_of C.class_of self.old) l (latest_name l ch))) }
+        ensures rest { drop result to.new ≡ drop result to.old }
+        ensures same { KeepsNode self.old self.new }
+    {
+        let mut bytes = [0; SECURITY_BYTES];
+        let nonce = self.table.nonce(key / CHANNELS);
+        let count = self.class.challenge(&self.latest(key), nonce, &mut bytes);
+        self.table.seat_mut(key).owed_challenge = false;
+        write_msg(head, &Body::Challenge(&bytes[..count]), to)
+    }
+
+    /// The RESPONSE that a channel owes; nothing where it owes none.
+    fn give_response(&mut self, key: u32, head: &Head, to: &mut [u8]) -> usize
+        requires room { DATAGRAM_BYTES ≤ length to.old }
+        requires key { IsKey self.old key }
+        ensures steps { StepsAt C.class_of self.old self.new key
+            (λ ch l. on_channel ch (λ q. record q { owed_response = None }) l) }
+        ensures written { (l : Looks) (ch : Channel) (bytes : List ℕ) → Mirrors C.class_of self.old l → IsChannel l key ch →
+            (channel_at l ch).owed_response ≡ Some bytes →
+            take result to.new ≡ made (message_with_head head.now (models.Response bytes)) }
+        ensures rest { drop result to.new ≡ drop result to.old }
+        ensures same { KeepsNode self.old self.new }
+    {
+        match self.table.seat_mut(key).owed_response.take() {
+            Some(bytes) => write_msg(head, &Body::Response(bytes.as_slice()), to),
+            None => 0,
+        }
+    }
+
+    /// An ACKALL that a channel owes.
+    fn give_ackall(&mut self, key: u32, head: &Head, to: &mut [u8]) -> usize
+        requires room { DATAGRAM_BYTES ≤ length to.old }
+        requires key { IsKey self.old key }
+        ensures steps { StepsAt C.class_of self.old self.new key
+            (λ ch l. on_channel ch (λ q. record q { owed_ackall = false }) l) }
+        ensures written { take result to.new ≡ made (message_with_head head.now models.AckAll) }
+        ensures rest { drop result to.new ≡ drop result to.old }
+        ensures same { KeepsNode self.old self.new }
+    {
+        self.table.seat_mut(key).owed_ackall = false;
+        write_msg(head, &Body::AckAll, to)
+    }
+
+    /// The header of a datagram of a channel's latest call (`rx_packet.h`, `struct rx_header`), without a seq.
+    fn head(&self, key: u32, serial: u32) -> Head
+        requires { IsKey self.now key }
+        ensures flags { result.flags ≡ side_flag self.now.kind }
+        ensures seq { result.seq ≡ 0 }
+        ensures head { (l : Looks) (ch : Channel) (x : rules.ConnLooks) (body : models.Body) →
+            Mirrors C.class_of self.now l → IsChannel l key ch → conn_at l ch.connection ≡ Some x →
+            message_with_head result body
+            ≡ record (message_on (setup_of C.class_of self.now) (at_once (latest_name l ch) body) x) {
+              serial = serial;
+            } }
+    {
+        let place = key / CHANNELS;
+        let (_host, epoch, cid) = self.table.named(place);
+        Head {
+            epoch,
+            cid: cid + key % CHANNELS,
+            number: self.table.seat(key).number,
+            seq: 0,
+            serial,
+            flags: self.kind.flag(),
+            status: 0,
+            index: self.class.index(),
+            spare: 0,
+            service: self.links[place as usize].service,
+        }
+    }
+
+    /// The name of a channel's latest call.
+    pub fn latest(&self, key: u32) -> CallName
+        requires { IsKey self.now key }
+        ensures { (l : Looks) (ch : Channel) → Mirrors C.class_of self.now l → IsChannel l key ch →
+            result ≡ latest_name l ch }
+    {
+        let (host, epoch, cid) = self.table.named(key / CHANNELS);
+        CallName {
+            host,
+            epoch,
+            cid,
+            chan: (key % CHANNELS) as u8,
+            number: self.table.seat(key).number,
+        }
+    }
+
+    /// The DATA or the ACK of a call.
+    fn give_sending<L: Ledger>(
+        &mut self,
+        key: u32,
+        end: usize,
+        head: &Head,
+        to: &mut [u8],
+        steps: &mut Steps<L>,
+    ) -> usize
+        requires room { DATAGRAM_BYTES ≤ length to.old }
+        requires active { IsActiveAt self.old key end }
+        requires flags { head.now.flags ≡ side_flag self.old.kind }
+        ensures gives { (l : Looks) (ch : Channel) (i : RulesItem) → Mirrors C.class_of self.old l → IsChannel l key ch →
+            SendsItem (setup_of C.class_of self.old) l ch i → i.rank ≤ l.now → head.now.number ≡ i.name.number →
+            head.now.seq ≡ 0 →
+            GaveBehind C.class_of self.new l head.now i (take result to.new) }
+        ensures rest { drop result to.new ≡ drop result to.old }
+        ensures same { KeepsNode self.old self.new }
+    {
+        match self.ends.poll(end, self.moment, steps) {
+            Some(Giving::Piece { seq, asks, last }) => {
+                let flags = head.flags
+                    | flag_where(asks, REQUEST_ACK)
+                    | flag_where(last, LAST_PACKET);
+                let payload = self.ends.payload(end, seq, steps);
+                // A slot has no more than a datagram has room for.
+                let payload = &payload[..payload.len().min(PAYLOAD_BYTES)];
+                write_msg(
+                    &Head {
+                        seq,
+                        flags,
+                        ..*head
+                    },
+                    &Body::Chunk(payload),
+                    to,
+                )
+            }
+            Some(Giving::Ack { reason, serial }) => {
+                let flags = head.flags | flag_where(reason == ACK_PING, REQUEST_ACK);
+                let view = self.ends.ack_view(end, steps);
+                let ack = AckBody {
+                    first: view.first,
+                    previous: view.previous,
+                    serial,
+                    reason,
+                    marks: view.marks,
+                    window: Some(self.limits.window),
+                };
+                write_msg(&Head { flags, ..*head }, &Body::Ack(ack), to)
+            }
+            None => 0,
+        }
+    }
+}
+
+/// The first of what a seat owes at once, by whether the client of its connection is proved.
+fn owed_at(seat: &Seat, proved: bool) -> Option<Item>
+    ensures { result ≡ owed_at seat.now proved }
+{
+    if let Some(code) = seat.owed_abort {
+        return Some(Item::Abort(code));
+    }
+    if let Some(number) = seat.owed_busy {
+        return Some(Item::Busy(number));
+    }
+    let is_live = seat.live.is_some();
+    if is_live && seat.owed_challenge && !proved {
+        return Some(Item::Challenge);
+    }
+    if is_live && seat.owed_response.is_some() {
+        return Some(Item::Response);
+    }
+    if seat.owed_ackall {
+        return Some(Item::AckAll);
+    }
+    None
+}
+
+/// The one of less rank, the first where they are equal.
+fn lesser(before: Option<Due>, next: Option<Due>) -> Option<Due>
+    ensures { result ≡ lesser_of (λ due. due.rank) before next }
+{
+    match (before, next) {
+        (Some(a), Some(b)) => Some(if a.rank <= b.rank { a } else { b }),
+        (Some(a), None) => Some(a),
+        (None, next) => next,
+    }
+}
+
+/// The earlier moment.
+fn earlier(before: Option<u64>, next: Option<u64>) -> Option<u64>
+    ensures { result ≡ lesser_of (λ moment. moment) before next }
+{
+    match (before, next) {
+        (Some(a), Some(b)) => Some(if a <= b { a } else { b }),
+        (Some(a), None) => Some(a),
+        (None, next) => next,
+    }
+}
+
+/// A flag, where it is set.
+fn flag_where(set: bool, flag: u8) -> u8
+    ensures { result ≡ (if set then flag else 0) }
+{
+    if set {
+        return flag;
+    }
+    0
+}
