@@ -1,7 +1,8 @@
 -- One call among all: what it does to the pool leaves the slots of the others, and all together keep the pool's rules.
 -- For a node over its calls.
 use Rattle.std.proofs.Common.{◌≡◌, ◌≢◌, inl, inr, ◌<◌, ◌+◌, cond, Bool, true, false, ℕ, zero, suc, List, [], ◌∷◌, ◌++◌}
-use Rattle.std.proofs.Common.{Option, Some, None, is_some, IsSome, length, get_or, set, refl, sym, ap, ◌∙◌, subst, arith}
+use Rattle.std.proofs.Common.{Option, Some, None, is_some, IsSome, length, get_or, set, refl, sym, ap, ◌∙◌, subst}
+use Rattle.std.proofs.Common.{arith}
 use Rattle.std.proofs.Common.{append_assoc, count_by, IsSomeAnd}
 use Rattle.std.specs.List.{flat_map}
 use Rattle.std.specs.Option.{ForSome}
@@ -117,18 +118,6 @@ pub only_one : (calls : KeptCalls) (key : ℕ) (c e : EndOfCall) → call_under 
     call_under calls key ≡ Some e → e ≡ c
 only_one calls key c e is also = let both : Some e ≡ Some c = sym also ∙ is in cc
 
--- each key that was there is there
-pub there_still : (calls : KeptCalls) (key : ℕ) (d : EndOfCall) (q : ℕ) → IsSome (call_under calls q) →
-    IsSome (call_under (with_call_under calls key d) q)
-there_still calls key d q there =
-    elim (cases_eq q key) as (λ _. IsSome (call_under (with_call_under calls key d) q)) [
-      | inl same ↦ (
-          let here : IsSome (call_under calls key) = ap (λ n. is_some (call_under calls n)) (sym same) ∙ there in
-          ap (λ n. is_some (call_under (with_call_under calls key d) n)) same
-          ∙ ap is_some (call_under-with_same calls key d here))
-      | inr other ↦ ap is_some (call_under-with_other calls key q d other) ∙ there
-    ]
-
 -- what one has of a call, each has that is found at the key
 pub of_only_one : (calls : KeptCalls) (key : ℕ) (c : EndOfCall) (P : EndOfCall → Type 0) →
     call_under calls key ≡ Some c → P c → ForSome (call_under calls key) P
@@ -233,15 +222,6 @@ changes_one pool after calls key c d is h keeps =
       keeps = keeps_at pool after calls key c d is h keeps;
       stands = λ q e k apart other st. stands_at pool after calls key q c d e k is h keeps apart other st;
     }
-
--- all its slots are those that it held before: the pool wasn't used
-pub changes_same : (pool : Slots) (calls : KeptCalls) (key : ℕ) (c d : EndOfCall) → call_under calls key ≡ Some c →
-    Holds pool (slots_of_all calls) → slots_of d ≡ slots_of c →
-    ChangesOne pool pool calls (with_call_under calls key d) key
-changes_same pool calls key c d is h same =
-    changes_one pool pool calls key c d is h
-    (subst (λ ss. Keeps pool pool (slots_of c) ss) (sym same)
-    (keeps_same pool (slots_of c) (holds_at pool calls key c is h)))
 
 -- a key comes to be there, or leaves
 pub changes_kept : (pool : Slots) (old new : KeptCalls) (key : ℕ) → Holds pool (slots_of_all old) →

@@ -4,16 +4,13 @@ use Rattle.std.proofs.Common.{Option, Some, None, refl, sym, ap, ◌∙◌, arit
 use Rattle.std.specs.Prelude.{filter, option_map}
 use Rattle.std.proofs.lemmas.Bool.{cases_lt, cases_Bool}
 use Rattle.std.proofs.lemmas.Bool.Decides.{nat_tests}
-use Rattle.rx_rules.specs.CallItems.{CallItem, Sending, ack_items, ping_items, piece_items, call_items, call_due, item_at}
+use Rattle.rx_rules.specs.CallItems.{CallItem, Sending, ack_items, ping_items, piece_items, call_items, call_due}
 use Rattle.rx_rules.specs.CallItems.{next_sending}
 use Rattle.rx_rules.specs.CallItems as items
 use Rattle.rx_rules.specs.CallLooks.{CallLooks, NodeView}
 use Rattle.rx_rules.specs.Least.{least_by, lesser_by}
 use Rattle.rx_rules.specs.Owing.{Owed}
 use Rattle.rx_call.specs.Choosing.{least_piece, piece_sending, first_ack, chosen_by, ping_at}
-
-abbrev rank_of : CallItem → ℕ
-rank_of i = i.rank
 
 abbrev least : List CallItem → Option CallItem
 least is = least_by (λ (i : CallItem). i.rank) is
@@ -198,7 +195,8 @@ ack_given now None (Some a) = cond (nat_le a.rank now) (Some a) None
 ack_given now (Some p) (Some a) = cond (nat_le a.rank now) (cond (nat_le p a.rank) None (Some a)) None
 
 sending_lesser : (now : ℕ) (p : Option CallItem) (a : Option Owed) →
-    sending_in (due_only now (lesser p (ack_item a))) ≡ chosen_by (ack_given now (rank_in p) a) (sending_in (due_only now p))
+    sending_in (due_only now (lesser p (ack_item a))) ≡ chosen_by (ack_given now (rank_in p) a)
+    (sending_in (due_only now p))
 sending_lesser now None None = refl
 sending_lesser now None (Some a) =
     elim (nat_le a.rank now) as (λ b. sending_in (cond b (ack_item (Some a)) None)
@@ -259,11 +257,3 @@ pub ack_alone : (now : ℕ) (a : Owed) → a.rank ≤ now → ack_given now None
 ack_alone now a le =
     let due : nat_le a.rank now ≡ true = grind (arith, nat_tests, le) in
     rw due refl
-
-pub ack_late : (now : ℕ) (p : Option ℕ) (a : Owed) → now < a.rank → ack_given now p (Some a) ≡ None
-ack_late now None a lt = (let late : nat_le a.rank now ≡ false = grind (arith, nat_tests, lt) in rw late refl)
-ack_late now (Some p) a lt = (let late : nat_le a.rank now ≡ false = grind (arith, nat_tests, lt) in rw late refl)
-
-pub no_ack : (now : ℕ) (p : Option ℕ) → ack_given now p None ≡ None
-no_ack now None = refl
-no_ack now (Some p) = refl

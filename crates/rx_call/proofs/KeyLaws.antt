@@ -136,7 +136,8 @@ abbrev pub kept_calls : List (Option EndOfCall) → ℕ → List ℕ → KeptCal
 kept_calls cs window free = record { room = count_by is_some cs; window = window; by_key = there_from free 0 cs }
 
 -- a free key is taken from the end
-pub record Enters (cs : List (Option EndOfCall)) (window capacity : ℕ) (free left : List ℕ) (o : Option ℕ) : Type 0 where
+pub record Enters (cs : List (Option EndOfCall)) (window capacity : ℕ) (free left : List ℕ)
+    (o : Option ℕ) : Type 0 where
   pub kept : HasSoundKeys cs left window capacity
   pub absent : IfSome o (λ key. get_or (there_from free 0 cs) key None ≡ None)
   pub idle : IfSome o (λ key. IsSomeAnd (get_or (there_from left 0 cs) key None) (IsIdleOf window))
@@ -251,7 +252,8 @@ pub lent_calls : (cs : List (Option EndOfCall)) (window : ℕ) (free : List ℕ)
     kept_calls (set cs key (Some w)) window free ≡ with_call_under (kept_calls cs window free) key w
 lent_calls cs window free key w there =
     let some : IsSome (get_or cs key None) = ap is_some (sym (some_there free cs key there)) ∙ there in
-    ap (λ n. record { room = n; window = window; by_key = there_from free 0 (set cs key (Some w)) }) (lent_count cs key w some)
+    ap (λ n. record { room = n; window = window; by_key = there_from free 0 (set cs key (Some w)) })
+    (lent_count cs key w some)
     ∙ ap (λ ks. record { room = count_by is_some cs; window = window; by_key = ks }) (lent_list cs free key w there)
 
 pub lent_kept : (cs : List (Option EndOfCall)) (free : List ℕ) (window capacity key : ℕ) (w : EndOfCall) →

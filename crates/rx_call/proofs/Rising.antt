@@ -1,5 +1,6 @@
 -- A read behind which fewer packets are held raised how many are done with, and no other did.
-use Rattle.std.proofs.Common.{◌≡◌, inl, inr, ◌<◌, ◌≤◌, ◌==◌, nat_lt, cond, is_some, Bool, true, false, ℕ, suc, zero, List, []}
+use Rattle.std.proofs.Common.{◌≡◌, inl, inr, ◌<◌, ◌≤◌, ◌==◌, nat_lt, cond, is_some, Bool, true, false, ℕ, suc, zero}
+use Rattle.std.proofs.Common.{List, []}
 use Rattle.std.proofs.Common.{◌∷◌, Option, refl, ap, arith}
 use Rattle.std.proofs.lemmas.Bool.{cases_lt, cases_eq, false≢true}
 use Rattle.std.proofs.lemmas.Bool.Decides.{nat_tests}
@@ -20,7 +21,8 @@ count_fewer (p ∷ ps) a b le =
           rw (above, below) (omega (arith, rest)))
       | inr ge ↦ (
           let under : nat_lt b p.seq ≡ false = grind (arith, nat_tests, ge) in
-          rw under (elim (nat_lt a p.seq) as (λ t. count_above b ps ≤ cond t (suc (count_above a ps)) (count_above a ps)) [
+          rw under (elim (nat_lt a p.seq) as (λ t. count_above b ps ≤ cond t (suc (count_above a ps))
+          (count_above a ps)) [
             | true ↦ omega (arith, rest)
             | false ↦ rest
           ]))

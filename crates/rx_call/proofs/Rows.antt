@@ -1,11 +1,13 @@
 -- The row of a message, and what it makes of the call.
-use Rattle.std.proofs.Common.{◌≡◌, ◌∙◌, ◌+◌, ◌==◌, ◌&&◌, ◌||◌, not, cond, nat_lt, Bool, true, false, ℕ, List, refl, sym, ap, subst}
+use Rattle.std.proofs.Common.{◌≡◌, ◌∙◌, ◌+◌, ◌==◌, ◌&&◌, ◌||◌, not, cond, nat_lt, Bool, true, false, ℕ, List, refl, sym}
+use Rattle.std.proofs.Common.{ap, subst}
 use Rattle.rx_model.specs.declared.answers.Took.{Took}
 use Rattle.rx_model.specs.declared.answers.Took.TheVariants as tooks
 use Rattle.rx_model.specs.Body as bodies
 use Rattle.rx_packet.specs.declared.head.Head.{Head}
 use Rattle.rx_packet.specs.Seen.{message_with_head}
-use Rattle.rx_rules.specs.CallLooks.{CallLooks, NodeView, after_taken, after_data, after_ack, found, freed, arrival, has_lead}
+use Rattle.rx_rules.specs.CallLooks.{CallLooks, NodeView, after_taken, after_data, after_ack, found, freed, arrival}
+use Rattle.rx_rules.specs.CallLooks.{has_lead}
 use Rattle.rx_rules.specs.Received.{Packet, Arrival, arrival_row, arrival_of, front_of, is_no_seq}
 use Rattle.rx_rules.specs.Sent.{is_all_given}
 use Rattle.rx_call.specs.Standing.{data_row, heard_or_same}
@@ -18,7 +20,8 @@ or_left false b e = refl
 pub chunk_row : (client : Bool) (window left common : ℕ) (p : Packet) (k : CallLooks) → is_no_seq p.seq ≡ false →
     (is_no_seq p.seq || (client && not (is_all_given k.sent))) ≡ false →
     nat_lt 0 left ≡ nat_lt 0 (common + freed client k) →
-    data_row window left p (found client k) ≡ arrival_row (arrival client window (common + freed client k) p (found client k))
+    data_row window left p (found client k) ≡ arrival_row
+    (arrival client window (common + freed client k) p (found client k))
 chunk_row true window left common p k seq plain some =
     let f = found true k in
     λ i. arrival_row (record (arrival_of window

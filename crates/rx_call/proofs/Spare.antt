@@ -8,7 +8,8 @@ use Rattle.std.proofs.lemmas.Bool.{cases_Bool, cases_eq}
 use Rattle.std.proofs.lemmas.List.Sums.{sum_by-set, sum_by-cons}
 use Rattle.rx_pool.specs.Pool.{Slots}
 use Rattle.rx_call.specs.Standing.{EndOfCall, IsIdle, HasSpare, slots_of, holds_lead, leadless}
-use Rattle.rx_call.specs.Kept.{KeptCalls, call_under, with_call_under, live_count, slots_under, slots_of_all, OthersStay}
+use Rattle.rx_call.specs.Kept.{KeptCalls, call_under, with_call_under, live_count, slots_under, slots_of_all}
+use Rattle.rx_call.specs.Kept.{OthersStay}
 use Rattle.rx_call.specs.Kept.{beside_of, beside_under, beside_of_all}
 use Rattle.rx_call.proofs.Leads.{lead_some}
 use Rattle.rx_call.proofs.Undisturbed.{idle_slots}

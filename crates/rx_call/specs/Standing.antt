@@ -1,5 +1,6 @@
 -- What an end of a call is, and for what it stands. Public clauses cite this module.
-use Rattle.std.specs.Prelude.{◌≡◌, ◌≤◌, ◌<◌, ◌+◌, ◌||◌, ◌&&◌, ◌==◌, ◌++◌, not, if◌then◌else◌, nat_lt, ℕ, Bool, true, false, List, length}
+use Rattle.std.specs.Prelude.{◌≡◌, ◌≤◌, ◌<◌, ◌+◌, ◌||◌, ◌&&◌, ◌==◌, ◌++◌, not, if◌then◌else◌, nat_lt, ℕ, Bool, true}
+use Rattle.std.specs.Prelude.{false, List, length}
 use Rattle.std.specs.Prelude.{[], Option, Some, None}
 use Rattle.rx_model.specs.declared.wire.TheConstants.{PAYLOAD_BYTES}
 use Rattle.rx_model.specs.declared.answers.Took.{Took}

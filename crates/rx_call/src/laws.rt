@@ -13,8 +13,8 @@ pub fn one_call_changes()
         ChangesOne pool after calls (with_call_under calls key d) key }
 {}
 
-/// Where the pool has a slot for each call and some more, and the calls hold no more than these beside their leads, each
-/// call has room for its lead and for what is left of these.
+/// Where the pool has a slot for each call and some more, and the calls hold no more than these beside their leads,
+/// each call has room for its lead and for what is left of these.
 pub fn leads_have_slots()
     ensures { (pool : Slots) (calls : KeptCalls) (key : ℕ) (c : EndOfCall) (more : ℕ) → call_under calls key ≡ Some c →
         length pool.free + length (slots_of_all calls) ≡ calls.room + more → live_count calls ≤ calls.room →

@@ -56,7 +56,8 @@ pub fn owe_later(now: u64, serial: u32, owed: Option<OwedAck>) -> Option<OwedAck
 /// What is owed behind a packet that was kept, where all up to `front` stood without a gap before it.
 fn owe_for_kept(now: u64, head: &Head, front: u32, owed: Option<OwedAck>) -> Option<OwedAck>
     requires { now < 2 ^ 62 }
-    ensures { (body : Body) → owed_of result ≡ owed_for_kept now (message_with_head head.now body) front (owed_of owed) }
+    ensures { (body : Body) → owed_of result ≡ owed_for_kept now (message_with_head head.now body) front
+        (owed_of owed) }
 {
     if head.seq as u64 != front as u64 + 1 {
         return owe_now(ACK_OUT_OF_SEQUENCE, head.serial);
@@ -76,7 +77,8 @@ pub fn owe_for(
     owed: Option<OwedAck>,
 ) -> Option<OwedAck>
     requires { now < 2 ^ 62 }
-    ensures { (body : Body) → owed_of result ≡ owed_for took now (message_with_head head.now body) front (owed_of owed) }
+    ensures { (body : Body) → owed_of result ≡ owed_for took now (message_with_head head.now body) front
+        (owed_of owed) }
 {
     match took {
         Took::Kept => owe_for_kept(now, head, front, owed),

@@ -33,7 +33,8 @@ pub fn moved(alloc: Global, bytes: u64, window: u32) -> Result<Option<u64>, Allo
     Ok(None)
 }
 
-/// Says the next bytes until fewer fit than are offered, and shuts the stream behind the last. Answers how many were said.
+/// Says the next bytes until fewer fit than are offered, and shuts the stream behind the last. Answers how many were
+/// said.
 fn say(client: &mut CallEnd, block: &[u8], from: u64, bytes: u64) -> u64
     requires stands { Stands client.old }
     requires within { from ≤ bytes }

@@ -153,9 +153,6 @@ module _ (e : EndsState) (key : ℕ) (c d : EndOfCall) (after : Slots) (common :
         keeps = change_only;
       }
 
-  pub change_live : live_count (with_call_under e.calls key d) ≡ live_count e.calls
-  change_live = live_count-with_call_under e.calls key d (ap is_some ch.is)
-
 -- ---- a key comes to be there, or leaves
 
 -- what an idle call stands for
@@ -192,7 +189,8 @@ pub record Turns (e : EndsState) (calls : KeptCalls) (key : ℕ) (k : CallLooks)
   pub window : ForSome (call_under calls key) (λ c. c.window ≡ calls.window)
   pub stands : ForSome (call_under calls key) (λ c. StandsCall e.pool c k)
 
-module _ (e : EndsState) (calls : KeptCalls) (key : ℕ) (k : CallLooks) (ks : KeepsSlots e) (t : Turns e calls key k) where
+module _ (e : EndsState) (calls : KeptCalls) (key : ℕ) (k : CallLooks) (ks : KeepsSlots e)
+    (t : Turns e calls key k) where
   turn_stands : (q : ℕ) (x : EndOfCall) → call_under calls q ≡ Some x →
       StandsCall e.pool x (pick q key k ks.looks (cases_eq q key))
   turn_stands q x found =
@@ -214,23 +212,6 @@ module _ (e : EndsState) (calls : KeptCalls) (key : ℕ) (k : CallLooks) (ks : K
         live = t.live;
         common = omega (arith, ks.common, beside);
         within = ks.within;
-      }
-
-  pub turn_only : KeepsEnds e (record e { calls = calls }) key
-  turn_only =
-      record {
-        others = t.others;
-        stands = λ q j other end. (
-            let x = some_of (call_under e.calls q) (λ y. StandsAs e y j) end in
-            some_and (call_under calls q) (λ y. StandsAs (record e { calls = calls }) y j) x.0
-            (t.others.others q other ∙ x.1)
-            (record {
-              stands = x.2.stands;
-              client = x.2.client;
-              window = x.2.window ∙ sym t.others.window;
-            }));
-        client = refl;
-        shared = refl;
       }
 
 -- an idle call comes to be there
@@ -378,7 +359,8 @@ module _ (e : EndsState) (key : ℕ) (c d : EndOfCall) (after : Slots) (before b
       omega (arith, counted_low, old, new)))
 
 -- the call of a key, where it stands as this node's
-pub of_end : (e : EndsState) (key : ℕ) (c : EndOfCall) (k : CallLooks) → KeepsSlots e → call_under e.calls key ≡ Some c →
+pub of_end : (e : EndsState) (key : ℕ) (c : EndOfCall) (k : CallLooks) → KeepsSlots e
+    → call_under e.calls key ≡ Some c →
     StandsEnd e key k → StandsAs e c k
 of_end e key c k ks is end = of_some_and (call_under e.calls key) (λ y. StandsAs e y k) c is end
 

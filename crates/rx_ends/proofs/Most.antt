@@ -14,7 +14,7 @@ use Rattle.rx_model.proofs.NameLaws.{neither}
 use Rattle.rx_rules.specs.CallItems.{Sending}
 use Rattle.rx_rules.specs.CallItems as items
 use Rattle.rx_rules.specs.CallLooks.{CallLooks, NodeView, after_chunk, after_shut, after_taken, after_write, arrival}
-use Rattle.rx_rules.specs.CallLooks.{call_row, found, freed, lead, packet_of}
+use Rattle.rx_rules.specs.CallLooks.{call_row, found, freed, has_lead, lead, packet_of}
 use Rattle.rx_rules.specs.Received.{Arrival, Packet, Received, arrival_row, count_above, front_of, packet_at}
 use Rattle.rx_rules.specs.Received.{used_of}
 use Rattle.rx_rules.specs.Sent.{held_pieces, opened, pieces_by, room_of}
@@ -24,9 +24,11 @@ use Rattle.rx_recvwin.specs.Window.{packet_slots, window_of}
 use Rattle.rx_recvwin.proofs.Nearness.{held_is, lead_is}
 use Rattle.rx_recvwin.proofs.SlotLaws.{count_seen, leading_seen, slots_count}
 use Rattle.rx_sendwin.specs.Window.{piece_slots}
-use Rattle.rx_call.specs.Kept.{beside_of}
-use Rattle.rx_call.specs.Standing.{EndOfCall, HasSpare, StandsCall, after_given, has_unread, holds_lead, leadless, slots_of}
-use Rattle.rx_ends.specs.Ends.{beside_looks}
+use Rattle.rx_call.specs.Kept.{beside_of, call_under}
+use Rattle.rx_call.specs.Standing.{EndOfCall, HasSpare, StandsCall, after_given, has_unread, holds_lead, leadless}
+use Rattle.rx_call.specs.Standing.{slots_of}
+use Rattle.rx_call.proofs.CallsAt.{of_some_and}
+use Rattle.rx_ends.specs.Ends.{EndsState, HasShutSlot, IsUnshut, KeepsSlots, beside_looks}
 
 -- ---- what is held of what came
 
@@ -62,7 +64,8 @@ above seq used high = grind (arith, nat_tests)
 
 -- a packet that is kept has a slot
 slotted : (v : NodeView) (p : Packet) (k : CallLooks) →
-    arrival_row (arrival v.client v.window (v.left + freed v.client k) p (found v.client k)) ≡ tooks.Kept → Slotted v p k
+    arrival_row (arrival v.client v.window (v.left + freed v.client k) p (found v.client k)) ≡ tooks.Kept
+    → Slotted v p k
 slotted v p k is =
     let row = kept_slot (arrival v.client v.window (v.left + freed v.client k) p (found v.client k)) is in
     let new = neither (nat_le p.seq (used_of k.received)) (is_some (packet_at k.received.kept p.seq)) row.0 in
@@ -96,6 +99,30 @@ write_most window left count bytes k unshut is =
 no_more : (n : ℕ) (shut : Bool) → 0 < n → pieces_by n true ≡ pieces_by n shut
 no_more n true some = refl
 no_more n false some = (let one : 1 ≤ opened n = omega (arith, some) in omega (arith, one))
+
+-- where nothing was said it holds no piece, and so no lead where no packet stands without a gap
+pub shut_leadless : (pool : Slots) (c : EndOfCall) (k : CallLooks) → StandsCall pool c k → holds_lead c ≡ has_lead k →
+    c.sent.shut ≡ false → (c.sent.total ≡ 0 → has_unread c.received ≡ false) → c.sent.total ≡ 0 → holds_lead c ≡ false
+shut_leadless pool c k st lead unshut unread none =
+    let front : nat_lt (used_of k.received) (front_of k.received.kept) ≡ false =
+    sym (unread_is pool c k st) ∙ unread none in
+    let pieces : nat_lt 0 (held_pieces k.sent) ≡ false =
+    (λ i. nat_lt 0 (pieces_by ((sym st.sent.total ∙ none) i) ((sym st.sent.shut ∙ unshut) i) - k.sent.acked))
+    ∙ no_pieces k.sent.acked in
+    lead ∙ (λ i. front i || pieces i)
+  where
+    no_pieces : (acked : ℕ) → nat_lt 0 (pieces_by 0 false - acked) ≡ false
+    no_pieces acked = grind (arith, nat_tests)
+
+-- the same of a call that is there
+pub slot_of : (e : EndsState) (key : ℕ) (c : EndOfCall) → KeepsSlots e → call_under e.calls key ≡ Some c →
+    ((pool : Slots) (k : CallLooks) → StandsCall pool c k → holds_lead c ≡ has_lead k) → IsUnshut e key →
+    HasShutSlot e key → c.sent.total ≡ 0 → holds_lead c ≡ false
+slot_of e key c inv there lead unshut slot =
+    let st = inv.stands key c there in
+    shut_leadless e.pool c (inv.looks key) st (lead e.pool (inv.looks key) st)
+    (of_some_and _ (λ (d : EndOfCall). d.sent.shut ≡ false) c there unshut)
+    (of_some_and _ (λ (d : EndOfCall). d.sent.total ≡ 0 → has_unread d.received ≡ false) c there slot)
 
 -- the slots beside its lead of a call with so many pieces
 abbrev beside_by : CallLooks → ℕ → ℕ

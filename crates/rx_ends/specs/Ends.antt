@@ -6,7 +6,7 @@ use Rattle.rx_pool.specs.Pool.{Slots}
 use Rattle.rx_pool.specs.Held.{Holds}
 use Rattle.rx_call.specs.Kept.{KeptCalls, HasOneWindow, OthersStay, beside_of_all, call_under, live_count}
 use Rattle.rx_call.specs.Kept.{slots_of_all}
-use Rattle.rx_call.specs.Standing.{EndOfCall, StandsCall, IsIdle, HoldsPiece, HoldsGiven, holds_lead}
+use Rattle.rx_call.specs.Standing.{EndOfCall, StandsCall, IsIdle, HoldsPiece, HoldsGiven, has_unread}
 use Rattle.rx_call.specs.declared.giving.Giving.{Giving}
 
 -- whether its node is a client; the calls by key; the pool of their slots; how many slots they may hold beside one for
@@ -47,8 +47,8 @@ abbrev pub beside_looks : CallLooks → ℕ
 beside_looks k = held k - lead k
 
 -- what a node's calls keep true, with what they stand for: each that is there stands for its record; their slots are of
--- the pool, none held twice, and all others are free; no more are there than there is room for; the slots beside one for
--- each are counted, and are no more than may be
+-- the pool, none held twice, and all others are free; no more are there than there is room for; the slots beside one
+-- for each are counted, and are no more than may be
 pub record KeepsSlots (e : EndsState) : Type 0 where
   pub looks : ℕ → CallLooks
   pub stands : (key : ℕ) (c : EndOfCall) → call_under e.calls key ≡ Some c → StandsCall e.pool c (looks key)
@@ -73,8 +73,8 @@ pub record KeepsEnds (old new : EndsState) (key : ℕ) : Type 0 where
   pub client : new.client ≡ old.client
   pub shared : new.shared ≡ old.shared
 
--- the call of a key takes a step: it is there still, and stands for what the step makes of each record for which it stood;
--- and what calls hold beside their own slots goes on as it does
+-- the call of a key takes a step: it is there still, and stands for what the step makes of each record for which it
+-- stood; and what calls hold beside their own slots goes on as it does
 pub record StepsEnd (old new : EndsState) (key : ℕ) (step : CallLooks → CallLooks) : Type 0 where
   pub there : IsThere new key
   pub stands : (k : CallLooks) → StandsEnd old key k → StandsEnd new key (step k)
@@ -91,6 +91,7 @@ HoldsAt e key seq = IsSomeAnd (call_under e.calls key) (λ c. HoldsPiece c seq)
 abbrev pub GivesAt : EndsState → ℕ → Option Giving → Type 0
 GivesAt e key given = IsSomeAnd (call_under e.calls key) (λ c. HoldsGiven c given)
 
--- where nothing was said on it, it holds no lead, so that its own slot takes its one empty piece
+-- where nothing was said on it, no packet that it holds stands without a gap, so that its own slot takes its one empty
+-- piece
 abbrev pub HasShutSlot : EndsState → ℕ → Type 0
-HasShutSlot e key = IsSomeAnd (call_under e.calls key) (λ c. c.sent.total ≡ 0 → holds_lead c ≡ false)
+HasShutSlot e key = IsSomeAnd (call_under e.calls key) (λ c. c.sent.total ≡ 0 → has_unread c.received ≡ false)

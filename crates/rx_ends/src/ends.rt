@@ -2,13 +2,15 @@ ghost use Rattle.std.specs.Prelude.{◌≡◌, ◌≤◌, ◌<◌, ◌+◌, ◌-
 ghost use Rattle.std.specs.Prelude.{IfOk, IfSome, IsNone, IfNone, false};
 ghost use Rattle.rx_packet.specs.Seen.{message_of, body_of};
 ghost use Rattle.rx_rules.specs.CallItems.{call_due, next_sending};
-ghost use Rattle.rx_rules.specs.CallLooks.{CallLooks, after_read, after_shut, after_taken, after_write, call_row, fresh_call, lead};
+ghost use Rattle.rx_rules.specs.CallLooks.{CallLooks, after_read, after_shut, after_taken, after_write, call_row};
+ghost use Rattle.rx_rules.specs.CallLooks.{fresh_call, lead};
 ghost use Rattle.rx_rules.specs.Received.{read_of, used_of, marks_of};
 ghost use Rattle.rx_rules.specs.Sent.{is_all_acked, piece_at, room_of};
 ghost use Rattle.rx_recvwin.specs.Window.{given_count, tells_end};
 ghost use Rattle.rx_call.specs.Kept.{call_under, live_count};
 ghost use Rattle.rx_call.specs.Standing.{FitsSlot, after_given, giving_of, is_client};
-ghost use Rattle.rx_ends.specs.Ends.{EndsState, IsThere, IsIdleAt, IsUnshut, StandsEnd, KeepsEnds, StepsEnd, beside_looks};
+ghost use Rattle.rx_ends.specs.Ends.{EndsState, IsThere, IsIdleAt, IsUnshut, StandsEnd, KeepsEnds, StepsEnd};
+ghost use Rattle.rx_ends.specs.Ends.{beside_looks};
 ghost use Rattle.rx_ends.specs.Ends.{GivesAt, HasShutSlot, HoldsAt, view_at};
 
 use crate::counters::call;

@@ -2,8 +2,10 @@
 use Rattle.std.specs.Prelude.{◌++◌, ℕ, List, [], ◌∷◌, codes, refl, pos, replicate}
 use Rattle.rx_model.specs.Text.{hex_text}
 use Rattle.rx_rules.proofs.Replay.{unhex}
-use Rattle.rx_examples.proofs.Story.{Line, Connect, Call, Write, Shut, Read, Ask, Accept, Finish, Forge, Poll, Deliver, Rounds}
-use Rattle.rx_examples.proofs.Told.{Told, ToldBehind, server_with, client_with, lines_of, at_client, at_server, call, client, host, name, server}
+use Rattle.rx_examples.proofs.Story.{Line, Connect, Call, Write, Shut, Read, Ask, Accept, Finish, Forge, Poll, Deliver}
+use Rattle.rx_examples.proofs.Story.{Rounds}
+use Rattle.rx_examples.proofs.Told.{Told, ToldBehind, server_with, client_with, lines_of, at_client, at_server, call}
+use Rattle.rx_examples.proofs.Told.{client, host, name, server}
 use Rattle.rx_examples.proofs.Shared.{connected}
 use Rattle.std.specs.Fmt.{digits}
 use Rattle.hex.specs.Hex.{encode_with}

@@ -1,7 +1,8 @@
 -- Worked examples of the lives of calls.
 use Rattle.std.specs.Prelude.{◌++◌, ℕ, List, [], ◌∷◌, codes, refl, pos}
 use Rattle.rx_rules.proofs.Replay.{unhex}
-use Rattle.rx_examples.proofs.Story.{Line, Connect, Call, Write, Shut, Read, Ask, Cancel, Accept, Finish, Forge, Poll, Deliver, Clock}
+use Rattle.rx_examples.proofs.Story.{Line, Connect, Call, Write, Shut, Read, Ask, Cancel, Accept, Finish, Forge, Poll}
+use Rattle.rx_examples.proofs.Story.{Deliver, Clock}
 use Rattle.rx_examples.proofs.Told.{Told, at_client, at_server, call, client, name, server}
 use Rattle.rx_examples.proofs.Shared.{connected, asked, accepted, two_pieces}
 use Rattle.std.specs.Fmt.{digits}

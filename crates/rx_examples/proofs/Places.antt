@@ -1,6 +1,7 @@
 -- Worked examples of the places and names of connections.
 use Rattle.std.specs.Prelude.{◌++◌, ℕ, List, [], ◌∷◌, codes, refl, pos}
-use Rattle.rx_examples.proofs.Story.{Line, Connect, Call, Shut, Read, Ask, Cancel, Accept, Finish, Poll, Deliver, ClockAll}
+use Rattle.rx_examples.proofs.Story.{Line, Connect, Call, Shut, Read, Ask, Cancel, Accept, Finish, Poll, Deliver}
+use Rattle.rx_examples.proofs.Story.{ClockAll}
 use Rattle.rx_examples.proofs.Told.{Told, server_with, client_at, at_server, call, client, host, name, server}
 use Rattle.rx_examples.proofs.Shared.{asked, ended}
 use Rattle.std.specs.Fmt.{digits}

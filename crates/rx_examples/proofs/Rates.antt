@@ -5,7 +5,8 @@ use Rattle.rx_model.specs.Body as bodies
 use Rattle.rx_rules.specs.Classes.{null}
 use Rattle.rx_rules.specs.Items.{message_on}
 use Rattle.rx_rules.specs.Looks.{at_start}
-use Rattle.rx_rules.specs.Rates.{Cwnd, Rtt, after_acked, after_backoff, after_sample, after_timeout, first_cwnd, first_rtt}
+use Rattle.rx_rules.specs.Rates.{Cwnd, Rtt, after_acked, after_backoff, after_sample, after_timeout, first_cwnd}
+use Rattle.rx_rules.specs.Rates.{first_rtt}
 use Rattle.rx_rules.specs.Records.{fresh_conn}
 use Rattle.rx_rules.specs.Setup.{Setup, Server}
 use Rattle.rx_examples.proofs.Told.{at_client, call}

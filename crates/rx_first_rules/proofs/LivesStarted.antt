@@ -6,7 +6,8 @@ use Rattle.rx_model.specs.declared.names.CallName.{CallName}
 use Rattle.rx_model.specs.declared.wire.TheConstants.{LAST_PACKET, ACK_OUT_OF_SEQUENCE, ACK_REQUESTED}
 use Rattle.rx_model.specs.Body.{Body}
 use Rattle.rx_model.specs.Body as bodies
-use Rattle.rx_first_rules.specs.Looks.{Looks, Named, Owed, with_start, with_number, unless_started, with_first, with_kept}
+use Rattle.rx_first_rules.specs.Looks.{Looks, Named, Owed, with_start, with_number, unless_started, with_first}
+use Rattle.rx_first_rules.specs.Looks.{with_kept}
 use Rattle.rx_first_rules.specs.Looks.{with_previous, packet_of, at_once, delayed, owed_for_kept, owed_for_named}
 use Rattle.rx_model.specs.Message.{Message, has_flag}
 use Rattle.rx_model.specs.Names.{Connection, connection_of, channel_of, same_channel, same_name}

@@ -8,7 +8,8 @@ use Rattle.rx_model.specs.declared.wire.TheConstants.{CLIENT_INITIATED, LAST_PAC
 use Rattle.rx_first_rules.specs.Looks.{Looks, Setup, received_of}
 use Rattle.rx_model.specs.Message.{Message, has_flag}
 use Rattle.rx_model.specs.Names.{channel_of, name_of}
-use Rattle.rx_first_rules.specs.Rules.{Request, Arrival, request_row, request_of, arrival_of, is_request_message, is_data}
+use Rattle.rx_first_rules.specs.Rules.{Request, Arrival, request_row, request_of, arrival_of, is_request_message}
+use Rattle.rx_first_rules.specs.Rules.{is_data}
 use Rattle.rx_first_rules.specs.Slots.{has_slot, has_lead}
 use Rattle.rx_first_rules.specs.Streams.{Received}
 use Rattle.rx_first_rules.proofs.Facts.{Lives, Quiet, is_among, one_packet}

@@ -4,7 +4,8 @@ use Rattle.std.proofs.Common.{◌∙◌, arith, ℕ}
 use Rattle.std.specs.List.{All}
 use Rattle.rx_model.specs.declared.event.Event.TheVariants as events
 use Rattle.rx_model.specs.declared.names.Host.{Host}
-use Rattle.rx_first_rules.specs.Looks.{Looks, Named, after, named, unless_first, unless_stray, is_stray_named, with_given_on}
+use Rattle.rx_first_rules.specs.Looks.{Looks, Named, after, named, unless_first, unless_stray, is_stray_named}
+use Rattle.rx_first_rules.specs.Looks.{with_given_on}
 use Rattle.rx_first_rules.specs.Looks.{with_giving, unless_busy, unless_ack_given}
 use Rattle.rx_model.specs.Names.{name_of}
 use Rattle.rx_model.specs.Reading.{reading_of}

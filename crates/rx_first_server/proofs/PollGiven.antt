@@ -14,7 +14,8 @@ use Rattle.rx_first_rules.specs.Rules.{Allowed}
 use Rattle.rx_first_rules.proofs.Given.{only_ack, only_piece}
 use Rattle.rx_first_server.specs.declared.due.Due.{Due}
 use Rattle.rx_first_server.specs.declared.due.Due.TheVariants as dues
-use Rattle.rx_first_server.specs.Dues.{Brings, CallsAfter, ChangesCall, Gives, IsDue, OfCall, Writes, ack_item, conn_after}
+use Rattle.rx_first_server.specs.Dues.{Brings, CallsAfter, ChangesCall, Gives, IsDue, OfCall, Writes, ack_item}
+use Rattle.rx_first_server.specs.Dues.{conn_after}
 use Rattle.rx_first_server.specs.Dues.{conn_in, busy_item, given_conn, reply_item}
 use Rattle.rx_first_server.specs.Node.{ConnEntry, Entry, Node, with_busy_at}
 use Rattle.rx_first_server.specs.Stands.{Stands, conn_of, entry_of}

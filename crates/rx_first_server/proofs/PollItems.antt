@@ -17,7 +17,8 @@ use Rattle.rx_first_server.specs.Stands.{conn_of, entry_of}
 use Rattle.rx_first_server.proofs.CallItems.{entry_agrees, first_item}
 use Rattle.rx_first_server.proofs.DueItems.{Agrees, agrees_else}
 use Rattle.rx_first_server.proofs.Lists.{among_at, drop-drop_cons, get-drop, got_from}
-use Rattle.rx_first_server.proofs.Positions.{find-map_none, find-position_none, find-position_some, found_from, get_within}
+use Rattle.rx_first_server.proofs.Positions.{find-map_none, find-position_none, find-position_some, found_from}
+use Rattle.rx_first_server.proofs.Positions.{get_within}
 use Rattle.rx_first_server.proofs.Positions.{position_within}
 
 -- ---- one channel

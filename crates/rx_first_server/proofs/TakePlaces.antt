@@ -19,7 +19,8 @@ use Rattle.rx_packet.specs.declared.body.Body.TheVariants as bodies
 use Rattle.rx_packet.specs.Seen.{body_of}
 use Rattle.rx_model.specs.declared.stray.Stray.{Stray}
 use Rattle.rx_first_server.specs.declared.judge.Judged.TheVariants as judgements
-use Rattle.rx_first_server.specs.Node.{ConnEntry, Entry, Node, OwesBusy, after_repeat, fresh_entry, judged, owed_at_start}
+use Rattle.rx_first_server.specs.Node.{ConnEntry, Entry, Node, OwesBusy, after_repeat, fresh_entry, judged}
+use Rattle.rx_first_server.specs.Node.{owed_at_start}
 use Rattle.rx_first_server.specs.Stands.{Answered, Stands}
 use Rattle.rx_first_server.specs.Takes.{Asks}
 use Rattle.rx_first_server.proofs.Alive.{alive}

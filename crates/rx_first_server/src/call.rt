@@ -4,8 +4,10 @@ ghost use Rattle.rx_packet.specs.Seen.{FitsDatagram, body_of};
 ghost use Rattle.rx_first_server.specs.Dues.{ack_item as spec_ack_item, is_reply_due as entry_reply_due};
 ghost use Rattle.rx_first_server.specs.Dues.{reply_item as spec_reply_item};
 ghost use Rattle.rx_first_server.specs.Seen.{item_of};
-ghost use Rattle.rx_first_server.specs.Node.{accepted_of, after_finish, after_read, after_repeat, after_write, count_of};
-ghost use Rattle.rx_first_server.specs.Node.{entry_finish, entry_read, entry_write, fresh_entry, is_open_entry, read_into};
+ghost use Rattle.rx_first_server.specs.Node.{accepted_of, after_finish, after_read, after_repeat, after_write};
+ghost use Rattle.rx_first_server.specs.Node.{count_of};
+ghost use Rattle.rx_first_server.specs.Node.{entry_finish, entry_read, entry_write, fresh_entry, is_open_entry};
+ghost use Rattle.rx_first_server.specs.Node.{read_into};
 ghost use Rattle.rx_first_server.specs.Node.{owed_at_start};
 
 use crate::buffer::Buffer;

@@ -96,8 +96,8 @@ impl Server {
         })
     }
 
-    /// Takes a datagram from a host, and answers what becomes of it. So far it is a request in one packet, or one of the
-    /// rows answers it that look at no connection (`is_taken` tells). `Full` and `NoRoom` refuse a call; its
+    /// Takes a datagram from a host, and answers what becomes of it. So far it is a request in one packet, or one of
+    /// the rows answers it that look at no connection (`is_taken` tells). `Full` and `NoRoom` refuse a call; its
     /// client may send it again. `Unserved` DATA owes a stray abort; of more than 64 the oldest is dropped.
     pub fn take(&mut self, from: Host, bytes: &[u8]) -> Took
         requires { IsTrue (is_taken self.old.setup.service bytes.now) }

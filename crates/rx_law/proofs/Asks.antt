@@ -1,6 +1,7 @@
 -- What answers of a server tell of the message: a call that starts, or waits, was asked for by DATA above its
 -- channel's number.
-use Rattle.std.proofs.Common.{◌≡◌, ◌&&◌, if◌then◌else◌, not, nat_lt, is_some, ℕ, Bool, true, false, List, Option, Some, None, Ok, refl, ◌∙◌, ap, subst}
+use Rattle.std.proofs.Common.{◌≡◌, ◌&&◌, if◌then◌else◌, not, nat_lt, is_some, ℕ, Bool, true, false, List, Option, Some}
+use Rattle.std.proofs.Common.{None, Ok, refl, ◌∙◌, ap, subst}
 use Rattle.rx_model.specs.declared.answers.Took.{Took}
 use Rattle.rx_model.specs.declared.answers.Took.TheVariants as tooks
 use Rattle.rx_model.specs.declared.names.CallName.{CallName}
@@ -9,7 +10,8 @@ use Rattle.rx_rules.specs.After.{enters}
 use Rattle.rx_model.specs.Body.{Body}
 use Rattle.rx_model.specs.Body as bodies
 use Rattle.rx_rules.specs.CallLooks.{CallLooks, NodeView, call_row}
-use Rattle.rx_rules.specs.Judging.{Facts, else_row, facts_of, is_data, is_right, live_row, opened, outer_row, own_row, row_at, server_row, side_row}
+use Rattle.rx_rules.specs.Judging.{Facts, else_row, facts_of, is_data, is_right, live_row, opened, outer_row, own_row}
+use Rattle.rx_rules.specs.Judging.{row_at, server_row, side_row}
 use Rattle.rx_rules.specs.Judging.{took_named, took_reading}
 use Rattle.rx_rules.specs.Looks.{CallRecord, Looks, call_at, channel_at, is_proved}
 use Rattle.rx_model.specs.Message.{Message}
@@ -80,7 +82,8 @@ row-starts f call is above =
     f.is_above f.can_start _ is above
   where
     of : (a b c d e up start : Bool) (rest : Took)
-        → enters (if a then tooks.Strange else if b then tooks.Full else if c then tooks.Stopped else if d then tooks.Strange
+        → enters (if a then tooks.Strange else if b then tooks.Full else if c then tooks.Stopped else if d
+        then tooks.Strange
         else if e then tooks.Old else if up && not start then tooks.Strange else rest) ≡ true → up ≡ true → start ≡ true
     of a b c d e up true rest is above = refl
     of true b c d e up false rest is above = absurd cc
@@ -98,7 +101,8 @@ row-above f call own is =
     f.is_above (not f.can_start) f.is_handled (not f.is_live && f.is_crowded) (not f.is_active) is
   where
     of : (a b c d e up start handled crowded active : Bool)
-        → waits (if a then tooks.Strange else if b then tooks.Full else if c then tooks.Stopped else if d then tooks.Strange
+        → waits (if a then tooks.Strange else if b then tooks.Full else if c then tooks.Stopped else if d
+        then tooks.Strange
         else if e then tooks.Old else if up && start then tooks.Strange else if up && handled then tooks.Busy
         else if up && crowded then tooks.NoRoom else if not up && active then tooks.Over else call) ≡ true → up ≡ true
     of a b c d e true start handled crowded active is = refl

@@ -9,7 +9,7 @@ use Rattle.rx_model.specs.Body.{Body}
 use Rattle.rx_model.specs.Body as bodies
 use Rattle.rx_rules.specs.CallLooks.{CallLooks, after_body, found}
 use Rattle.rx_rules.specs.Life.{Life, after_code, after_silence}
-use Rattle.rx_rules.specs.Looks.{CallRecord, Looks, call_at, is_proved, on_call, on_calls, on_channel, on_life, on_looks}
+use Rattle.rx_rules.specs.Looks.{CallRecord, Looks, call_at, is_proved, on_call, on_calls, on_channel, on_life}
 use Rattle.rx_model.specs.Message.{Message}
 use Rattle.rx_model.specs.Names.{Connection, channel_of, connection_of, same_connection, same_name}
 use Rattle.rx_rules.specs.Records.{is_silent, silence_of, silenced, unless_silent}
@@ -87,12 +87,6 @@ pub calls-on_life : (Cause : End → Type 0) (c d : CallName) (change : Life →
 calls-on_life Cause c d change l moves =
     calls-on_call Cause c d (λ k. record k { life = change k.life }) l (λ k. refl)
     (λ k. record { streams = refl; life = moves k.life })
-
-pub calls-on_looks : (Cause : End → Type 0) (c d : CallName) (change : CallLooks → CallLooks) (l : Looks)
-    → ((k : CallLooks) → ends_in (change k) ≡ ends_in k) → Calls Cause (call_at l c) (call_at (on_looks d change l) c)
-calls-on_looks Cause c d change l same =
-    calls-on_call Cause c d (λ k. record k { looks = change k.looks }) l (λ k. refl)
-    (λ k. record { streams = same k.looks; life = life-stays Cause k.life })
 
 -- ---- one call, exactly
 
@@ -238,7 +232,12 @@ acked-said false s t a b c = (a, b, c)
 pub body-ends : (now : ℕ) (m : Message) (body : Body) (k : CallLooks) → ends_in (after_body now m body k) ≡ ends_in k
 body-ends now m (bodies.Ack a) k =
     let t = acked-said (nat_lt (a.first - 1) k.sent.acked) k.sent
-    (record k.sent { acked = a.first - 1; soft = is_marked a.first a.marks; peer_window = with_window a.window k.sent.peer_window })
+    (record k.sent {
+      acked = a.first - 1;
+      soft = is_marked a.first a.marks;
+      peer_window =
+          with_window a.window k.sent.peer_window;
+    })
     refl refl refl in
     λ i. record {
       said = t.0 i;

@@ -1,6 +1,7 @@
 -- One stream from its sender to its receiver.
 use Rattle.std.proofs.Common.{◌≡◌, ◌≤◌, Bool, true, false, List, [], ◌∷◌, ◌++◌, length, take, drop, length-append}
-use Rattle.std.proofs.Common.{length-drop, refl, ap, sym, subst, ◌∙◌, arith, ℕ, zero, suc, inl, inr, append_assoc, append-nil}
+use Rattle.std.proofs.Common.{length-drop, refl, ap, sym, subst, ◌∙◌, arith, ℕ, zero, suc, inl, inr, append_assoc}
+use Rattle.std.proofs.Common.{append-nil}
 use Rattle.std.proofs.lemmas.List.{take-append-drop}
 use Rattle.rx_rules.specs.Received.{Packet, heard_of}
 use Rattle.rx_law.specs.Streams.{Begins}

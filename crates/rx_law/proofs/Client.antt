@@ -1,5 +1,6 @@
 -- A client's side: what each event makes of each call.
-use Rattle.std.proofs.Common.{◌≡◌, ◌⊎◌, ◌&&◌, ◌==◌, ◌<◌, ◌≤◌, ◌+◌, ◌-◌, ◌^◌, ℕ, ℤ, suc, zero, cond, if◌then◌else◌, not, min}
+use Rattle.std.proofs.Common.{◌≡◌, ◌⊎◌, ◌&&◌, ◌==◌, ◌<◌, ◌≤◌, ◌+◌, ◌-◌, ◌^◌, ℕ, ℤ, suc, zero, cond, if◌then◌else◌, not}
+use Rattle.std.proofs.Common.{min}
 use Rattle.std.proofs.Common.{nat_le, is_some, Bool, true, false, List, [], ◌∷◌, length}
 use Rattle.std.proofs.Common.{Option, Some, None, Result, Ok, Err, refl, ◌∙◌, ap, sym, subst, inl, inr, arith}
 use Rattle.std.proofs.lemmas.Bool.Decides.{nat_tests}
@@ -23,7 +24,8 @@ use Rattle.rx_model.specs.Body.{Body}
 use Rattle.rx_model.specs.Body as bodies
 use Rattle.rx_rules.specs.CallLooks.{CallLooks, NodeView, call_row}
 use Rattle.rx_rules.specs.Slots.{node_view, room}
-use Rattle.rx_rules.specs.Judging.{Facts, client_row, else_row, facts_of, outer_row, is_for_clients, is_peer, live_row, opened, own_row}
+use Rattle.rx_rules.specs.Judging.{Facts, client_row, else_row, facts_of, outer_row, is_for_clients, is_peer, live_row}
+use Rattle.rx_rules.specs.Judging.{opened, own_row}
 use Rattle.rx_rules.specs.Sent.{is_strange_ack, is_all_given}
 use Rattle.rx_rules.specs.Looks.{is_proved}
 use Rattle.rx_rules.specs.Judging.{is_right, row_at, side_row, took_named, took_reading}
@@ -45,11 +47,13 @@ use Rattle.rx_model.proofs.NameLaws.{both, connection_is, name_is, same_number}
 use Rattle.rx_law.proofs.SoundLaws.{Below, Sound}
 use Rattle.rx_law.proofs.Conns.{Conns, GoodConn, OfKind, found-good}
 use Rattle.rx_law.proofs.Data.{GoodName, OwnName}
-use Rattle.rx_law.proofs.Events.{ReadFacts, behind-turn, client-facts, life-changed, nothing-read, read-turn, shut-turn, turn-by, wrote-turn}
+use Rattle.rx_law.proofs.Events.{ReadFacts, behind-turn, client-facts, life-changed, nothing-read, read-turn, shut-turn}
+use Rattle.rx_law.proofs.Events.{turn-by, wrote-turn}
 use Rattle.rx_law.proofs.Numbers.{client-known, new-call, next-above, sound-ready, spared-ready}
 use Rattle.rx_rules.proofs.EveryLaws.{Every}
 use Rattle.rx_law.proofs.Places.{Spared}
-use Rattle.rx_law.proofs.Server.{Arrives, Standing, WriteFacts, nothing-written, opens, polled-turn, read-fits-own, write-low}
+use Rattle.rx_law.proofs.Server.{Arrives, Standing, WriteFacts, nothing-written, opens, polled-turn, read-fits-own}
+use Rattle.rx_law.proofs.Server.{write-low}
 use Rattle.rx_law.proofs.Takes.{StopCause, TakenWhy, opens-by, start-still}
 use Rattle.rx_law.proofs.Turns.{Fine, Turn, still-turn}
 

@@ -10,7 +10,8 @@ use Rattle.rx_model.specs.declared.event.Event.{Event}
 use Rattle.rx_model.specs.declared.event.Event.TheVariants as events
 use Rattle.rx_model.specs.declared.names.CallName.{CallName}
 use Rattle.rx_model.specs.declared.names.Host.{Host}
-use Rattle.rx_rules.specs.After.{after, cancelled, enters, is_end, linked, looks, owing_abort, prepared, taken_behind, taken_message}
+use Rattle.rx_rules.specs.After.{after, cancelled, enters, is_end, linked, looks, owing_abort, prepared, taken_behind}
+use Rattle.rx_rules.specs.After.{taken_message}
 use Rattle.rx_rules.specs.CallLooks.{after_shut, after_write, fresh_call}
 use Rattle.rx_rules.specs.Judging.{outer_row}
 use Rattle.rx_rules.specs.Life.{Life, after_cancel, is_waiting}

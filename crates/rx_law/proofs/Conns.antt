@@ -12,21 +12,26 @@ use Rattle.rx_model.specs.declared.names.CallName.{CallName}
 use Rattle.rx_model.specs.declared.names.Host.{Host}
 use Rattle.rx_model.specs.declared.wire.TheConstants.{RX_CALL_DEAD, RX_PROTOCOL_ERROR}
 use Rattle.rx_rules.specs.After.{cancelled, challenged, counted, enters, finish_done, given_body, given_by}
-use Rattle.rx_rules.specs.After.{given_message, is_ok_end, is_zero, linked, owing_abort, owing_ackall, owing_again, owing_busy, prepared}
-use Rattle.rx_rules.specs.After.{read_done, served_code, stopped_all, taken_at, taken_behind, taken_data, taken_heard, taken_message}
-use Rattle.rx_rules.specs.After.{taken_over, taken_stopped, taken_unserved, taken_with, told_code, turned_away, with_first, settled}
+use Rattle.rx_rules.specs.After.{given_message, is_ok_end, is_zero, linked, owing_abort, owing_ackall, owing_again}
+use Rattle.rx_rules.specs.After.{owing_busy, prepared}
+use Rattle.rx_rules.specs.After.{read_done, served_code, stopped_all, taken_at, taken_behind, taken_data, taken_heard}
+use Rattle.rx_rules.specs.After.{taken_message}
+use Rattle.rx_rules.specs.After.{taken_over, taken_stopped, taken_unserved, taken_with, told_code, turned_away}
+use Rattle.rx_rules.specs.After.{with_first, settled}
 use Rattle.rx_model.specs.Body.{Body}
 use Rattle.rx_model.specs.Body as bodies
 use Rattle.rx_rules.specs.CallLooks.{after_shut}
 use Rattle.rx_rules.specs.Judging.{opened, outer_row}
 use Rattle.rx_rules.specs.Life.{Life, after_code, after_later, is_calling}
 use Rattle.rx_rules.specs.Life as lives
-use Rattle.rx_rules.specs.Looks.{CallRecord, ChannelLooks, ConnLooks, Looks, call_at, channel_at, changed_at, conn_at, fresh_channel, is_call}
+use Rattle.rx_rules.specs.Looks.{CallRecord, ChannelLooks, ConnLooks, Looks, call_at, channel_at, changed_at, conn_at}
+use Rattle.rx_rules.specs.Looks.{fresh_channel, is_call}
 use Rattle.rx_rules.specs.Looks.{is_proved, latest_name, on_call, on_channel, on_conn, on_life, on_looks}
 use Rattle.rx_model.specs.Message.{Message}
 use Rattle.rx_model.specs.Names.{Connection, Channel, channel_of, channels_of, connection_of, same_connection}
 use Rattle.rx_model.specs.Reading.{reading_of}
-use Rattle.rx_rules.specs.Records.{entered, fresh_conn, idle_conn, is_full, placed, started, started_later, used, with_conn}
+use Rattle.rx_rules.specs.Records.{entered, fresh_conn, idle_conn, is_full, placed, started, started_later, used}
+use Rattle.rx_rules.specs.Records.{with_conn}
 use Rattle.rx_rules.specs.Setup.{Setup, Kind, Server, Client, FitsSetup, FitsKind, is_client, named}
 use Rattle.rx_model.specs.Strays.{is_stray}
 use Rattle.rx_rules.proofs.EveryLaws.{Every}

@@ -1,7 +1,9 @@
 -- The DATA that a poll gives is the piece of its seq, of a call of its name.
 use Rattle.std.proofs.Common.{◌≡◌, ◌&&◌, ◌||◌, ◌==◌, ◌<◌, ◌≤◌, ◌+◌, ◌-◌, ◌*◌, ◌%◌, ◌^◌, ℕ, ℤ, suc, if◌then◌else◌, not}
-use Rattle.std.proofs.Common.{nat_lt, nat_le, is_some, Bool, true, false, List, [], ◌∷◌, ◌++◌, length, map, filter, drop, length-take}
-use Rattle.std.proofs.Common.{Option, Some, None, option_map, Result, Ok, Err, refl, ◌∙◌, ap, sym, subst, arith, bit_and}
+use Rattle.std.proofs.Common.{nat_lt, nat_le, is_some, Bool, true, false, List, [], ◌∷◌, ◌++◌, length, map, filter}
+use Rattle.std.proofs.Common.{drop, length-take}
+use Rattle.std.proofs.Common.{Option, Some, None, option_map, Result, Ok, Err, refl, ◌∙◌, ap, sym, subst, arith}
+use Rattle.std.proofs.Common.{bit_and}
 use Rattle.std.proofs.lemmas.Bool.Decides.{nat_tests}
 use Rattle.rx_model.specs.declared.answers.BadMsg.{BadMsg}
 use Rattle.rx_model.specs.declared.answers.BadMsg.TheVariants as faults
@@ -12,19 +14,23 @@ use Rattle.rx_model.specs.declared.stray.Stray.{Stray}
 use Rattle.rx_model.specs.declared.wire.TheConstants.{ACK_PING, CLIENT_INITIATED, LAST_PACKET}
 use Rattle.rx_model.specs.Body.{Body}
 use Rattle.rx_model.specs.Body as bodies
-use Rattle.rx_rules.specs.CallItems.{CallItem, Sending, ack_items, again_items, asks, call_items, can_give, flags_of, fresh_items, item_at}
+use Rattle.rx_rules.specs.CallItems.{CallItem, Sending, ack_items, again_items, asks, call_items, can_give, flags_of}
+use Rattle.rx_rules.specs.CallItems.{fresh_items, item_at}
 use Rattle.rx_rules.specs.CallItems.{piece_items, ping_items, sending_body, sending_flags, sending_seq}
 use Rattle.rx_rules.specs.CallItems as sendings
 use Rattle.rx_rules.specs.CallLooks.{packet_of}
-use Rattle.rx_rules.specs.Items.{Item, all_channels, busy_items, challenge_body, channel_items, class_items, datagram_for, datagram_on, item_of}
+use Rattle.rx_rules.specs.Items.{Item, all_channels, busy_items, challenge_body, channel_items, class_items}
+use Rattle.rx_rules.specs.Items.{datagram_for, datagram_on, item_of}
 use Rattle.rx_rules.specs.Items.{items, items_of, items_on, message_on, next_item, owed_item, poll_with}
 use Rattle.rx_rules.specs.Items.{where_owed}
 use Rattle.rx_rules.specs.Life.{is_live, is_active}
-use Rattle.rx_rules.specs.Looks.{CallRecord, ChannelLooks, ConnLooks, Looks, call_at, call_named, channel_at, conn_at, is_call, latest}
+use Rattle.rx_rules.specs.Looks.{CallRecord, ChannelLooks, ConnLooks, Looks, call_at, call_named, channel_at, conn_at}
+use Rattle.rx_rules.specs.Looks.{is_call, latest}
 use Rattle.rx_model.specs.Message.{Message, has_flag}
 use Rattle.rx_model.specs.Names.{Channel, Connection, connection_of, same_connection, same_name}
 use Rattle.rx_rules.specs.Owing.{Owed}
-use Rattle.rx_model.specs.Reading.{carries_payload, is_short_ack, ack_in, code_of, number_at, body_in, body_reading, message_with, reading_of, with_body}
+use Rattle.rx_model.specs.Reading.{carries_payload, is_short_ack, ack_in, code_of, number_at, body_in, body_reading}
+use Rattle.rx_model.specs.Reading.{message_with, reading_of, with_body}
 use Rattle.rx_rules.specs.Records.{is_silent}
 use Rattle.rx_rules.specs.Received.{Piece, reach}
 use Rattle.rx_rules.specs.Sent.{LastGiving, counting_of, given_of, is_acked, last_giving, lowest_of, piece_at}

@@ -1,6 +1,8 @@
 -- What a server gives with the name of a call is of its channel's latest call, or a BUSY that the channel owes.
-use Rattle.std.proofs.Common.{◌≡◌, ◌⊎◌, ◌&&◌, ◌<◌, ◌^◌, ℕ, if◌then◌else◌, not, nat_lt, nat_le, Bool, true, false, List, [], ◌∷◌}
-use Rattle.std.proofs.Common.{length, map, filter, drop, Option, Some, None, option_map, Result, Ok, Err, refl, ◌∙◌, ap, sym, subst, inl, inr, arith}
+use Rattle.std.proofs.Common.{◌≡◌, ◌⊎◌, ◌&&◌, ◌<◌, ◌^◌, ℕ, if◌then◌else◌, not, nat_lt, nat_le, Bool, true, false, List}
+use Rattle.std.proofs.Common.{[], ◌∷◌}
+use Rattle.std.proofs.Common.{length, map, filter, drop, Option, Some, None, option_map, Result, Ok, Err, refl, ◌∙◌, ap}
+use Rattle.std.proofs.Common.{sym, subst, inl, inr, arith}
 use Rattle.std.specs.Prelude.{slice_index}
 use Rattle.rx_model.specs.declared.answers.BadMsg.{BadMsg}
 use Rattle.rx_model.specs.declared.answers.BadMsg.TheVariants as faults
@@ -8,10 +10,12 @@ use Rattle.rx_model.specs.declared.names.CallName.{CallName}
 use Rattle.rx_model.specs.Body.{Body}
 use Rattle.rx_model.specs.Body as bodies
 use Rattle.rx_rules.specs.CallItems.{CallItem, call_items}
-use Rattle.rx_rules.specs.Items.{Item, all_channels, busy_items, challenge_body, channel_items, class_items, item_of, items, items_of}
+use Rattle.rx_rules.specs.Items.{Item, all_channels, busy_items, challenge_body, channel_items, class_items, item_of}
+use Rattle.rx_rules.specs.Items.{items, items_of}
 use Rattle.rx_rules.specs.Items.{items_on, next_item, owed_item, where_owed}
 use Rattle.rx_rules.specs.Life.{is_live, is_active}
-use Rattle.rx_rules.specs.Looks.{CallRecord, ChannelLooks, ConnLooks, Looks, call_at, call_named, channel_at, is_call, latest}
+use Rattle.rx_rules.specs.Looks.{CallRecord, ChannelLooks, ConnLooks, Looks, call_at, call_named, channel_at, is_call}
+use Rattle.rx_rules.specs.Looks.{latest}
 use Rattle.rx_model.specs.Message.{Message}
 use Rattle.rx_model.specs.Names.{Channel, channel_of, channels_of, same_name}
 use Rattle.rx_model.specs.Reading.{body_reading, message_with, number_at, reading_of, with_body}

@@ -1,7 +1,8 @@
 -- What each event makes of each call.
 use Rattle.std.proofs.Common.{◌≡◌, ◌⊎◌, ◌||◌, ◌≤◌, ◌+◌, ◌*◌, ℕ, cond, if◌then◌else◌, max}
 use Rattle.std.proofs.Common.{is_some, Bool, true, false, List, [], ◌∷◌, ◌++◌, length, take, drop, length-append}
-use Rattle.std.proofs.Common.{Option, Some, None, option_map, Result, Ok, Err, refl, ◌∙◌, ap, sym, subst, inl, inr, arith}
+use Rattle.std.proofs.Common.{Option, Some, None, option_map, Result, Ok, Err, refl, ◌∙◌, ap, sym, subst, inl, inr}
+use Rattle.std.proofs.Common.{arith}
 use Rattle.rx_model.specs.declared.answers.BadMsg.{BadMsg}
 use Rattle.rx_model.specs.declared.answers.CallRead.{CallRead}
 use Rattle.rx_model.specs.declared.answers.CallRead.TheVariants as callreads
@@ -12,7 +13,8 @@ use Rattle.rx_model.specs.declared.answers.Took.{Took}
 use Rattle.rx_model.specs.declared.answers.Took.TheVariants as tooks
 use Rattle.rx_model.specs.declared.names.CallName.{CallName}
 use Rattle.rx_model.specs.declared.names.Host.{Host}
-use Rattle.rx_rules.specs.After.{acknowledged, counted, enters, given_body, given_by, given_message, is_end, is_ok_end, prepared, read_done}
+use Rattle.rx_rules.specs.After.{acknowledged, counted, enters, given_body, given_by, given_message, is_end, is_ok_end}
+use Rattle.rx_rules.specs.After.{prepared, read_done}
 use Rattle.rx_rules.specs.After.{taken_behind, taken_unserved, taken_with, turned_away}
 use Rattle.rx_model.specs.Body.{Body}
 use Rattle.rx_model.specs.Body as bodies

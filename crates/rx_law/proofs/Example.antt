@@ -36,7 +36,16 @@ name addr port epoch cid chan number =
     record { host = host addr port; epoch = epoch; cid = cid; chan = chan; number = number }
 
 abbrev server : Node
-server = record { host = host 167772161 7000; setup = record { kind = Server 1 0; limits = record { conns = 1024; calls = 64; slots = 2048; window = 32 }; class = null } }
+server = record {
+  host = host 167772161 7000;
+  setup =
+      record {
+        kind = Server 1 0;
+        limits = record { conns = 1024; calls = 64; slots = 2048; window = 32 };
+        class =
+            null;
+      };
+}
 
 abbrev client : Node
 client = record {

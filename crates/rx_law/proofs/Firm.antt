@@ -121,7 +121,12 @@ pub firm-on_channel : (c : CallName) (ch : Channel) (f : ChannelLooks → Channe
     → ((q : ChannelLooks) (k : ℕ) → (f q).owed_busy ≡ Some k → q.owed_busy ≡ Some k) → Firm c l (on_channel ch f l)
 firm-on_channel c ch f l clears =
     firm-on_conn c ch.connection (λ r. record r { channels = changed_at ch.chan f r.channels }) l
-    (record { names = λ r. refl; uses = λ r u low is. is; busy = λ r n k is. busy-changed r.channels ch.chan n k f clears is })
+    (record {
+      names = λ r. refl;
+      uses = λ r u low is. is;
+      busy =
+          λ r n k is. busy-changed r.channels ch.chan n k f clears is;
+    })
 
 -- a change that may be made
 pub firm-if : (c : CallName) (test : Bool) (l m : Looks) → Firm c l m → Firm c l (if test then m else l)

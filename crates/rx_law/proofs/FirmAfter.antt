@@ -9,7 +9,8 @@ use Rattle.rx_model.specs.declared.names.CallName.{CallName}
 use Rattle.rx_model.specs.declared.names.Host.{Host}
 use Rattle.rx_model.specs.declared.wire.TheConstants.{RX_PROTOCOL_ERROR}
 use Rattle.rx_rules.specs.After.{challenged, finish_done, given_body, is_ok_end, is_zero, owing_abort}
-use Rattle.rx_rules.specs.After.{owing_ackall, owing_again, read_done, served_code, settled, stopped_all, taken_at, taken_data, taken_heard, taken_over}
+use Rattle.rx_rules.specs.After.{owing_ackall, owing_again, read_done, served_code, settled, stopped_all, taken_at}
+use Rattle.rx_rules.specs.After.{taken_data, taken_heard, taken_over}
 use Rattle.rx_rules.specs.After.{taken_stopped, taken_unserved, told_code, turned_away, with_first}
 use Rattle.rx_model.specs.Body.{Body}
 use Rattle.rx_model.specs.Body as bodies

@@ -40,7 +40,11 @@ stand-alike server client (e ∷ h) stand = (
 -- ---- the history
 
 abbrev server : Node
-server = record { host = host 167772161 7000; setup = record { kind = Server 1 0; limits = record { conns = 1; calls = 64; slots = 2048; window = 32 }; class = null } }
+server = record {
+  host = host 167772161 7000;
+  setup =
+      record { kind = Server 1 0; limits = record { conns = 1; calls = 64; slots = 2048; window = 32 }; class = null };
+}
 
 abbrev client : Node
 client = record {

@@ -4,7 +4,8 @@ use Rattle.std.proofs.Common.{◌∷◌, ◌++◌, length, take, drop, Some, Non
 use Rattle.std.proofs.Common.{subst, ◌∙◌, arith, ℕ, zero, suc}
 use Rattle.std.proofs.lemmas.Bool.Decides.{nat_tests}
 use Rattle.std.proofs.lemmas.List.{take_all, take-append-drop}
-use Rattle.rx_rules.specs.Received.{Packet, Piece, bytes_to, front_of, greatest, heard_of, is_within, last_seq, packet_at, payload_of}
+use Rattle.rx_rules.specs.Received.{Packet, Piece, bytes_to, front_of, greatest, heard_of, is_within, last_seq}
+use Rattle.rx_rules.specs.Received.{packet_at, payload_of}
 use Rattle.rx_rules.proofs.ReachLaws.{reach_passes}
 use Rattle.rx_law.specs.Streams.{Begins}
 use Rattle.rx_model.proofs.NameLaws.{same_number}

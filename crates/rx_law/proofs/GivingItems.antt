@@ -4,7 +4,7 @@ use Rattle.std.proofs.Common.{◌==◌, ◌≤◌, Bool, true, false, cond, drop
 use Rattle.std.proofs.lemmas.Bool.Decides.{nat_tests}
 use Rattle.rx_model.specs.declared.answers.BadMsg.{BadMsg}
 use Rattle.rx_model.specs.declared.event.Event.TheVariants as events
-use Rattle.std.proofs.Common.{◌≡◌, ◌⊎◌, ◌%◌, ◌^◌, ℕ, suc, List, Some, refl, ◌∙◌, ap, sym, subst, arith}
+use Rattle.std.proofs.Common.{◌≡◌, ◌⊎◌, ◌%◌, ◌^◌, ℕ, List, Some, refl, ◌∙◌, ap, sym, subst, arith}
 use Rattle.rx_model.specs.declared.event.Event.{Event}
 use Rattle.rx_model.specs.declared.names.CallName.{CallName}
 use Rattle.rx_model.specs.declared.names.Host.{Host}
@@ -21,18 +21,11 @@ use Rattle.rx_rules.specs.Records.{silenced}
 use Rattle.rx_rules.specs.Rules.{Legal}
 use Rattle.rx_rules.specs.Setup.{Setup, FitsSetup, named}
 use Rattle.rx_law.specs.Givings.{GivesItem, GivesStray}
-use Rattle.rx_law.proofs.Data.{Says, name-again, next-says}
-use Rattle.rx_law.proofs.FitHistory.{node_stands}
-use Rattle.rx_law.proofs.PlainBodies.{IsSent, is_abort}
-use Rattle.rx_law.proofs.PlainCalls.{SentBy}
-use Rattle.rx_law.proofs.Server.{good-silenced}
+use Rattle.rx_law.proofs.Data.{name-again}
+use Rattle.rx_law.proofs.PlainBodies.{is_abort}
 use Rattle.rx_law.proofs.Givings.{conn_of, next_is}
 
 module _ (s : Setup) (h : List Event) (fits : FitsSetup s) (legal : Legal s h) where
-  -- its datagram's serial is one above the last of its connection
-  pub item_serial : (to : Host) (m : Message) (g : GivesItem s (looks s h) to m) → m.serial ≡ suc g.conn.given % 2 ^ 32
-  item_serial to m g = ap (λ (n : Message). n.serial) g.is
-
   -- its datagram speaks of its call
   pub item_name : (to : Host) (m : Message) (g : GivesItem s (looks s h) to m) → named s to m ≡ g.item.name
   item_name to m g =
@@ -75,21 +68,6 @@ module _ (s : Setup) (h : List Event) (fits : FitsSetup s) (legal : Legal s h) w
       ∙ ap (λ (b : Bool). cond b (record l { strays = drop 1 l.strays })
       (given_body (named s to m) m m.body (counted (connection_of (named s to m)) l))) (item_apart to m g)
       ∙ ap (λ (c : CallName). given_body c m m.body (counted (connection_of c) l)) (item_name to m g)
-
-  -- where it is DATA or an ACK, it is one of the items of a live call
-  pub item_sent : (to : Host) (m : Message) (g : GivesItem s (looks s h) to m) → IsSent g.item.body
-      → SentBy s (silenced (looks s h)) g.item
-  item_sent to m g = (next_is s h fits legal g.item g.next).sent
-
-  -- where it is DATA, it is the piece of its seq
-  pub item_says : (to : Host) (m : Message) (g : GivesItem s (looks s h) to m) → Says s (silenced (looks s h)) g.item
-  item_says to m g =
-      let standing = node_stands s h fits legal in
-      next-says s (silenced (looks s h)) (λ d. good-silenced s (looks s h) d (standing.calls d)) g.item g.next
-
--- a stray abort has no serial
-pub stray_serial : (l : Looks) (to : Host) (m : Message) → GivesStray l to m → m.serial ≡ 0
-stray_serial l to m g = ap (λ (n : Message). n.serial) g.is
 
 -- behind it, it is owed no longer
 pub stray_leaves : (s : Setup) (l : Looks) (to : Host) (bytes : List ℕ) (m : Message) → GivesStray l to m

@@ -10,7 +10,8 @@ use Rattle.rx_model.specs.Body.{Body}
 use Rattle.rx_model.specs.Body as bodies
 use Rattle.rx_rules.specs.CallLooks.{CallLooks}
 use Rattle.rx_rules.specs.Life.{Life, after_code}
-use Rattle.rx_rules.specs.Looks.{CallRecord, Looks, call_at, is_proved, on_call, on_calls, on_channel, on_life, on_looks}
+use Rattle.rx_rules.specs.Looks.{CallRecord, Looks, call_at, is_proved, on_call, on_calls, on_channel, on_life}
+use Rattle.rx_rules.specs.Looks.{on_looks}
 use Rattle.rx_model.specs.Names.{channel_of, connection_of, same_connection, same_name}
 use Rattle.rx_rules.specs.Setup.{Setup, is_client}
 use Rattle.rx_rules.proofs.CallsLaws.{KeepsNames, changed_if, changed_if-name, call_at-on_calls}

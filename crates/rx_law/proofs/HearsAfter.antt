@@ -9,7 +9,8 @@ use Rattle.rx_model.specs.declared.event.Event.TheVariants as events
 use Rattle.rx_model.specs.declared.names.CallName.{CallName}
 use Rattle.rx_model.specs.declared.names.Host.{Host}
 use Rattle.rx_model.specs.declared.wire.TheConstants.{SILENCE_MS}
-use Rattle.rx_rules.specs.After.{acknowledged, after, counted, given_body, given_by, given_message, is_end, linked, prepared}
+use Rattle.rx_rules.specs.After.{acknowledged, after, counted, given_body, given_by, given_message, is_end, linked}
+use Rattle.rx_rules.specs.After.{prepared}
 use Rattle.rx_rules.specs.After.{taken_behind, taken_message, taken_with, turned_away}
 use Rattle.rx_model.specs.Body.{Body}
 use Rattle.rx_model.specs.Body as bodies

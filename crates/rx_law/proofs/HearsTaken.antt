@@ -23,7 +23,8 @@ use Rattle.rx_model.proofs.NameLaws.{name_is}
 use Rattle.rx_rules.proofs.StartLaws.{call_at-other}
 use Rattle.rx_law.proofs.Calls.{call-changed}
 use Rattle.rx_law.proofs.Takes.{call_at-any}
-use Rattle.rx_law.proofs.Hears.{Hears, heard-challenged, heard-heard, heard-on_life, heard-over, heard-stopped, heard_at, heard_by, hears, hears-trans}
+use Rattle.rx_law.proofs.Hears.{Hears, heard-challenged, heard-heard, heard-on_life, heard-over, heard-stopped}
+use Rattle.rx_law.proofs.Hears.{heard_at, heard_by, hears, hears-trans}
 
 -- ---- a start, and a message
 

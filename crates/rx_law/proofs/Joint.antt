@@ -54,16 +54,23 @@ pub client-grown : (s : Setup) (host : Host) (epoch : ℕ) (h : List Event) (c :
     → Grown s c h
 client-grown s host epoch [] c kind fits legal = tt
 client-grown s host epoch (e ∷ h) c kind fits legal =
-    let old = client-calls s host epoch h kind fits legal.1 in
-    (((called-turn s host epoch e h c kind fits legal old).moves tt).grows, old.standing, client-grown s host epoch h c kind fits legal.1)
+    let old = client-calls s host epoch h kind fits legal.1 in (
+      ((called-turn s host epoch e h c kind fits legal old).moves tt).grows,
+      old.standing,
+      client-grown s host epoch h c
+          kind fits legal.1,
+    )
 
 pub server-grown : (s : Setup) (h : List Event) (c : CallName) → IsServer s.kind → FitsSetup s → Legal s h
     → StartsOnce s h c
     → Grown s c h
 server-grown s [] c server fits legal once = tt
 server-grown s (e ∷ h) c server fits legal once =
-    let old = server-serves s h c server fits legal.1 once.1 in
-    (((served-turn s e h c server fits legal once old).moves tt).grows, server-stands s h server fits legal.1, server-grown s h c server fits legal.1 once.1)
+    let old = server-serves s h c server fits legal.1 once.1 in (
+      ((served-turn s e h c server fits legal once old).moves tt).grows,
+      server-stands s h server fits legal.1,
+      server-grown s h c server fits legal.1 once.1,
+    )
 
 pub polled-is : (kind : Kind) (s : Setup) (l : Looks) (got : Option (Host × List ℕ))
     → AllowedAt kind s l (events.Polled got) → got ≡ poll_answer s l
@@ -230,7 +237,8 @@ client-step : (x : TwoEnds) (cl sv : List Event) (e : Event) (c : CallName) → 
     → Between (of_call x.client_setup (e ∷ cl) c) (of_call x.server_setup sv c)
 client-step x cl sv e c kind server client_fits server_fits legal served_legal once on came b =
     let old = client-calls x.client_setup x.connection.host x.connection.epoch cl kind client_fits legal.1 in
-    let moves = (called-turn x.client_setup x.connection.host x.connection.epoch e cl c kind client_fits legal old).moves tt in
+    let moves = (called-turn x.client_setup x.connection.host x.connection.epoch e cl c kind client_fits legal
+    old).moves tt in
     record {
       request = sender_step _ _ _ _ (of_call x.server_setup sv c) moves.grows b.request;
       reply =
@@ -296,7 +304,8 @@ server-step x cl sv e c kind server client_fits server_fits called_legal legal o
         subst (λ (q : Packet). IsAt (of_call x.client_setup cl c).said
         (of_call x.client_setup cl c).shut q.seq q.piece) (sym a.packet)
         (given-says x.client_setup cl c x.server_host bytes a.message a.payload client_fits called_legal
-        (client-grown x.client_setup x.connection.host x.connection.epoch cl c kind client_fits called_legal) a.reads a.body name gave)
+        (client-grown x.client_setup x.connection.host x.connection.epoch cl c kind client_fits called_legal) a.reads
+        a.body name gave)
     comes _ came p a = absurd a
 
 -- an event at one of the ends, at the other, or at neither

@@ -10,7 +10,8 @@ use Rattle.rx_rules.specs.CallLooks.{after_taken}
 use Rattle.rx_rules.specs.Judging.{opened}
 use Rattle.rx_rules.specs.Life.{after_code, after_later}
 use Rattle.rx_rules.specs.Life as lives
-use Rattle.rx_rules.specs.Looks.{ChannelLooks, ConnLooks, Looks, call_at, changed_at, channel_at, conn_at, fresh_channel, latest_name, on_life}
+use Rattle.rx_rules.specs.Looks.{ChannelLooks, ConnLooks, Looks, call_at, changed_at, channel_at, conn_at}
+use Rattle.rx_rules.specs.Looks.{fresh_channel, latest_name, on_life}
 use Rattle.rx_model.specs.Message.{Message}
 use Rattle.rx_model.specs.Names.{channel_of, connection_of, same_connection, same_name}
 use Rattle.rx_rules.specs.Records.{started, started_later}

@@ -101,7 +101,16 @@ module _ (s : Setup) (l : Looks) (from : Host) (bytes : List ℕ) (got : Took) (
       let mine : nat_lt (channel_at l (channel_of d)).number d.number ≡ true =
       subst (λ (n : CallName). nat_lt (channel_at l (channel_of n)).number n.number ≡ true) (sym is) above in
       let chunk = data-is m.body (asks-data s l from m got server answer front enter mine) in
-      record { message = m; payload = chunk.0; reads = reads; front = front; named_is = is; body = chunk.1; answer = enter }
+      record {
+        message = m;
+        payload = chunk.0;
+        reads = reads;
+        front = front;
+        named_is = is;
+        body =
+            chunk.1;
+        answer = enter;
+      }
 
   -- above the channel's number where it is judged, it was so before
   pub above-before : d ≡ c → nat_lt (channel_at ready (channel_of c)).number c.number ≡ true
@@ -168,7 +177,8 @@ module _ (s : Setup) (l : Looks) (from : Host) (bytes : List ℕ) (got : Took) (
             let young = subst (λ (n : CallName). Young (connection_of n) ready.now ready.conns) is
             (young-prepared s got (connection_of d) l) in
             let chan : c.chan < 4 = subst (λ (n : CallName). n.chan < 4) is (omega arith) in
-            let begun : Recalls (started_later s c ready) c ready.now = recalls-started s c ready u there chan young known in
+            let begun : Recalls (started_later s c ready) c ready.now =
+            recalls-started s c ready u there chan young known in
             let keeps = keeps-data s got c c m (started_later s c ready) in
             let same = now-prepared s got (connection_of d) l in
             let low = old.before in

@@ -19,7 +19,8 @@ use Rattle.rx_rules.specs.Life as lives
 use Rattle.rx_rules.specs.Looks.{CallRecord, call_at}
 use Rattle.rx_model.specs.Message.{Message}
 use Rattle.rx_model.specs.Names.{Connection, connection_of, name_of}
-use Rattle.rx_law.specs.Promises.{EndsAs, EndsByCancel, EndsBySilence, EndsOk, LawOf, LawOn, RequestWhole, at_client, at_server}
+use Rattle.rx_law.specs.Promises.{EndsAs, EndsByCancel, EndsBySilence, EndsOk, LawOf, LawOn, RequestWhole, at_client}
+use Rattle.rx_law.specs.Promises.{at_server}
 use Rattle.rx_model.specs.Reading.{reading_of}
 use Rattle.rx_rules.specs.Records.{silence_of}
 use Rattle.rx_rules.specs.Rules.{Legal, served_finish}

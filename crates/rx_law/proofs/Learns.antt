@@ -106,7 +106,14 @@ server-next s l (events.Finished d code got) c u server allowed conns some new o
     (λ to given gives. gives) old
 server-next s l (events.Taken from bytes got) c u server allowed conns some new old =
     let j = judged-message s from bytes (reading_of bytes) got l c u server allowed.0 allowed.1 refl new old in
-    record { used = j.used; later = j.later; recalls = j.recalls; begins = j.begins; told = λ to given m gives reads name. absurd gives }
+    record {
+      used = j.used;
+      later = j.later;
+      recalls = j.recalls;
+      begins =
+          j.begins;
+      told = λ to given m gives reads name. absurd gives;
+    }
 server-next s l (events.Polled got) c u server allowed conns some new old =
     let first : Looks = silenced l in
     let keeps = keeps-silenced c l in

@@ -17,7 +17,8 @@ use Rattle.rx_rules.specs.Life.{Life}
 use Rattle.rx_rules.specs.Life as lives
 use Rattle.rx_rules.specs.Looks.{CallRecord, Looks, call_at}
 use Rattle.rx_rules.specs.Received.{is_complete, read_from, unread_of}
-use Rattle.rx_rules.specs.Rules.{AllowedAt, HasBytes, Legal, client_read, client_read_by, own_call, served_read, served_read_by}
+use Rattle.rx_rules.specs.Rules.{AllowedAt, HasBytes, Legal, client_read, client_read_by, own_call, served_read}
+use Rattle.rx_rules.specs.Rules.{served_read_by}
 use Rattle.rx_rules.specs.Setup.{Setup, Kind, Server, Client, is_client}
 
 -- a read's answer with as many bytes as it says

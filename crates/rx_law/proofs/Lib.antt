@@ -94,7 +94,6 @@ pub mod OrderlyTaken
 pub mod OrderlyClient
 pub mod OrderlyHistory
 pub mod OneCall
-pub mod NodeFacts
 pub mod FitValues
 pub mod FitCall
 pub mod FitCalls
@@ -112,6 +111,5 @@ pub mod PlainBodies
 pub mod OwnChannels
 pub mod PlainCalls
 pub mod PlainItems
-pub mod FitFacts
 pub mod Givings
 pub mod GivingItems

@@ -1,7 +1,8 @@
 -- No step of a life brings a call to life, lets it hold slots, or begins it anew.
 use Rattle.std.proofs.Common.{◌≡◌, ℕ, ℤ, Bool, true, false, Option, refl}
 use Rattle.rx_model.specs.declared.answers.End.{End}
-use Rattle.rx_rules.specs.Life.{Life, is_active, is_calling, is_live, is_waiting, after_code, after_silence, after_later}
+use Rattle.rx_rules.specs.Life.{Life, is_active, is_calling, is_live, is_waiting, after_code, after_silence}
+use Rattle.rx_rules.specs.Life.{after_later}
 use Rattle.rx_rules.specs.Life.{after_acks, after_accept}
 use Rattle.rx_rules.specs.Life.{after_cancel, after_end, after_finish, after_gone}
 use Rattle.rx_rules.specs.Life as lives

@@ -11,7 +11,8 @@ use Rattle.rx_model.specs.declared.event.Event.TheVariants as events
 use Rattle.rx_model.specs.declared.event.Noted.{Noted}
 use Rattle.rx_model.specs.declared.names.CallName.{CallName}
 use Rattle.rx_model.specs.declared.names.Host.{Host}
-use Rattle.rx_rules.specs.After.{after, counted, enters, finish_done, given_body, given_by, given_message, is_zero, linked}
+use Rattle.rx_rules.specs.After.{after, counted, enters, finish_done, given_body, given_by, given_message, is_zero}
+use Rattle.rx_rules.specs.After.{linked}
 use Rattle.rx_rules.specs.After.{looks, owing_abort, prepared, taken_behind, taken_message, taken_unserved, turned_away}
 use Rattle.rx_model.specs.Body.{Body}
 use Rattle.rx_model.specs.Body as bodies

@@ -24,7 +24,8 @@ use Rattle.rx_model.specs.Message.{Message, has_flag}
 use Rattle.rx_model.specs.Names.{Connection, Channel, channel_of, channels_of, connection_of, same_connection}
 use Rattle.rx_model.specs.Reading.{reading_of}
 use Rattle.rx_rules.specs.Records.{entered, silenced}
-use Rattle.rx_rules.specs.Rules.{AllowedServer, call_among, call_answer, call_of_conn, call_on, is_free, is_worn, next_number}
+use Rattle.rx_rules.specs.Rules.{AllowedServer, call_among, call_answer, call_of_conn, call_on, is_free, is_worn}
+use Rattle.rx_rules.specs.Rules.{next_number}
 use Rattle.rx_rules.specs.Setup.{Setup, Kind, Server, Client, IsServer, named}
 use Rattle.rx_rules.specs.Slots.{live}
 use Rattle.rx_rules.proofs.EnterLaws.{keeps-used}

@@ -1,6 +1,7 @@
 -- A piece that counts never changes as the stream grows.
 use Rattle.std.proofs.Common.{◌≡◌, ◌≤◌, ◌<◌, ◌+◌, ◌*◌, ◌-◌, ◌/◌, ◌==◌, cond, max, Bool, true, false, List, ◌++◌}
-use Rattle.std.proofs.Common.{length, take, drop, length-append, length-drop, refl, ap, sym, subst, ◌∙◌, arith, ℕ, zero, suc}
+use Rattle.std.proofs.Common.{length, take, drop, length-append, length-drop, refl, ap, sym, subst, ◌∙◌, arith, ℕ, zero}
+use Rattle.std.proofs.Common.{suc}
 use Rattle.std.proofs.Common.{append-nil}
 use Rattle.std.proofs.lemmas.Bool.Decides.{nat_tests}
 use Rattle.std.proofs.lemmas.List.{take-append-le, drop-append-le}

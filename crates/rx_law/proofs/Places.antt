@@ -1,5 +1,6 @@
 -- A connection is entered, where no record of the connection that is looked at is forgotten for it.
-use Rattle.std.proofs.Common.{◌≡◌, ◌⊎◌, inl, inr, ◌≤◌, ◌||◌, ℕ, zero, suc, cond, if◌then◌else◌, nat_le, Bool, true, false, List, [], ◌∷◌}
+use Rattle.std.proofs.Common.{◌≡◌, ◌⊎◌, inl, inr, ◌≤◌, ◌||◌, ℕ, zero, suc, cond, if◌then◌else◌, nat_le, Bool, true}
+use Rattle.std.proofs.Common.{false, List, [], ◌∷◌}
 use Rattle.std.proofs.Common.{length, map, filter, Option, Some, None, refl, ◌∙◌, ap, arith, sym, subst, is_some}
 use Rattle.std.specs.List.{find, list_any}
 use Rattle.rx_model.specs.declared.names.CallName.{CallName}

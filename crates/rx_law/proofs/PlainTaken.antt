@@ -5,13 +5,15 @@ use Rattle.rx_model.specs.declared.answers.Took.{Took}
 use Rattle.rx_model.specs.declared.answers.Took.TheVariants as tooks
 use Rattle.rx_model.specs.declared.names.CallName.{CallName}
 use Rattle.rx_model.specs.declared.wire.TheConstants.{RX_PROTOCOL_ERROR}
-use Rattle.rx_rules.specs.After.{challenged, owing_abort, owing_again, owing_busy, settled, stopped_all, taken_at, taken_data}
+use Rattle.rx_rules.specs.After.{challenged, owing_abort, owing_again, owing_busy, settled, stopped_all, taken_at}
+use Rattle.rx_rules.specs.After.{taken_data}
 use Rattle.rx_rules.specs.After.{taken_heard, taken_over, taken_stopped, taken_with, with_first}
 use Rattle.rx_model.specs.Body.{Body}
 use Rattle.rx_model.specs.Body as bodies
 use Rattle.rx_rules.specs.Judging.{opened}
 use Rattle.rx_rules.specs.Life.{after_code}
-use Rattle.rx_rules.specs.Looks.{CallRecord, Looks, call_at, channel_at, conn_at, is_proved, on_call, on_channel, on_life}
+use Rattle.rx_rules.specs.Looks.{CallRecord, Looks, call_at, channel_at, conn_at, is_proved, on_call, on_channel}
+use Rattle.rx_rules.specs.Looks.{on_life}
 use Rattle.rx_model.specs.Message.{Message}
 use Rattle.rx_model.specs.Names.{Connection, channel_of, connection_of}
 use Rattle.rx_rules.specs.Looks.{fresh_channel}

@@ -10,7 +10,8 @@ use Rattle.rx_model.specs.declared.names.CallName.{CallName}
 use Rattle.rx_model.specs.Body.{Body}
 use Rattle.rx_model.specs.Body as bodies
 use Rattle.rx_rules.specs.Classes.{Class, token, token_answer}
-use Rattle.rx_rules.specs.Judging.{Facts, facts_of, is_data, is_right, live_row, nonce_at, opened, own_row, response_row, row_at}
+use Rattle.rx_rules.specs.Judging.{Facts, facts_of, is_data, is_right, live_row, nonce_at, opened, own_row}
+use Rattle.rx_rules.specs.Judging.{response_row, row_at}
 use Rattle.rx_rules.specs.Judging.{server_row, side_row, took_named}
 use Rattle.rx_rules.specs.Looks.{CallRecord, Looks, call_at, channel_at, conn_at, is_proved}
 use Rattle.rx_model.specs.Message.{Message}

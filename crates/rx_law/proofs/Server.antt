@@ -17,7 +17,8 @@ use Rattle.rx_model.specs.declared.event.Event.{Event}
 use Rattle.rx_model.specs.declared.event.Event.TheVariants as events
 use Rattle.rx_model.specs.declared.names.CallName.{CallName}
 use Rattle.rx_model.specs.declared.names.Host.{Host}
-use Rattle.rx_rules.specs.After.{taken_message, after, finished, is_end, is_ok_end, is_zero, owing_abort, prepared, taken_behind}
+use Rattle.rx_rules.specs.After.{taken_message, after, finished, is_end, is_ok_end, is_zero, owing_abort, prepared}
+use Rattle.rx_rules.specs.After.{taken_behind}
 use Rattle.rx_model.specs.Body.{Body}
 use Rattle.rx_model.specs.Body as bodies
 use Rattle.rx_rules.specs.CallLooks.{after_shut, lead, packet_of}
@@ -25,7 +26,8 @@ use Rattle.rx_law.specs.Counts.{accepts, finishes}
 use Rattle.rx_rules.specs.Judging.{outer_row}
 use Rattle.rx_rules.specs.Life.{Life, after_accept, after_finish, after_gone, is_waiting}
 use Rattle.rx_rules.specs.Life as lives
-use Rattle.rx_rules.specs.Looks.{CallRecord, Looks, at_start, call_at, channel_at, conn_at, on_channel, on_life, on_looks}
+use Rattle.rx_rules.specs.Looks.{CallRecord, Looks, at_start, call_at, channel_at, conn_at, on_channel, on_life}
+use Rattle.rx_rules.specs.Looks.{on_looks}
 use Rattle.rx_model.specs.Message.{IsBytes, Message}
 use Rattle.rx_model.specs.Names.{channel_of, connection_of, same_name}
 use Rattle.rx_rules.specs.Received.{Packet, read_of}
@@ -46,7 +48,8 @@ use Rattle.rx_law.proofs.Lives.{is_running, gone-moves}
 use Rattle.rx_law.proofs.Calls.{calls-on_life, calls-silenced}
 use Rattle.rx_law.proofs.Conns.{Conns}
 use Rattle.rx_law.proofs.Data.{GoodCall, GoodName, OwnName, poll-gives}
-use Rattle.rx_law.proofs.Events.{ReadFacts, behind-turn, call-by, calls-prepared, given-turn, life-changed, read-turn, server-facts, shut-turn, turn-by, wrote-turn}
+use Rattle.rx_law.proofs.Events.{ReadFacts, behind-turn, call-by, calls-prepared, given-turn, life-changed, read-turn}
+use Rattle.rx_law.proofs.Events.{server-facts, shut-turn, turn-by, wrote-turn}
 use Rattle.rx_law.proofs.Numbers.{sound-ready, spared-ready}
 use Rattle.rx_law.proofs.Places.{Spared}
 use Rattle.rx_law.specs.Starts.{StartsBy, StartsNew}
@@ -320,7 +323,8 @@ module _ (Safe : Type 0) (c : CallName) (s : Setup) (l : Looks) where
 
   -- a connection of which no record was forgotten starts no call anew
   pub spared-starts : (e : Event) → Sound l c 0 → Spared (connection_of c) (after s e l) → StartsNew s l e c
-  spared-starts (events.Taken from bytes tooks.Kept) sound spared = λ m reads front at_call above. at tooks.Kept from bytes sound spared m reads front at_call above
+  spared-starts (events.Taken from bytes tooks.Kept) sound spared = λ m reads front at_call above. at tooks.Kept from
+      bytes sound spared m reads front at_call above
     where
       at : (got : Took) (from : Host) (bytes : List ℕ) → Sound l c 0
           → Spared (connection_of c) (taken_message s from (reading_of bytes) got l)
@@ -391,7 +395,8 @@ module _ (Safe : Type 0) (c : CallName) (s : Setup) (l : Looks) where
       (calls-still Safe Served (GoodName s c) Cause (call_at l c) (call_at (silenced l) c)
       (calls-silenced Cause c l cause))
       (given-turn Safe Served (GoodName s c) Cause Comes c s got (silenced l)
-      (λ to bytes m payload k is reads chunk same there. gives-counts got fits standing answer to bytes m payload k is reads chunk same there))
+      (λ to bytes m payload k is reads chunk same there. gives-counts got fits standing answer to bytes m payload k is
+      reads chunk same there))
 
   done-turn : (d : CallName) (code : ℤ) → ServerTurn (events.Finished d code (Ok tt))
   done-turn d code =

@@ -1,5 +1,6 @@
 -- Where nothing that comes is old, a server starts no call of a connection while it has a record.
-use Rattle.std.proofs.Common.{◌≡◌, ◌⊎◌, ◌==◌, ◌≤◌, ◌+◌, ℕ, zero, suc, cond, nat_lt, is_some, Bool, true, false, List, [], ◌∷◌}
+use Rattle.std.proofs.Common.{◌≡◌, ◌⊎◌, ◌==◌, ◌≤◌, ◌+◌, ℕ, zero, suc, cond, nat_lt, is_some, Bool, true, false, List}
+use Rattle.std.proofs.Common.{[], ◌∷◌}
 use Rattle.std.proofs.Common.{refl, subst, inl, inr, arith}
 use Rattle.std.proofs.lemmas.Bool.Decides.{nat_tests}
 use Rattle.rx_model.specs.declared.answers.Took.TheVariants as tooks
@@ -40,7 +41,14 @@ nothing-timed x c =
       used = 0;
       called = 0;
       heard = 0;
-      recalls = record { before = omega arith; fours = tt; young = tt; held = λ is. absurd cc; busy = λ n is. absurd cc };
+      recalls = record {
+        before = omega arith;
+        fours = tt;
+        young = tt;
+        held = λ is. absurd cc;
+        busy =
+            λ n is. absurd cc;
+      };
       called_before = omega arith;
       heard_before = omega arith;
       since = λ t is. absurd cc;

@@ -6,8 +6,10 @@ use Rattle.rx_model.specs.declared.answers.Took.{Took}
 use Rattle.rx_model.specs.declared.answers.Took.TheVariants as tooks
 use Rattle.rx_model.specs.declared.names.CallName.{CallName}
 use Rattle.rx_model.specs.declared.wire.TheConstants.{RX_CALL_DEAD, RX_PROTOCOL_ERROR}
-use Rattle.rx_rules.specs.After.{challenged, is_ok_end, owing_abort, owing_again, owing_ackall, owing_busy, served_code, settled}
-use Rattle.rx_rules.specs.After.{stopped_all, taken_at, taken_busy, taken_data, taken_heard, taken_over, taken_stopped, taken_with}
+use Rattle.rx_rules.specs.After.{challenged, is_ok_end, owing_abort, owing_again, owing_ackall, owing_busy, served_code}
+use Rattle.rx_rules.specs.After.{settled}
+use Rattle.rx_rules.specs.After.{stopped_all, taken_at, taken_busy, taken_data, taken_heard, taken_over, taken_stopped}
+use Rattle.rx_rules.specs.After.{taken_with}
 use Rattle.rx_rules.specs.After.{enters, told_code}
 use Rattle.rx_model.specs.Body.{Body}
 use Rattle.rx_model.specs.Body as bodies
@@ -15,7 +17,8 @@ use Rattle.rx_rules.specs.CallLooks.{after_taken, fresh_call}
 use Rattle.rx_rules.specs.Judging.{opened}
 use Rattle.rx_rules.specs.Life.{Life, after_acks, after_code, after_later, is_waiting}
 use Rattle.rx_rules.specs.Life as lives
-use Rattle.rx_rules.specs.Looks.{CallRecord, ChannelLooks, ConnLooks, Looks, call_at, channel_at, conn_at, is_proved, latest_name}
+use Rattle.rx_rules.specs.Looks.{CallRecord, ChannelLooks, ConnLooks, Looks, call_at, channel_at, conn_at, is_proved}
+use Rattle.rx_rules.specs.Looks.{latest_name}
 use Rattle.rx_rules.specs.Looks.{on_call, on_channel, on_life}
 use Rattle.rx_model.specs.Message.{Message}
 use Rattle.rx_model.specs.Names.{Connection, channel_of, connection_of, same_connection, same_name}

@@ -30,9 +30,11 @@ use Rattle.rx_model.proofs.NameLaws.{name_is}
 use Rattle.rx_rules.proofs.StartLaws.{call_at-new, call_at-other, replaced}
 use Rattle.rx_law.proofs.Ends.{Ends, ends_in, Moves, kept_moves, same_moves}
 use Rattle.rx_law.proofs.Lives.{is_running, later-moves, code-moves}
-use Rattle.rx_law.proofs.Calls.{Calls, body-ends, found-ends, call-changed, calls-challenged, calls-coded, calls-heard, calls-on_life}
+use Rattle.rx_law.proofs.Calls.{Calls, body-ends, found-ends, call-changed, calls-challenged, calls-coded, calls-heard}
+use Rattle.rx_law.proofs.Calls.{calls-on_life}
 use Rattle.rx_law.proofs.Calls.{calls-over, calls-stopped_all}
-use Rattle.rx_law.proofs.Turns.{Still, SendsOf, Turn, still-refl, still-trans, calls-still, started-still, still-turn, streams-turn}
+use Rattle.rx_law.proofs.Turns.{Still, SendsOf, Turn, still-refl, still-trans, calls-still, started-still, still-turn}
+use Rattle.rx_law.proofs.Turns.{streams-turn}
 use Rattle.rx_law.proofs.Turns.{turn-before, turn-behind}
 
 -- ---- hypotheses on what comes

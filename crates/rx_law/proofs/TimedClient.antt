@@ -72,8 +72,10 @@ module _ (x : TwoEnds) (c : CallName) (on : connection_of c ≡ x.connection)
     client-gave bytes m payload at (inl g) reads chunk name =
         let p = gives-at x.server_host bytes e.event g.gives in
         let answer : p.0 ≡ poll_answer x.client_setup lc =
-        subst (λ (event : Event). AllowedClient x.client_setup x.connection.host x.connection.epoch lc event) p.1 allowed in
-        let t = gives-heard x.client_setup lc p.0 x.server_host bytes m payload c fits standing answer p.2 reads chunk name in
+        subst (λ (event : Event). AllowedClient x.client_setup x.connection.host x.connection.epoch lc event)
+        p.1 allowed in
+        let t = gives-heard x.client_setup lc p.0 x.server_host bytes m payload c fits standing answer p.2
+        reads chunk name in
         let since = (k.since t.0 t.1).0 in
         let skew = alike-since x.server x.client h (moment x.server h) (moment x.client h) t.0 k.heard
         (alike (here, ap is_clock p.1)) since in
@@ -161,7 +163,8 @@ module _ (x : TwoEnds) (c : CallName) (on : connection_of c ≡ x.connection)
     -- each of these
     pub client-timed : Timed x c (e ∷ h) (after x.client_setup e.event lc) ls now
     client-timed =
-        of (hears-client x.client_setup x.connection.host x.connection.epoch lc e.event c kind fits allowed standing.conns sound)
+        of (hears-client x.client_setup x.connection.host x.connection.epoch lc e.event c kind fits allowed
+        standing.conns sound)
       where
         why : heard_at (after x.client_setup e.event lc) c ≡ Some lc.now
             → (is_clock e.event ≡ false) × ((call_at lc c ≡ None) ⊎

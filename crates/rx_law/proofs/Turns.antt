@@ -1,5 +1,6 @@
 -- What an event makes of one call: its streams move, its life goes on, and its counts stay right.
-use Rattle.std.proofs.Common.{◌≡◌, ◌⊎◌, ◌≤◌, ◌-◌, ◌+◌, ◌*◌, ◌/◌, ℕ, if◌then◌else◌, is_some, max, Bool, true, false, List}
+use Rattle.std.proofs.Common.{◌≡◌, ◌⊎◌, ◌≤◌, ◌-◌, ◌+◌, ◌*◌, ◌/◌, ℕ, if◌then◌else◌, is_some, max, Bool, true, false}
+use Rattle.std.proofs.Common.{List}
 use Rattle.std.proofs.Common.{length, Option, Some, None, refl, ◌∙◌, ap, sym, subst, inl, inr, arith}
 use Rattle.rx_model.specs.declared.answers.End.{End}
 use Rattle.rx_rules.specs.After.{is_ok_end}

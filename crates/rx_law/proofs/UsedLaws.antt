@@ -5,7 +5,6 @@ use Rattle.std.proofs.Common.{length-append}
 use Rattle.std.proofs.lemmas.Bool.Decides.{nat_tests}
 use Rattle.rx_rules.specs.Received.{Packet, Piece, Received, count_above, end_of, front_of, greatest}
 use Rattle.rx_rules.specs.Received.{after_read, is_done, is_done_by, packet_at, payload_of, used_of}
-use Rattle.rx_model.proofs.NameLaws.{number_itself}
 use Rattle.rx_law.proofs.Reaches.{count_falls, count_passes, reach_least, reach_wider}
 use Rattle.rx_rules.proofs.ReachLaws.{reach_stops, reach_within}
 use Rattle.rx_rules.proofs.PacketLaws.{front_all}
@@ -20,9 +19,6 @@ used_within r = reach_within (is_done r) (front_of r.kept)
 -- another packet is kept as before
 packet-other : (p : Packet) (ps : List Packet) (k : ℕ) → (p.seq == k) ≡ false → packet_at (p ∷ ps) k ≡ packet_at ps k
 packet-other p ps k other = rw other refl
-
-packet-itself : (p : Packet) (ps : List Packet) → is_some (packet_at (p ∷ ps) p.seq) ≡ true
-packet-itself p ps = rw (number_itself p.seq) refl
 
 some-kept : (p : Packet) (ps : List Packet) (k : ℕ) → is_some (packet_at ps k) ≡ true
     → is_some (packet_at (p ∷ ps) k) ≡ true

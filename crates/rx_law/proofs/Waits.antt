@@ -7,7 +7,8 @@ use Rattle.rx_model.specs.declared.names.CallName.{CallName}
 use Rattle.rx_model.specs.declared.wire.TheConstants.{IDLE_MS, RX_CALL_DEAD}
 use Rattle.rx_rules.specs.After.{owing_busy, taken_with}
 use Rattle.rx_rules.specs.Life.{after_code}
-use Rattle.rx_rules.specs.Looks.{ChannelLooks, ConnLooks, Looks, call_at, changed_at, conn_at, latest_name, on_channel, on_life}
+use Rattle.rx_rules.specs.Looks.{ChannelLooks, ConnLooks, Looks, call_at, changed_at, conn_at, latest_name, on_channel}
+use Rattle.rx_rules.specs.Looks.{on_life}
 use Rattle.rx_model.specs.Message.{Message}
 use Rattle.rx_model.specs.Names.{Connection, channel_of, connection_of, same_connection}
 use Rattle.rx_rules.specs.Setup.{Setup}
@@ -115,7 +116,8 @@ pub recalls-waits : (s : Setup) (got : Took) (c d : CallName) (m : Message) (l :
     → is_some (call_at l c) ≡ true)
 recalls-waits s tooks.Busy c d m l u is fits none old =
     let broken : Looks = on_life (latest_name l (channel_of d)) (after_code RX_CALL_DEAD) l in
-    let keeps = keeps-on_life c (latest_name l (channel_of d)) (after_code RX_CALL_DEAD) l (code_waits RX_CALL_DEAD) in (
+    let keeps = keeps-on_life c (latest_name l (channel_of d)) (after_code RX_CALL_DEAD) l
+    (code_waits RX_CALL_DEAD) in (
       recalls-owing c d broken u fits (λ same. lives-none (call_at l c) (call_at broken c) keeps.calls (none same))
           (recalls-keeps c l broken u keeps (firm-same c l broken refl refl) old),
       λ there. lives-some (call_at l c) (call_at broken c) keeps.calls there,

@@ -1,6 +1,8 @@
 -- From a world of hosts to each connection.
-use Rattle.std.proofs.Common.{◌≡◌, ◌≢◌, ◌⊎◌, ◌&&◌, ◌==◌, ◌<◌, not, cond, if◌then◌else◌, ℕ, zero, suc, Bool, true, false, List, [], ◌∷◌}
-use Rattle.std.proofs.Common.{length, drop, is_some, Option, Some, None, Result, Ok, Err, refl, ◌∙◌, ap, sym, subst, inl, inr, arith}
+use Rattle.std.proofs.Common.{◌≡◌, ◌≢◌, ◌⊎◌, ◌&&◌, ◌==◌, ◌<◌, not, cond, if◌then◌else◌, ℕ, zero, suc, Bool, true, false}
+use Rattle.std.proofs.Common.{List, [], ◌∷◌}
+use Rattle.std.proofs.Common.{length, drop, is_some, Option, Some, None, Result, Ok, Err, refl, ◌∙◌, ap, sym, subst}
+use Rattle.std.proofs.Common.{inl, inr, arith}
 use Rattle.std.specs.Prelude.{IfSome, IsSomeAnd, Contains, slice_get, slice_index_or}
 use Rattle.std.specs.List.{list_any}
 use Rattle.rx_model.specs.declared.answers.BadMsg.{BadMsg}
@@ -13,7 +15,8 @@ use Rattle.rx_model.specs.declared.names.CallName.{CallName}
 use Rattle.rx_model.specs.declared.names.Host.{Host}
 use Rattle.rx_model.specs.declared.stray.Stray.{Stray}
 use Rattle.rx_model.specs.declared.wire.TheConstants.{CLIENT_INITIATED}
-use Rattle.rx_rules.specs.After.{after, counted, linked, enters, given_body, given_by, given_message, looks, prepared, taken_behind, taken_message, turned_away}
+use Rattle.rx_rules.specs.After.{after, counted, linked, enters, given_body, given_by, given_message, looks, prepared}
+use Rattle.rx_rules.specs.After.{taken_behind, taken_message, turned_away}
 use Rattle.rx_model.specs.Body.{Body}
 use Rattle.rx_model.specs.Body as bodies
 use Rattle.rx_law.specs.Counts.{Once}
@@ -82,7 +85,8 @@ client-rows s (Client h e) host epoch l from m row is front =
         some_row a b is = cc
 
     of : (a b c : Bool) →
-        (if a then Some tooks.Foreign else if not b then Some tooks.Strange else if not c then Some tooks.Strange else None) ≡ Some row
+        (if a then Some tooks.Foreign else if not b then Some tooks.Strange else if not c then Some tooks.Strange
+        else None) ≡ Some row
         → (turned_away row from m l).strays ≡ l.strays
     of true b c is = one tooks.Foreign is refl
     of false false c is = one tooks.Strange is refl
@@ -253,7 +257,14 @@ giver nodes d [] is = absurd is
 giver nodes d (e ∷ h) is = of (slice_get nodes e.node) refl (λ i. giver nodes d h i) is
   where
     old : Giver nodes d h → Giver nodes d (e ∷ h)
-    old g = record { index = g.index; node = g.node; there = g.there; host = g.host; gave = later-gave g.index e h d.to d.bytes g.gave }
+    old g = record {
+      index = g.index;
+      node = g.node;
+      there = g.there;
+      host = g.host;
+      gave =
+          later-gave g.index e h d.to d.bytes g.gave;
+    }
 
     of : (o : Option Node) → slice_get nodes e.node ≡ o → (In d (bag nodes h) → Giver nodes d h)
         → In d (given_at o e.event (bag nodes h)) → Giver nodes d (e ∷ h)
@@ -347,7 +358,8 @@ module _ (nodes : List Node) (k : ℕ) (client server : Node) (y : Connection) (
       (not ((m.service == service) && (m.index == server.setup.class.index))) front
     where
       of : (a b c : Bool) →
-          (if not a then Some tooks.Foreign else if b then Some tooks.Strange else if c then Some tooks.Unserved else None) ≡ None → a ≡ true
+          (if not a then Some tooks.Foreign else if b then Some tooks.Strange else if c then Some tooks.Unserved
+          else None) ≡ None → a ≡ true
       of true b c is = refl
       of false b c is = absurd cc
   flagged-server from m (Client host epoch) is front = absurd is

@@ -1,5 +1,6 @@
 -- Data that the server of a world judges is a client's, of the call's own host and epoch.
-use Rattle.std.proofs.Common.{◌≡◌, ◌≢◌, ◌&&◌, ◌==◌, ℕ, zero, suc, if◌then◌else◌, not, Bool, true, false, List, Some, None}
+use Rattle.std.proofs.Common.{◌≡◌, ◌≢◌, ◌&&◌, ◌==◌, ℕ, zero, suc, if◌then◌else◌, not, Bool, true, false, List, Some}
+use Rattle.std.proofs.Common.{None}
 use Rattle.std.proofs.Common.{Ok, refl, ◌∙◌, ap, sym}
 use Rattle.std.specs.Prelude.{IfSome, slice_get}
 use Rattle.rx_model.specs.declared.answers.Took.{Took}
@@ -100,7 +101,8 @@ module _ (nodes : List Node) (server : Node) (first : slice_get nodes 0 ≡ Some
           (not ((m.service == service) && (m.index == server.setup.class.index))) front
         where
           of : (a b c : Bool) →
-              (if not a then Some tooks.Foreign else if b then Some tooks.Strange else if c then Some tooks.Unserved else None) ≡ None → a ≡ true
+              (if not a then Some tooks.Foreign else if b then Some tooks.Strange else if c then Some tooks.Unserved
+              else None) ≡ None → a ≡ true
           of true b c is = refl
           of false b c is = absurd cc
       flagged-first (Client host epoch) l from m is front = absurd is

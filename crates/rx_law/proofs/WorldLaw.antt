@@ -1,5 +1,6 @@
 -- The law of a world, whichever of its two premises holds.
-use Rattle.std.proofs.Common.{◌≡◌, ◌≢◌, ◌⊎◌, ◌==◌, ◌≤◌, ℕ, suc, cond, nat_lt, Bool, true, false, List, [], ◌∷◌, Option, Some, None}
+use Rattle.std.proofs.Common.{◌≡◌, ◌≢◌, ◌⊎◌, ◌==◌, ◌≤◌, ℕ, suc, cond, nat_lt, Bool, true, false, List, [], ◌∷◌, Option}
+use Rattle.std.proofs.Common.{Some, None}
 use Rattle.std.proofs.Common.{Ok, refl, ◌∙◌, ap, sym, subst, inl, inr, arith}
 use Rattle.std.proofs.lemmas.Bool.Decides.{nat_tests}
 use Rattle.std.specs.Prelude.{IfSome, IsSomeAnd, slice_get}
@@ -62,7 +63,8 @@ module _ (nodes : List Node) (server : Node) (first : slice_get nodes 0 ≡ Some
       let answer : got ≡ took_reading server.setup l from (Ok m) = is ∙ ap (took_reading server.setup l from) reads in
       let chunk = data-is m.body (asks-data server.setup l from m got
       (serves nodes server first are apart) answer front enter mine) in
-      found (asked-by nodes server first are apart h l from bytes m chunk.0 got c legal fresh reads chunk.1 front name) m reads front name above)
+      found (asked-by nodes server first are apart h l from bytes m chunk.0 got c legal fresh reads chunk.1 front name)
+      m reads front name above)
 
   starts-any : (h : List Noted) (l : Looks) (e : Event) (c : CallName)
       → ((j : ℕ) (n : Node) → slice_get nodes j ≡ Some n → Legal n.setup (side j h)) → IsFresh nodes h server.host e
@@ -139,7 +141,8 @@ world-timed nodes h w timely =
           law-on (ends_in y k client server) h
           (world-fed-by nodes k client server y there kind first w.sides.nodes_are w.apart h w
           (λ c on. starts-once (ends_in y k client server) h c
-          (world-lately nodes k client server y there kind first w.sides.nodes_are w.apart h legal timely.fresh timely.alike) on));
+          (world-lately nodes k client server y there kind first w.sides.nodes_are w.apart h legal timely.fresh
+          timely.alike) on));
     }
   where
     legal : (j : ℕ) (n : Node) → slice_get nodes j ≡ Some n → Legal n.setup (side j h)

@@ -38,22 +38,27 @@ pub fn enters_when_proved()
 /// Whatever bytes came, each DATA that a client ever gave is, at every later moment, the piece of its seq of what was
 /// said of its call.
 pub fn client_gives_pieces()
-    ensures { (s : Setup) (host : Host) (epoch : ℕ) (h : List Event) (to : Host) (bytes : List ℕ) (m : Message) (payload : List ℕ)
-        → s.kind ≡ Client host epoch → FitsSetup s → Legal s h → Gave to bytes h → reading_of bytes ≡ Ok m → m.body ≡ bodies.Chunk payload
-        → IsAt (said (looks s h) (named s to m)) (is_shut (looks s h) (named s to m)) m.seq (packet_of m payload).piece }
+    ensures { (s : Setup) (host : Host) (epoch : ℕ) (h : List Event) (to : Host) (bytes : List ℕ) (m : Message)
+        (payload : List ℕ)
+        → s.kind ≡ Client host epoch → FitsSetup s → Legal s h → Gave to bytes h → reading_of bytes ≡ Ok m
+        → m.body ≡ bodies.Chunk payload
+        → IsAt (said (looks s h) (named s to m)) (is_shut (looks s h) (named s to m)) m.seq
+        (packet_of m payload).piece }
 {}
 
 /// The same of a server's call that never starts while it has a record.
 pub fn server_gives_pieces()
     ensures { (s : Setup) (h : List Event) (to : Host) (bytes : List ℕ) (m : Message) (payload : List ℕ)
-        → IsServer s.kind → FitsSetup s → Legal s h → StartsOnce s h (named s to m) → Gave to bytes h → reading_of bytes ≡ Ok m
+        → IsServer s.kind → FitsSetup s → Legal s h → StartsOnce s h (named s to m) → Gave to bytes h
+        → reading_of bytes ≡ Ok m
         → m.body ≡ bodies.Chunk payload
-        → IsAt (said (looks s h) (named s to m)) (is_shut (looks s h) (named s to m)) m.seq (packet_of m payload).piece }
+        → IsAt (said (looks s h) (named s to m)) (is_shut (looks s h) (named s to m)) m.seq
+        (packet_of m payload).piece }
 {}
 
 /// Between two legal ends of a connection, with a network that invents nothing on it and a server that starts none of
-/// its calls while it has a record, at every moment: each call of the connection is accepted at most once; what each end
-/// read begins what the other said; and a client's call that ended has what its end says.
+/// its calls while it has a record, at every moment: each call of the connection is accepted at most once; what each
+/// end read begins what the other said; and a client's call that ended has what its end says.
 pub fn connection_law_once()
     ensures { (x : TwoEnds) (h : List Noted) → HeldOnce x h → LawOn x h }
 {}
@@ -65,9 +70,9 @@ pub fn connection_law()
     ensures { ConnectionLaw }
 {}
 
-/// In a world of one server and any number of clients, whose network invents nothing, no call is accepted twice, and each
-/// call of each client has all that: where the server forgot no record, or where no datagram is old and each client's
-/// clock goes like the server's.
+/// In a world of one server and any number of clients, whose network invents nothing, no call is accepted twice, and
+/// each call of each client has all that: where the server forgot no record, or where no datagram is old and each
+/// client's clock goes like the server's.
 pub fn world_law()
     ensures { WorldLaw }
 {}
@@ -90,10 +95,10 @@ pub fn slots_suffice()
     ensures { SlotsSuffice }
 {}
 
-/// Whatever bytes came to a node, and whatever its application asked, each datagram that a poll gives is the written form
-/// of one message that is owed, a stray abort or the next item, each number of which fits its field: it is read as that
-/// message. An item's datagram is read as no stray abort, and speaks of the item's call, which is the latest of its
-/// channel unless it is told to wait.
+/// Whatever bytes came to a node, and whatever its application asked, each datagram that a poll gives is the written
+/// form of one message that is owed, a stray abort or the next item, each number of which fits its field: it is read as
+/// that message. An item's datagram is read as no stray abort, and speaks of the item's call, which is the latest of
+/// its channel unless it is told to wait.
 pub fn polls_give_plain_messages()
     ensures plain { (s : Setup) (h : List Event) (to : Host) (bytes : List ℕ) → FitsSetup s → Legal s h
         → poll_answer s (looks s h) ≡ Some (to, bytes) → GivesPlain s (looks s h) to bytes }

@@ -1,5 +1,5 @@
-//! What is said: hosts, names of calls, answers, events and their lines, the constants of the wire; in `specs/` messages,
-//! their spelling, and the text of a history.
+//! What is said: hosts, names of calls, answers, events and their lines, the constants of the wire; in `specs/`
+//! messages, their spelling, and the text of a history.
 #![tactic(auto)]
 
 mod answers;

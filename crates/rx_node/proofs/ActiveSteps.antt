@@ -1,6 +1,8 @@
 -- What a node reads of a channel's latest call, and what follows of it.
-use Rattle.std.proofs.Common.{◌≡◌, ◌≤◌, ◌<◌, ◌+◌, ◌-◌, ◌/◌, ◌%◌, ◌&&◌, ℕ, zero, suc, Bool, true, false, List, [], ◌∷◌, length, min, take}
-use Rattle.std.proofs.Common.{Option, Some, None, option_map, refl, ◌∙◌, ap, sym, subst, arith, inr, nat_le, if◌then◌else◌}
+use Rattle.std.proofs.Common.{◌≡◌, ◌≤◌, ◌<◌, ◌+◌, ◌-◌, ◌/◌, ◌%◌, ◌&&◌, ℕ, zero, suc, Bool, true, false, List, [], ◌∷◌}
+use Rattle.std.proofs.Common.{length, min, take}
+use Rattle.std.proofs.Common.{Option, Some, None, option_map, refl, ◌∙◌, ap, sym, subst, arith, inr, nat_le}
+use Rattle.std.proofs.Common.{if◌then◌else◌}
 use Rattle.std.proofs.lemmas.Bool.Decides.{nat_tests}
 use Rattle.std.proofs.lemmas.List.{length-take}
 use Rattle.std.specs.Prelude.{IsSomeAnd, is_some, option_and_then, slice_get, slice_index_or}
@@ -35,7 +37,8 @@ use Rattle.rx_node.proofs.LoopEnds.{unless_active}
 
 -- ---- an element by its index
 
-pub indexed : {X : Type 0} (xs : List X) (i : ℕ) (x : X) → i < length xs → x ≡ slice_index_or xs i x → slice_get xs i ≡ Some x
+pub indexed : {X : Type 0} (xs : List X) (i : ℕ) (x : X) → i < length xs → x ≡ slice_index_or xs i x
+    → slice_get xs i ≡ Some x
 indexed [] i x low is = absurd (omega arith)
 indexed (y ∷ ys) zero x low is = (let same : x ≡ y = is in cc (same))
 indexed (y ∷ ys) (suc i) x low is = indexed ys i x (omega arith) is
@@ -47,7 +50,8 @@ key_low class n key s low = (let few = s.few in let lives = s.lives in omega ari
 
 -- ---- a life by its seat
 
-pub seat_has : (n : NodeState) (key : ℕ) (seat : Seat) → seat_at n.table key ≡ Some seat → life_at n key ≡ seat_life n key seat
+pub seat_has : (n : NodeState) (key : ℕ) (seat : Seat) → seat_at n.table key ≡ Some seat
+    → life_at n key ≡ seat_life n key seat
 seat_has n key seat there = ap (λ (o : Option Seat). option_and_then (seat_life n key) o) there
 
 pub named_life : (n : NodeState) (key end : ℕ) (code : CodeLife) (seat : Seat) → seat.live ≡ Some end
@@ -81,7 +85,8 @@ life-in : (x : Life) (o : Option CallRecord) → Some x ≡ option_map (λ k. k.
 life-in x None is = absurd (cc (is))
 life-in x (Some k) is = (let same : x ≡ k.life = cc (is) in ap is_active (sym same))
 
-not-active : (o : Option CallRecord) → is_call (λ k. is_live k.life) o ≡ false → is_call (λ k. is_active k.life) o ≡ false
+not-active : (o : Option CallRecord) → is_call (λ k. is_live k.life) o ≡ false
+    → is_call (λ k. is_active k.life) o ≡ false
 not-active None none = refl
 not-active (Some k) none = not_active k.life none
 
@@ -190,7 +195,8 @@ module _ (class : List ℕ → Class) (old : NodeState) (l : Looks) (ch : Channe
       subst (λ (i : CallRecord). change i ≡ i) one same)))) m
 
   -- two changes that are one on the latest call
-  pub changed_as : (new : NodeState) (k : CallRecord) (by : CallRecord → CallRecord) → latest l ch ≡ Some k → by k ≡ change k
+  pub changed_as : (new : NodeState) (k : CallRecord) (by : CallRecord → CallRecord) → latest l ch ≡ Some k
+      → by k ≡ change k
       → Mirrors class new (on_call (latest_name l ch) by l) → Mirrors class new (on_call (latest_name l ch) change l)
   changed_as new k by is same next =
       subst (λ (y : Looks). Mirrors class new y)

@@ -50,7 +50,8 @@ map_both f g (k ∷ ks) all =
     ap (λ (j : CallRecord). j ∷ map f ks) all.0 ∙ ap (λ (js : List CallRecord). g k ∷ js) (map_both f g ks all.1)
 
 -- from one fact on each to another
-pub every_then : (P Q : CallRecord → Type 0) (ks : List CallRecord) → ((k : CallRecord) → P k → Q k) → Every P ks → Every Q ks
+pub every_then : (P Q : CallRecord → Type 0) (ks : List CallRecord) → ((k : CallRecord) → P k → Q k)
+    → Every P ks → Every Q ks
 every_then P Q [] then_ all = tt
 every_then P Q (k ∷ ks) then_ all = (then_ k all.0, every_then P Q ks then_ all.1)
 

@@ -7,7 +7,8 @@ use Rattle.std.specs.List.{find}
 use Rattle.rx_model.specs.declared.names.CallName.{CallName}
 use Rattle.rx_model.specs.Names.{Channel, Connection, channel_of, connection_of, same_connection, same_name}
 use Rattle.rx_rules.specs.Life.{is_live}
-use Rattle.rx_rules.specs.Looks.{CallRecord, ConnLooks, Looks, call_at, call_named, conn_at, is_call, latest_name, on_call, on_calls}
+use Rattle.rx_rules.specs.Looks.{CallRecord, ConnLooks, Looks, call_at, call_named, conn_at, is_call, latest_name}
+use Rattle.rx_rules.specs.Looks.{on_call, on_calls}
 use Rattle.rx_rules.specs.Setup.{Setup}
 use Rattle.rx_model.proofs.NameLaws.{connection_is, connection_itself, name_is, name_itself, refuted}
 use Rattle.rx_rules.proofs.CallsLaws.{KeepsNames, changed_if}
@@ -60,7 +61,12 @@ placed_at (q ∷ rs) x r found =
       | true ↦ λ own is. record { place = 0; is = rw own refl; there = is }
       | false ↦ λ other is. (
           let rest = placed_at rs x r is in
-          record { place = suc rest.place; is = rw other (ap (option_map (λ (p : ℕ). suc p)) rest.is); there = rest.there })
+          record {
+            place = suc rest.place;
+            is = rw other (ap (option_map (λ (p : ℕ). suc p)) rest.is);
+            there =
+                rest.there;
+          })
     ]) refl found
 
 -- ---- channel by channel
@@ -69,7 +75,8 @@ map_map : (f g : CallRecord → CallRecord) (ks : List CallRecord) → map f (ma
 map_map f g [] = refl
 map_map f g (k ∷ ks) = ap (λ (js : List CallRecord). f (g k) ∷ js) (map_map f g ks)
 
-among-same : (low high key : ℕ) → (key ≡ high → ⊥) → (nat_le low key && nat_lt key (suc high)) ≡ (nat_le low key && nat_lt key high)
+among-same : (low high key : ℕ) → (key ≡ high → ⊥)
+    → (nat_le low key && nat_lt key (suc high)) ≡ (nat_le low key && nat_lt key high)
 among-same low high key other =
     ap (λ (b : Bool). nat_le low key && b)
     ((elim (nat_lt key high) as (λ b. nat_lt key high ≡ b → nat_lt key (suc high) ≡ b) [
@@ -110,7 +117,8 @@ module _ (s : Setup) (l : Looks) (orderly : Orderly s l) (differ : Differ by_nam
 
       of : (o : Option ConnLooks) → conn_at l (connection_of k.name) ≡ o → LiveAt k
       of None is =
-          (let zero_ : 0 ≡ k.name.number = ap (λ (p : Option ConnLooks). number_of p k.name.chan) (sym is) ∙ one.number in
+          (let zero_ : 0 ≡ k.name.number = ap (λ (p : Option ConnLooks). number_of p k.name.chan) (sym is)
+          ∙ one.number in
           let none : call_at l k.name ≡ None = numbered k.name (sym zero_) in
           absurd (cc (none, there)))
       of (Some r) is =
@@ -184,11 +192,13 @@ module _ (s : Setup) (l : Looks) (orderly : Orderly s l) (differ : Differ by_nam
             → changed_if c f (change_among low high f l k) ≡ change_among low (suc high) f l k) [
               | true ↦ λ live. lives own.found live
               | false ↦ λ none.
-                  ended k (of_live.ended k none) (among low high (key_of l k.name)) (among low (suc high) (key_of l k.name))
+                  ended k (of_live.ended k none) (among low high (key_of l k.name))
+                  (among low (suc high) (key_of l k.name))
                   (same_name (change_among low high f l k).name c)
             ]) refl
           where
-            at-key : (live : LiveAt k) → (n : ℕ) → among low n (key_of l k.name) ≡ (nat_le low live.key && nat_lt live.key n)
+            at-key : (live : LiveAt k) → (n : ℕ)
+                → among low n (key_of l k.name) ≡ (nat_le low live.key && nat_lt live.key n)
             at-key live n = ap (λ (o : Option ℕ). among low n o) live.is
 
             here : (live : LiveAt k) → live.key ≡ high
@@ -219,7 +229,8 @@ module _ (s : Setup) (l : Looks) (orderly : Orderly s l) (differ : Differ by_nam
                 ap (λ (d : CallName). same_name d c) (name-kept (among low high (key_of l k.name)))
                 ∙ refuted (same_name k.name c)
                 (λ is. other (one-key live.key high ch
-                (subst (λ (d : Channel). IsChannel l live.key d) (ap channel_of (name_is k.name c is)) live.channel) at)) in
+                (subst (λ (d : Channel). IsChannel l live.key d) (ap channel_of (name_is k.name c is)) live.channel)
+                at)) in
                 ap (λ (b : Bool). if b then f (change_among low high f l k) else change_among low high f l k) apart
                 ∙ ap (λ (b : Bool). if b then f k else k) (sym same)
               where

@@ -1,15 +1,18 @@
 -- Connections in their places, their channels and the latest calls of these, where a node changes.
-use Rattle.std.proofs.Common.{◌≡◌, ◌<◌, ◌||◌, ◌++◌, ℕ, zero, suc, cond, if◌then◌else◌, true, false, List, [], ◌∷◌, length}
+use Rattle.std.proofs.Common.{◌≡◌, ◌<◌, ◌||◌, ◌++◌, ℕ, zero, suc, cond, if◌then◌else◌, true, false, List, [], ◌∷◌}
+use Rattle.std.proofs.Common.{length}
 use Rattle.std.proofs.Common.{map, Option, Some, None, option_map, refl, ◌∙◌, ap, sym, subst, arith}
 use Rattle.std.specs.Prelude.{option_and_then, slice_get, unwrap_or}
 use Rattle.std.specs.List.{find, list_any}
 use Rattle.std.proofs.lemmas.Bool.{false≢true}
 use Rattle.rx_model.specs.declared.names.CallName.{CallName}
 use Rattle.rx_model.specs.Names.{Channel, Connection, channel_of, same_channel, same_connection, same_name}
-use Rattle.rx_rules.specs.Looks.{CallRecord, ChannelLooks, ConnLooks, Looks, call_at, call_named, changed_at, channel_at}
-use Rattle.rx_rules.specs.Looks.{conn_at, fresh_channel, latest, latest_name, on_call, on_calls, on_channel, on_conn}
-use Rattle.rx_model.proofs.NameLaws.{channel_itself, connection_is, connection_itself, connection_sym, name_is, name_itself, neither, refuted}
-use Rattle.rx_rules.proofs.CallsLaws.{KeepsNames, call_at-on_call, call_at-on_calls, changed_if}
+use Rattle.rx_rules.specs.Looks.{CallRecord, ChannelLooks, ConnLooks, Looks, call_at, call_named, changed_at}
+use Rattle.rx_rules.specs.Looks.{channel_at}
+use Rattle.rx_rules.specs.Looks.{conn_at, fresh_channel, latest, latest_name, on_call, on_channel, on_conn}
+use Rattle.rx_model.proofs.NameLaws.{channel_itself, connection_is, connection_itself, connection_sym, name_is}
+use Rattle.rx_model.proofs.NameLaws.{name_itself, neither, refuted}
+use Rattle.rx_rules.proofs.CallsLaws.{KeepsNames, call_at-on_call, changed_if}
 use Rattle.rx_rules.proofs.ConnsLaws.{channel_number, conn_at-on_conn, conn_if, number_in, number_of}
 use Rattle.rx_rules.proofs.StartLaws.{call_at-other}
 use Rattle.rx_rules.specs.CallLooks.{fresh_call}
@@ -57,14 +60,6 @@ place_is (r ∷ rs) (suc a) zero x y differ here there same =
     absurd (false≢true (sym apart ∙ ap (λ (q : ConnLooks). same_connection x.connection q.connection) is ∙ same)))
 place_is (r ∷ rs) (suc a) (suc b) x y differ here there same = ap suc (place_is rs a b x y differ.1 here there same)
 
--- a channel's look-up, of the connection at a place
-pub channel_there : (l : Looks) (place : ℕ) (x : ConnLooks) (ch : Channel) → Differ by_connection l.conns
-    → slice_get l.conns place ≡ Some x → ch.connection ≡ x.connection
-    → channel_at l ch ≡ unwrap_or (slice_get x.channels ch.chan) (fresh_channel 0)
-channel_there l place x ch differ there own =
-    ap (λ (o : Option ConnLooks). unwrap_or (option_and_then (λ r. slice_get r.channels ch.chan) o) (fresh_channel 0))
-    (ap (λ (y : Connection). conn_at l y) own ∙ conn_there l.conns place x differ there)
-
 -- ---- a channel changes
 
 -- the n-th of a list that changes
@@ -95,7 +90,8 @@ pub record IsThere (l : Looks) (ch : Channel) : Type 0 where
 
 changed-there : (ch : Channel) (f : ChannelLooks → ChannelLooks) (x : ConnLooks) → ch.chan < length x.channels
     → same_connection x.connection ch.connection ≡ true
-    → channel_of_record (Some (conn_if ch.connection (λ r. record r { channels = changed_at ch.chan f r.channels }) x)) ch.chan
+    → channel_of_record (Some (conn_if ch.connection (λ r. record r { channels = changed_at ch.chan f r.channels }) x))
+    ch.chan
     ≡ f (channel_of_record (Some x) ch.chan)
 changed-there ch f x within own =
     rw own (ap (λ (o : Option ChannelLooks). unwrap_or o (fresh_channel 0)) (changed-own x.channels ch.chan f)
@@ -117,14 +113,16 @@ pub channel_changed : (l : Looks) (ch : Channel) (f : ChannelLooks → ChannelLo
 channel_changed l ch f at =
     ap (λ (o : Option ConnLooks). channel_of_record o ch.chan)
     (conn_at-on_conn ch.connection ch.connection (λ r. record r { channels = changed_at ch.chan f r.channels }) l
-    (λ r. refl) ∙ ap (option_map (conn_if ch.connection (λ r. record r { channels = changed_at ch.chan f r.channels }))) at.there)
+    (λ r. refl) ∙ ap (option_map (conn_if ch.connection (λ r. record r { channels = changed_at ch.chan f r.channels })))
+    at.there)
     ∙ changed-there ch f at.conn at.within
     (find_passes (λ r. same_connection r.connection ch.connection) l.conns at.conn at.there)
     ∙ ap (λ (o : Option ConnLooks). f (channel_of_record o ch.chan)) (sym at.there)
 
 other-there : (ch d : Channel) (f : ChannelLooks → ChannelLooks) (o : Option ConnLooks)
     → ((x : ConnLooks) → o ≡ Some x → same_connection x.connection d.connection ≡ true) → same_channel d ch ≡ false
-    → channel_of_record (option_map (conn_if ch.connection (λ r. record r { channels = changed_at ch.chan f r.channels })) o) d.chan
+    → channel_of_record (option_map
+    (conn_if ch.connection (λ r. record r { channels = changed_at ch.chan f r.channels })) o) d.chan
     ≡ channel_of_record o d.chan
 other-there ch d f None named other = refl
 other-there ch d f (Some x) named other =
@@ -190,14 +188,10 @@ latest_stays l ch c f keeps other =
     mapped (Some k) named =
         rw (ap (λ (d : CallName). same_name d c) (name_is k.name (latest_name l ch) (named k refl)) ∙ other) refl
 
--- every call changes
-pub latest_all : (l : Looks) (ch : Channel) (f : CallRecord → CallRecord) → KeepsNames f
-    → latest (on_calls f l) ch ≡ option_map f (latest l ch)
-latest_all l ch f keeps = call_at-on_calls (latest_name l ch) f l keeps
-
 -- ---- numbers
 
-number-kept : (qs : List ChannelLooks) (m n : ℕ) (f : ChannelLooks → ChannelLooks) → ((q : ChannelLooks) → (f q).number ≡ q.number)
+number-kept : (qs : List ChannelLooks) (m n : ℕ) (f : ChannelLooks → ChannelLooks)
+    → ((q : ChannelLooks) → (f q).number ≡ q.number)
     → number_in (changed_at m f qs) n ≡ number_in qs n
 number-kept [] m n f keeps = refl
 number-kept (q ∷ qs) zero zero f keeps = keeps q
@@ -253,7 +247,8 @@ channel_on_conn l x d f leaves =
     of (Some r) =
         (elim (same_connection r.connection x)
         as (λ b. channel_of_record (Some (cond b (f r) r)) d.chan ≡ channel_of_record (Some r) d.chan) [
-          | true ↦ ap (λ (qs : List ChannelLooks). unwrap_or (slice_get qs d.chan) (fresh_channel 0)) (leaves.channels r)
+          | true ↦ ap (λ (qs : List ChannelLooks). unwrap_or (slice_get qs d.chan) (fresh_channel 0))
+              (leaves.channels r)
           | false ↦ refl
         ])
 

@@ -42,7 +42,8 @@ seats-same t place g keeps key = decided (seat_at (on_place place g t) key ≡ s
         (record_stays t place (key / 4) g apart)
 
 -- each record of a table with another record at a place was there under its name
-pub record-from : (t : Records) (place : ℕ) (g : ConnRecord → ConnRecord) → ((r : ConnRecord) → (g r).connection ≡ r.connection)
+pub record-from : (t : Records) (place : ℕ) (g : ConnRecord → ConnRecord)
+    → ((r : ConnRecord) → (g r).connection ≡ r.connection)
     → (q : ℕ) (r : ConnRecord) → record_at (on_place place g t) q ≡ Some r
     → (b : ConnRecord) × (record_at t q ≡ Some b) × (r.connection ≡ b.connection)
 record-from t place g keeps q r is =
@@ -78,7 +79,8 @@ module _ (class : List ℕ → Class) (n : NodeState) (l : Looks) (m : Mirrors c
   abbrev made : Looks
   made = on_conn x.connection f l
 
-  conn-of : (o : Option ConnRecord) (r : ConnRecord) → option_map g o ≡ Some r → (b : ConnRecord) × (o ≡ Some b) × (g b ≡ r)
+  conn-of : (o : Option ConnRecord) (r : ConnRecord) → option_map g o ≡ Some r → (b : ConnRecord)
+      × (o ≡ Some b) × (g b ≡ r)
   conn-of None r is = absurd (cc (is))
   conn-of (Some b) r is = (b, refl, (let same : g b ≡ r = cc (is) in same))
 

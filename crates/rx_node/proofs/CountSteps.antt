@@ -1,5 +1,6 @@
 -- A node counts a datagram that is given on a connection.
-use Rattle.std.proofs.Common.{◌≡◌, ◌%◌, ◌^◌, ℕ, zero, suc, List, [], ◌∷◌, Option, Some, option_map, refl, ◌∙◌, ap, subst, arith}
+use Rattle.std.proofs.Common.{◌≡◌, ◌%◌, ◌^◌, ℕ, zero, suc, List, [], ◌∷◌, Option, Some, option_map, refl, ◌∙◌, ap}
+use Rattle.std.proofs.Common.{subst, arith}
 use Rattle.std.specs.Prelude.{option_and_then, slice_get, IsSomeAnd}
 use Rattle.rx_rules.specs.After.{counted}
 use Rattle.rx_rules.specs.Classes.{Class}
@@ -25,8 +26,10 @@ abbrev pub more : ℕ → ConnRecord → ConnRecord
 more now r = record r { serial = next_serial r.serial; last_use = now }
 
 -- the table with it
-pub counted_table : (t used drawn : Records) (place now : ℕ) → used ≡ on_place place (λ r. record r { last_use = now }) t
-    → drawn ≡ on_place place (λ r. record r { serial = next_serial r.serial }) used → drawn ≡ on_place place (more now) t
+pub counted_table : (t used drawn : Records) (place now : ℕ)
+    → used ≡ on_place place (λ r. record r { last_use = now }) t
+    → drawn ≡ on_place place (λ r. record r { serial = next_serial r.serial }) used
+    → drawn ≡ on_place place (more now) t
 counted_table t used drawn place now touched counts =
     counts ∙ ap (on_place place (λ r. record r { serial = next_serial r.serial })) touched
     ∙ ap (λ (rs : List ConnRecord). record t { conns = rs })
@@ -55,7 +58,8 @@ next-given serial given is = omega arith
 module _ (class : List ℕ → Class) (n : NodeState) (l : Looks) (m : Mirrors class n l) (place : ℕ) (x : ConnLooks)
     (there : slice_get l.conns place ≡ Some x) where
   -- it mirrors it
-  pub mirrors_counted : Mirrors class (record n { table = on_place place (more n.moment) n.table }) (counted x.connection l)
+  pub mirrors_counted : Mirrors class (record n { table = on_place place (more n.moment) n.table })
+      (counted x.connection l)
   mirrors_counted =
       mirrors_conn class n l m place x there (more n.moment) (λ r. record r { given = suc r.given; last_use = l.now })
       (record {
@@ -73,7 +77,8 @@ module _ (class : List ℕ → Class) (n : NodeState) (l : Looks) (m : Mirrors c
       })
 
   -- its serial
-  pub serial_drawn : (used : Records) (now serial : ℕ) → used ≡ on_place place (λ r. record r { last_use = now }) n.table
+  pub serial_drawn : (used : Records) (now serial : ℕ)
+      → used ≡ on_place place (λ r. record r { last_use = now }) n.table
       → IsSomeAnd (record_at used place) (λ r. serial ≡ next_serial r.serial) → serial ≡ suc x.given % 2 ^ 32
   serial_drawn used now serial touched drawn =
       let p = place_stands class n l m place x there in

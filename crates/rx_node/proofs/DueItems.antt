@@ -9,7 +9,7 @@ use Rattle.rx_rules.specs.Classes.{Class}
 use Rattle.rx_rules.specs.Items.{Item, channel_items, item_of, items, items_of}
 use Rattle.rx_rules.specs.Least.{least_by}
 use Rattle.rx_rules.specs.Life.{is_active}
-use Rattle.rx_rules.specs.Looks.{CallRecord, Looks, is_call, latest}
+use Rattle.rx_rules.specs.Looks.{CallRecord, Looks, latest}
 use Rattle.rx_rules.specs.Records.{is_silent}
 use Rattle.rx_rules.specs.Setup.{Setup, is_client}
 use Rattle.rx_node.specs.Due.{AreDueAs, IsDueAs, OwesAtOnce, lesser_of, unsilenced}
@@ -42,12 +42,8 @@ module _ (s : Setup) (l : Looks) where
   items-active : (k : CallRecord) → is_active k.life ≡ true
       → items_of s (unsilenced l) (Some k) ≡ map (item_of s k) (call_items (is_client s.kind) k.looks)
   items-active k active =
-      ap (λ (b : Bool). sending (is_active k.life && not b) k) (never-silent k) ∙ ap (λ (b : Bool). sending (b && true) k) active
-
-  -- of any other
-  items-idle : (o : Option CallRecord) → is_call (λ k. is_active k.life) o ≡ false → items_of s (unsilenced l) o ≡ []
-  items-idle None idle = refl
-  items-idle (Some k) idle = ap (λ (b : Bool). sending (b && not (is_silent 0 k)) k) idle
+      ap (λ (b : Bool). sending (is_active k.life && not b) k) (never-silent k)
+      ∙ ap (λ (b : Bool). sending (b && true) k) active
 
   -- ---- a channel
 
@@ -59,15 +55,9 @@ module _ (s : Setup) (l : Looks) where
     pub due_owed : (item : CodeItem) → OwesAtOnce s l ch (Some item)
         → AreDueAs s l (Some (record { rank = 0; key = key; item = item })) (least_by (λ i. i.rank) all)
     due_owed item owes =
-        subst (λ (o : Option Item). AreDueAs s l (Some (record { rank = 0; key = key; item = item })) o) (sym owes.least)
+        subst (λ (o : Option Item). AreDueAs s l (Some (record { rank = 0; key = key; item = item })) o)
+        (sym owes.least)
         (record { channel = ch; at = at; rank = sym owes.rank; is = owes.is })
-
-    -- its call isn't active
-    pub due_idle : OwesAtOnce s l ch None → is_call (λ k. is_active k.life) (latest l ch) ≡ false
-        → AreDueAs s l None (least_by (λ i. i.rank) all)
-    due_idle owes idle =
-        subst (λ (is : List Item). AreDueAs s l None (least_by (λ i. i.rank) is))
-        (sym (owes ∙ items-idle (latest l ch) idle)) tt
 
     -- what its call sends
     pub due_sent : (end : ℕ) (k : CallRecord) (o : Option ℕ) → OwesAtOnce s l ch None → latest l ch ≡ Some k
@@ -115,7 +105,8 @@ lesser_as s l (Some a) (Some b) (Some x) (Some y) p q =
     of true = p
     of false = q
 
-pub lesser_holds : (P : Due → Type 0) (a b : Option Due) → IfSome a P → IfSome b P → IfSome (lesser_of (λ due. due.rank) a b) P
+pub lesser_holds : (P : Due → Type 0) (a b : Option Due) → IfSome a P → IfSome b P
+    → IfSome (lesser_of (λ due. due.rank) a b) P
 lesser_holds P None b p q = q
 lesser_holds P (Some a) None p q = p
 lesser_holds P (Some a) (Some b) p q = of (nat_le a.rank b.rank)
@@ -146,14 +137,11 @@ module _ (class : List ℕ → Class) (n : NodeState) where
   DueTo key due = (l : Looks) → Mirrors class n l
       → AreDueAs (setup_of class n) l due (least_to (setup_of class n) (unsilenced l) key)
 
-  -- on none of them nothing
-  pub due_none : DueTo 0 None
-  due_none l m = tt
-
   -- on one channel more
   pub due_more : (key : ℕ) (before next : Option Due) → IsKey n key → DueTo key before
       → ((l : Looks) (ch : Channel) → Mirrors class n l → IsChannel l key ch
-      → AreDueAs (setup_of class n) l next (least_by (λ i. i.rank) (channel_items (setup_of class n) (unsilenced l) ch)))
+      → AreDueAs (setup_of class n) l next
+      (least_by (λ i. i.rank) (channel_items (setup_of class n) (unsilenced l) ch)))
       → DueTo (key + 1) (lesser_of (λ due. due.rank) before next)
   due_more key before next low so_far on l m =
       let conns : length n.table.conns ≡ length l.conns = m.conns.conns in

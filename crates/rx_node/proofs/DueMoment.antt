@@ -1,5 +1,6 @@
 -- From when on a poll would do something: the items and the deaths of calls that may be silent.
-use Rattle.std.proofs.Common.{◌≡◌, ◌≤◌, ◌-◌, ◌+◌, ◌&&◌, ◌==◌, ◌++◌, ℕ, length, max, not, Bool, true, false, List, [], ◌∷◌, map, nat_le}
+use Rattle.std.proofs.Common.{◌≡◌, ◌≤◌, ◌-◌, ◌+◌, ◌&&◌, ◌==◌, ◌++◌, ℕ, length, max, not, Bool, true, false, List, []}
+use Rattle.std.proofs.Common.{◌∷◌, map, nat_le}
 use Rattle.std.proofs.Common.{Option, Some, None, option_map, refl, ◌∙◌, ap, sym, arith, if◌then◌else◌}
 use Rattle.std.specs.List.{find}
 use Rattle.std.proofs.lemmas.Bool.Decides.{nat_tests}
@@ -10,7 +11,8 @@ use Rattle.rx_model.specs.Body as bodies
 use Rattle.rx_model.specs.Names.{Channel, same_name}
 use Rattle.rx_rules.specs.CallItems.{call_items}
 use Rattle.rx_rules.specs.Classes.{Class}
-use Rattle.rx_rules.specs.Items.{Item, all_channels, busy_items, channel_items, class_items, deaths, due, item_of, items, items_of, items_on}
+use Rattle.rx_rules.specs.Items.{Item, all_channels, busy_items, channel_items, class_items, deaths, due, item_of}
+use Rattle.rx_rules.specs.Items.{items, items_of, items_on}
 use Rattle.rx_rules.specs.Items.{owed_item, where_owed}
 use Rattle.rx_rules.specs.Least.{least_by, lesser_by}
 use Rattle.rx_rules.specs.Life.{is_active, is_live}
@@ -21,21 +23,12 @@ use Rattle.rx_rules.proofs.EveryLaws.{Every}
 use Rattle.rx_rules.proofs.FindLaws.{find_passes, list_any-none}
 use Rattle.rx_model.proofs.NameLaws.{both}
 use Rattle.rx_law.proofs.Differ.{every_found, every_other}
-use Rattle.rx_node.specs.Due.{AreDueAs, lesser_of, unsilenced}
+use Rattle.rx_node.specs.Due.{lesser_of, unsilenced}
 use Rattle.rx_node.specs.Mirrors.{Mirrors}
 use Rattle.rx_node.specs.Node.{NodeState, setup_of}
-use Rattle.rx_node.specs.declared.item.Due.{Due}
 use Rattle.rx_node.proofs.DueItems.{never-silent}
 use Rattle.rx_node.proofs.FirstDeath.{AtMost, has-death, least-low, moments-other}
 use Rattle.rx_node.proofs.LeastItems.{least_join, least_map}
-
--- what is due has the rank of its item
-pub rank_as : (s : Setup) (l : Looks) (a : Option Due) (x : Option Item) → AreDueAs s l a x
-    → option_map (λ d. d.rank) a ≡ option_map (λ i. i.rank) x
-rank_as s l None None as_ = refl
-rank_as s l None (Some i) as_ = absurd as_
-rank_as s l (Some d) None as_ = absurd as_
-rank_as s l (Some d) (Some i) as_ = ap (λ (n : ℕ). Some n) as_.rank
 
 -- ---- where no call is silent
 
@@ -48,7 +41,8 @@ module _ (s : Setup) (l : Looks) (none : NoneSilent l) where
       → items_of s (unsilenced l) o ≡ items_of s l o
   sent-same None quiet = refl
   sent-same (Some k) quiet =
-      ap (λ (b : Bool). if is_active k.life && not b then map (item_of s k) (call_items (is_client s.kind) k.looks) else [])
+      ap (λ (b : Bool). if is_active k.life && not b then map (item_of s k)
+      (call_items (is_client s.kind) k.looks) else [])
       (never-silent k ∙ sym (quiet k refl))
 
   channel-same : (ch : Channel) → channel_items s (unsilenced l) ch ≡ channel_items s l ch
@@ -60,7 +54,8 @@ module _ (s : Setup) (l : Looks) (none : NoneSilent l) where
       ++ (busy_items ch q.owed_busy ++ (class_items s l c q (is_call (λ k. is_live k.life) (latest l ch))
       ++ (owed_item c (where_owed q.owed_ackall bodies.AckAll) ++ sends))))
       (sent-same (latest l ch)
-      (λ k is. every_found (λ j. is_silent l.now j ≡ false) (λ j. same_name j.name (latest_name l ch)) l.calls k none is))
+      (λ k is. every_found (λ j. is_silent l.now j ≡ false) (λ j. same_name j.name (latest_name l ch))
+      l.calls k none is))
 
   -- its items are those of calls that aren't
   pub items_same : items s (unsilenced l) ≡ items s l
@@ -83,7 +78,8 @@ module _ (s : Setup) (l : Looks) where
   joined : (is : List Item) → least_by (λ m. m) (map (λ i. i.rank) is ++ deaths l.calls) ≡ moment_by is
   joined is =
       least_join (λ m. m) (map (λ i. i.rank) is) (deaths l.calls)
-      ∙ ap (λ (o : Option ℕ). lesser_of (λ m. m) o first) (least_map (λ i. i.rank) (λ m. m) (λ i. i.rank) is (λ i. refl))
+      ∙ ap (λ (o : Option ℕ). lesser_of (λ m. m) o first)
+      (least_map (λ i. i.rank) (λ m. m) (λ i. i.rank) is (λ i. refl))
 
   -- where a call died before, it is now
   passed : (d : ℕ) → first ≡ Some d → d ≤ l.now → (a : Option ℕ)
@@ -98,7 +94,8 @@ module _ (s : Setup) (l : Looks) where
           ap (λ (n : ℕ). Some n) now)
 
   -- the items of calls that are silent don't count
-  pub moment_same : option_map (max l.now) (moment_by (items s (unsilenced l))) ≡ option_map (max l.now) (moment_by (items s l))
+  pub moment_same : option_map (max l.now) (moment_by (items s (unsilenced l))) ≡ option_map (max l.now)
+      (moment_by (items s l))
   moment_same = of (find (is_silent l.now) l.calls) refl
     where
       of : (o : Option CallRecord) → find (is_silent l.now) l.calls ≡ o
@@ -107,20 +104,25 @@ module _ (s : Setup) (l : Looks) where
           ap (λ (xs : List Item). option_map (max l.now) (moment_by xs))
           (items_same s l (every_other (is_silent l.now) l.calls (list_any-none (is_silent l.now) l.calls is)))
       of (Some k) is =
-          let silent = both (is_active k.life) (nat_le SILENCE_MS (silence_of l.now k)) (find_passes (is_silent l.now) l.calls k is) in
+          let silent = both (is_active k.life) (nat_le SILENCE_MS (silence_of l.now k))
+          (find_passes (is_silent l.now) l.calls k is) in
           let long : SILENCE_MS ≤ l.now - k.looks.heard = (let h = silent.1 in grind (arith, nat_tests, h)) in
           with_first (least_by (λ m. m) (deaths l.calls)) refl
-          (least-low (deaths l.calls) (k.looks.heard + SILENCE_MS) (has-death (is_silent l.now) l.calls k is silent.0)) long
+          (least-low (deaths l.calls) (k.looks.heard + SILENCE_MS) (has-death (is_silent l.now) l.calls k is silent.0))
+          long
         where
-          with_first : (o : Option ℕ) → first ≡ o → AtMost o (k.looks.heard + SILENCE_MS) → SILENCE_MS ≤ l.now - k.looks.heard
-              → option_map (max l.now) (moment_by (items s (unsilenced l))) ≡ option_map (max l.now) (moment_by (items s l))
+          with_first : (o : Option ℕ) → first ≡ o → AtMost o (k.looks.heard + SILENCE_MS)
+              → SILENCE_MS ≤ l.now - k.looks.heard
+              → option_map (max l.now) (moment_by (items s (unsilenced l))) ≡ option_map (max l.now)
+              (moment_by (items s l))
           with_first None is low long = absurd low
           with_first (Some d) is low long =
               passed d is (omega arith) (option_map (λ i. i.rank) (least_by (λ i. i.rank) (items s (unsilenced l))))
               ∙ sym (passed d is (omega arith) (option_map (λ i. i.rank) (least_by (λ i. i.rank) (items s l))))
 
   -- where no stray abort is owed
-  pub due_least : l.strays ≡ [] → (o : Option ℕ) → o ≡ moment_by (items s (unsilenced l)) → option_map (max l.now) o ≡ due s l
+  pub due_least : l.strays ≡ [] → (o : Option ℕ) → o ≡ moment_by (items s (unsilenced l))
+      → option_map (max l.now) o ≡ due s l
   due_least none o is =
       ap (λ (p : Option ℕ). option_map (max l.now) p) is ∙ moment_same
       ∙ sym (ap (λ (xs : List Stray). option_map (max l.now)
@@ -147,7 +149,8 @@ empty-is : (xs : List Stray) → true ≡ (length xs == 0) → xs ≡ []
 empty-is [] is = refl
 empty-is (x ∷ xs) is = absurd (grind (arith, nat_tests, is))
 
-module _ (class : List ℕ → Class) (n : NodeState) (old : NodeState) (same : n ≡ old) (l : Looks) (m : Mirrors class old l) where
+module _ (class : List ℕ → Class) (n : NodeState) (old : NodeState) (same : n ≡ old) (l : Looks)
+    (m : Mirrors class old l) where
   -- a stray abort is owed
   pub due_owing : false ≡ (length n.strays == 0) → Some n.moment ≡ due (setup_of class old) l
   due_owing some = of n.strays refl some
@@ -159,7 +162,8 @@ module _ (class : List ℕ → Class) (n : NodeState) (old : NodeState) (same : 
           ∙ due_stray (setup_of class old) l x xs (sym m.strays ∙ ap (λ (o : NodeState). o.strays) (sym same) ∙ is)
 
   -- none is, and nothing else
-  pub due_nothing : true ≡ (length n.strays == 0) → None ≡ moment_by (setup_of class old) l (items (setup_of class old) (unsilenced l))
+  pub due_nothing : true ≡ (length n.strays == 0) → None ≡ moment_by (setup_of class old) l
+      (items (setup_of class old) (unsilenced l))
       → None ≡ due (setup_of class old) l
   due_nothing none is =
       due_least (setup_of class old) l

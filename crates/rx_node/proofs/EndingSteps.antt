@@ -8,7 +8,8 @@ use Rattle.rx_rules.specs.After.{owing_ackall}
 use Rattle.rx_rules.specs.Classes.{Class}
 use Rattle.rx_rules.specs.Life.{Life, after_end, is_calling, is_live}
 use Rattle.rx_rules.specs.Life as lives
-use Rattle.rx_rules.specs.Looks.{CallRecord, ConnLooks, Looks, call_named, changed_at, is_call, latest, latest_name, on_channel, on_conn, on_life}
+use Rattle.rx_rules.specs.Looks.{CallRecord, ConnLooks, Looks, call_named, changed_at, is_call, latest, latest_name}
+use Rattle.rx_rules.specs.Looks.{on_channel, on_conn, on_life}
 use Rattle.rx_rules.proofs.ConnsLaws.{KeepsConns, conn_if}
 use Rattle.rx_node.specs.Mirrors.{IsChannel, Mirrors}
 use Rattle.rx_node.specs.Node.{NodeState}
@@ -39,7 +40,8 @@ ended-stays (lives.Broken code) none = refl
 ended-stays (lives.Over code) none = refl
 
 -- by the life that a channel has
-pub uncalled_none : (o : Option CallRecord) → None ≡ option_map (λ k. k.life) o → is_call (λ k. is_calling k.life) o ≡ false
+pub uncalled_none : (o : Option CallRecord) → None ≡ option_map (λ k. k.life) o
+    → is_call (λ k. is_calling k.life) o ≡ false
 uncalled_none None is = refl
 uncalled_none (Some k) is = absurd (cc (is))
 
@@ -63,9 +65,11 @@ module _ (class : List ℕ → Class) (n : NodeState) (l : Looks) (ch : Channel)
   -- of another call it leaves all
   pub end_uncalled : is_call (λ k. is_calling k.life) (latest l ch) ≡ false → Mirrors class n (ended_there ch l)
   end_uncalled none =
-      subst (λ (b : Bool). Mirrors class n (on_life (latest_name l ch) (after_end true) (on_channel ch (owing_ackall b) l)))
+      subst (λ (b : Bool). Mirrors class n
+      (on_life (latest_name l ch) (after_end true) (on_channel ch (owing_ackall b) l)))
       (sym none)
-      (subst (λ (x : Looks). Mirrors class n (on_life (latest_name l ch) (after_end true) x)) (sym (channel_same ch (λ q. q) l (λ q. refl)))
+      (subst (λ (x : Looks). Mirrors class n (on_life (latest_name l ch) (after_end true) x))
+      (sym (channel_same ch (λ q. q) l (λ q. refl)))
       (of (latest l ch) refl none))
     where
       of : (p : Option CallRecord) → latest l ch ≡ p → is_call (λ k. is_calling k.life) p ≡ false
@@ -88,8 +92,10 @@ module _ (class : List ℕ → Class) (n : NodeState) (l : Looks) (ch : Channel)
       → (IsChannel owed_all key ch → Mirrors class new (on_life (latest_name owed_all ch) (after_end true) owed_all))
       → Mirrors class new (ended_there ch l)
   end_calling new key x at calling answered step =
-      subst (λ (b : Bool). Mirrors class new (on_life (latest_name l ch) (after_end true) (on_channel ch (owing_ackall b) l)))
+      subst (λ (b : Bool). Mirrors class new
+      (on_life (latest_name l ch) (after_end true) (on_channel ch (owing_ackall b) l)))
       (sym (called_by x (latest l ch) answered calling))
       (subst (λ (c : CallName). Mirrors class new (on_life c (after_end true) owed_all)) name-owed
-      (step (channel_after l ch.connection (λ r. record r { channels = changed_at ch.chan (owing_ackall true) r.channels })
+      (step (channel_after l ch.connection
+      (λ r. record r { channels = changed_at ch.chan (owing_ackall true) r.channels })
       key ch (λ r. refl) at)))

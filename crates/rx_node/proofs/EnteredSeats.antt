@@ -14,7 +14,8 @@ use Rattle.rx_node.proofs.TableSteps.{changed-length, decided, record_changed, r
 
 -- another table, of which each seat that names an end was there, and each connection's cid has room
 pub record FewerNamed (n : NodeState) (table : Records) : Type 0 where
-  pub seats : (key : ℕ) (s : Seat) (end : ℕ) → seat_at table key ≡ Some s → s.live ≡ Some end → seat_at n.table key ≡ Some s
+  pub seats : (key : ℕ) (s : Seat) (end : ℕ) → seat_at table key ≡ Some s → s.live ≡ Some end
+      → seat_at n.table key ≡ Some s
   pub cids : (place : ℕ) (r : ConnRecord) → record_at table place ≡ Some r → r.connection.cid + 3 < 2 ^ 32
 
 pub fewer_seated : (n : NodeState) (table : Records) (links : List Link) → FewerNamed n table → IsSeated n
@@ -23,7 +24,8 @@ fewer_seated n table links by s =
     record {
       there = λ key seat end is names. s.there key seat end (by.seats key seat end is names) names;
       apart = λ a b here there end is_here is_there names_here names_there.
-          s.apart a b here there end (by.seats a here end is_here names_here) (by.seats b there end is_there names_there)
+          s.apart a b here there end (by.seats a here end is_here names_here)
+          (by.seats b there end is_there names_there)
           names_here names_there;
       idle = λ key seat end is names. s.idle key seat end (by.seats key seat end is names) names;
       kinds = λ key seat end life is names. s.kinds key seat end life (by.seats key seat end is names) names;
@@ -49,7 +51,8 @@ module _ (n : NodeState) (seats : IsSeated n) (x : Connection) (nonce now : ℕ)
         cids = λ place r is. by-record place r (old_or_new n.table.conns (fresh_record x nonce now) r place is);
       }
     where
-      by-seat : (key : ℕ) (s : Seat) (end : ℕ) (r : ConnRecord) → OldOrNew n.table.conns (fresh_record x nonce now) (key / 4) r
+      by-seat : (key : ℕ) (s : Seat) (end : ℕ) (r : ConnRecord)
+          → OldOrNew n.table.conns (fresh_record x nonce now) (key / 4) r
           → slice_get r.seats (key % 4) ≡ Some s → s.live ≡ Some end → seat_at n.table key ≡ Some s
       by-seat key s end r (Old there) seat names =
           ap (λ (o : Option ConnRecord). option_and_then (λ q. slice_get q.seats (key % 4)) o) there ∙ seat
@@ -109,7 +112,11 @@ module _ (n : NodeState) (seats : IsSeated n) (x : Connection) (nonce now : ℕ)
 module _ (class : List ℕ → Class) (n : NodeState) (s : IsSetUp class n) where
   -- it has room for the new one
   pub entered_set_up : (entry : ConnRecord) (link : Link) → length n.table.conns < n.limits.conns
-      → IsSetUp class (record n { table = record n.table { conns = n.table.conns ++ entry ∷ [] }; links = n.links ++ link ∷ [] })
+      → IsSetUp class (record n {
+        table = record n.table { conns = n.table.conns ++ entry ∷ [] };
+        links =
+            n.links ++ link ∷ [];
+      })
   entered_set_up entry link low =
       record {
         fits = s.fits;

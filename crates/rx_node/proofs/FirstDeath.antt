@@ -1,5 +1,6 @@
 -- The moment at which the first call of a node would die, found channel by channel.
-use Rattle.std.proofs.Common.{◌≡◌, ◌≤◌, ◌<◌, ◌+◌, ◌*◌, ◌/◌, ◌%◌, ◌⊎◌, ℕ, cond, Bool, true, false, List, [], ◌∷◌, length, nat_le}
+use Rattle.std.proofs.Common.{◌≡◌, ◌≤◌, ◌<◌, ◌+◌, ◌*◌, ◌/◌, ◌%◌, ◌⊎◌, ℕ, cond, Bool, true, false, List, [], ◌∷◌, length}
+use Rattle.std.proofs.Common.{nat_le}
 use Rattle.std.proofs.Common.{Option, Some, None, refl, ◌∙◌, ap, sym, subst, arith, if◌then◌else◌, inl, inr}
 use Rattle.std.specs.Prelude.{slice_get, IfSome}
 use Rattle.std.specs.List.{find}
@@ -13,7 +14,7 @@ use Rattle.rx_rules.specs.Classes.{Class}
 use Rattle.rx_rules.specs.Items.{deaths}
 use Rattle.rx_rules.specs.Least.{least_by, lesser_by}
 use Rattle.rx_rules.specs.Life.{is_active}
-use Rattle.rx_rules.specs.Looks.{CallRecord, Looks, call_at, is_call, latest, latest_name}
+use Rattle.rx_rules.specs.Looks.{CallRecord, Looks, call_at, latest, latest_name}
 use Rattle.rx_rules.proofs.EveryLaws.{Every}
 use Rattle.rx_rules.proofs.LeastLaws.{least-keeps}
 use Rattle.rx_ends.specs.Ends.{EndsState, StandsEnd}
@@ -85,7 +86,8 @@ pub has-death : (p : CallRecord → Bool) (ks : List CallRecord) (k : CallRecord
 has-death p [] k found active = absurd (cc (found))
 has-death p (j ∷ ks) k found active =
     (elim (p j) as (λ b. cond b (Some j) (find p ks) ≡ Some k
-    → Has (k.looks.heard + SILENCE_MS) (if is_active j.life then (j.looks.heard + SILENCE_MS) ∷ deaths ks else deaths ks)) [
+    → Has (k.looks.heard + SILENCE_MS)
+    (if is_active j.life then (j.looks.heard + SILENCE_MS) ∷ deaths ks else deaths ks)) [
       | true ↦ λ is. (
           let same : j ≡ k = cc (is) in
           subst (λ (i : CallRecord). Has (k.looks.heard + SILENCE_MS)
@@ -102,7 +104,8 @@ has-death p (j ∷ ks) k found active =
 
 -- what holds of the death of each call that is active holds of each
 every-death : (P : ℕ → Type 0) (all ks : List CallRecord) → Every (FoundIn all) ks
-    → ((k : CallRecord) → FoundIn all k → is_active k.life ≡ true → P (k.looks.heard + SILENCE_MS)) → Every P (deaths ks)
+    → ((k : CallRecord) → FoundIn all k → is_active k.life ≡ true → P (k.looks.heard + SILENCE_MS))
+    → Every P (deaths ks)
 every-death P all [] own each = tt
 every-death P all (k ∷ ks) own each =
     (elim (is_active k.life) as (λ b. is_active k.life ≡ b
@@ -204,7 +207,8 @@ module _ (class : List ℕ → Class) (n : NodeState) where
       (λ k own active. (
       let lives = live_at (setup_of class n) l m.orderly m.roomy.differ m.numbered k own.found
       (live_if_active k.life active) in
-      let low : lives.key / 4 < length l.conns = slice_get_within l.conns (lives.key / 4) lives.channel.conn lives.channel.there in
+      let low : lives.key / 4 < length l.conns = slice_get_within l.conns (lives.key / 4) lives.channel.conn
+      lives.channel.there in
       its.low lives.key (channel_of k.name) k (omega arith) lives.channel
       (ap (λ (c : CallName). call_at l c) lives.latest_is ∙ own.found) active)))
       (of first its.dies)
@@ -217,21 +221,13 @@ module _ (class : List ℕ → Class) (n : NodeState) where
 
 -- ---- of a channel
 
--- its call isn't active
-pub death_idle : (l : Looks) (ch : Channel) → is_call (λ k. is_active k.life) (latest l ch) ≡ false
-    → None ≡ death_of (latest l ch)
-death_idle l ch idle = of (latest l ch) idle
-  where
-    of : (o : Option CallRecord) → is_call (λ k. is_active k.life) o ≡ false → None ≡ death_of o
-    of None idle = refl
-    of (Some k) idle = sym (ap (λ (b : Bool). if b then Some (k.looks.heard + SILENCE_MS) else None) idle)
-
 -- it is
 pub death_active : (class : List ℕ → Class) (n : NodeState) (l : Looks) → Mirrors class n l → (key : ℕ) (ch : Channel)
     → IsChannel l key ch → (end : ℕ) → IsActiveAt n key end → (e : EndsState) → e ≡ n.ends → (dies : ℕ)
     → ((k : CallLooks) → StandsEnd e end k → dies ≡ k.heard + SILENCE_MS) → Some dies ≡ death_of (latest l ch)
 death_active class n l m key ch at end active e same dies is =
     let its = active_call class n l m key end ch at active in
-    ap (λ (d : ℕ). Some d) (is its.call.looks (subst (λ (f : EndsState). StandsEnd f end its.call.looks) (sym same) its.stands))
+    ap (λ (d : ℕ). Some d)
+    (is its.call.looks (subst (λ (f : EndsState). StandsEnd f end its.call.looks) (sym same) its.stands))
     ∙ sym (ap death_of its.latest_is
     ∙ ap (λ (b : Bool). if b then Some (its.call.looks.heard + SILENCE_MS) else None) its.active)

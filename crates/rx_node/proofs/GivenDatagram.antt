@@ -1,5 +1,6 @@
 -- A datagram that a node gives is the one of its item, and the node mirrors what that leaves.
-use Rattle.std.proofs.Common.{◌≡◌, ◌+◌, ◌/◌, ◌%◌, ◌^◌, ℕ, suc, Bool, true, false, List, Option, Some, None, option_map, refl, ◌∙◌, ap, sym, subst, arith, if◌then◌else◌}
+use Rattle.std.proofs.Common.{◌≡◌, ◌+◌, ◌/◌, ◌%◌, ◌^◌, ℕ, suc, Bool, true, false, List, Option, Some, None, option_map}
+use Rattle.std.proofs.Common.{refl, ◌∙◌, ap, sym, subst, arith, if◌then◌else◌}
 use Rattle.std.specs.Prelude.{slice_get, IsSomeAnd}
 use Rattle.std.proofs.lemmas.Option.{slice_get-map}
 use Rattle.rx_model.specs.declared.names.CallName.{CallName}
@@ -62,7 +63,8 @@ module _ (s : Setup) (l : Looks) (y : Connection) (ch : Channel) where
 
       of : (o : Option ConnLooks) → nonce_at s (option_map (conn_if y (once_more l.now)) o) ≡ nonce_at s o
       of None = refl
-      of (Some r) = ap (λ (n : ℕ). nonce_at s (Some (record r { order = n }))) (order (same_connection r.connection y) r)
+      of (Some r) = ap (λ (n : ℕ). nonce_at s (Some (record r { order = n })))
+          (order (same_connection r.connection y) r)
 
   -- its items stay
   item-same : (item : CodeItem) (i : Item) → IsItem s l ch item i → IsItem s behind ch item i
@@ -87,13 +89,15 @@ counted-channel l key ch at =
       conn = once_more l.now at.conn;
       there = slice_get-map (conn_if at.conn.connection (once_more l.now)) l.conns (key / 4)
           ∙ ap (option_map (conn_if at.conn.connection (once_more l.now))) at.there
-          ∙ ap (λ (b : Bool). Some (if b then once_more l.now at.conn else at.conn)) (connection_itself at.conn.connection);
+          ∙ ap (λ (b : Bool). Some (if b then once_more l.now at.conn else at.conn))
+          (connection_itself at.conn.connection);
       is = at.is;
     }
 
 -- ---- the datagram
 
-module _ (class : List ℕ → Class) (old mid new : NodeState) (same : KeepsNode old mid) (l : Looks) (m : Mirrors class old l)
+module _ (class : List ℕ → Class) (old mid new : NodeState) (same : KeepsNode old mid) (l : Looks)
+    (m : Mirrors class old l)
     (due : Due) (i : Item) (as_ : IsDueAs (setup_of class old) l due i) (link : Link)
     (linked : slice_get old.links (due.key / 4) ≡ Some link) (serial : ℕ) (head : Head) (bytes : List ℕ)
     (drawn : (l : Looks) (x : ConnLooks) → Mirrors class old l → slice_get l.conns (due.key / 4) ≡ Some x
@@ -102,7 +106,8 @@ module _ (class : List ℕ → Class) (old mid new : NodeState) (same : KeepsNod
     → Mirrors class mid (counted x.connection l))
     (heads : (l : Looks) (ch : Channel) (x : ConnLooks) (body : Body) → Mirrors class mid l → IsChannel l due.key ch
     → conn_at l ch.connection ≡ Some x
-    → message_with_head head body ≡ record (message_on (setup_of class mid) (at_once (latest_name l ch) body) x) { serial = serial })
+    → message_with_head head body ≡ record (message_on (setup_of class mid) (at_once (latest_name l ch) body) x)
+    { serial = serial })
     (gives : (l : Looks) (i : Item) → Mirrors class mid l → IsDueAs (setup_of class mid) l due i
     → ((ch : Channel) → IsChannel l due.key ch → head.number ≡ (channel_at l ch).number)
     → GaveBehind class new l head i bytes) where
@@ -154,8 +159,10 @@ module _ (class : List ℕ → Class) (old mid new : NodeState) (same : KeepsNod
   message_is =
       let flags : (side_flag old.kind + 0) + i.flags ≡ side_flag old.kind + i.flags = omega arith in
       ap (λ (msg : Message). record msg { number = i.name.number; seq = i.seq; flags = msg.flags + i.flags })
-      (heads more ch (once_more l.now x) i.body mirrored at-more (channel_conn more due.key ch mirrored.orderly.conns.differ at-more)
-      ∙ ap (λ (s : Setup). record (message_on s (at_once (latest_name more ch) i.body) (once_more l.now x)) { serial = serial }) setups)
+      (heads more ch (once_more l.now x) i.body mirrored at-more
+      (channel_conn more due.key ch mirrored.orderly.conns.differ at-more)
+      ∙ ap (λ (s : Setup). record (message_on s (at_once (latest_name more ch) i.body) (once_more l.now x))
+      { serial = serial }) setups)
       ∙ (λ t. record (message_on (setup_of class old) i x) {
         epoch = (sym (ap (λ (c : CallName). c.epoch) named)) t;
         cid = (sym (ap (λ (c : CallName). c.cid + c.chan) named)) t;
@@ -170,10 +177,12 @@ module _ (class : List ℕ → Class) (old mid new : NodeState) (same : KeepsNod
       let its : link ≡ place.link = (let is = sym linked ∙ place.link_there in cc (is)) in
       record {
         conn = x;
-        there = ap (λ (c : CallName). conn_at l (connection_of c)) named ∙ channel_conn l due.key ch m.orderly.conns.differ as_.at;
+        there = ap (λ (c : CallName). conn_at l (connection_of c)) named
+            ∙ channel_conn l due.key ch m.orderly.conns.differ as_.at;
         host = ap (λ (k : Link). k.peer) (its ∙ place.stands.linked);
         written = gave.written ∙ ap (λ (msg : Message). made msg) message_is;
         leaves = subst (λ (y : Connection).
-            Mirrors class new (given_body i.name (message_on (setup_of class old) i x) i.body (counted y l))) its-connection
+            Mirrors class new (given_body i.name (message_on (setup_of class old) i x) i.body (counted y l)))
+            its-connection
             (gave.leaves (message_on (setup_of class old) i x) refl);
       }

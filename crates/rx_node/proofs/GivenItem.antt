@@ -26,19 +26,22 @@ module _ (class : List ℕ → Class) (new : NodeState) (l : Looks) (head : Head
     (c : CallName) (body : Body) (is : i ≡ at_once c body) (bytes : List ℕ)
     (leaves : (msg : Message) → Mirrors class new (given_body c msg body l)) where
   -- one that is due at once, of a call of the channel
-  pub gave_once : bytes ≡ made (message_with_head (record head { number = c.number }) body) → GaveBehind class new l head i bytes
+  pub gave_once : bytes ≡ made (message_with_head (record head { number = c.number }) body)
+      → GaveBehind class new l head i bytes
   gave_once wrote =
       subst (λ (j : Item). GaveBehind class new l head j bytes) (sym is)
       (record {
         written = wrote
             ∙ ap (λ (msg : Message). made msg)
             (let flags : head.flags ≡ head.flags + 0 = omega arith in
-            λ t. record (message_with_head (record head { number = c.number }) body) { seq = seqless t; flags = flags t });
+            λ t. record (message_with_head (record head { number = c.number }) body)
+            { seq = seqless t; flags = flags t });
         leaves = λ msg same. leaves msg;
       })
 
   -- of its latest call
-  pub gave_latest : head.number ≡ c.number → bytes ≡ made (message_with_head head body) → GaveBehind class new l head i bytes
+  pub gave_latest : head.number ≡ c.number → bytes ≡ made (message_with_head head body)
+      → GaveBehind class new l head i bytes
   gave_latest numbered wrote =
       gave_once (wrote ∙ ap (λ (n : ℕ). made (message_with_head (record head { number = n }) body)) numbered)
 

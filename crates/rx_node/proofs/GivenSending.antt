@@ -1,6 +1,8 @@
 -- What is given of a call's own end is the item that the rules pick, and the node mirrors what that leaves.
-use Rattle.std.proofs.Common.{◌≡◌, ◌==◌, ◌≤◌, ◌+◌, ◌*◌, ℕ, zero, suc, min, Bool, true, false, List, [], ◌∷◌, length, filter, take, drop, length-take}
-use Rattle.std.proofs.Common.{Option, Some, None, option_map, refl, ◌∙◌, ap, sym, subst, arith, if◌then◌else◌, nat_le, bit_or}
+use Rattle.std.proofs.Common.{◌≡◌, ◌==◌, ◌≤◌, ◌+◌, ◌*◌, ℕ, zero, suc, min, Bool, true, false, List, [], ◌∷◌, length}
+use Rattle.std.proofs.Common.{filter, take, drop, length-take}
+use Rattle.std.proofs.Common.{Option, Some, None, option_map, refl, ◌∙◌, ap, sym, subst, arith, if◌then◌else◌, nat_le}
+use Rattle.std.proofs.Common.{bit_or}
 use Rattle.std.proofs.lemmas.Bool.Decides.{nat_tests}
 use Rattle.rx_model.specs.declared.wire.TheConstants.{ACK_PING, LAST_PACKET, REQUEST_ACK}
 use Rattle.rx_model.specs.Body.{AckBody, Body}
@@ -11,7 +13,8 @@ use Rattle.rx_model.proofs.NameLaws.{name_is}
 use Rattle.rx_packet.specs.declared.head.Head.{Head}
 use Rattle.rx_packet.specs.Seen.{message_with_head}
 use Rattle.rx_rules.specs.After.{given_body}
-use Rattle.rx_rules.specs.CallItems.{CallItem, Sending, ack_body, asks, call_items, flags_of, next_sending, sending_body, sending_flags, sending_seq}
+use Rattle.rx_rules.specs.CallItems.{CallItem, Sending, ack_body, asks, call_items, flags_of, next_sending}
+use Rattle.rx_rules.specs.CallItems.{sending_body, sending_flags, sending_seq}
 use Rattle.rx_rules.specs.CallItems as sendings
 use Rattle.rx_rules.specs.CallLooks.{CallLooks, after_ack_given, after_piece}
 use Rattle.rx_rules.specs.Classes.{Class}
@@ -41,7 +44,8 @@ pub or_flags : (kind : Kind) (asked last : Bool) (flags a b : ℕ) → flags ≡
     → a ≡ (if asked then REQUEST_ACK else 0) → b ≡ (if last then LAST_PACKET else 0)
     → bit_or (bit_or flags a) b ≡ flags + flags_of asked last
 or_flags kind asked last flags a b is asks lasts =
-    (λ i. bit_or (bit_or (is i) (asks i)) (lasts i)) ∙ of kind asked last ∙ ap (λ (f : ℕ). f + flags_of asked last) (sym is)
+    (λ i. bit_or (bit_or (is i) (asks i)) (lasts i)) ∙ of kind asked last
+    ∙ ap (λ (f : ℕ). f + flags_of asked last) (sym is)
   where
     of : (kind : Kind) (asked last : Bool)
         → bit_or (bit_or (side_flag kind) (if asked then REQUEST_ACK else 0)) (if last then LAST_PACKET else 0)
@@ -123,7 +127,8 @@ module _ (class : List ℕ → Class) (n : NodeState) (l : Looks) (m : Mirrors c
   next_is =
       let now : n.moment ≡ l.now = m.now in
       let rank : i.rank ≡ sends.item.rank = ap (λ (j : Item). j.rank) sends.is in
-      let within : nat_le sends.item.rank l.now ≡ true = (let low : sends.item.rank ≤ l.now = omega arith in grind (arith, nat_tests, low)) in
+      let within : nat_le sends.item.rank l.now ≡ true =
+      (let low : sends.item.rank ≤ l.now = omega arith in grind (arith, nat_tests, low)) in
       ap (option_map (λ j. j.sending))
       ((λ t. least_by (λ j. j.rank) (filter (λ j. nat_le j.rank (now t)) (call_items (client t) looks)))
       ∙ least_within (λ j. j.rank) l.now (call_items (is_client n.kind) looks)
@@ -180,7 +185,8 @@ module _ (class : List ℕ → Class) (n : NodeState) (l : Looks) (m : Mirrors c
       → Mirrors class (record n { ends = e }) (given_body i.name msg i.body l)
   sent_leaves seats e steps msg same =
       let seq : i.seq ≡ sending_seq sends.item.sending = ap (λ (j : Item). j.seq) sends.is in
-      let body : i.body ≡ sending_body (receiving_window s) looks sends.item.sending = ap (λ (j : Item). j.body) sends.is in
+      let body : i.body ≡ sending_body (receiving_window s) looks sends.item.sending =
+      ap (λ (j : Item). j.body) sends.is in
       let is = given-by sends.item.sending refl msg (same ∙ seq) in
       subst (λ (k : Looks). Mirrors class (record n { ends = e }) k)
       (is ∙ (λ t. given_body (sym sent_name t) msg (sym body t) l))
@@ -202,7 +208,8 @@ module _ (class : List ℕ → Class) (n : NodeState) (l : Looks) (m : Mirrors c
           → Some (givings.Piece seq asked last) ≡ giving_of looks (Some sending)
           → message_with_head (record head { seq = seq; flags = flags }) (bodies.Chunk payload) ≡ message_of_item head i
       of (sendings.Piece k again) is given =
-          let both : givings.Piece seq asked last ≡ givings.Piece k (asks looks.cwnd looks.sent k again) (piece_at looks.sent k).last = cc (given) in
+          let both : givings.Piece seq asked last ≡ givings.Piece k (asks looks.cwnd looks.sent k again)
+          (piece_at looks.sent k).last = cc (given) in
           let seqs : seq ≡ k = cc (both) in
           let asked_ : asked ≡ asks looks.cwnd looks.sent k again = cc (both) in
           let last_ : last ≡ (piece_at looks.sent k).last = cc (both) in
@@ -212,7 +219,8 @@ module _ (class : List ℕ → Class) (n : NodeState) (l : Looks) (m : Mirrors c
             seq = k;
             flags = flags_of (asks looks.cwnd looks.sent k again) (piece_at looks.sent k).last;
             body = bodies.Chunk (piece_at looks.sent k).payload;
-          } = sends.is ∙ ap (λ (x : Sending). item_of s sends.call (record { rank = sends.item.rank; sending = x })) is in
+          } = sends.is ∙ ap (λ (x : Sending). item_of s sends.call (record { rank = sends.item.rank; sending = x }))
+          is in
           (λ t. record {
             epoch = head.epoch;
             cid = head.cid;
@@ -254,7 +262,8 @@ module _ (class : List ℕ → Class) (n : NodeState) (l : Looks) (m : Mirrors c
             seq = 0;
             flags = flags_of (why == ACK_PING) false;
             body = bodies.Ack (ack_body n.limits.window why which looks.received);
-          } = sends.is ∙ ap (λ (x : Sending). item_of s sends.call (record { rank = sends.item.rank; sending = x })) is in
+          } = sends.is ∙ ap (λ (x : Sending). item_of s sends.call (record { rank = sends.item.rank; sending = x }))
+          is in
           (λ t. record {
             epoch = head.epoch;
             cid = head.cid;
@@ -267,7 +276,8 @@ module _ (class : List ℕ → Class) (n : NodeState) (l : Looks) (m : Mirrors c
             index = head.index;
             spare = head.spare;
             service = head.service;
-            body = (ap (λ (a : AckBody). bodies.Ack a) (said ∙ (λ u. ack_body n.limits.window (reasons u) (serials u) looks.received))
+            body = (ap (λ (a : AckBody). bodies.Ack a)
+                (said ∙ (λ u. ack_body n.limits.window (reasons u) (serials u) looks.received))
                 ∙ sym (ap (λ (j : Item). j.body) its)) t;
           })
 

@@ -1,5 +1,6 @@
 -- The headers and the names that a node reads from its table.
-use Rattle.std.proofs.Common.{◌≡◌, ◌+◌, ◌/◌, ◌%◌, ℕ, List, length, take, drop, get_or, Option, Some, None, refl, ◌∙◌, ap, sym, subst, arith}
+use Rattle.std.proofs.Common.{◌≡◌, ◌+◌, ◌/◌, ◌%◌, ℕ, List, length, take, drop, get_or, Option, Some, None, refl, ◌∙◌}
+use Rattle.std.proofs.Common.{ap, sym, subst, arith}
 use Rattle.std.specs.Prelude.{IsSomeAnd}
 use Rattle.std.proofs.Math.Seq.{take-append_seam}
 use Rattle.std.proofs.lemmas.Option.{get_or_from_slice_get}
@@ -122,7 +123,8 @@ module _ (class : List ℕ → Class) (n : NodeState) (l : Looks) (m : Mirrors c
       let its : nonce ≡ place.rec.nonce =
       subst (λ (o : Option ConnRecord). IsSomeAnd o (λ r. nonce ≡ r.nonce)) place.rec_there drawn in
       let known : nonce ≡ nonce_at (setup_of class n) (conn_at l (connection_of (latest_name l ch))) =
-      its ∙ place.stands.nonce ∙ ap (nonce_at (setup_of class n)) (sym (channel_conn l key ch m.orderly.conns.differ at)) in
+      its ∙ place.stands.nonce ∙ ap (nonce_at (setup_of class n))
+      (sym (channel_conn l key ch m.orderly.conns.differ at)) in
       let bytes : List ℕ = (class n.secret).challenge name nonce in
       ap (λ (bs : List ℕ). bodies.Challenge bs)
       (ap (λ (k : ℕ). take k new) wrote.counted ∙ ap (take (length bytes)) wrote.front

@@ -18,7 +18,8 @@ use Rattle.rx_node.proofs.ReadSteps.{not-ended}
 -- ---- nothing changes
 
 -- a change that leaves each call as it was
-pub calls_stay : (c : CallName) (f : CallRecord → CallRecord) (l : Looks) → ((k : CallRecord) → f k ≡ k) → on_call c f l ≡ l
+pub calls_stay : (c : CallName) (f : CallRecord → CallRecord) (l : Looks) → ((k : CallRecord) → f k ≡ k)
+    → on_call c f l ≡ l
 calls_stay c f l same = ap (λ (ks : List CallRecord). record l { calls = ks }) (all l.calls)
   where
     one : (k : CallRecord) (b : Bool) → (if b then f k else k) ≡ k
@@ -39,7 +40,10 @@ nothing-behind (x ∷ xs) = ap (λ (ys : List ℕ). x ∷ ys) (nothing-behind xs
 pub write_nothing : (c : CallName) (l : Looks) → on_looks c (after_write []) l ≡ l
 write_nothing c l =
     calls_stay c (λ k. record k { looks = after_write [] k.looks }) l
-    (λ k i. record k { looks = record k.looks { sent = record k.looks.sent { said = nothing-behind k.looks.sent.said i } } })
+    (λ k i. record k {
+      looks =
+          record k.looks { sent = record k.looks.sent { said = nothing-behind k.looks.sent.said i } };
+    })
 
 read-same : (r : Received) → packets.after_read false [] r ≡ r
 read-same r = λ i. record r { read = nothing-behind r.read i }
@@ -61,7 +65,8 @@ looks-same now k =
 -- a read that gives no bytes and tells no end
 pub read_nothing : (c : CallName) (l : Looks) → read_done c false [] l ≡ l
 read_nothing c l =
-    calls_stay c (λ k. record k { life = after_end false k.life }) (on_looks c (after_read l.now false []) (acknowledged false c l))
+    calls_stay c (λ k. record k { life = after_end false k.life })
+    (on_looks c (after_read l.now false []) (acknowledged false c l))
     (λ k i. record k { life = not-ended k.life i })
     ∙ calls_stay c (λ k. record k { looks = after_read l.now false [] k.looks }) (acknowledged false c l)
     (λ k i. record k { looks = looks-same l.now k.looks i })

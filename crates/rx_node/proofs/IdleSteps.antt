@@ -1,5 +1,6 @@
 -- The connections of a node and the one that may be forgotten, as its table has them.
-use Rattle.std.proofs.Common.{◌≡◌, ◌≤◌, ◌<◌, ◌+◌, ◌*◌, ◌/◌, ◌%◌, ◌-◌, ◌&&◌, ◌||◌, ℕ, zero, suc, Bool, true, false, List, [], ◌∷◌, length, filter}
+use Rattle.std.proofs.Common.{◌≡◌, ◌≤◌, ◌<◌, ◌+◌, ◌*◌, ◌/◌, ◌%◌, ◌-◌, ◌&&◌, ◌||◌, ℕ, zero, suc, Bool, true, false, List}
+use Rattle.std.proofs.Common.{[], ◌∷◌, length, filter}
 use Rattle.std.proofs.Common.{Option, Some, None, option_map, refl, ◌∙◌, ap, sym, subst, arith, if◌then◌else◌}
 use Rattle.std.proofs.lemmas.Bool.Decides.{nat_tests}
 use Rattle.std.proofs.lemmas.Option.{slice_get-map}
@@ -156,7 +157,8 @@ module _ (class : List ℕ → Class) (n : NodeState) (l : Looks) (m : Mirrors c
   -- ---- idle connections
 
   -- of a connection with its record, each channel lives as its seat says
-  live-by : (place : ℕ) (p : PlaceOf n l place) (chan : ℕ) (seat : Seat) → chan < 4 → slice_get p.rec.seats chan ≡ Some seat
+  live-by : (place : ℕ) (p : PlaceOf n l place) (chan : ℕ) (seat : Seat) → chan < 4
+      → slice_get p.rec.seats chan ≡ Some seat
       → is_some seat.live ≡ is_call (λ k. is_live k.life) (latest l (channel_in p.conn chan))
   live-by place p chan seat low there =
       let at_place : (4 * place + chan) / 4 ≡ place = omega arith in
@@ -195,7 +197,8 @@ module _ (class : List ℕ → Class) (n : NodeState) (l : Looks) (m : Mirrors c
   pub idle_when : (place : ℕ) (p : PlaceOf n l place)
       → idle_since n.moment n.table place ≡ (if is_idle l p.conn then Some p.conn.last_use else None)
   idle_when place p =
-      ap (λ (o : Option ConnRecord). option_and_then (λ r. if tables.is_idle n.moment r then Some r.last_use else None) o)
+      ap (λ (o : Option ConnRecord). option_and_then
+      (λ r. if tables.is_idle n.moment r then Some r.last_use else None) o)
       p.rec_there
       ∙ (λ i. if idle_is place p i then Some (p.stands.last_use i) else None)
 

@@ -73,7 +73,8 @@ kept_both a b c p q =
     }
 
 -- and its setup
-pub kept_setup : (class : List ℕ → Class) (old new : NodeState) → KeepsNode old new → setup_of class new ≡ setup_of class old
+pub kept_setup : (class : List ℕ → Class) (old new : NodeState) → KeepsNode old new
+    → setup_of class new ≡ setup_of class old
 kept_setup class old new kept =
     λ i. record { kind = kept.kind i; limits = kept.limits i; class = class (kept.secret i) }
 

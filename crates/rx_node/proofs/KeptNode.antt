@@ -1,5 +1,6 @@
 -- What every node keeps stays where its table changes but for which ends its seats name.
-use Rattle.std.proofs.Common.{◌≡◌, ◌<◌, ◌+◌, ◌/◌, ◌%◌, ◌^◌, ℕ, zero, suc, List, [], ◌∷◌, length, map, Option, Some, refl, ◌∙◌, ap, sym, subst, arith}
+use Rattle.std.proofs.Common.{◌≡◌, ◌<◌, ◌+◌, ◌/◌, ◌%◌, ◌^◌, ℕ, zero, suc, List, [], ◌∷◌, length, map, Option, Some}
+use Rattle.std.proofs.Common.{refl, ◌∙◌, ap, sym, subst, arith}
 use Rattle.rx_rules.specs.Classes.{Class}
 use Rattle.rx_model.specs.Names.{Connection}
 use Rattle.rx_table.specs.declared.seat.Seat.{Seat}

@@ -30,7 +30,8 @@ module _ (class : List ℕ → Class) (n : NodeState) (l : Looks) (m : Mirrors c
         }
 
   -- a channel whose seat has another number than a call: that call doesn't live
-  pub dead_number : (c : CallName) (key : ℕ) (seat : Seat) → IsChannel l key (channel_of c) → seat_at n.table key ≡ Some seat
+  pub dead_number : (c : CallName) (key : ℕ) (seat : Seat) → IsChannel l key (channel_of c)
+      → seat_at n.table key ≡ Some seat
       → (seat.number ≡ c.number → ⊥) → is_call (λ k. is_live k.life) (call_at l c) ≡ false
   dead_number c key seat at there other =
       refuted (is_call (λ k. is_live k.life) (call_at l c))

@@ -1,6 +1,8 @@
 -- The least item of a node, found channel by channel.
-use Rattle.std.proofs.Common.{◌≡◌, ◌<◌, ◌+◌, ◌*◌, ◌/◌, ◌%◌, ℕ, zero, suc, Bool, true, false, List, [], ◌∷◌, ◌++◌, length, map, take, filter}
-use Rattle.std.proofs.Common.{Option, Some, None, option_map, refl, ◌∙◌, ap, sym, subst, arith, if◌then◌else◌, append-nil}
+use Rattle.std.proofs.Common.{◌≡◌, ◌<◌, ◌+◌, ◌*◌, ◌/◌, ◌%◌, ℕ, zero, suc, Bool, true, false, List, [], ◌∷◌, ◌++◌}
+use Rattle.std.proofs.Common.{length, map, take, filter}
+use Rattle.std.proofs.Common.{Option, Some, None, option_map, refl, ◌∙◌, ap, sym, subst, arith, if◌then◌else◌}
+use Rattle.std.proofs.Common.{append-nil}
 use Rattle.std.proofs.lemmas.Bool.Decides.{nat_tests}
 use Rattle.std.specs.Prelude.{slice_get, nat_le}
 use Rattle.rx_model.specs.Names.{Channel}
@@ -29,7 +31,8 @@ lesser-thrice rank x (Some y) (Some z) =
       | false ↦ λ yz. (elim (nat_le (rank x) (rank y)) as (λ b. nat_le (rank x) (rank y) ≡ b
           → (if nat_le (rank x) (rank z) then x else z) ≡ lesser_by rank (if b then x else y) (Some z)) [
             | true ↦ λ xy. refl
-            | false ↦ λ xy. (let xz : nat_le (rank x) (rank z) ≡ false = grind (arith, nat_tests, yz, xy) in rw (xz, yz) refl)
+            | false ↦ λ xy. (let xz : nat_le (rank x) (rank z) ≡ false =
+                grind (arith, nat_tests, yz, xy) in rw (xz, yz) refl)
           ]) refl
     ]) refl
 
@@ -71,7 +74,8 @@ within-lesser : {X : Type 0} (rank : X → ℕ) (now : ℕ) (x : X) (o : Option 
 within-lesser rank now x None = refl
 within-lesser rank now x (Some y) =
     (elim (nat_le (rank x) (rank y)) as (λ b. nat_le (rank x) (rank y) ≡ b
-    → (if nat_le (rank x) now then Some (lesser_by rank x (within_rank rank now (Some y))) else within_rank rank now (Some y))
+    → (if nat_le (rank x) now then Some (lesser_by rank x (within_rank rank now (Some y))) else within_rank
+    rank now (Some y))
     ≡ within_rank rank now (Some (if b then x else y))) [
       | true ↦ λ xy. (elim (nat_le (rank x) now) as (λ b. nat_le (rank x) now ≡ b
           → (if b then Some (lesser_by rank x (within_rank rank now (Some y))) else within_rank rank now (Some y))
@@ -80,7 +84,8 @@ within-lesser rank now x (Some y) =
             | false ↦ λ xn. (let yn : nat_le (rank y) now ≡ false = grind (arith, nat_tests, xy, xn) in rw yn refl)
           ]) refl
       | false ↦ λ xy. (elim (nat_le (rank y) now) as (λ b. nat_le (rank y) now ≡ b
-          → (if nat_le (rank x) now then Some (lesser_by rank x (if b then Some y else None)) else (if b then Some y else None))
+          → (if nat_le (rank x) now then Some (lesser_by rank x (if b then Some y else None))
+          else (if b then Some y else None))
           ≡ (if b then Some y else None)) [
             | true ↦ λ yn. rw xy (both (nat_le (rank x) now))
             | false ↦ λ yn. (let xn : nat_le (rank x) now ≡ false = grind (arith, nat_tests, xy, yn) in rw xn refl)
@@ -115,7 +120,8 @@ least_within rank now (x ∷ xs) =
 pub items_join : (s : Setup) (l : Looks) (cs ds : List Channel)
     → items_on s l (cs ++ ds) ≡ items_on s l cs ++ items_on s l ds
 items_join s l [] ds = refl
-items_join s l (c ∷ cs) ds = ap (λ (is : List Item). channel_items s l c ++ is) (items_join s l cs ds) ∙ assoc (channel_items s l c) (items_on s l cs) (items_on s l ds)
+items_join s l (c ∷ cs) ds = ap (λ (is : List Item). channel_items s l c ++ is) (items_join s l cs ds)
+    ∙ assoc (channel_items s l c) (items_on s l cs) (items_on s l ds)
   where
     assoc : (xs ys zs : List Item) → xs ++ (ys ++ zs) ≡ (xs ++ ys) ++ zs
     assoc [] ys zs = refl
@@ -159,7 +165,8 @@ least_to s l n = least_by (λ i. i.rank) (items_on s l (take n (all_channels l.c
 
 -- with one channel more
 pub least_next : (s : Setup) (l : Looks) (key : ℕ) (ch : Channel) → IsChannel l key ch
-    → least_to s l (suc key) ≡ lesser_of (λ i. i.rank) (least_to s l key) (least_by (λ i. i.rank) (channel_items s l ch))
+    → least_to s l (suc key) ≡ lesser_of (λ i. i.rank) (least_to s l key)
+    (least_by (λ i. i.rank) (channel_items s l ch))
 least_next s l key ch at =
     let n : 4 * (key / 4) + key % 4 ≡ key = omega arith in
     let there : slice_get (all_channels l.conns) key ≡ Some ch =

@@ -44,3 +44,5 @@ pub mod GivenItem
 pub mod GivenDatagram
 pub mod PollSteps
 pub mod PollLeaves
+pub mod Arguments
+pub mod UsedConns

@@ -27,13 +27,15 @@ use Rattle.rx_node.proofs.CallChanges.{same_change}
 use Rattle.rx_node.proofs.KeptNode.{names-changed}
 use Rattle.rx_node.proofs.LifeSteps.{Lives, mirrors_life}
 use Rattle.rx_node.proofs.SeatedSteps.{one_seat, reseated, same_end, same_records, set_up_alike}
-use Rattle.rx_node.proofs.TableSteps.{changed-length, record_seated, seat_changed, seat_stays, seated, set-other, set-own}
+use Rattle.rx_node.proofs.TableSteps.{changed-length, record_seated, seat_changed, seat_stays, seated, set-other}
+use Rattle.rx_node.proofs.TableSteps.{set-own}
 use Rattle.rx_node.proofs.LifeLaws.{live_if_active}
 
 -- ---- lives
 
 -- a life that ended is known again by its end
-pub ended_again : (client : Bool) (x : Life) → is_live x ≡ false → is_of client x ≡ true → ended_life client (end_of x) ≡ x
+pub ended_again : (client : Bool) (x : Life) → is_live x ≡ false → is_of client x ≡ true
+    → ended_life client (end_of x) ≡ x
 ended_again client lives.Calling ended of = absurd (cc (ended))
 ended_again client lives.Waiting ended of = absurd (cc (ended))
 ended_again client lives.Accepted ended of = absurd (cc (ended))
@@ -179,7 +181,8 @@ module _ (class : List ℕ → Class) (n : NodeState) (set_up : IsSetUp class n)
           names = one-end;
           there = λ s q is names. seats.there key seat end there names_end;
           idle = λ s q is names inactive.
-              absurd (false≢true (sym inactive ∙ ap (λ (o : Option CodeLife). is_active_life (option_map life_of o)) own-code
+              absurd (false≢true (sym inactive
+              ∙ ap (λ (o : Option CodeLife). is_active_life (option_map life_of o)) own-code
               ∙ active));
           kinds = λ s q life is names its. own-kind life its;
           count = seats.count;
@@ -313,7 +316,8 @@ module _ (class : List ℕ → Class) (n : NodeState) (set_up : IsSetUp class n)
     named-both live = ap (λ (o : Option ℕ). is_some o) names_end ∙ sym live
 
     -- a life that is active still
-    pub mirrors_lived : is_active (life_of code) ≡ true → Mirrors class lived (on_life (latest_name l ch) (λ x. life_of code) l)
+    pub mirrors_lived : is_active (life_of code) ≡ true
+        → Mirrors class lived (on_life (latest_name l ch) (λ x. life_of code) l)
     mirrors_lived active =
         let before : is_active k.life ≡ true = falls.active active in
         let live : is_live (life_of code) ≡ true = live_if_active (life_of code) active in
@@ -382,7 +386,8 @@ module _ (class : List ℕ → Class) (n : NodeState) (set_up : IsSetUp class n)
 
       -- one of a call that ends
       pub mirrors_over : (of_kind : is_of (is_client n.kind) (life_of code) ≡ true) (f : EndsState)
-          (left : KeepsEnds e f end) → f.common ≡ e.common → is_live (life_of code) ≡ false → (count : ℕ) → count + 1 ≡ n.live
+          (left : KeepsEnds e f end) → f.common ≡ e.common → is_live (life_of code) ≡ false → (count : ℕ)
+          → count + 1 ≡ n.live
           → Mirrors class
           (record n {
             table = with_seat n.table key (record seat { live = None; «end» = Some (end_of (life_of code)) });
@@ -414,7 +419,8 @@ module _ (class : List ℕ → Class) (n : NodeState) (set_up : IsSetUp class n)
             stands = λ q names is. absurd (false≢true (sym inactive ∙ is));
             others = other-code;
             aside = λ q looks apart s.
-                left.stands q looks (λ one. apart (names_end ∙ ap (λ (j : ℕ). Some j) (sym one))) (aside q looks apart s);
+                left.stands q looks (λ one. apart (names_end ∙ ap (λ (j : ℕ). Some j) (sym one)))
+                (aside q looks apart s);
             common = (let all = cleared-common in omega arith);
             counted = (
                 let old = if-true (is_live k.life) 1 c.live in

@@ -6,7 +6,8 @@ use Rattle.rx_rules.specs.After.{is_zero}
 use Rattle.rx_rules.specs.Life.{Life, after_finish, is_active, is_live}
 use Rattle.rx_rules.specs.Life as lives
 use Rattle.rx_model.proofs.NameLaws.{refuted}
-use Rattle.rx_law.proofs.LifeFalls.{Falls, accept_falls, acks_falls, cancel_falls, code_falls, end_falls, finish_falls, gone_falls, later_falls, silence_falls}
+use Rattle.rx_law.proofs.LifeFalls.{Falls, accept_falls, acks_falls, cancel_falls, code_falls, end_falls, finish_falls}
+use Rattle.rx_law.proofs.LifeFalls.{gone_falls, later_falls, silence_falls}
 use Rattle.rx_node.specs.declared.life.Turn.{Turn}
 use Rattle.rx_node.specs.declared.life.Turn.TheVariants as turns
 use Rattle.rx_node.specs.Lives.{after_turn, is_of}
@@ -49,7 +50,8 @@ over-stays (turns.Acks false) before = refl
 over-stays turns.Accept before = refl
 over-stays (turns.Finish code) before = finish-over (is_zero code) code before
   where
-    finish-over : (b : Bool) (code : ℤ) (before : Option ℤ) → after_finish b code (lives.Over before) ≡ lives.Over before
+    finish-over : (b : Bool) (code : ℤ) (before : Option ℤ)
+        → after_finish b code (lives.Over before) ≡ lives.Over before
     finish-over true code before = refl
     finish-over false code before = refl
 over-stays turns.Gone before = refl

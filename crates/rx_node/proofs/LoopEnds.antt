@@ -51,7 +51,8 @@ either-same false true x y same = sym same
 either-same false false x y same = refl
 
 module _ (s : Setup) (l : Looks) (orderly : Orderly s l) (differ : Differ by_name l.calls)
-    (numbered : (c : CallName) → c.number ≡ 0 → call_at l c ≡ None) (f : CallRecord → CallRecord) (of_live : OfLive f) where
+    (numbered : (c : CallName) → c.number ≡ 0 → call_at l c ≡ None) (f : CallRecord → CallRecord)
+    (of_live : OfLive f) where
   -- every call changed
   pub loop_all : on_calls (change_among 0 (4 * length l.conns) f l) l ≡ on_calls f l
   loop_all =
@@ -65,7 +66,8 @@ module _ (s : Setup) (l : Looks) (orderly : Orderly s l) (differ : Differ by_nam
           (elim (is_live k.life) as (λ b. is_live k.life ≡ b → change_among 0 (4 * length l.conns) f l k ≡ f k) [
             | true ↦ λ live. (
                 let it = live_at s l orderly differ numbered k own.found live in
-                let place : it.key / 4 < length l.conns = slice_get_within l.conns (it.key / 4) it.channel.conn it.channel.there in
+                let place : it.key / 4 < length l.conns =
+                slice_get_within l.conns (it.key / 4) it.channel.conn it.channel.there in
                 ap (λ (b : Bool). if b then f k else k)
                 (ap (λ (o : Option ℕ). among 0 (4 * length l.conns) o) it.is
                 ∙ within-all it.key (4 * length l.conns) (omega arith)))
@@ -100,7 +102,8 @@ module _ (s : Setup) (l : Looks) (orderly : Orderly s l) (differ : Differ by_nam
           (λ away. (
           beyond-place it.key place away
           ∙ sym (refuted (same_connection (connection_of k.name) x.connection)
-          (λ same. away (place_is l.conns (it.key / 4) place it.channel.conn x orderly.conns.differ it.channel.there there
+          (λ same. away (place_is l.conns (it.key / 4) place it.channel.conn x orderly.conns.differ
+          it.channel.there there
           (ap (λ (y : Connection). same_connection y x.connection) (sym named) ∙ same))))))
         where
           named : connection_of k.name ≡ it.channel.conn.connection
@@ -133,6 +136,7 @@ pub silence_of_live : (now : ℕ) → OfLive (unless_silent now)
 silence_of_live now =
     record { names = λ k. named k (is_silent now k); ended = λ k ended. unless_active now k (not_active k.life ended) }
   where
-    named : (k : CallRecord) (b : Bool) → (if b then record k { life = after_silence (silence_of now k) k.life } else k).name ≡ k.name
+    named : (k : CallRecord) (b : Bool)
+        → (if b then record k { life = after_silence (silence_of now k) k.life } else k).name ≡ k.name
     named k true = refl
     named k false = refl

@@ -25,7 +25,8 @@ module _ (class : List ℕ → Class) (base : NodeState) (l : Looks) (m : Mirror
       (sym (loop_start (setup_of class base) l m.orderly m.roomy.differ m.numbered f of_live low)) m)
 
   -- one more
-  pub among_more : (next : NodeState) (low key more : ℕ) → low ≤ key → key / 4 < length base.table.conns → more ≡ key + 1
+  pub among_more : (next : NodeState) (low key more : ℕ) → low ≤ key → key / 4 < length base.table.conns
+      → more ≡ key + 1
       → ((ch : Channel) → IsChannel (among_changed low key) key ch
       → Mirrors class next (on_call (latest_name l ch) f (among_changed low key)))
       → Mirrors class next (among_changed low more)
@@ -40,7 +41,8 @@ module _ (class : List ℕ → Class) (base : NodeState) (l : Looks) (m : Mirror
       (steps ch (record { conn = x.0; there = x.1; is = refl }))))
 
   -- behind the last of a node
-  pub among_all : (next : NodeState) (high : ℕ) → high ≡ 4 * length base.table.conns → Mirrors class next (among_changed 0 high)
+  pub among_all : (next : NodeState) (high : ℕ) → high ≡ 4 * length base.table.conns
+      → Mirrors class next (among_changed 0 high)
       → Mirrors class next (on_calls f l)
   among_all next high end done =
       (let same : high ≡ 4 * length l.conns = (let conns = m.conns.conns in omega arith) in

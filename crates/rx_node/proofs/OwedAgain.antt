@@ -56,9 +56,11 @@ IsChallenged s c l b = b ≡ (not (is_client s.kind) && (s.class.challenges && n
 pub challenged_yes : (s : Setup) (c : CallName) (l : Looks) (b : Bool) → IsChallenged s c l b → b ≡ true
     → on_channel (channel_of c) (λ q. record q { owed_challenge = true }) l ≡ challenged s c l
 challenged_yes s c l b is holds =
-    ap (λ (b : Bool). if b then on_channel (channel_of c) (λ q. record q { owed_challenge = true }) l else l) (sym holds ∙ is)
+    ap (λ (b : Bool). if b then on_channel (channel_of c) (λ q. record q { owed_challenge = true }) l else l)
+    (sym holds ∙ is)
 
 pub challenged_no : (s : Setup) (c : CallName) (l : Looks) (b : Bool) → IsChallenged s c l b → b ≡ false
     → l ≡ challenged s c l
 challenged_no s c l b is fails =
-    ap (λ (b : Bool). if b then on_channel (channel_of c) (λ q. record q { owed_challenge = true }) l else l) (sym fails ∙ is)
+    ap (λ (b : Bool). if b then on_channel (channel_of c) (λ q. record q { owed_challenge = true }) l else l)
+    (sym fails ∙ is)

@@ -1,5 +1,6 @@
 -- What a channel owes at once, as its seat has it, is the first of its items.
-use Rattle.std.proofs.Common.{◌≡◌, ◌<◌, ◌/◌, ◌%◌, ◌&&◌, ℕ, ℤ, Bool, true, false, not, List, [], ◌∷◌, ◌++◌, length, nat_le}
+use Rattle.std.proofs.Common.{◌≡◌, ◌<◌, ◌/◌, ◌%◌, ◌&&◌, ℕ, ℤ, Bool, true, false, not, List, [], ◌∷◌, ◌++◌, length}
+use Rattle.std.proofs.Common.{nat_le}
 use Rattle.std.proofs.Common.{Option, Some, None, option_map, refl, ◌∙◌, ap, sym, subst, arith, if◌then◌else◌}
 use Rattle.std.specs.Prelude.{is_some, unwrap_or, IsSomeAnd}
 use Rattle.rx_model.specs.declared.names.CallName.{CallName}
@@ -49,11 +50,13 @@ first_least x xs zero_ = ap (λ (y : Item). Some y) (of (least_by (λ i. i.rank)
         ap (λ (b : Bool). if b then x else y) (ap (λ (n : ℕ). nat_le n y.rank) zero_ ∙ none y.rank)
 
 -- the items of a channel by what it owes
-abbrev items_by : Channel → CallName → Body → Option ℤ → Option ℕ → Bool → Option (List ℕ) → Bool → Bool → List Item → List Item
+abbrev items_by : Channel → CallName → Body → Option ℤ → Option ℕ → Bool → Option (List ℕ) → Bool → Bool
+    → List Item → List Item
 items_by ch c challenge abort busy challenged response ackall living sends =
     owed_item c (option_map bodies.Abort abort)
     ++ (busy_items ch busy
-    ++ ((if living then owed_item c (where_owed challenged challenge) ++ owed_item c (option_map bodies.Response response)
+    ++ ((if living then owed_item c (where_owed challenged challenge)
+    ++ owed_item c (option_map bodies.Response response)
     else [])
     ++ (owed_item c (where_owed ackall bodies.AckAll) ++ sends)))
 
@@ -81,7 +84,8 @@ module _ (s : Setup) (l : Looks) (ch : Channel) where
   response-first bytes rest here is =
       record {
         first = at_once c (bodies.Response bytes);
-        is = subst (λ (o : Option (List ℕ)). IsSomeAnd o (λ bs. at_once c (bodies.Response bytes) ≡ at_once c (bodies.Response bs)))
+        is = subst (λ (o : Option (List ℕ)). IsSomeAnd o
+            (λ bs. at_once c (bodies.Response bytes) ≡ at_once c (bodies.Response bs)))
             (sym here) refl;
         rank = refl;
         least = ap (λ (is : List Item). least_by (λ i. i.rank) is) is
@@ -98,7 +102,8 @@ module _ (s : Setup) (l : Looks) (ch : Channel) where
       }
 
   -- by what it owes
-  at-least : (abort : Option ℤ) (busy : Option ℕ) (challenge : Bool) (response : Option (List ℕ)) (ackall living proved : Bool)
+  at-least : (abort : Option ℤ) (busy : Option ℕ) (challenge : Bool) (response : Option (List ℕ))
+      (ackall living proved : Bool)
       → (channel_at l ch).owed_response ≡ response
       → all ≡ items_by ch c (challenge_of s l c) abort busy (challenge && not proved) response ackall living sends
       → OwesAtOnce s l ch (owed_by abort busy challenge (is_some response) ackall living proved)
@@ -146,7 +151,8 @@ module _ (s : Setup) (l : Looks) (ch : Channel) where
       subst (λ (b : Bool). OwesAtOnce s l ch
       (owed_by seat.owed_abort seat.owed_busy seat.owed_challenge b seat.owed_ackall (is_some seat.live) proved))
       (mapped seat.owed_response (λ bytes. bytes.items))
-      (at-least seat.owed_abort seat.owed_busy seat.owed_challenge (option_map (λ bytes. bytes.items) seat.owed_response)
+      (at-least seat.owed_abort seat.owed_busy seat.owed_challenge
+      (option_map (λ bytes. bytes.items) seat.owed_response)
       seat.owed_ackall (is_some seat.live) proved (sym owes.response)
       (λ i. items_by ch c (challenge_of s l c) (sym owes.abort i) (sym owes.busy i)
       (sym owes.challenge i && not (sym proves i)) (sym owes.response i) (sym owes.ackall i) (sym living i) sends))
@@ -167,4 +173,5 @@ owed_first class n l m key ch at seat proved there proves =
     subst (λ (o : Option ConnRecord). IsSomeAnd o (λ r. proved ≡ r.proved)) place.rec_there proves in
     owes_at_once (setup_of class n) l ch seat proved was.owes was.call.live
     (is ∙ place.stands.proved
-    ∙ sym (ap (λ (o : Option ConnLooks). unwrap_or (option_map (λ r. r.proved) o) false) (channel_conn l key ch m.orderly.conns.differ at)))
+    ∙ sym (ap (λ (o : Option ConnLooks). unwrap_or (option_map (λ r. r.proved) o) false)
+    (channel_conn l key ch m.orderly.conns.differ at)))

@@ -6,7 +6,8 @@ use Rattle.std.proofs.lemmas.Option.{slice_get-map}
 use Rattle.std.proofs.lemmas.List.{length-map}
 use Rattle.rx_model.specs.Names.{Channel, Connection, same_channel, same_connection}
 use Rattle.rx_rules.specs.Classes.{Class}
-use Rattle.rx_rules.specs.Looks.{CallRecord, ChannelLooks, ConnLooks, Looks, changed_at, channel_at, conn_at, latest, on_channel, on_conn}
+use Rattle.rx_rules.specs.Looks.{CallRecord, ChannelLooks, ConnLooks, Looks, changed_at, channel_at, conn_at, latest}
+use Rattle.rx_rules.specs.Looks.{on_channel, on_conn}
 use Rattle.rx_model.proofs.NameLaws.{channel_is, connection_itself, refuted}
 use Rattle.rx_rules.proofs.ConnsLaws.{KeepsConns, conn_if}
 use Rattle.rx_law.proofs.Dims.{dims_channel}
@@ -15,11 +16,14 @@ use Rattle.rx_law.proofs.RoomStarts.{roomy_by}
 use Rattle.rx_table.specs.declared.seat.Seat.{Seat}
 use Rattle.rx_table.specs.Records.{ConnRecord, seat_at, with_seat}
 use Rattle.rx_node.specs.declared.link.Link.{Link}
-use Rattle.rx_node.specs.Mirrors.{CallStands, ChannelStands, ConnStands, ConnsStand, IsChannel, Mirrors, OwesAs, channel_in}
+use Rattle.rx_node.specs.Mirrors.{CallStands, ChannelStands, ConnStands, ConnsStand, IsChannel, Mirrors, OwesAs}
+use Rattle.rx_node.specs.Mirrors.{channel_in}
 use Rattle.rx_node.specs.Node.{NodeState, life_by, setup_of}
 use Rattle.rx_rules.specs.Setup.{Kind, is_client, nonce_of}
-use Rattle.rx_node.proofs.ChannelSteps.{IsThere, channel_changed, channel_stays, conn_there, every-at, latest_owing, place_is}
-use Rattle.rx_node.proofs.TableSteps.{SameConn, changed-length, decided, key_is, record_seated, seat_changed, seat_stays, seated}
+use Rattle.rx_node.proofs.ChannelSteps.{IsThere, channel_changed, channel_stays, conn_there, every-at, latest_owing}
+use Rattle.rx_node.proofs.ChannelSteps.{place_is}
+use Rattle.rx_node.proofs.TableSteps.{SameConn, changed-length, decided, key_is, record_seated, seat_changed}
+use Rattle.rx_node.proofs.TableSteps.{seat_stays, seated}
 
 -- ---- keys and channels
 
@@ -33,7 +37,8 @@ module _ (class : List ℕ → Class) (n : NodeState) (l : Looks) (m : Mirrors c
       let chan : ch.chan ≡ key % 4 = ap (λ (c : Channel). c.chan) at.is in
       record {
         conn = at.conn;
-        there = ap (λ (y : Connection). conn_at l y) conn ∙ conn_there l.conns (key / 4) at.conn m.orderly.conns.differ at.there;
+        there = ap (λ (y : Connection). conn_at l y) conn ∙ conn_there l.conns (key / 4) at.conn
+            m.orderly.conns.differ at.there;
         within = omega arith;
       }
 
@@ -69,7 +74,8 @@ conn_if-name x f r keeps =
     ])
 
 -- what a look-up at a place was
-pub record FromConn (l : Looks) (x : Connection) (f : ConnLooks → ConnLooks) (place : ℕ) (after : ConnLooks) : Type 0 where
+pub record FromConn (l : Looks) (x : Connection) (f : ConnLooks → ConnLooks) (place : ℕ)
+    (after : ConnLooks) : Type 0 where
   pub before : ConnLooks
   pub there : slice_get l.conns place ≡ Some before
   pub is : after ≡ conn_if x f before
@@ -77,12 +83,14 @@ pub record FromConn (l : Looks) (x : Connection) (f : ConnLooks → ConnLooks) (
 -- each connection of changed look-ups was there
 pub conn_before : (l : Looks) (x : Connection) (f : ConnLooks → ConnLooks) (place : ℕ) (after : ConnLooks)
     → slice_get (on_conn x f l).conns place ≡ Some after → FromConn l x f place after
-conn_before l x f place after there = of (slice_get l.conns place) refl (sym (slice_get-map (conn_if x f) l.conns place) ∙ there)
+conn_before l x f place after there =
+    of (slice_get l.conns place) refl (sym (slice_get-map (conn_if x f) l.conns place) ∙ there)
   where
     of : (o : Option ConnLooks) → slice_get l.conns place ≡ o → option_map (conn_if x f) o ≡ Some after
         → FromConn l x f place after
     of None is none = absurd (cc (none))
-    of (Some r) is some = record { before = r; there = is; is = (let same : conn_if x f r ≡ after = cc (some) in sym same) }
+    of (Some r) is some =
+        record { before = r; there = is; is = (let same : conn_if x f r ≡ after = cc (some) in sym same) }
 
 -- a key has the channel that it had
 pub channel_before : (l : Looks) (x : Connection) (f : ConnLooks → ConnLooks) (key : ℕ) (ch : Channel) → KeepsConns f
@@ -109,7 +117,8 @@ pub record Unseen (f : ConnLooks → ConnLooks) : Type 0 where
   pub proved : (r : ConnLooks) → (f r).proved ≡ r.proved
 
 -- that of a channel does
-pub channel_unseen : (n : ℕ) (f : ChannelLooks → ChannelLooks) → Unseen (λ r. record r { channels = changed_at n f r.channels })
+pub channel_unseen : (n : ℕ) (f : ChannelLooks → ChannelLooks)
+    → Unseen (λ r. record r { channels = changed_at n f r.channels })
 channel_unseen n f =
     record {
       connection = λ r. refl;
@@ -131,7 +140,8 @@ unseen-if get x f same r =
     ])
 
 -- a record stands for a connection as before
-pub conn_stands : (kind : Kind) (a b : ConnRecord) (link : Link) (x : Connection) (f : ConnLooks → ConnLooks) (r : ConnLooks)
+pub conn_stands : (kind : Kind) (a b : ConnRecord) (link : Link) (x : Connection) (f : ConnLooks → ConnLooks)
+    (r : ConnLooks)
     → Unseen f → SameConn a b → ConnStands kind a link r → ConnStands kind b link (conn_if x f r)
 conn_stands kind a b link x f r u same s =
     record {

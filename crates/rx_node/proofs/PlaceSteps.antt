@@ -4,7 +4,8 @@ use Rattle.std.proofs.Common.{map, Option, Some, None, refl, ◌∙◌, ap, sym,
 use Rattle.std.specs.Prelude.{option_and_then, slice_get, unwrap_or}
 use Rattle.rx_model.specs.Names.{Channel, Connection, channels_of, same_connection}
 use Rattle.rx_rules.specs.Classes.{Class}
-use Rattle.rx_rules.specs.Looks.{ChannelLooks, ConnLooks, Looks, call_at, call_named, channel_at, conn_at, fresh_channel}
+use Rattle.rx_rules.specs.Looks.{ChannelLooks, ConnLooks, Looks, call_at, call_named, channel_at, conn_at}
+use Rattle.rx_rules.specs.Looks.{fresh_channel}
 use Rattle.rx_rules.specs.Records.{fresh_conn, placed}
 use Rattle.rx_rules.specs.Setup.{nonce_of}
 use Rattle.rx_model.proofs.NameLaws.{connection_itself}
@@ -20,7 +21,8 @@ use Rattle.rx_node.proofs.ChannelSteps.{channel_of_record, conn_there}
 
 -- ---- a list with one more
 
-behind-old : {X : Type 0} (xs : List X) (x y : X) (i : ℕ) → slice_get xs i ≡ Some y → slice_get (xs ++ x ∷ []) i ≡ Some y
+behind-old : {X : Type 0} (xs : List X) (x y : X) (i : ℕ) → slice_get xs i ≡ Some y
+    → slice_get (xs ++ x ∷ []) i ≡ Some y
 behind-old [] x y i there = absurd (cc (there))
 behind-old (z ∷ xs) x y zero there = there
 behind-old (z ∷ xs) x y (suc i) there = behind-old xs x y i there
@@ -69,7 +71,8 @@ pub fresh_owes : OwesAs (fresh_seat 0) (fresh_channel 0)
 fresh_owes = record { number = refl; abort = refl; busy = refl; challenge = refl; response = refl; ackall = refl }
 
 -- and no call
-pub fresh_stands : (class : List ℕ → Class) (n next : NodeState) (l : Looks) → Mirrors class n l → (key : ℕ) (d : Channel)
+pub fresh_stands : (class : List ℕ → Class) (n next : NodeState) (l : Looks) → Mirrors class n l
+    → (key : ℕ) (d : Channel)
     → CallStands next key (fresh_seat 0) (call_at l (call_named d 0))
 fresh_stands class n next l m key d =
     subst (CallStands next key (fresh_seat 0)) (sym (m.numbered (call_named d 0) refl))
@@ -141,7 +144,8 @@ module _ (class : List ℕ → Class) (n : NodeState) (l : Looks) (m : Mirrors c
       find-last (λ q. same_connection q.connection x) l.conns new absent
       ∙ ap (λ (b : Bool). if b then Some new else None) (connection_itself x)
 
-  old-channel : (key : ℕ) (d : Channel) (s : Seat) (here : IsChannel made key d) → slice_get l.conns (key / 4) ≡ Some here.conn
+  old-channel : (key : ℕ) (d : Channel) (s : Seat) (here : IsChannel made key d)
+      → slice_get l.conns (key / 4) ≡ Some here.conn
       → seat_at n.table key ≡ Some s → ChannelStands next made key d s
   old-channel key d s here conn is =
       let before : IsChannel l key d = record { conn = here.conn; there = conn; is = here.is } in
@@ -173,7 +177,8 @@ module _ (class : List ℕ → Class) (n : NodeState) (l : Looks) (m : Mirrors c
       (record {
         owes = subst (OwesAs (fresh_seat 0)) (sym fresh) fresh_owes;
         call = subst (CallStands next key (fresh_seat 0))
-            (ap (λ (q : ChannelLooks). call_at l (call_named d q.number)) (sym fresh)) (fresh_stands class n next l m key d);
+            (ap (λ (q : ChannelLooks). call_at l (call_named d q.number)) (sym fresh))
+            (fresh_stands class n next l m key d);
       })
 
   -- it mirrors the entering

@@ -95,7 +95,8 @@ leaves-begun s l =
 
 -- ---- a node
 
-module _ (class : List ℕ → Class) (n : NodeState) (strays : List Stray) (l : Looks) (mirrored : Mirrors class n (silenced l))
+module _ (class : List ℕ → Class) (n : NodeState) (strays : List Stray) (l : Looks)
+    (mirrored : Mirrors class n (silenced l))
     (dropped : strays ≡ drop 1 n.strays) where
   abbrev mid : NodeState
   mid = record n { strays = strays }

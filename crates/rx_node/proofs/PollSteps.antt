@@ -1,5 +1,6 @@
 -- What a poll answers is what the rules give, and the node stands then for the history with it.
-use Rattle.std.proofs.Common.{◌≡◌, ◌≤◌, ◌<◌, ◌&&◌, ℕ, Bool, true, false, List, [], ◌∷◌, map, drop, Option, Some, None, refl, ◌∙◌, ap, sym, subst, arith, if◌then◌else◌, inl, inr, nat_le}
+use Rattle.std.proofs.Common.{◌≡◌, ◌≤◌, ◌<◌, ◌&&◌, ℕ, Bool, true, false, List, [], ◌∷◌, map, drop, Option, Some, None}
+use Rattle.std.proofs.Common.{refl, ◌∙◌, ap, sym, subst, arith, if◌then◌else◌, inl, inr, nat_le}
 use Rattle.std.specs.Prelude.{slice_get}
 use Rattle.std.proofs.lemmas.Bool.Decides.{nat_tests}
 use Rattle.rx_model.specs.declared.event.Event.{Event}
@@ -79,7 +80,8 @@ next_none s l none as_ = next-within s l none ∙ of (least_by (λ i. i.rank) (i
 
 -- nothing is due now
 pub next_later : (s : Setup) (l : Looks) (due : Due) → NoneSilent l
-    → AreDueAs s l (Some due) (least_by (λ i. i.rank) (items s (unsilenced l))) → l.now < due.rank → next_item s l ≡ None
+    → AreDueAs s l (Some due) (least_by (λ i. i.rank) (items s (unsilenced l))) → l.now < due.rank
+    → next_item s l ≡ None
 next_later s l due none as_ late = next-within s l none ∙ of (least_by (λ i. i.rank) (items s (unsilenced l))) as_
   where
     of : (o : Option Item) → AreDueAs s l (Some due) o → within_rank (λ i. i.rank) l.now o ≡ None
@@ -100,7 +102,8 @@ pub next_now : (s : Setup) (l : Looks) (due : Due) → NoneSilent l
     → AreDueAs s l (Some due) (least_by (λ i. i.rank) (items s (unsilenced l))) → due.rank ≤ l.now → DueNow s l due
 next_now s l due none as_ low = of (least_by (λ i. i.rank) (items s (unsilenced l))) refl as_
   where
-    of : (o : Option Item) → least_by (λ i. i.rank) (items s (unsilenced l)) ≡ o → AreDueAs s l (Some due) o → DueNow s l due
+    of : (o : Option Item) → least_by (λ i. i.rank) (items s (unsilenced l)) ≡ o → AreDueAs s l (Some due) o
+        → DueNow s l due
     of None least as_ = absurd as_
     of (Some i) least as_ =
         (let rank : due.rank ≡ i.rank = as_.rank in
@@ -115,7 +118,8 @@ next_now s l due none as_ low = of (least_by (λ i. i.rank) (items s (unsilenced
 
 -- ---- a poll
 
-polled-allowed : (s : Setup) (l : Looks) (got : Option (Host × List ℕ)) → got ≡ poll_answer s l → Allowed s l (events.Polled got)
+polled-allowed : (s : Setup) (l : Looks) (got : Option (Host × List ℕ)) → got ≡ poll_answer s l
+    → Allowed s l (events.Polled got)
 polled-allowed s l got is = of s.kind
   where
     of : (kind : Kind) → AllowedAt kind s l (events.Polled got)
@@ -137,7 +141,8 @@ Answered class old new h got =
     × StandsNode class new (events.Polled got ∷ h)
 
 module _ (class : List ℕ → Class) (old n : NodeState) (strays : List Stray) (fits : FitsSetup (setup_of class n))
-    (kept : KeepsNode old n) (steps : StepsNode class old n silenced) (dropped : strays ≡ drop 1 n.strays) (h : List Event)
+    (kept : KeepsNode old n) (steps : StepsNode class old n silenced) (dropped : strays ≡ drop 1 n.strays)
+    (h : List Event)
     (stands : StandsNode class old h) where
   abbrev pub mid : NodeState
   mid = record n { strays = strays }
@@ -228,8 +233,10 @@ module _ (class : List ℕ → Class) (old n : NodeState) (strays : List Stray) 
             let message : gives.message ≡ message_on s i gave.conn = item.is ∙ (λ t. message_on s (one t) (conn t)) in
             subst (λ (k : Looks). Mirrors class new k)
             (sym (item_leaves s h fits-old stands.legal to bytes gives.message item gives.read
-            ∙ (λ t. given_body (one t).name (message t) (message t).body (counted (connection_of (one t).name) behind))))
+            ∙ (λ t. given_body (one t).name (message t) (message t).body
+            (counted (connection_of (one t).name) behind))))
             (subst (λ (t : Setup).
-            Mirrors class new (given_body i.name (message_on t i gave.conn) i.body (counted (connection_of i.name) behind)))
+            Mirrors class new (given_body i.name (message_on t i gave.conn) i.body
+            (counted (connection_of i.name) behind)))
             setups gave.leaves))
       ])

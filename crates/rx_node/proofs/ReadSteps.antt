@@ -10,7 +10,8 @@ use Rattle.rx_rules.specs.CallLooks.{CallLooks, after_read}
 use Rattle.rx_rules.specs.Classes.{Class}
 use Rattle.rx_rules.specs.Life.{Life, after_end, is_active, is_calling}
 use Rattle.rx_rules.specs.Life as lives
-use Rattle.rx_rules.specs.Looks.{CallRecord, Looks, call_at, is_call, latest, latest_name, on_channel, on_life, on_looks}
+use Rattle.rx_rules.specs.Looks.{CallRecord, Looks, call_at, is_call, latest, latest_name, on_channel, on_life}
+use Rattle.rx_rules.specs.Looks.{on_looks}
 use Rattle.rx_rules.specs.Received.{Received, is_complete, read_from, read_of, unread_of}
 use Rattle.rx_rules.specs.Setup.{Setup, is_client, shared_slots}
 use Rattle.rx_rules.specs.Slots.{left_slots}
@@ -93,7 +94,8 @@ roomy_looks_read s c now end bytes l whole r =
     (λ k there t. read-takes s now (left_slots s l) k end bytes (whole k there) t) r
 
 -- of a node that mirrors them
-pub roomy_read_of : (class : List ℕ → Class) (n : NodeState) (l : Looks) (m : Mirrors class n l) (ch : Channel) (now : ℕ)
+pub roomy_read_of : (class : List ℕ → Class) (n : NodeState) (l : Looks) (m : Mirrors class n l)
+    (ch : Channel) (now : ℕ)
     (end : Bool) (bytes : List ℕ) → ((k : CallRecord) → latest l ch ≡ Some k → ReadWhole k end)
     → RoomyAt (setup_of class n) (on_looks (latest_name l ch) (after_read now end bytes) l)
 roomy_read_of class n l m ch now end bytes whole =
@@ -119,13 +121,15 @@ read_more : (c : CallName) (bytes : List ℕ) (l : Looks) (now : ℕ) (end : Boo
     → on_looks c (after_read now end bytes) l ≡ read_done c end bytes l
 read_more c bytes l now end at more =
     ap (λ (t : ℕ). on_looks c (after_read t end bytes) l) at
-    ∙ ap (λ (m : Looks). on_looks c (after_read l.now end bytes) m) (sym (channel_same (channel_of c) (λ q. q) l (λ q. refl)))
+    ∙ ap (λ (m : Looks). on_looks c (after_read l.now end bytes) m)
+    (sym (channel_same (channel_of c) (λ q. q) l (λ q. refl)))
     ∙ sym (ap (λ (b : Bool). on_looks c (after_read l.now end bytes) (acknowledged b c l)) more)
     ∙ sym (on-life-same c (on_looks c (after_read l.now end bytes) (acknowledged end c l)) end more)
   where
     on-life-same : (c : CallName) (m : Looks) (e : Bool) → e ≡ false → on_life c (after_end e) m ≡ m
     on-life-same c m e is =
-        ap (λ (b : Bool). on_life c (after_end b) m) is ∙ ap (λ (ks : List CallRecord). record m { calls = ks }) (all m.calls)
+        ap (λ (b : Bool). on_life c (after_end b) m) is ∙ ap (λ (ks : List CallRecord). record m { calls = ks })
+        (all m.calls)
       where
         all : (ks : List CallRecord) → map (changed_if c (λ k. record k { life = after_end false k.life })) ks ≡ ks
         all [] = refl

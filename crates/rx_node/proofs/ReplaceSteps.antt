@@ -6,7 +6,8 @@ use Rattle.std.proofs.lemmas.List.{length-map, length-set}
 use Rattle.std.proofs.lemmas.Option.{slice_get-map}
 use Rattle.rx_model.specs.Names.{Channel, Connection, same_connection}
 use Rattle.rx_rules.specs.Classes.{Class}
-use Rattle.rx_rules.specs.Looks.{ChannelLooks, ConnLooks, Looks, call_at, call_named, channel_at, conn_at, fresh_channel}
+use Rattle.rx_rules.specs.Looks.{ChannelLooks, ConnLooks, Looks, call_at, call_named, channel_at, conn_at}
+use Rattle.rx_rules.specs.Looks.{fresh_channel}
 use Rattle.rx_rules.specs.Records.{fresh_conn, placed}
 use Rattle.rx_rules.specs.Setup.{nonce_of}
 use Rattle.rx_model.proofs.NameLaws.{connection_itself, refuted}
@@ -19,7 +20,8 @@ use Rattle.rx_node.specs.Mirrors.{CallStands, ChannelStands, ConnStands, IsChann
 use Rattle.rx_node.specs.Node.{NodeState, setup_of}
 use Rattle.rx_node.proofs.ChannelSteps.{channel_of_record, conn_there, place_is}
 use Rattle.rx_node.proofs.PlaceSteps.{four, four-seats, fresh_owes, fresh_stands}
-use Rattle.rx_node.proofs.TableSteps.{changed-length, decided, record_changed, record_stays, set-none, set-other, set-own}
+use Rattle.rx_node.proofs.TableSteps.{changed-length, decided, record_changed, record_stays, set-none, set-other}
+use Rattle.rx_node.proofs.TableSteps.{set-own}
 
 module _ (class : List ℕ → Class) (n : NodeState) (l : Looks) (m : Mirrors class n l) (place : ℕ) (old : ConnLooks)
     (there : slice_get l.conns place ≡ Some old) (x : Connection) (link : Link) (nonce : ℕ)
@@ -48,10 +50,12 @@ module _ (class : List ℕ → Class) (n : NodeState) (l : Looks) (m : Mirrors c
       let is : instead old ≡ y = cc (both) in
       sym (ap (λ (b : Bool). if b then new else old) (connection_itself old.connection)) ∙ is
 
-  conn-other : (q : ℕ) (y : ConnLooks) → (place ≡ q → ⊥) → slice_get made.conns q ≡ Some y → slice_get l.conns q ≡ Some y
+  conn-other : (q : ℕ) (y : ConnLooks) → (place ≡ q → ⊥) → slice_get made.conns q ≡ Some y
+      → slice_get l.conns q ≡ Some y
   conn-other q y apart here = of (slice_get l.conns q) refl (sym (slice_get-map instead l.conns q) ∙ here)
     where
-      of : (o : Option ConnLooks) → slice_get l.conns q ≡ o → option_map instead o ≡ Some y → slice_get l.conns q ≡ Some y
+      of : (o : Option ConnLooks) → slice_get l.conns q ≡ o → option_map instead o ≡ Some y
+          → slice_get l.conns q ≡ Some y
       of None is none = absurd (cc (none))
       of (Some r) is some =
           let other : same_connection r.connection old.connection ≡ false =
@@ -84,7 +88,16 @@ module _ (class : List ℕ → Class) (n : NodeState) (l : Looks) (m : Mirrors c
           subst (λ (z : ConnLooks). ConnStands n.kind r k z) (conn-own y conn)
           (subst (λ (z : Link). ConnStands n.kind r z new) link_is
           (subst (λ (z : ConnRecord). ConnStands n.kind z link new) rec_is
-          (record { connection = refl; nonce = numbered; serial = refl; last_use = m.now; proved = refl; seats = refl; linked = refl })))
+          (record {
+            connection = refl;
+            nonce = numbered;
+            serial = refl;
+            last_use = m.now;
+            proved = refl;
+            seats =
+                refl;
+            linked = refl;
+          })))
         where
           link-own : (o : Option Link) → slice_get n.links place ≡ o → slice_get (set n.links place link) place ≡ Some k
               → link ≡ k
@@ -141,7 +154,8 @@ module _ (class : List ℕ → Class) (n : NodeState) (l : Looks) (m : Mirrors c
         (record {
           owes = subst (OwesAs (fresh_seat 0)) (sym fresh) fresh_owes;
           call = subst (CallStands next key (fresh_seat 0))
-              (ap (λ (q : ChannelLooks). call_at l (call_named d q.number)) (sym fresh)) (fresh_stands class n next l m key d);
+              (ap (λ (q : ChannelLooks). call_at l (call_named d q.number)) (sym fresh))
+              (fresh_stands class n next l m key d);
         })
       where
         seat-of : (o : Option ConnRecord)

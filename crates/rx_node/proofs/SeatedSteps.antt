@@ -50,7 +50,8 @@ set_up_alike class n table ends codes live a s =
 -- ---- one seat, its end and its life
 
 -- another table, other ends and lives, which differ at one key and one end at most, and what holds there
-pub record Reseats (n : NodeState) (key end : ℕ) (table : Records) (ends : EndsState) (codes : List CodeLife) (live : ℕ) : Type 0 where
+pub record Reseats (n : NodeState) (key end : ℕ) (table : Records) (ends : EndsState) (codes : List CodeLife)
+    (live : ℕ) : Type 0 where
   pub others : (k : ℕ) → (key ≡ k → ⊥) → seat_at table k ≡ seat_at n.table k
   pub records : (place : ℕ) (b : ConnRecord) → record_at table place ≡ Some b → FromRecord n.table place b
   pub ends_stay : (q : ℕ) → (q ≡ end → ⊥) → call_under ends.calls q ≡ call_under n.ends.calls q
@@ -102,7 +103,8 @@ module _ (n : NodeState) (key end : ℕ) (table : Records) (ends : EndsState) (c
             (λ apart. subst (λ (o : Option EndOfCall). IsSomeAnd o IsIdle)
             (sym (by.ends_stay q (away k q s apart is names)))
             (seats.idle k s q (sym (by.others k apart) ∙ is) names
-            (ap (λ (o : Option CodeLife). is_active_life (option_map life_of o)) (sym (by.lives_stay k apart)) ∙ inactive)));
+            (ap (λ (o : Option CodeLife). is_active_life (option_map life_of o)) (sym (by.lives_stay k apart))
+            ∙ inactive)));
         kinds = λ k s q life is names its.
             decided (is_of (is_client n.kind) (life_of life) ≡ true) key k
             (λ same. by.kinds s q life (own-at k s same is) names
@@ -162,7 +164,8 @@ module _ (class : List ℕ → Class) (n : NodeState) (key end : ℕ) (active : 
       }) s
 
   its-live : (s : Seat) (q : ℕ) → seat_at n.table key ≡ Some s → s.live ≡ Some q → end ≡ q
-  its-live s q is names = same_end end q active.seat s (one_seat n.table key active.seat s active.there is) active.live names
+  its-live s q is names = same_end end q active.seat s (one_seat n.table key active.seat s active.there is)
+      active.live names
 
   -- and seated
   pub end_seated : IsSeated n → IsSeated (record n { ends = e })

@@ -39,7 +39,8 @@ module _ (class : List ℕ → Class) (n : NodeState) (l : Looks) (m : Mirrors c
       }
 
   -- its stray aborts
-  pub mirrors_strays : (xs ys : List Stray) → xs ≡ ys → Mirrors class (record n { strays = xs }) (record l { strays = ys })
+  pub mirrors_strays : (xs ys : List Stray) → xs ≡ ys → Mirrors class (record n { strays = xs })
+      (record l { strays = ys })
   mirrors_strays xs ys same =
       record {
         now = m.now;
@@ -72,7 +73,8 @@ module _ (class : List ℕ → Class) (n : NodeState) (l : Looks) (m : Mirrors c
   pub mirrors_used : Mirrors class (record n { table = on_place place (λ r. record r { last_use = n.moment }) n.table })
       (used x.connection l)
   mirrors_used =
-      mirrors_conn class n l m place x there (λ r. record r { last_use = n.moment }) (λ r. record r { last_use = l.now })
+      mirrors_conn class n l m place x there (λ r. record r { last_use = n.moment })
+      (λ r. record r { last_use = l.now })
       (record {
         seats = λ r. refl;
         leaves = record { name = λ r. refl; channels = λ r. refl };

@@ -26,7 +26,8 @@ use Rattle.rx_node.proofs.KeptNode.{names-changed}
 use Rattle.rx_node.proofs.LifeLaws.{live_if_active}
 use Rattle.rx_node.proofs.SeatedSteps.{reseated, set_up_alike}
 use Rattle.rx_node.proofs.StartSteps.{mirrors_started, started_seat}
-use Rattle.rx_node.proofs.TableSteps.{changed-length, record_seated, seat_changed, seat_stays, seated, set-other, set-own}
+use Rattle.rx_node.proofs.TableSteps.{changed-length, record_seated, seat_changed, seat_stays, seated, set-other}
+use Rattle.rx_node.proofs.TableSteps.{set-own}
 
 -- what a node has for a call that starts under a free seat, with an end that wasn't there
 pub record Opens (n : NodeState) (key end : ℕ) (old : Seat) (code before : CodeLife) (e : EndsState) : Type 0 where
@@ -63,7 +64,8 @@ module _ (class : List ℕ → Class) (n : NodeState) (set_up : IsSetUp class n)
   stands-there None k is = absurd is
   stands-there (Some c) k is = refl
 
-  its-seat : (s : Seat) → seat_at (with_seat n.table key (started_seat number end)) key ≡ Some s → started_seat number end ≡ s
+  its-seat : (s : Seat) → seat_at (with_seat n.table key (started_seat number end)) key ≡ Some s
+      → started_seat number end ≡ s
   its-seat s is = (let both = sym (seat_changed n.table key old (started_seat number end) by.there) ∙ is in cc (both))
 
   own-code : slice_get (set n.lives key code) key ≡ Some code
@@ -93,9 +95,11 @@ module _ (class : List ℕ → Class) (n : NodeState) (set_up : IsSetUp class n)
         free = λ k s apart is names. not-named k s is names;
         names = λ s q is names. (
             let both : Some end ≡ Some q = ap (λ (u : Seat). u.live) (its-seat s is) ∙ names in cc (both));
-        there = λ s q is names. stands-there (call_under e.calls end) (fresh_call n.ends.calls.window n.moment) by.stands;
+        there = λ s q is names. stands-there (call_under e.calls end)
+            (fresh_call n.ends.calls.window n.moment) by.stands;
         idle = λ s q is names inactive.
-            absurd (false≢true (sym inactive ∙ ap (λ (o : Option CodeLife). is_active_life (option_map life_of o)) own-code
+            absurd (false≢true (sym inactive
+            ∙ ap (λ (o : Option CodeLife). is_active_life (option_map life_of o)) own-code
             ∙ by.active));
         kinds = λ s q life is names its. (
             let same : code ≡ life = (let both = sym own-code ∙ its in cc (both)) in
@@ -119,7 +123,8 @@ module _ (class : List ℕ → Class) (n : NodeState) (set_up : IsSetUp class n)
       → RoomyAt (setup_of class n) (started (setup_of class n) (life_of code) (call_named ch number) l)
       → Mirrors class opened (started (setup_of class n) (life_of code) (call_named ch number) l)
   mirrors_opened some l ch m at orderly roomy =
-      mirrors_started class n l m seats key ch at old by.there by.free number end (life_of code) e (set n.lives key code)
+      mirrors_started class n l m seats key ch at old by.there by.free number end (life_of code) e
+      (set n.lives key code)
       (record {
         numbered = λ zero. omega arith;
         active = by.active;

@@ -10,7 +10,8 @@ use Rattle.rx_model.specs.Names.{Channel, same_channel, same_name}
 use Rattle.rx_rules.specs.CallLooks.{CallLooks, fresh_call}
 use Rattle.rx_rules.specs.Classes.{Class}
 use Rattle.rx_rules.specs.Life.{Life, is_active, is_live}
-use Rattle.rx_rules.specs.Looks.{CallRecord, ConnLooks, Looks, call_at, call_named, changed_at, channel_at, fresh_channel}
+use Rattle.rx_rules.specs.Looks.{CallRecord, ConnLooks, Looks, call_at, call_named, changed_at, channel_at}
+use Rattle.rx_rules.specs.Looks.{fresh_channel}
 use Rattle.rx_rules.specs.Looks.{is_call, latest}
 use Rattle.rx_rules.specs.Records.{started}
 use Rattle.rx_rules.specs.Setup.{Setup, is_client, sending_window}
@@ -29,7 +30,8 @@ use Rattle.rx_node.specs.Lives.{life_of as life_of_code}
 use Rattle.rx_node.specs.Mirrors.{CallStands, ChannelStands, ConnStands, ConnsStand, IsChannel, Mirrors, OwesAs}
 use Rattle.rx_node.specs.Node.{IsSeated, NodeState, life_by, setup_of}
 use Rattle.rx_node.proofs.ChannelSteps.{channel_started, channel_unstarted, latest_started, latest_unstarted}
-use Rattle.rx_node.proofs.OwingSteps.{channel_before, channel_unseen, conn_before, conn_stands, key_there, one_channel, one_key}
+use Rattle.rx_node.proofs.OwingSteps.{channel_before, channel_unseen, conn_before, conn_stands, key_there, one_channel}
+use Rattle.rx_node.proofs.OwingSteps.{one_key}
 use Rattle.rx_node.proofs.TableSteps.{changed-length, decided, record_seated, seat_changed, seat_stays, seated}
 use Rattle.rx_node.proofs.LifeLaws.{live_if_active}
 
@@ -38,7 +40,8 @@ abbrev pub started_seat : ℕ → ℕ → Seat
 started_seat number end = record (fresh_seat number) { live = Some end }
 
 -- what a node keeps of a call that starts
-pub record Starts (n : NodeState) (l : Looks) (key number end : ℕ) (life : Life) (ends : EndsState) (codes : List CodeLife) : Type 0 where
+pub record Starts (n : NodeState) (l : Looks) (key number end : ℕ) (life : Life) (ends : EndsState)
+    (codes : List CodeLife) : Type 0 where
   pub numbered : number ≡ 0 → ⊥
   pub active : is_active life ≡ true
   pub living : is_live life ≡ true
@@ -79,7 +82,8 @@ module _ (class : List ℕ → Class) (n : NodeState) (l : Looks) (m : Mirrors c
   not-live o is =
       refuted (is_call (λ k. is_live k.life) o)
       (λ lives. (
-      let one = m.orderly.latest c (subst (λ (p : Option CallRecord). is_call (λ k. is_live k.life) p ≡ true) (sym is) lives) in
+      let one = m.orderly.latest c (subst (λ (p : Option CallRecord). is_call (λ k. is_live k.life) p ≡ true)
+      (sym is) lives) in
       let same : (channel_at l ch).number ≡ number = channel_number l ch ∙ one.number in
       let latest_is : latest l ch ≡ o = ap (λ (k : ℕ). call_at l (call_named ch k)) same ∙ is in
       let none : is_call (λ k. is_live k.life) o ≡ false =
@@ -126,7 +130,8 @@ module _ (class : List ℕ → Class) (n : NodeState) (l : Looks) (m : Mirrors c
             let b = record_seated n.table key seat place r here in
             let q = conn_before l ch.connection change place x conn in
             subst (λ (y : ConnLooks). ConnStands n.kind r link y) (sym q.is)
-            (conn_stands n.kind b.before r link ch.connection change q.before (channel_unseen ch.chan (λ q. fresh_channel number)) b.same
+            (conn_stands n.kind b.before r link ch.connection change q.before
+            (channel_unseen ch.chan (λ q. fresh_channel number)) b.same
             (m.conns.each place b.before link q.before b.there linked q.there)));
       }
 

@@ -170,5 +170,13 @@ record_seated t key s place b there = decided (FromRecord t place b) (key / 4) p
         record {
           before = b;
           there = sym (record_stays t (key / 4) place (seated (key % 4) s) other) ∙ there;
-          same = record { connection = refl; nonce = refl; serial = refl; last_use = refl; proved = refl; seats = refl };
+          same = record {
+            connection = refl;
+            nonce = refl;
+            serial = refl;
+            last_use = refl;
+            proved =
+                refl;
+            seats = refl;
+          };
         }

@@ -16,12 +16,14 @@ use Rattle.rx_packet.specs.Seen.{body_of}
 use Rattle.rx_packet.specs.declared.ack.AckBody.{AckBody}
 use Rattle.rx_packet.specs.declared.body.Body.{Body as PacketBody}
 use Rattle.rx_packet.specs.declared.body.Body.TheVariants as variants
-use Rattle.rx_rules.specs.After.{challenged, settled, stopped_all, taken_at, taken_data, taken_heard, taken_stopped, taken_with, with_first}
+use Rattle.rx_rules.specs.After.{challenged, settled, stopped_all, taken_at, taken_data, taken_heard, taken_stopped}
+use Rattle.rx_rules.specs.After.{taken_with, with_first}
 use Rattle.rx_rules.specs.CallLooks.{CallLooks, NodeView, after_taken, call_row}
 use Rattle.rx_rules.specs.Classes.{Class}
 use Rattle.rx_rules.specs.Judging.{end_row, is_data, is_right, live_row, opened, response_row}
 use Rattle.rx_rules.specs.Life.{after_code}
-use Rattle.rx_rules.specs.Looks.{CallRecord, ConnLooks, Looks, call_at, channel_at, is_proved, latest_name, on_call, on_channel, on_conn, on_life, on_looks}
+use Rattle.rx_rules.specs.Looks.{CallRecord, ConnLooks, Looks, call_at, channel_at, is_proved, latest_name, on_call}
+use Rattle.rx_rules.specs.Looks.{on_channel, on_conn, on_life, on_looks}
 use Rattle.rx_rules.specs.Received.{Arrival, arrival_row}
 use Rattle.rx_rules.specs.Records.{started_later}
 use Rattle.rx_rules.specs.Sent.{is_all_given, is_strange_ack}
@@ -265,7 +267,8 @@ IsAckRow _ = ⊥
 
 pub ack_rows : (v : NodeView) (m : Message) (body : Body) (k : CallLooks) → is_acking body ≡ true
     → IsAckRow (call_row v m body k)
-ack_rows v m (bodies.Ack a) k is = if-row IsAckRow (is_strange_ack a.first a.marks k.sent) tooks.Strange tooks.Heard tt tt
+ack_rows v m (bodies.Ack a) k is = if-row IsAckRow (is_strange_ack a.first a.marks k.sent) tooks.Strange
+    tooks.Heard tt tt
 ack_rows v m bodies.AckAll k is = if-row IsAckRow (is_all_given k.sent) tooks.Heard tooks.Strange tt tt
 ack_rows v m bodies.Busy k is = absurd (false≢true is)
 ack_rows v m (bodies.Abort code) k is = absurd (false≢true is)
@@ -300,7 +303,8 @@ unheard_looks v _ m k row other = absurd row
 -- ---- what is answered
 
 -- data that was judged: its call changes, and may be challenged
-pub judged_mirrors : (class : List ℕ → Class) (old heard new : NodeState) (l : Looks) (key : ℕ) (c : CallName) (k : CallRecord)
+pub judged_mirrors : (class : List ℕ → Class) (old heard new : NodeState) (l : Looks) (key : ℕ) (c : CallName)
+    (k : CallRecord)
     (got : Took) (m : Message) → IsOwn class old l key c k → is_judged got ≡ true → KeepsNode old heard
     → Mirrors class heard (taken_at (setup_of class old) got c m l)
     → ((n : Looks) → Mirrors class heard n → IsChannel n key (channel_of c)
@@ -316,7 +320,8 @@ judged_mirrors class old heard new l key c k got m own judged kept one then_ =
     (then_ begun two (same_key l begun key (channel_of c) refl own.channel))
 
 -- that wasn't: nothing changes
-pub unjudged_mirrors : (class : List ℕ → Class) (old heard : NodeState) (l : Looks) (key : ℕ) (c : CallName) (k : CallRecord)
+pub unjudged_mirrors : (class : List ℕ → Class) (old heard : NodeState) (l : Looks) (key : ℕ) (c : CallName)
+    (k : CallRecord)
     (got : Took) (m : Message) → IsOwn class old l key c k → is_data m.body ≡ true
     → got ≡ end_row (setup_of class old) l k m → is_judged got ≡ false
     → Mirrors class heard (taken_at (setup_of class old) got c m l)
@@ -329,7 +334,8 @@ unjudged_mirrors class old heard l key c k got m own is row judged one =
     ∙ sym (unjudged_with s got c m l data_row judged)) one
 
 -- an acknowledgement that isn't heard
-pub unheard_mirrors : (class : List ℕ → Class) (old heard : NodeState) (l : Looks) (key : ℕ) (c : CallName) (k : CallRecord)
+pub unheard_mirrors : (class : List ℕ → Class) (old heard : NodeState) (l : Looks) (key : ℕ) (c : CallName)
+    (k : CallRecord)
     (got : Took) (m : Message) → IsOwn class old l key c k → is_acking m.body ≡ true
     → got ≡ end_row (setup_of class old) l k m → is_heard got ≡ false
     → Mirrors class heard (taken_at (setup_of class old) got c m l)
@@ -357,7 +363,8 @@ taken_ackall s c (variants.Challenge bytes) l is other = absurd (false≢true is
 taken_ackall s c (variants.Response bytes) l is other = absurd (false≢true is)
 
 -- an acknowledgement that is heard, with its call settled
-pub settled_mirrors : (class : List ℕ → Class) (old heard new : NodeState) (l : Looks) (key : ℕ) (c : CallName) (k : CallRecord)
+pub settled_mirrors : (class : List ℕ → Class) (old heard new : NodeState) (l : Looks) (key : ℕ) (c : CallName)
+    (k : CallRecord)
     (got : Took) (m : Message) → IsOwn class old l key c k → is_heard got ≡ true
     → Mirrors class heard (taken_at (setup_of class old) got c m l)
     → ((n : Looks) → Mirrors class heard n → IsChannel n key (channel_of c)
@@ -374,15 +381,18 @@ settled_mirrors class old heard new l key c k got m own is one then_ =
 -- ---- a RESPONSE
 
 -- whether it is right
-pub right_is : (class : List ℕ → Class) (n : NodeState) (l : Looks) (key : ℕ) (c : CallName) (k : CallRecord) (nonce : ℕ)
+pub right_is : (class : List ℕ → Class) (n : NodeState) (l : Looks) (key : ℕ) (c : CallName)
+    (k : CallRecord) (nonce : ℕ)
     (bytes : List ℕ) → IsOwn class n l key c k → IsSomeAnd (record_at n.table (key / 4)) (λ r. nonce ≡ r.nonce)
     → (class n.secret).check c nonce bytes ≡ is_right (setup_of class n) l k.name bytes
 right_is class n l key c k nonce bytes own is =
-    ap (λ (x : ℕ). (class n.secret).check c x bytes) (nonce_is class n l own.mirrors key (channel_of c) own.channel nonce is)
+    ap (λ (x : ℕ). (class n.secret).check c x bytes)
+    (nonce_is class n l own.mirrors key (channel_of c) own.channel nonce is)
     ∙ ap (λ (d : CallName). is_right (setup_of class n) l d bytes) (sym (own_name l c k own.call))
 
 -- its row
-pub response_is : (s : Setup) (l : Looks) (c : CallName) (k : CallRecord) (m : Message) (bytes : List ℕ) (right proved : Bool)
+pub response_is : (s : Setup) (l : Looks) (c : CallName) (k : CallRecord) (m : Message) (bytes : List ℕ)
+    (right proved : Bool)
     → call_at l c ≡ Some k → right ≡ is_right s l k.name bytes → proved ≡ is_proved l (connection_of c)
     → response_row right proved ≡ live_row s l k m (bodies.Response bytes)
 response_is s l c k m bytes right proved there is_right is_proved_at =
@@ -390,12 +400,14 @@ response_is s l c k m bytes right proved there is_right is_proved_at =
     λ i. response_row (is_right i) (known i)
 
 -- one that is right is heard, and proves its client
-pub right_mirrors : (class : List ℕ → Class) (old heard new : NodeState) (l : Looks) (key : ℕ) (c : CallName) (k : CallRecord)
+pub right_mirrors : (class : List ℕ → Class) (old heard new : NodeState) (l : Looks) (key : ℕ) (c : CallName)
+    (k : CallRecord)
     (got : Took) (m : Message) → IsOwn class old l key c k → got ≡ tooks.Heard
     → Mirrors class heard (taken_at (setup_of class old) got c m l)
     → ((n : Looks) → Mirrors class heard n → IsChannel n key (channel_of c)
     → Mirrors class new (on_conn (connection_of c) (λ r. record r { proved = true }) n))
-    → Mirrors class new (on_conn (connection_of c) (λ r. record r { proved = true }) (taken_at (setup_of class old) tooks.Heard c m l))
+    → Mirrors class new (on_conn (connection_of c) (λ r. record r { proved = true })
+    (taken_at (setup_of class old) tooks.Heard c m l))
 right_mirrors class old heard new l key c k got m own is one then_ =
     let s : Setup = setup_of class old in
     let after : Looks = taken_at s tooks.Heard c m l in
@@ -413,7 +425,8 @@ responds_none (Some bytes) (Some count) P written is = absurd (cc (is))
 
 -- what is written is the response
 pub responds_some : (o : Option (List ℕ)) (r : Option ℕ) (count : ℕ) (old new : List ℕ)
-    → IfSome o (λ bytes. IsSomeAnd r (WritesFront bytes old new)) → (o ≡ None → (r ≡ None) × (new ≡ old)) → r ≡ Some count
+    → IfSome o (λ bytes. IsSomeAnd r (WritesFront bytes old new)) → (o ≡ None → (r ≡ None) × (new ≡ old))
+    → r ≡ Some count
     → o ≡ Some (take count new)
 responds_some None r count old new written none is =
     (let no = (none refl).0 in absurd (cc (no, is)))
@@ -421,7 +434,8 @@ responds_some (Some bytes) None count old new written none is = absurd (cc (is))
 responds_some (Some bytes) (Some n) count old new written none is =
     (let same : n ≡ count = cc (is) in
     ap (λ (xs : List ℕ). Some xs)
-    (sym (ap (λ (j : ℕ). take j new) (sym same ∙ written.counted) ∙ ap (λ (xs : List ℕ). take (length bytes) xs) written.front
+    (sym (ap (λ (j : ℕ). take j new) (sym same ∙ written.counted)
+    ∙ ap (λ (xs : List ℕ). take (length bytes) xs) written.front
     ∙ take-append_seam bytes (drop (length bytes) old))))
 
 -- its row
@@ -433,17 +447,20 @@ challenge_is s l c k m bytes o there is =
     (sym is ∙ ap (λ (d : CallName). s.class.respond d bytes) (sym (own_name l c k there)))
 
 -- one that has an answer is heard, and its channel owes it
-pub answered_mirrors : (class : List ℕ → Class) (old heard new : NodeState) (l : Looks) (key : ℕ) (c : CallName) (k : CallRecord)
+pub answered_mirrors : (class : List ℕ → Class) (old heard new : NodeState) (l : Looks) (key : ℕ) (c : CallName)
+    (k : CallRecord)
     (got : Took) (m : Message) (asked bytes : List ℕ) → IsOwn class old l key c k → got ≡ tooks.Heard
     → (class old.secret).respond c asked ≡ Some bytes
     → Mirrors class heard (taken_at (setup_of class old) got c m l)
     → ((n : Looks) → Mirrors class heard n → IsChannel n key (channel_of c)
     → Mirrors class new (on_channel (channel_of c) (λ q. record q { owed_response = Some bytes }) n))
-    → Mirrors class new (taken_heard (setup_of class old) c (bodies.Challenge asked) (taken_at (setup_of class old) tooks.Heard c m l))
+    → Mirrors class new (taken_heard (setup_of class old) c (bodies.Challenge asked)
+    (taken_at (setup_of class old) tooks.Heard c m l))
 answered_mirrors class old heard new l key c k got m asked bytes own is answer one then_ =
     let s : Setup = setup_of class old in
     let after : Looks = taken_at s tooks.Heard c m l in
-    subst (λ (o : Option (List ℕ)). Mirrors class new (on_channel (channel_of c) (λ q. record q { owed_response = o }) after))
+    subst (λ (o : Option (List ℕ)). Mirrors class new
+    (on_channel (channel_of c) (λ q. record q { owed_response = o }) after))
     (sym answer)
     (then_ after (subst (λ (t : Took). Mirrors class heard (taken_at s t c m l)) is one)
     (same_key l after key (channel_of c) refl own.channel))

@@ -1,5 +1,6 @@
 -- What is due at a node, as the code keeps it and as the rules have it. No public clause cites this module.
-use Rattle.std.specs.Prelude.{◌≡◌, ◌+◌, ◌&&◌, not, if◌then◌else◌, ℕ, ℤ, Bool, List, Option, Some, None, is_some, IsSomeAnd}
+use Rattle.std.specs.Prelude.{◌≡◌, ◌+◌, ◌&&◌, not, if◌then◌else◌, ℕ, ℤ, Bool, List, Option, Some, None, is_some}
+use Rattle.std.specs.Prelude.{IsSomeAnd}
 use Rattle.rx_model.specs.declared.names.CallName.{CallName}
 use Rattle.rx_model.specs.declared.names.Host.{Host}
 use Rattle.rx_model.specs.declared.wire.TheConstants.{SILENCE_MS}
@@ -135,12 +136,14 @@ message_of_item head i =
     }
 
 -- an item was given behind a header: what was written, and what that leaves
-pub record GaveBehind (class : List ℕ → Class) (new : NodeState) (l : Looks) (head : Head) (i : Item) (bytes : List ℕ) : Type 0 where
+pub record GaveBehind (class : List ℕ → Class) (new : NodeState) (l : Looks) (head : Head) (i : Item)
+    (bytes : List ℕ) : Type 0 where
   pub written : bytes ≡ made (message_of_item head i)
   pub leaves : (m : Message) → m.seq ≡ i.seq → Mirrors class new (given_body i.name m i.body l)
 
 -- an item was given: its datagram, for the peer of its connection, and what that leaves
-pub record Gave (class : List ℕ → Class) (old new : NodeState) (l : Looks) (i : Item) (to : Host) (bytes : List ℕ) : Type 0 where
+pub record Gave (class : List ℕ → Class) (old new : NodeState) (l : Looks) (i : Item) (to : Host)
+    (bytes : List ℕ) : Type 0 where
   pub conn : ConnLooks
   pub there : conn_at l (connection_of i.name) ≡ Some conn
   pub host : to ≡ conn.peer

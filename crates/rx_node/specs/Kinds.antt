@@ -1,4 +1,5 @@
--- Which end of its connections a node is, as the code keeps it and as the rules have it. Public clauses cite this module.
+-- Which end of its connections a node is, as the code keeps it and as the rules have it. Public clauses cite this
+-- module.
 use Rattle.rx_rules.specs.Setup.{Kind, Server, Client}
 use Rattle.rx_node.specs.declared.kind.Kind.{Kind as CodeKind}
 use Rattle.rx_node.specs.declared.kind.Kind.TheVariants as kinds

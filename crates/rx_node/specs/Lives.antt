@@ -3,7 +3,8 @@ use Rattle.std.specs.Prelude.{Bool, true, false, Some, None}
 use Rattle.rx_model.specs.declared.answers.End.{End}
 use Rattle.rx_model.specs.declared.answers.End.TheVariants as ends
 use Rattle.rx_rules.specs.After.{is_zero}
-use Rattle.rx_rules.specs.Life.{Life, after_accept, after_acks, after_cancel, after_code, after_end, after_finish, after_gone, after_later, after_silence}
+use Rattle.rx_rules.specs.Life.{Life, after_accept, after_acks, after_cancel, after_code, after_end, after_finish}
+use Rattle.rx_rules.specs.Life.{after_gone, after_later, after_silence}
 use Rattle.rx_rules.specs.Life as rules
 use Rattle.rx_node.specs.declared.life.Life.{Life as CodeLife}
 use Rattle.rx_node.specs.declared.life.Life.TheVariants as lives

@@ -1,5 +1,6 @@
 -- For what look-ups a node stands, part by part. Public clauses cite this module.
-use Rattle.std.specs.Prelude.{◌≡◌, ◌<◌, ◌/◌, ◌%◌, ◌^◌, ℕ, true, List, length, Option, Some, None, option_map, slice_get, is_some}
+use Rattle.std.specs.Prelude.{◌≡◌, ◌<◌, ◌/◌, ◌%◌, ◌^◌, ℕ, true, List, length, Option, Some, None, option_map, slice_get}
+use Rattle.std.specs.Prelude.{is_some}
 use Rattle.rx_model.specs.declared.names.CallName.{CallName}
 use Rattle.rx_model.specs.Names.{Channel}
 use Rattle.rx_rules.specs.Classes.{Class}
@@ -56,8 +57,8 @@ pub record OwesAs (seat : Seat) (q : ChannelLooks) : Type 0 where
   pub response : option_map (λ bytes. bytes.items) seat.owed_response ≡ q.owed_response
   pub ackall : seat.owed_ackall ≡ q.owed_ackall
 
--- the latest call of a channel has the life that its seat says; while that call lives, the seat names its end; while it is
--- active, its end stands for what passed at it
+-- the latest call of a channel has the life that its seat says; while that call lives, the seat names its end; while it
+-- is active, its end stands for what passed at it
 pub record CallStands (n : NodeState) (key : ℕ) (seat : Seat) (call : Option CallRecord) : Type 0 where
   pub life : seat_life n key seat ≡ option_map (λ k. k.life) call
   pub live : is_some seat.live ≡ is_call (λ k. is_live k.life) call

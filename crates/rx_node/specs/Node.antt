@@ -1,5 +1,6 @@
 -- What a contract sees of a node. Public clauses cite this module.
-use Rattle.std.specs.Prelude.{◌≡◌, ◌≤◌, ◌<◌, ◌+◌, ◌-◌, ◌*◌, ◌^◌, length, ℕ, Bool, true, false, List, Option, Some, None, option_map, option_and_then, slice_get}
+use Rattle.std.specs.Prelude.{◌≡◌, ◌≤◌, ◌<◌, ◌+◌, ◌-◌, ◌*◌, ◌^◌, length, ℕ, Bool, true, false, List, Option, Some, None}
+use Rattle.std.specs.Prelude.{option_map, option_and_then, slice_get}
 use Rattle.rx_model.specs.declared.answers.End.{End}
 use Rattle.rx_model.specs.declared.names.Limits.{Limits}
 use Rattle.rx_model.specs.declared.stray.Stray.{Stray}
@@ -15,9 +16,9 @@ use Rattle.rx_node.specs.Lives.{life_of, ended_life, is_of}
 use Rattle.rx_node.specs.declared.link.Link.{Link}
 use Rattle.rx_node.specs.declared.life.Life.{Life as CodeLife}
 
--- a node's kind, its limits and its class's secret; its moment; its connections with the seats of their channels, and the
--- peers and services of these; the ends of its calls; by the keys of channels the lives of calls that live; how many do;
--- the stray aborts that it owes
+-- a node's kind, its limits and its class's secret; its moment; its connections with the seats of their channels, and
+-- the peers and services of these; the ends of its calls; by the keys of channels the lives of calls that live; how
+-- many do; the stray aborts that it owes
 pub record NodeState : Type 0 where
   pub kind : Kind
   pub limits : Limits

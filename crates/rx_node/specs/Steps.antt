@@ -1,5 +1,5 @@
 -- What a method of a node answers and changes. Public clauses cite this module.
-use Rattle.std.specs.Prelude.{◌≡◌, ◌∷◌, ℕ, ℤ, Bool, true, false, List, Option, Some, None, take}
+use Rattle.std.specs.Prelude.{◌≡◌, ◌∷◌, ℕ, ℤ, Bool, true, false, List, Option, Some, None, Result, Ok, Err, take}
 use Rattle.rx_model.specs.declared.answers.Took.{Took}
 use Rattle.rx_model.specs.declared.answers.Took.TheVariants as tooks
 use Rattle.rx_model.specs.declared.event.Event.{Event}
@@ -7,8 +7,8 @@ use Rattle.rx_model.specs.declared.names.CallName.{CallName}
 use Rattle.rx_model.specs.declared.names.Host.{Host}
 use Rattle.rx_model.specs.Body.{Body}
 use Rattle.rx_model.specs.Body as bodies
-use Rattle.rx_model.specs.Names.{Channel, channel_of}
-use Rattle.rx_rules.specs.After.{is_ok_end, looks, served_code, told_code}
+use Rattle.rx_model.specs.Names.{Channel, Connection, channel_of}
+use Rattle.rx_rules.specs.After.{is_ok_end, looks, served_code, stopped_all, told_code}
 use Rattle.rx_rules.specs.Classes.{Class}
 use Rattle.rx_rules.specs.Judging.{Facts}
 use Rattle.rx_rules.specs.Life.{Life}
@@ -20,7 +20,8 @@ use Rattle.rx_node.specs.Node.{NodeState, setup_of}
 use Rattle.rx_node.specs.declared.facts.Facts.{Facts as CodeFacts}
 
 -- a call is the latest of its channel, which has this key
-pub record IsOwn (class : List ℕ → Class) (n : NodeState) (l : Looks) (key : ℕ) (c : CallName) (k : CallRecord) : Type 0 where
+pub record IsOwn (class : List ℕ → Class) (n : NodeState) (l : Looks) (key : ℕ) (c : CallName)
+    (k : CallRecord) : Type 0 where
   pub mirrors : Mirrors class n l
   pub channel : IsChannel l key (channel_of c)
   pub latest : latest_name l (channel_of c) ≡ c
@@ -113,3 +114,17 @@ given_from (Some (host, count)) to = Some (host, take count to)
 abbrev pub given_count : Option (Host × ℕ) → ℕ
 given_count None = 0
 given_count (Some (host, count)) = count
+
+-- ---- answers with bytes
+
+-- how many bytes a write accepted
+abbrev pub written_count : {E : Type 0} → Result ℕ E → ℕ
+written_count (Ok n) = n
+written_count (Err refused) = 0
+
+-- ---- codes
+
+-- an ABORT reaches each call of a connection
+abbrev pub stopped_by : Body → Connection → Looks → Looks
+stopped_by (bodies.Abort code) x l = stopped_all x code l
+stopped_by _ x l = l

@@ -1,4 +1,5 @@
-ghost use Rattle.std.specs.Prelude.{◌≡◌, ◌≤◌, ◌<◌, ◌+◌, ◌*◌, ◌/◌, ◌%◌, ◌^◌, ◌++◌, ◌∷◌, [], ℕ, Some, None, length, slice_get};
+ghost use Rattle.std.specs.Prelude.{◌≡◌, ◌≤◌, ◌<◌, ◌+◌, ◌*◌, ◌/◌, ◌%◌, ◌^◌, ◌++◌, ◌∷◌, [], ℕ, Some, None, length};
+ghost use Rattle.std.specs.Prelude.{slice_get};
 ghost use Rattle.std.specs.Prelude.{IfOk, IfSome, IsNone, IsSomeAnd, false};
 ghost use Rattle.std.specs.Borrow.{sem};
 ghost use Rattle.rx_model.specs.Body as models;
@@ -39,9 +40,9 @@ pub use taking::is_data;
 
 /// What a node keeps, whichever end it is (`rx.h`, `struct rx_connection` and `struct rx_call`, for what it is about).
 ///
-/// A channel goes by its key, which is four times the place of its connection and the channel. Its seat in the table says
-/// of its latest call the number and how it ended; while that call lives, the seat has the key of its end in `ends`, and
-/// `lives` has its life by the channel's key.
+/// A channel goes by its key, which is four times the place of its connection and the channel. Its seat in the table
+/// says of its latest call the number and how it ended; while that call lives, the seat has the key of its end in
+/// `ends`, and `lives` has its life by the channel's key.
 #[derive(Drop)]
 pub struct Node<C: Class> {
     kind: Kind,
@@ -212,8 +213,8 @@ impl<C: Class> Node<C> {
         &self.links[place as usize]
     }
 
-    /// The place that may be used anew: that of the connection whose last use is the longest ago, of those without a live call
-    /// that weren't used for 600,000 milliseconds.
+    /// The place that may be used anew: that of the connection whose last use is the longest ago, of those without a
+    /// live call that weren't used for 600,000 milliseconds.
     pub fn idle(&self) -> Option<u32>
         ensures longest { IfSome result (IsLongestIdle self.now.moment self.now.table) }
         ensures none { IsNone result → (place : ℕ) → idle_since self.now.moment self.now.table place ≡ None }
@@ -326,8 +327,8 @@ impl<C: Class> Node<C> {
         Some(key)
     }
 
-    /// DATA of a service that a server hasn't owes a stray abort (`rx.h`, `RX_INVALID_OPERATION`); of more than 64 the oldest is
-    /// dropped.
+    /// DATA of a service that a server hasn't owes a stray abort (`rx.h`, `RX_INVALID_OPERATION`); of more than 64 the
+    /// oldest is dropped.
     pub fn owe_stray(&mut self, from: Host, head: &Head)
         ensures steps { (body : models.Body) → StepsNode C.class_of self.old self.new (λ l. record l {
           strays = last_of STRAYS (l.strays ++ rules_stray_of from (message_with_head head.now body) ∷ []);
@@ -340,7 +341,8 @@ impl<C: Class> Node<C> {
 
 /// The name of the call that a message from a peer, or for one, speaks of.
 pub fn named(kind: Kind, peer: Host, head: &Head) -> CallName
-    ensures name { (body : models.Body) → result ≡ name_of (client_host (kind_of kind) peer) (message_with_head head.now body) }
+    ensures name { (body : models.Body) → result ≡ name_of (client_host (kind_of kind) peer)
+        (message_with_head head.now body) }
     ensures cid { result.cid + 3 < 2 ^ 32 }
     ensures chan { result.chan < 4 }
 {

@@ -134,12 +134,6 @@ has_place w slot seq last e =
       empty = none_of (place_at w.places (seq - suc w.used)) repeat.1;
     }
 
--- such a packet finds a free slot
-pub has_free : (left free front seq : ℕ) (leadless : Bool) → slot_behind leadless left seq front ≡ true →
-    left + cond leadless 1 0 ≤ free → 0 < free
-has_free left free front seq true h le = omega (arith, le)
-has_free left free front seq false h le = let some : nat_lt 0 left ≡ true = h in grind (arith, nat_tests, some, le)
-
 pub can_come : (w : Window) (d : Received) (slot : Bool) (p : Packet) → StandsFor w d → w.used < p.seq →
     p.seq ≤ w.used + w.width → p.seq < 2 ^ 32 - 1 → arrival_row (arrival_in w slot p.seq p.piece.last) ≡ tooks.Kept →
     CanCome w d p

@@ -1,7 +1,7 @@
 -- Places and what lies in them.
 use Rattle.std.proofs.Common.{◌≡◌, inl, inr, ◌<◌, ◌≤◌, ◌+◌, ◌-◌, ◌^◌, is_some}
 use Rattle.std.proofs.Common.{true, false, ℕ, suc, zero, List, [], ◌∷◌, ◌++◌, length, get_or, set, drop}
-use Rattle.std.proofs.Common.{Option, Some, None, refl, sym, ap, subst, ◌∙◌, arith, add-one}
+use Rattle.std.proofs.Common.{Option, Some, None, refl, sym, ap, subst, ◌∙◌, arith}
 use Rattle.std.proofs.lemmas.Bool.{cases_lt, cases_eq, false≢true}
 use Rattle.rx_model.specs.declared.wire.TheConstants.{PAYLOAD_BYTES}
 use Rattle.rx_recvwin.specs.declared.packet.KeptPacket.{KeptPacket}
@@ -59,10 +59,6 @@ leading_next (None ∷ bs) zero x e lt h = absurd (false≢true (sym (ap is_some
 leading_next (Some b ∷ bs) zero x e lt h = refl
 leading_next (b ∷ bs) (suc n) x e lt h = leading_next bs n x e (omega (arith, lt)) h
 
-pub leading_step : {X : Type 0} (bs : List (Option X)) (n : ℕ) (x : Option X) → x ≡ get_or bs n x → n < length bs →
-    is_some x ≡ true → leading (drop n bs) ≡ suc (leading (drop (n + 1) bs))
-leading_step bs n x e lt h = rw add-one (leading_next bs n x e lt h)
-
 pub leading_end : {X : Type 0} (bs : List (Option X)) (n : ℕ) (x : Option X) → x ≡ get_or bs n x → n < length bs →
     is_some x ≡ false → leading (drop n bs) ≡ 0
 leading_end [] n x e lt h = absurd (omega (arith, lt))
@@ -101,11 +97,6 @@ fits_put u bs i b f lt = (
     | inr apart ↦ f.1 j (ap is_some (sym (place_set_other bs i j b apart)) ∙ t)
   ],
 )
-
-pub first_at : {X : Type 0} (bs : List (Option X)) (o : Option X) → 0 < length bs → o ≡ get_or bs 0 o →
-    o ≡ place_at bs 0
-first_at [] o lt e = absurd (omega (arith, lt))
-first_at (b ∷ bs) o lt e = e
 
 -- ---- turned: the first place goes to the end, freed
 

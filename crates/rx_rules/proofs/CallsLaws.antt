@@ -1,12 +1,11 @@
 -- Changes of calls, seen at one name: a change of all records is one of each, and the slots that they hold are summed
 -- anew.
 use Rattle.std.proofs.Common.{◌≡◌, ◌+◌, cond, Bool, true, false, List, [], ◌∷◌, map, Option, Some, option_map}
-use Rattle.std.proofs.Common.{refl, ◌∙◌, ap, arith, if◌then◌else◌}
+use Rattle.std.proofs.Common.{refl, ◌∙◌, ap, if◌then◌else◌}
 use Rattle.std.specs.List.{find}
 use Rattle.rx_model.specs.declared.names.CallName.{CallName}
 use Rattle.rx_rules.specs.Looks.{CallRecord, Looks, call_at, on_call, on_calls}
 use Rattle.rx_model.specs.Names.{same_name}
-use Rattle.rx_rules.specs.Slots.{beside, beside_all}
 
 -- a change that leaves each record its name
 abbrev pub KeepsNames : (CallRecord → CallRecord) → Type 0
@@ -49,8 +48,3 @@ call_at-on_call c d change l keeps =
     call_at-on_calls c (changed_if d change) l (λ k. changed_if-name (same_name k.name d) change k (keeps k))
 
 -- ---- slots
-
--- one change at a time: what a call holds beside its own slot goes, what it holds then comes
-pub beside-on : (change : CallRecord → CallRecord) (k : CallRecord) (ks : List CallRecord)
-    → beside_all (change k ∷ ks) + beside k ≡ beside_all (k ∷ ks) + beside (change k)
-beside-on change k ks = omega arith

@@ -1,9 +1,11 @@
 -- The number of a channel behind changes of connections and channels.
-use Rattle.std.proofs.Common.{◌≡◌, ◌≤◌, ◌<◌, ℕ, zero, suc, cond, if◌then◌else◌, Bool, true, false, List, [], ◌∷◌, length, map}
+use Rattle.std.proofs.Common.{◌≡◌, ◌≤◌, ◌<◌, ℕ, zero, suc, cond, if◌then◌else◌, Bool, true, false, List, [], ◌∷◌}
+use Rattle.std.proofs.Common.{length, map}
 use Rattle.std.proofs.Common.{Option, Some, None, option_map, refl, ◌∙◌, ap, arith}
 use Rattle.std.specs.Prelude.{option_and_then, slice_get, unwrap_or}
 use Rattle.std.specs.List.{find}
-use Rattle.rx_rules.specs.Looks.{ChannelLooks, ConnLooks, Looks, changed_at, channel_at, conn_at, fresh_channel, on_conn}
+use Rattle.rx_rules.specs.Looks.{ChannelLooks, ConnLooks, Looks, changed_at, channel_at, conn_at, fresh_channel}
+use Rattle.rx_rules.specs.Looks.{on_conn}
 use Rattle.rx_model.specs.Names.{Connection, Channel, same_connection}
 
 -- the number of the n-th channel, 0 where there is none

@@ -23,11 +23,6 @@ fresh-number x (suc (suc zero)) = refl
 fresh-number x (suc (suc (suc zero))) = refl
 fresh-number x (suc (suc (suc (suc n)))) = refl
 
-fresh-numbers : (test : Bool) (x : Connection) (new : ConnLooks) (n : ℕ) → new.channels ≡ fresh_channels x
-    → number_of (cond test (Some new) None) n ≡ 0
-fresh-numbers true x new n is = ap (λ (qs : List ChannelLooks). number_in qs n) is ∙ fresh-number x n
-fresh-numbers false x new n is = refl
-
 fresh-fours : (test : Bool) (x : Connection) (new : ConnLooks) → new.channels ≡ fresh_channels x
     → Fours (cond test (Some new) None)
 fresh-fours true x new is = ap (λ (qs : List ChannelLooks). length qs) is

@@ -6,11 +6,13 @@ use Rattle.std.specs.Prelude.{slice_get, unwrap_or}
 use Rattle.rx_model.specs.declared.names.CallName.{CallName}
 use Rattle.rx_rules.specs.CallLooks.{CallLooks}
 use Rattle.rx_rules.specs.Life.{Life, is_waiting}
-use Rattle.rx_rules.specs.Looks.{CallRecord, ChannelLooks, ConnLooks, Looks, call_at, changed_at, conn_at, fresh_channel, on_call}
+use Rattle.rx_rules.specs.Looks.{CallRecord, ChannelLooks, ConnLooks, Looks, call_at, changed_at, conn_at}
+use Rattle.rx_rules.specs.Looks.{fresh_channel, on_call}
 use Rattle.rx_rules.specs.Looks.{on_calls, on_channel, on_conn, on_life, on_looks}
 use Rattle.rx_model.specs.Names.{Connection, Channel, connection_of, same_connection, same_name}
 use Rattle.rx_rules.proofs.CallsLaws.{KeepsNames, changed_if, changed_if-name, call_at-on_calls}
-use Rattle.rx_rules.proofs.ConnsLaws.{KeepsConns, conn_if, conn_at-on_conn, number_in, number_in-changed, number_of, length-changed}
+use Rattle.rx_rules.proofs.ConnsLaws.{KeepsConns, conn_if, conn_at-on_conn, number_in, number_in-changed, number_of}
+use Rattle.rx_rules.proofs.ConnsLaws.{length-changed}
 
 -- a call that waits behind the change waited before it; none comes, and none goes
 abbrev pub Lives : Option CallRecord → Option CallRecord → Type 0

@@ -1,5 +1,6 @@
 -- The least of a list is one of the list.
-use Rattle.std.proofs.Common.{◌≡◌, ℕ, nat_le, if◌then◌else◌, true, false, List, [], ◌∷◌, Option, Some, None, refl, subst}
+use Rattle.std.proofs.Common.{◌≡◌, ℕ, nat_le, if◌then◌else◌, true, false, List, [], ◌∷◌, Option, Some, None, refl}
+use Rattle.std.proofs.Common.{subst}
 use Rattle.rx_rules.specs.Least.{least_by, lesser_by}
 use Rattle.rx_rules.proofs.EveryLaws.{Every}
 

@@ -10,7 +10,8 @@ use Rattle.rx_model.specs.Names.{Connection, connection_of, same_connection, sam
 use Rattle.rx_rules.specs.Records.{started, with_call}
 use Rattle.rx_rules.specs.Setup.{Setup}
 use Rattle.rx_rules.proofs.CallsLaws.{call_at-on_calls}
-use Rattle.rx_rules.proofs.ConnsLaws.{conn_if, conn_at-on_conn, length-changed, number_in, number_in-changed, number_in-here, number_of}
+use Rattle.rx_rules.proofs.ConnsLaws.{conn_if, conn_at-on_conn, length-changed, number_in, number_in-changed}
+use Rattle.rx_rules.proofs.ConnsLaws.{number_in-here, number_of}
 use Rattle.rx_rules.proofs.FindLaws.{find_passes, list_any-none, find-last, find-before}
 use Rattle.rx_rules.proofs.KeepsLaws.{Fours, Keeps, Lives, lives-refl}
 use Rattle.rx_model.proofs.NameLaws.{connection_is, name_is, name_itself}

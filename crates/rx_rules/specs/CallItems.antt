@@ -9,7 +9,8 @@ use Rattle.rx_rules.specs.Least.{least_by}
 use Rattle.rx_rules.specs.Owing.{Owed}
 use Rattle.rx_rules.specs.Rates.{Cwnd}
 use Rattle.rx_rules.specs.Received.{Received, used_of, marks_of}
-use Rattle.rx_rules.specs.Sent.{Sent, LastGiving, piece_at, counting_of, given_of, in_flight, is_let, last_giving, lowest_of}
+use Rattle.rx_rules.specs.Sent.{Sent, LastGiving, piece_at, counting_of, given_of, in_flight, is_let, last_giving}
+use Rattle.rx_rules.specs.Sent.{lowest_of}
 use Rattle.rx_rules.specs.Sent.{after_giving}
 
 -- a piece, for the first time or again; an acknowledgement

@@ -8,11 +8,13 @@ use Rattle.rx_model.specs.Body.{Body, AckBody}
 use Rattle.rx_model.specs.Body as bodies
 use Rattle.rx_model.specs.Message.{Message, has_flag}
 use Rattle.rx_rules.specs.Owing.{Owed, owed_for, owed_for_ack, owed_for_read}
-use Rattle.rx_rules.specs.Rates.{Rtt, Cwnd, first_rtt, first_cwnd, after_sample, after_backoff, after_acked, after_timeout}
+use Rattle.rx_rules.specs.Rates.{Rtt, Cwnd, first_rtt, first_cwnd, after_sample, after_backoff, after_acked}
+use Rattle.rx_rules.specs.Rates.{after_timeout}
 use Rattle.rx_rules.specs.Received.{Received, Packet, Arrival, nothing_received, after_packet, arrival_of, arrival_row}
 use Rattle.rx_rules.specs.Received.{has_slot, front_of, is_no_seq, used_of, count_above}
 use Rattle.rx_rules.specs.Received as packets
-use Rattle.rx_rules.specs.Sent.{Sent, Newly, nothing_sent, held_pieces, given_of, is_all_given, is_strange_ack, newly_of}
+use Rattle.rx_rules.specs.Sent.{Sent, Newly, nothing_sent, held_pieces, given_of, is_all_given, is_strange_ack}
+use Rattle.rx_rules.specs.Sent.{newly_of}
 use Rattle.rx_rules.specs.Sent as streams
 
 -- what it received and what it said; its rates; the acknowledgement that it owes; the moment at which it was last

@@ -11,7 +11,8 @@ use Rattle.rx_rules.specs.CallItems.{CallItem, call_items, sending_flags, sendin
 use Rattle.rx_rules.specs.Judging.{nonce_at}
 use Rattle.rx_rules.specs.Least.{least_by}
 use Rattle.rx_rules.specs.Life.{is_live, is_active}
-use Rattle.rx_rules.specs.Looks.{CallRecord, ChannelLooks, ConnLooks, Looks, call_named, channel_at, conn_at, is_call, is_proved}
+use Rattle.rx_rules.specs.Looks.{CallRecord, ChannelLooks, ConnLooks, Looks, call_named, channel_at, conn_at, is_call}
+use Rattle.rx_rules.specs.Looks.{is_proved}
 use Rattle.rx_rules.specs.Looks.{latest}
 use Rattle.rx_model.specs.Message.{Message}
 use Rattle.rx_model.specs.Names.{Channel, connection_of, channels_of}

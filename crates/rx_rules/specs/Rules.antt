@@ -29,7 +29,8 @@ use Rattle.rx_rules.specs.Items.{poll_answer}
 use Rattle.rx_rules.specs.Judging.{took_of}
 use Rattle.rx_rules.specs.Life.{Life, is_live, is_waiting}
 use Rattle.rx_rules.specs.Life as lives
-use Rattle.rx_rules.specs.Looks.{CallRecord, ConnLooks, Looks, call_at, call_named, channel_at, conn_at, is_call, is_proved}
+use Rattle.rx_rules.specs.Looks.{CallRecord, ConnLooks, Looks, call_at, call_named, channel_at, conn_at, is_call}
+use Rattle.rx_rules.specs.Looks.{is_proved}
 use Rattle.rx_rules.specs.Looks.{latest}
 use Rattle.rx_model.specs.Message.{IsBytes}
 use Rattle.rx_model.specs.Names.{Channel, channel_of, channels_of, connection_of}

@@ -1,6 +1,7 @@
 -- What one end said: the pieces of its stream, which of them were given, and what the other end acknowledged. Public
 -- clauses cite this module.
-use Rattle.std.specs.Prelude.{◌==◌, ◌&&◌, ◌||◌, ◌+◌, ◌-◌, ◌*◌, ◌/◌, not, if◌then◌else◌, min, max, nat_lt, nat_le, is_some}
+use Rattle.std.specs.Prelude.{◌==◌, ◌&&◌, ◌||◌, ◌+◌, ◌-◌, ◌*◌, ◌/◌, not, if◌then◌else◌, min, max, nat_lt, nat_le}
+use Rattle.std.specs.Prelude.{is_some}
 use Rattle.std.specs.Prelude.{ℕ, suc, zero, Bool, true, false, List, [], ◌∷◌, ◌++◌, length, take, drop, slice_index_or}
 use Rattle.std.specs.Prelude.{Option, Some, None, option_and_then}
 use Rattle.rx_model.specs.declared.wire.TheConstants.{PIECE_BYTES, LAST_SEQ, FIRST_PEER_WINDOW, MAX_WINDOW}

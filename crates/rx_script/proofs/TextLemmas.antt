@@ -1,5 +1,6 @@
 -- A text read line by line is the text read.
-use Rattle.std.proofs.Common.{◌≡◌, ℕ, suc, ◌+◌, ◌≤◌, add-one, ◌++◌, List, [], ◌∷◌, length, reverse, Ok, Err, refl, ap, sym, ◌∙◌, append_assoc, lit≤}
+use Rattle.std.proofs.Common.{◌≡◌, ℕ, suc, ◌+◌, ◌≤◌, add-one, ◌++◌, List, [], ◌∷◌, length, reverse, Ok, Err, refl, ap}
+use Rattle.std.proofs.Common.{sym, ◌∙◌, append_assoc, lit≤}
 use Rattle.std.proofs.lemmas.List.{append-nil, reverse-append}
 use Rattle.rx_script.specs.declared.fault.LineFault.{LineFault}
 use Rattle.rx_script.specs.declared.fault.LineFault.TheVariants.{BadLine, OutOfMemory}

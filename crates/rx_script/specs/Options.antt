@@ -1,5 +1,6 @@
 -- The options of lines: one table of their names. Public clauses cite this module.
-use Rattle.std.specs.Prelude.{◌-◌, ◌^◌, ◌||◌, if◌then◌else◌, codes, nat_eq, ℕ, Bool, true, false, List, [], ◌∷◌, drop, length, is_some, unwrap_or, Option, Some, None, Result, Ok, Err}
+use Rattle.std.specs.Prelude.{◌-◌, ◌^◌, ◌||◌, if◌then◌else◌, codes, nat_eq, ℕ, Bool, true, false, List, [], ◌∷◌, drop}
+use Rattle.std.specs.Prelude.{length, is_some, unwrap_or, Option, Some, None, Result, Ok, Err}
 use Rattle.std.specs.List.{starts_with}
 use Rattle.std.specs.Option.{ok_or}
 use Rattle.rx_model.specs.declared.names.Limits.{Limits}

@@ -1,6 +1,7 @@
 -- The lines of plans and of plans of peers: a row for each, with the types of its words. Public clauses cite this
 -- module.
-use Rattle.std.specs.Prelude.{if◌then◌else◌, codes, nat_eq, ℕ, Bool, true, false, List, [], ◌∷◌, drop, is_some, Option, Some, None, Result, Ok, Err, bytes_eq}
+use Rattle.std.specs.Prelude.{if◌then◌else◌, codes, nat_eq, ℕ, Bool, true, false, List, [], ◌∷◌, drop, is_some, Option}
+use Rattle.std.specs.Prelude.{Some, None, Result, Ok, Err, bytes_eq}
 use Rattle.std.specs.List.{starts_with}
 use Rattle.std.specs.Option.{ok_or}
 use Rattle.rx_model.specs.declared.names.Host.{Host}
@@ -28,7 +29,9 @@ use Rattle.rx_script.specs.Options.{options_word, limits_in, service_in, nonce_i
 use Rattle.rx_script.specs.Procs.{proc_word, args_word}
 use Rattle.rx_script.specs.Saying.{Said, invoked, Invocation, plan_said, peer_said}
 use Rattle.rx_script.specs.Verbs.{verb_in}
-use Rattle.rx_script.specs.Words.{LineForm, and_then, word, end, no_more, number_word, host_word, bytes_word, code_word, fault_word, cid_word, max_word, moment_word, seed_word, epoch_word, name_word, caller_word, node_word, nodes_word, call_word}
+use Rattle.rx_script.specs.Words.{LineForm, and_then, word, end, no_more, number_word, host_word, bytes_word, code_word}
+use Rattle.rx_script.specs.Words.{fault_word, cid_word, max_word, moment_word, seed_word, epoch_word, name_word}
+use Rattle.rx_script.specs.Words.{caller_word, node_word, nodes_word, call_word}
 
 -- ---- calls with their callers
 

@@ -1,5 +1,6 @@
 -- Texts read line by line: what all grammars share. Public clauses cite this module.
-use Rattle.std.specs.Prelude.{◌==◌, ◌&&◌, if◌then◌else◌, nat_lt, ℕ, suc, Bool, true, false, List, [], ◌∷◌, length, reverse, Result, Ok, Err}
+use Rattle.std.specs.Prelude.{◌==◌, ◌&&◌, if◌then◌else◌, nat_lt, ℕ, suc, Bool, true, false, List, [], ◌∷◌, length}
+use Rattle.std.specs.Prelude.{reverse, Result, Ok, Err}
 use Rattle.rx_script.specs.declared.fault.LineFault.{LineFault}
 use Rattle.rx_script.specs.declared.fault.LineFault.TheVariants.{BadLine}
 use Rattle.rx_script.specs.declared.fault.LineWhy.TheVariants as whys

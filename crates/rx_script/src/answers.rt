@@ -7,7 +7,9 @@ ghost use Rattle.rx_script.specs.Same.{same_value};
 ghost use Rattle.xdr_value.specs.Tests.{is_known, params_known};
 ghost use Rattle.xdr_value.specs.View.{kind_of, types_of, procs_of, proc_of, param_of, value_of, values_of};
 ghost use Rattle.rx_script.specs.Answered.{IsAnswered, maybe_saying, maybe_value};
-ghost use Rattle.rx_script.specs.Answers.{answer_of, block_named, byte_count, came, code_of, download, fail_code, first_given, given_value, gives, held_code, last_of, lines_answer, reply_value, sends, start_value, values_by};
+ghost use Rattle.rx_script.specs.Answers.{answer_of, block_named, byte_count, came, code_of, download, fail_code};
+ghost use Rattle.rx_script.specs.Answers.{first_given, given_value, gives, held_code, last_of, lines_answer};
+ghost use Rattle.rx_script.specs.Answers.{reply_value, sends, start_value, values_by};
 ghost use Rattle.rx_script.specs.Saying.{blocks_of, block_of, saying_of};
 
 use crate::procs::{comes, returns};

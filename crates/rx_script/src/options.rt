@@ -2,7 +2,9 @@
 
 ghost use Rattle.std.specs.Prelude.{◌≡◌, ◌-◌, ◌^◌, is_some, option_map};
 ghost use Rattle.rx_script.specs.Numbers.{key_in};
-ghost use Rattle.rx_script.specs.Options.{option_text, option_in, value_text, once, number_value, with_value, may_stand, with_option, options_word, has_key, limits_in, service_in, nonce_in, first_in};
+ghost use Rattle.rx_script.specs.Options.{option_text, option_in, value_text, once, number_value, with_value};
+ghost use Rattle.rx_script.specs.Options.{may_stand, with_option, options_word, has_key, limits_in, service_in};
+ghost use Rattle.rx_script.specs.Options.{nonce_in, first_in};
 
 use crate::bytes_word::key_in;
 use crate::fault::LineWhy;

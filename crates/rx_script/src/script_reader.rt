@@ -1,12 +1,15 @@
 //! The reader of scripts.
 
-ghost use Rattle.std.specs.Prelude.{◌≡◌, ◌≤◌, ◌++◌, ◌∷◌, IfOk, IfErr, IfSome, OnOk, map, option_map, slice_get, true, false, []};
+ghost use Rattle.std.specs.Prelude.{◌≡◌, ◌≤◌, ◌++◌, ◌∷◌, IfOk, IfErr, IfSome, OnOk, map, option_map, slice_get, true};
+ghost use Rattle.std.specs.Prelude.{false, []};
 ghost use Rattle.std.specs.List.{Contains};
 ghost use Rattle.xdr_value.specs.View.{types_of, procs_of, proc_of};
 ghost use Rattle.rx_script.specs.Drafts.{draft_of, marked_of, opened_of};
 ghost use Rattle.rx_script.specs.Reading.{IsAt, IsFaultOf, IsSeen};
 ghost use Rattle.rx_script.specs.Saying.{blocks_of, saying_of};
-ghost use Rattle.rx_script.specs.Scripts.{by_verb, by_words, closed, closed_from, first_marked, has_block, in_block, lacking, lacks, new_block, no_lines, on_line, placed_from, sayings, script_of, script_step};
+ghost use Rattle.rx_script.specs.Scripts.{by_verb, by_words, closed, closed_from, first_marked, has_block, in_block};
+ghost use Rattle.rx_script.specs.Scripts.{lacking, lacks, new_block, no_lines, on_line, placed_from, sayings};
+ghost use Rattle.rx_script.specs.Scripts.{script_of, script_step};
 ghost use Rattle.rx_script.specs.Texts.{with_line};
 
 use crate::fault::{LineFault, LineWhy, Refusal};

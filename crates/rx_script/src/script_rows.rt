@@ -6,7 +6,8 @@ ghost use Rattle.xdr_value.specs.View.{types_of, procs_of, proc_of};
 ghost use Rattle.rx_script.specs.Drafts.{before_of};
 ghost use Rattle.rx_script.specs.Reading.{IsSeen};
 ghost use Rattle.rx_script.specs.Saying.{saying_of, fail, send};
-ghost use Rattle.rx_script.specs.ScriptRows.{copy_line, count_line, is_down, is_up, is_wait, script_line, set_line, size_line, wait_line, when_line};
+ghost use Rattle.rx_script.specs.ScriptRows.{copy_line, count_line, is_down, is_up, is_wait, script_line, set_line};
+ghost use Rattle.rx_script.specs.ScriptRows.{size_line, wait_line, when_line};
 ghost use Rattle.rx_script.specs.Words.{bytes_word, end, fault_word, word};
 
 use crate::fault::{LineWhy, Refusal};

@@ -9,7 +9,8 @@ ghost use Rattle.rx_script.specs.Answered.{IsAnswered};
 ghost use Rattle.rx_script.specs.Answers.{answer_of, block_named, reply};
 ghost use Rattle.rx_script.specs.Saying.{block_of, blocks_of};
 ghost use Rattle.rx_script.specs.ScriptRows.{is_down, is_up};
-ghost use Rattle.rx_script.specs.Served.{IsServed, as_counted, block_has, counted, counted_at, download_answer, served_answer, served_by, served_of, served_with, upload_of};
+ghost use Rattle.rx_script.specs.Served.{IsServed, as_counted, block_has, counted, counted_at, download_answer};
+ghost use Rattle.rx_script.specs.Served.{served_answer, served_by, served_of, served_with, upload_of};
 
 use crate::answers::Answer;
 use crate::limits::MAX_BYTES;

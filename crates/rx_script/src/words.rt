@@ -2,7 +2,9 @@
 
 ghost use Rattle.std.specs.Prelude.{◌≡◌, ◌<◌, ◌∷◌, ◌-◌, ◌^◌, drop, length, IfOk, IfErr};
 ghost use Rattle.rx_script.specs.Reading.{IsAnswer, IsUnfilled};
-ghost use Rattle.rx_script.specs.Words.{first_as, no_more, number_word, host_word, bytes_word, code_word, fault_word, cid_word, max_word, moment_word, seed_word, epoch_word, name_word, caller_word, node_word, nodes_word, call_word};
+ghost use Rattle.rx_script.specs.Words.{first_as, no_more, number_word, host_word, bytes_word, code_word, fault_word};
+ghost use Rattle.rx_script.specs.Words.{cid_word, max_word, moment_word, seed_word, epoch_word, name_word, caller_word};
+ghost use Rattle.rx_script.specs.Words.{node_word, nodes_word, call_word};
 
 use crate::bytes_word::bytes_in;
 use crate::fault::{LineWhy, Refusal};

@@ -4,10 +4,10 @@ use Rattle.std.proofs.Common.{false, refl}
 use Rattle.std.proofs.Common.{sym, ap, ◌∙◌, arith}
 use Rattle.std.proofs.lemmas.Bool.Decides.{nat_tests}
 use Rattle.rx_rules.specs.Received.{reach}
-use Rattle.rx_rules.specs.Sent.{Sent, Giving, counting_by, given_of, greatest_given, last_giving, is_acked}
+use Rattle.rx_rules.specs.Sent.{Sent, Giving, given_of, greatest_given, last_giving, is_acked}
 use Rattle.rx_pool.specs.Pool.{Slots}
 use Rattle.rx_sendwin.specs.Pieces.{giving_in}
-use Rattle.rx_sendwin.specs.Window.{SendWindow, StandsSent, IsTied, CanBeSent}
+use Rattle.rx_sendwin.specs.Window.{SendWindow, StandsSent, IsTied}
 use Rattle.rx_sendwin.specs.Next.{again_of}
 use Rattle.rx_sendwin.proofs.Acks.{lowest_reach, leading_within}
 use Rattle.rx_sendwin.proofs.Standing.{known_is, counting_most}
@@ -50,29 +50,3 @@ low_held w low flight tied lt =
     let most = tied.given_most in
     let counted = counting_most w.total w.shut in
     omega (arith, lt, held, most, counted)
-
-pub lowest_may : (w : SendWindow) (low flight seq : ℕ) → IsTied w low flight → w.acked + low < w.given →
-    seq ≡ w.acked + low + 1 → CanBeSent w seq
-lowest_may w low flight seq tied lt is =
-    let held = tied.held in
-    let most = tied.given_most in
-    let counted = counting_most w.total w.shut in
-    record {
-      above = omega (arith, is);
-      held = omega (arith, is, lt, held, most, counted);
-      counts = omega (arith, is, lt, most);
-      before = omega (arith, is, lt);
-    }
-
-pub fresh_may : (w : SendWindow) (low flight : ℕ) → IsTied w low flight → w.given < counting_by w.total w.shut →
-    CanBeSent w (w.given + 1)
-fresh_may w low flight tied lt =
-    let held = tied.held in
-    let least = tied.acked_most in
-    let counted = counting_most w.total w.shut in
-    record {
-      above = omega (arith, least);
-      held = omega (arith, lt, held, counted);
-      counts = omega (arith, lt);
-      before = omega arith;
-    }

@@ -1,13 +1,13 @@
 -- The connection that was used the longest ago, of those looked at.
 use Rattle.std.proofs.Common.{◌≡◌, ◌+◌, ◌-◌, ◌*◌, ◌<◌, ◌≤◌, ℕ, Bool, cond, List}
 use Rattle.std.proofs.Common.{length, get_or, take, drop}
-use Rattle.std.proofs.Common.{Option, Some, None, IsSome, is_some, refl, ap, sym, ◌∙◌, arith, option_and_then}
-use Rattle.std.proofs.lemmas.Option.{none-some, slice_get_within}
+use Rattle.std.proofs.Common.{Option, Some, None, IsSome, refl, ap, sym, ◌∙◌, arith, option_and_then}
+use Rattle.std.proofs.lemmas.Option.{slice_get_within}
 use Rattle.std.specs.Option.{MatchOption}
 use Rattle.rx_table.specs.declared.conn.Conn.{Conn}
 use Rattle.rx_table.specs.declared.seat.Seat.{Seat}
 use Rattle.rx_table.specs.Layout.{joined, record_of}
-use Rattle.rx_table.specs.Records.{ConnRecord, Records, record_at, is_idle, idle_since, IsLongestIdle}
+use Rattle.rx_table.specs.Records.{ConnRecord, Records, record_at, is_idle, idle_since}
 use Rattle.rx_table.proofs.JoinedLaws.{seats_of}
 use Rattle.rx_table.proofs.KeptLaws.{record_is}
 
@@ -55,23 +55,3 @@ IsFoundBelow now t k o = MatchOption o ((q : ℕ) → q < k → idle_since now t
 -- none was found before the first place
 pub found-none : (now : ℕ) (t : Records) → IsFoundBelow now t 0 None
 found-none now t q below = absurd (omega arith)
-
--- what was found among all places is the longest idle
-pub found-all : (now : ℕ) (t : Records) (p since : ℕ) → IsLongestBelow now t (length t.conns) (p, since)
-    → IsLongestIdle now t p
-found-all now t p since found =
-    record {
-      since = since;
-      idle = found.idle;
-      earliest = λ q u idle. found.earliest q u (idle_within now q t (ap is_some idle)) idle;
-      lowest = found.lowest;
-    }
-
--- where none was found among all places, none is idle
-pub none-all : (now : ℕ) (t : Records) → ((q : ℕ) → q < length t.conns → idle_since now t q ≡ None)
-    → (q : ℕ) → idle_since now t q ≡ None
-none-all now t none q = by (idle_since now t q) refl
-  where
-    by : (o : Option ℕ) → idle_since now t q ≡ o → o ≡ None
-    by None e = refl
-    by (Some u) e = absurd (none-some u (sym (none q (idle_within now q t (ap is_some e))) ∙ e))

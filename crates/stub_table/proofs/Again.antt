@@ -1,5 +1,6 @@
 -- What is written is read again.
-use Rattle.std.proofs.Common.{◌≡◌, ℕ, ◌+◌, ◌-◌, ◌≤◌, ◌<◌, ◌^◌, Bool, true, false, ltb, List, ◌++◌, length, take, Some, Ok, Err, refl, ap, ◌∙◌, append_assoc, arith, Result, Vec, Global}
+use Rattle.std.proofs.Common.{◌≡◌, ℕ, ◌+◌, ◌-◌, ◌≤◌, ◌<◌, ◌^◌, Bool, true, false, ltb, List, ◌++◌, length, take, Some}
+use Rattle.std.proofs.Common.{Ok, Err, refl, ap, ◌∙◌, append_assoc, arith, Result, Vec, Global}
 use Rattle.std.specs.Int.{w32, from_be_bytes}
 use Rattle.std.specs.List.{slice_get}
 use Rattle.std.proofs.lemmas.Bool.{le-ltb}

@@ -23,7 +23,8 @@ pub values_read : (t : Types) (s : Stream) (p : Procedure) (bytes rest : List �
     → FitStream t s p vs × (bytes ≡ stream_spelling t s p vs ++ rest)
 values_read t s p bytes rest vs fits e =
     let ps = parts_with s p.params in
-    let meets = subst (λ (r : AtFront Data). Meets bytes (parts_spelling t ps) (λ ws. PartsFit t ps ws × (depths ws ≤ 64))
+    let meets = subst (λ (r : AtFront Data). Meets bytes (parts_spelling t ps)
+    (λ ws. PartsFit t ps ws × (depths ws ≤ 64))
     r) e
     (parts_first 64 t (value_at 64 t) (value_meets 64 t) ps bytes fits) in
     (meets.2, meets.0)

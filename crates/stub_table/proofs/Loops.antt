@@ -1,9 +1,8 @@
 -- Going through the arguments of a procedure, one after the other.
 use Rattle.std.proofs.Common.{◌≡◌, ◌↔◌, ◌≤◌, Bool, true, false, List, [], ◌∷◌, map, length, refl, sym, ◌∙◌, arith, eqb}
 use Rattle.xdr_value.specs.declared.def.Arg.{Arg}
-use Rattle.xdr_value.specs.Data.{Part, Param, Datum, Data, more, Types}
+use Rattle.xdr_value.specs.Data.{Part, Param, Types}
 use Rattle.xdr_value.specs.View.{param_of, values_of}
-use Rattle.xdr_value.specs.Fits.{Fits, depth}
 use Rattle.xdr_value.specs.declared.value.Value.{Value}
 use Rattle.std.specs.Prelude.{IsTrue}
 use Rattle.std.proofs.lemmas.Bool.{false≢true, ne_eqb}
@@ -30,11 +29,6 @@ left_go s left rest a is e = rw is (parts_go s (param_of a) (map param_of rest) 
 pub left_stay : (s : Stream) (left rest : List Arg) (a : Arg) → left ≡ a ∷ rest → goes_with s a.mode ≡ false
     → parts_with s (map param_of left) ≡ parts_with s (map param_of rest)
 left_stay s left rest a is e = rw is (parts_stay s (param_of a) (map param_of rest) e)
-
--- a value that fits takes nothing away
-pub fit_more : (t : Types) (p : Part) (ps : List Part) (d : Datum) (ds : Data) → Fits t p.kind d → depth d ≤ 64
-    → PartsFitWithin t ps ds ↔ PartsFitWithin t (p ∷ ps) (more d ds)
-fit_more t p ps d ds fits within = (λ h. ((fits, h.0), omega (arith, within, h.1)), λ h. (h.0.1, omega (arith, h.1)))
 
 -- where no argument is left, no value is
 pub fit_done : (t : Types) (left : List Value) (r : Bool) → r ≡ eqb (length left) 0

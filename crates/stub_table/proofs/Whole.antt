@@ -1,5 +1,7 @@
 -- What a whole request says of the bytes.
-use Rattle.std.proofs.Common.{◌≡◌, ℕ, ℤ, suc, ◌+◌, ◌-◌, ◌≤◌, Bool, true, false, not, eqb, ltb, List, [], ◌∷◌, ◌++◌, length, take, drop, Option, Some, None, Ok, Err, refl, sym, ap, subst, ◌∙◌, append_assoc, arith}
+use Rattle.std.proofs.Common.{◌≡◌, ℕ, ℤ, suc, ◌+◌, ◌-◌, ◌≤◌, Bool, true, false, not, eqb, ltb, List, [], ◌∷◌, ◌++◌}
+use Rattle.std.proofs.Common.{length, take, drop, Option, Some, None, Ok, Err, refl, sym, ap, subst, ◌∙◌, append_assoc}
+use Rattle.std.proofs.Common.{arith}
 use Rattle.std.specs.Int.{w32, from_be_bytes}
 use Rattle.std.specs.List.{slice_get}
 use Rattle.std.proofs.lemmas.Bool.{eqb-true, ltb-false}
@@ -11,7 +13,8 @@ use Rattle.xdr_code.specs.Reading.{AtFront}
 use Rattle.xdr_code.proofs.Bytes.{IsBytes, IsBytes-take, IsBytes-drop, wide32}
 use Rattle.stub_table.specs.declared.stream.Stream.TheVariants as streams
 use Rattle.stub_table.specs.Streams.{FitStream, stream_spelling, request_spelling}
-use Rattle.stub_table.specs.Requests.{whole, or_wait, found_from, args_answer, found_answer, is_open, seen_answer, request_answer, IsWholeRequest}
+use Rattle.stub_table.specs.Requests.{whole, or_wait, found_from, args_answer, found_answer, is_open, seen_answer}
+use Rattle.stub_table.specs.Requests.{request_answer, IsWholeRequest}
 use Rattle.stub_table.specs.declared.codes.TheConstants.{DECODE}
 use Rattle.stub_table.proofs.Opcodes.{pair_is}
 use Rattle.stub_table.proofs.Fronts.{read_stream, values_read}

@@ -47,5 +47,6 @@ pub fn reply_is_read_again()
 /// bytes as were used.
 pub fn whole_request_is_spelled()
     ensures { (t : Types) (ps : Procs) (bytes : List ℕ) (ended : Bool) (index : ℕ) (vs : Data) (used : ℕ)
-        → IsBytes bytes → request_answer t ps bytes ended ≡ whole index vs used → IsWholeRequest t ps bytes index vs used }
+        → IsBytes bytes → request_answer t ps bytes ended ≡ whole index vs used
+        → IsWholeRequest t ps bytes index vs used }
 {}

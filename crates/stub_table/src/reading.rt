@@ -113,7 +113,8 @@ fn read_args(
 
 // What the bytes that are looked at are.
 fn read_seen(alloc: Global, iface: &Interface, seen: &[u8], ended: bool, waits: bool) -> Request
-    ensures { IsRequestAnswer result (seen_answer (types_of iface.now.types.items) (procs_of iface.now.procs.items) seen.now
+    ensures { IsRequestAnswer result
+        (seen_answer (types_of iface.now.types.items) (procs_of iface.now.procs.items) seen.now
         ended waits) }
 {
     match opcode_at(seen) {

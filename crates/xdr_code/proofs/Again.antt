@@ -1,5 +1,7 @@
 -- What is spelled is read again, or is too deep.
-use Rattle.std.proofs.Common.{◌≡◌, ℕ, ℤ, zero, suc, ◌^◌, ◌<◌, ◌≤◌, max, Bool, true, false, ltb, List, [], ◌∷◌, ◌++◌, length, take, drop, replicate, Option, Some, None, Ok, Err, refl, ap, ◌∙◌, append_assoc, arith, inl, inr}
+use Rattle.std.proofs.Common.{◌≡◌, ℕ, ℤ, zero, suc, ◌^◌, ◌<◌, ◌≤◌, max, Bool, true, false, ltb, List, [], ◌∷◌, ◌++◌}
+use Rattle.std.proofs.Common.{length, take, drop, replicate, Option, Some, None, Ok, Err, refl, ap, ◌∙◌, append_assoc}
+use Rattle.std.proofs.Common.{arith, inl, inr}
 use Rattle.std.specs.Int.{w32, w64, from_be_bytes, to_be_bytes, cast_unsigned}
 use lib.IntN.{pos, negsuc}
 use Rattle.xdr_value.specs.Ranges.{IsWithin, has_number}
@@ -7,10 +9,15 @@ use Rattle.std.proofs.lemmas.Bool.{cases_lt, le-ltb}
 use Rattle.std.proofs.lemmas.Nat.{from_be_bytes-to_be_bytes_4, from_be_bytes-to_be_bytes_8}
 use Rattle.std.proofs.lemmas.List.{take_at, drop_at, length-append}
 use Rattle.xdr_value.specs.declared.ty.Basic.TheVariants as basics
-use Rattle.xdr_value.specs.Data.{Kind, Part, Choice, Datum, number, flag, octets, items, union, none, some, nothing, Data, end, more, Types}
-use Rattle.xdr_value.specs.Heads.{arm_of, arm_kind, Head, is_basic, is_enum, is_struct, is_union, is_array, is_array_up_to, is_maybe, is_unknown, head_of}
-use Rattle.xdr_value.specs.Spelling.{word, tag_spelling, arm_spelling, union_spelling, padding, padded, spelling, parts_spelling, all_spelling, number_spelling, flag_spelling, octets_spelling, items_spelling, maybe_spelling}
-use Rattle.xdr_value.specs.Fits.{ArmFits, UnionFits, tag_number, Fits, PartsFit, AllFit, NumberFits, FlagFits, OctetsFit, NothingFits, ItemsFit, MaybeFits, count, depth, depths}
+use Rattle.xdr_value.specs.Data.{Kind, Part, Choice, Datum, number, flag, octets, items, union, none, some, nothing}
+use Rattle.xdr_value.specs.Data.{Data, end, more, Types}
+use Rattle.xdr_value.specs.Heads.{arm_of, arm_kind, Head, is_basic, is_enum, is_struct, is_union, is_array}
+use Rattle.xdr_value.specs.Heads.{is_array_up_to, is_maybe, is_unknown, head_of}
+use Rattle.xdr_value.specs.Spelling.{word, tag_spelling, arm_spelling, union_spelling, padding, padded, spelling}
+use Rattle.xdr_value.specs.Spelling.{parts_spelling, all_spelling, number_spelling, flag_spelling, octets_spelling}
+use Rattle.xdr_value.specs.Spelling.{items_spelling, maybe_spelling}
+use Rattle.xdr_value.specs.Fits.{ArmFits, UnionFits, tag_number, Fits, PartsFit, AllFit, NumberFits, FlagFits}
+use Rattle.xdr_value.specs.Fits.{OctetsFit, NothingFits, ItemsFit, MaybeFits, count, depth, depths}
 use Rattle.xdr_code.specs.declared.fault.Why.{Why}
 use Rattle.xdr_code.specs.declared.fault.Why.TheVariants as whys
 use Rattle.xdr_code.specs.declared.fault.Fault.TheVariants.{Deep}
@@ -19,7 +26,9 @@ use Rattle.xdr_code.proofs.TagLaws.{tag_again}
 use Rattle.xdr_code.proofs.Numbers.{back32, back64, word32, word64, within_around, wider}
 use Rattle.xdr_code.proofs.Reach.{IsBetween, of_one, of_enum}
 use Rattle.xdr_value.proofs.Tells.{within}
-use Rattle.xdr_code.specs.Reading.{◌>>=◌, AtFront, Read, in_set_at, any_number_at, padding_at, octets_at, counted_octets_at, basic_at, enum_at, parts_at, elements_at, arm_at, head_at, value_at}
+use Rattle.xdr_code.specs.Reading.{◌>>=◌, AtFront, Read, in_set_at, any_number_at, padding_at, octets_at}
+use Rattle.xdr_code.specs.Reading.{counted_octets_at, basic_at, enum_at, parts_at, elements_at, arm_at, head_at}
+use Rattle.xdr_code.specs.Reading.{value_at}
 use Rattle.xdr_code.specs.NumberSets.{around, among, numbers}
 use Rattle.xdr_value.specs.Hollow.{list_limit}
 

@@ -1,12 +1,18 @@
 -- What completes some bytes can be bytes: beside a value whose content has other numbers stands one of bytes.
-use Rattle.std.proofs.Common.{◌≡◌, ℕ, ℤ, zero, suc, ◌%◌, true, false, List, [], ◌∷◌, ◌++◌, length, map, replicate, Option, Some, None, refl, sym, ap, ◌∙◌, arith}
+use Rattle.std.proofs.Common.{◌≡◌, ℕ, ℤ, zero, suc, ◌%◌, true, false, List, [], ◌∷◌, ◌++◌, length, map, replicate}
+use Rattle.std.proofs.Common.{Option, Some, None, refl, sym, ap, ◌∙◌, arith}
 use Rattle.std.specs.Int.{w32, w64, to_be_bytes, cast_unsigned}
 use Rattle.std.proofs.lemmas.List.{length-map, map-append}
 use Rattle.xdr_value.specs.declared.ty.Basic.TheVariants as basics
-use Rattle.xdr_value.specs.Data.{Kind, Part, Choice, Datum, number, flag, octets, items, union, none, some, nothing, Data, end, more, Types}
-use Rattle.xdr_value.specs.Heads.{Head, is_basic, is_struct, is_union, is_array, is_array_up_to, is_maybe, head_of, arm_of, arm_kind}
-use Rattle.xdr_value.specs.Fits.{Fits, PartsFit, AllFit, OctetsFit, ItemsFit, MaybeFits, UnionFits, ArmFits, tag_number, count}
-use Rattle.xdr_value.specs.Spelling.{word, padding, padded, number_spelling, octets_spelling, items_spelling, maybe_spelling, tag_spelling, arm_spelling, union_spelling, spelling, parts_spelling, all_spelling}
+use Rattle.xdr_value.specs.Data.{Kind, Part, Choice, Datum, number, flag, octets, items, union, none, some, nothing}
+use Rattle.xdr_value.specs.Data.{Data, end, more, Types}
+use Rattle.xdr_value.specs.Heads.{Head, is_basic, is_struct, is_union, is_array, is_array_up_to, is_maybe, head_of}
+use Rattle.xdr_value.specs.Heads.{arm_of, arm_kind}
+use Rattle.xdr_value.specs.Fits.{Fits, PartsFit, AllFit, OctetsFit, ItemsFit, MaybeFits, UnionFits, ArmFits, tag_number}
+use Rattle.xdr_value.specs.Fits.{count}
+use Rattle.xdr_value.specs.Spelling.{word, padding, padded, number_spelling, octets_spelling, items_spelling}
+use Rattle.xdr_value.specs.Spelling.{maybe_spelling, tag_spelling, arm_spelling, union_spelling, spelling}
+use Rattle.xdr_value.specs.Spelling.{parts_spelling, all_spelling}
 use Rattle.xdr_code.proofs.Bytes.{IsBytes, word_bytes, double_bytes, zero_bytes}
 
 abbrev low : ℕ → ℕ

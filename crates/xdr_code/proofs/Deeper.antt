@@ -1,18 +1,22 @@
 -- The answer Deep is given only where a level too many begins.
-use Rattle.std.proofs.Common.{◌≡◌, ℕ, ℤ, zero, suc, ◌≤◌, ◌<◌, ◌^◌, Bool, true, false, cond, List, [], ◌∷◌, ◌++◌, length, Option, Some, None, Ok, Err, refl, arith, inl, inr, eqb, ltb, take, drop}
+use Rattle.std.proofs.Common.{◌≡◌, ℕ, ℤ, zero, suc, ◌≤◌, ◌<◌, ◌^◌, Bool, true, false, cond, List, [], ◌∷◌, ◌++◌, length}
+use Rattle.std.proofs.Common.{Option, Some, None, Ok, Err, refl, arith, inl, inr, eqb, ltb, take, drop}
 use Rattle.std.specs.Int.{Width, w32, w64, byte_len, from_be_bytes, cast_signed}
 use lib.IntN.{pos}
 use Rattle.xdr_value.specs.declared.ty.Basic.{Basic}
 use Rattle.xdr_value.specs.declared.ty.Basic.TheVariants as basics
 use Rattle.xdr_value.specs.Data.{Kind, Part, Choice, Datum, number, flag, octets, union, some, items, more, Types}
-use Rattle.xdr_value.specs.Heads.{arm_of, arm_kind, Head, is_basic, is_enum, is_struct, is_union, is_array, is_array_up_to, is_maybe, is_unknown, head_of}
+use Rattle.xdr_value.specs.Heads.{arm_of, arm_kind, Head, is_basic, is_enum, is_struct, is_union, is_array}
+use Rattle.xdr_value.specs.Heads.{is_array_up_to, is_maybe, is_unknown, head_of}
 use Rattle.xdr_value.specs.Fits.{Fits, depth}
 use Rattle.std.proofs.lemmas.Bool.{cases_lt}
 use Rattle.xdr_code.proofs.Again.{again}
 use Rattle.xdr_value.specs.Spelling.{word, tag_spelling, spelling, padding}
 use Rattle.xdr_code.specs.declared.fault.Why.TheVariants as whys
 use Rattle.xdr_code.specs.declared.fault.Fault.TheVariants.{Deep, Short, Bad}
-use Rattle.xdr_code.specs.Reading.{◌>>=◌, AtFront, Read, in_set_at, limited_at, any_number_at, padding_at, octets_at, counted_octets_at, basic_at, enum_at, tag_at, parts_at, elements_at, optional_at, arm_at, chosen_at, head_at, value_at}
+use Rattle.xdr_code.specs.Reading.{◌>>=◌, AtFront, Read, in_set_at, limited_at, any_number_at, padding_at, octets_at}
+use Rattle.xdr_code.specs.Reading.{counted_octets_at, basic_at, enum_at, tag_at, parts_at, elements_at, optional_at}
+use Rattle.xdr_code.specs.Reading.{arm_at, chosen_at, head_at, value_at}
 use Rattle.xdr_code.specs.NumberSets.{around, among, numbers}
 use Rattle.xdr_value.specs.Hollow.{list_limit}
 use Rattle.xdr_code.specs.Opens.{HasLevel, There, InParts, InElements, InArm, InHead, Opens}
@@ -86,7 +90,8 @@ never_basic : (P : Type 0) (b : Basic) (bytes : List ℕ) → Deepens P (basic_a
 unfolding basic_at
 never_basic P basics.Int bytes = deepens_done P (any_number_at w32 bytes) (λ n. number (cast_signed w32 n))
     (never_number P w32 bytes)
-never_basic P basics.Uint bytes = deepens_done P (any_number_at w32 bytes) (λ n. number (pos n)) (never_number P w32 bytes)
+never_basic P basics.Uint bytes = deepens_done P (any_number_at w32 bytes) (λ n. number (pos n))
+    (never_number P w32 bytes)
 never_basic P basics.Hyper bytes = deepens_done P (any_number_at w64 bytes) (λ n. number (cast_signed w64 n))
     (never_number P w64 bytes)
 never_basic P basics.Uhyper bytes = deepens_done P (any_number_at w64 bytes) (λ n. number (pos n))

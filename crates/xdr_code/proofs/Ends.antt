@@ -1,5 +1,7 @@
 -- Where the bytes run short, some longer list spells a value.
-use Rattle.std.proofs.Common.{◌≡◌, ℕ, ℤ, zero, suc, ◌-◌, ◌^◌, ◌<◌, ◌≤◌, Bool, true, false, cond, ltb, List, [], ◌∷◌, ◌++◌, length, take, drop, replicate, Option, Some, None, Result, Ok, Err, refl, sym, ap, ◌∙◌, append_assoc, arith, eqb}
+use Rattle.std.proofs.Common.{◌≡◌, ℕ, ℤ, zero, suc, ◌-◌, ◌^◌, ◌<◌, ◌≤◌, Bool, true, false, cond, ltb, List, [], ◌∷◌}
+use Rattle.std.proofs.Common.{◌++◌, length, take, drop, replicate, Option, Some, None, Result, Ok, Err, refl, sym, ap}
+use Rattle.std.proofs.Common.{◌∙◌, append_assoc, arith, eqb}
 use Rattle.std.specs.Int.{w32, w64, from_be_bytes, to_be_bytes, cast_signed, cast_unsigned}
 use Rattle.std.specs.List.{AllByRecursion}
 use lib.IntN.{pos}
@@ -8,8 +10,10 @@ use Rattle.std.proofs.lemmas.Bool.{ltb-true, ltb-false}
 use Rattle.std.proofs.lemmas.List.{length-append, length-replicate, length-take, take-append-drop, append-nil}
 use Rattle.xdr_value.specs.declared.ty.Basic.{Basic}
 use Rattle.xdr_value.specs.declared.ty.Basic.TheVariants as basics
-use Rattle.xdr_value.specs.Data.{Kind, Part, Choice, Datum, number, flag, octets, items, union, none, some, Data, end, more, Types}
-use Rattle.xdr_value.specs.Heads.{Tag, arm_of, arm_kind, Head, is_basic, is_enum, is_struct, is_union, is_array, is_array_up_to, is_maybe, is_unknown, head_of}
+use Rattle.xdr_value.specs.Data.{Kind, Part, Choice, Datum, number, flag, octets, items, union, none, some, Data, end}
+use Rattle.xdr_value.specs.Data.{more, Types}
+use Rattle.xdr_value.specs.Heads.{Tag, arm_of, arm_kind, Head, is_basic, is_enum, is_struct, is_union, is_array}
+use Rattle.xdr_value.specs.Heads.{is_array_up_to, is_maybe, is_unknown, head_of}
 use Rattle.xdr_value.specs.Fits.{Fits, PartsFit, AllFit, TagFits, tag_number, count}
 use Rattle.xdr_value.specs.Spelling.{word, tag_spelling, padding, padded, spelling, parts_spelling, all_spelling}
 use Rattle.xdr_code.specs.declared.fault.Why.TheVariants as whys
@@ -18,7 +22,9 @@ use Rattle.xdr_code.specs.declared.fault.Fault.TheVariants.{Deep, Short, Bad}
 use Rattle.xdr_value.specs.Values.{EnumHas, PartsHave, HaveValues}
 use Rattle.xdr_value.specs.Zero.{first_number}
 use Rattle.xdr_value.proofs.Tells.{within}
-use Rattle.xdr_code.specs.Reading.{◌>>=◌, AtFront, Read, in_set_at, limited_at, any_number_at, padding_at, octets_at, counted_octets_at, basic_at, enum_at, tag_at, parts_at, elements_at, optional_at, arm_at, chosen_at, head_at, value_at}
+use Rattle.xdr_code.specs.Reading.{◌>>=◌, AtFront, Read, in_set_at, limited_at, any_number_at, padding_at, octets_at}
+use Rattle.xdr_code.specs.Reading.{counted_octets_at, basic_at, enum_at, tag_at, parts_at, elements_at, optional_at}
+use Rattle.xdr_code.specs.Reading.{arm_at, chosen_at, head_at, value_at}
 use Rattle.xdr_code.specs.NumberSets.{around, among, numbers}
 use Rattle.xdr_value.specs.Hollow.{list_limit}
 use Rattle.xdr_code.proofs.Bytes.{IsBytes, wide32, wide64}
@@ -88,7 +94,8 @@ double_ends_at bytes true g fits = (
       (ltb-true _ _ g),
 )
 
-double_ends : (bytes : List ℕ) → IsBytes bytes → Ends bytes (to_be_bytes w64) (λ n. n < 2 ^ 64) (any_number_at w64 bytes)
+double_ends : (bytes : List ℕ) → IsBytes bytes → Ends bytes (to_be_bytes w64) (λ n. n < 2 ^ 64)
+    (any_number_at w64 bytes)
 double_ends bytes fits = unfold any_number_at in double_ends_at bytes _ refl fits
 
 -- ---- content

@@ -1,5 +1,6 @@
 -- The exact reading says what each answer claims.
-use Rattle.std.proofs.Common.{◌≡◌, ℕ, ◌+◌, ◌-◌, ◌≤◌, ◌<◌, List, ◌++◌, length, take, drop, Result, Ok, Err, refl, sym, ap, subst, ◌∙◌, arith, inl, inr, ◌⊎◌, true}
+use Rattle.std.proofs.Common.{◌≡◌, ℕ, ◌+◌, ◌-◌, ◌≤◌, ◌<◌, List, ◌++◌, length, take, drop, Result, Ok, Err, refl, sym}
+use Rattle.std.proofs.Common.{ap, subst, ◌∙◌, arith, inl, inr, ◌⊎◌, true}
 use Rattle.std.specs.Prelude.{IsTrue}
 use Rattle.std.proofs.lemmas.Bool.{cases_lt}
 use Rattle.std.proofs.lemmas.List.{length-append, length-drop, take-append-drop}
@@ -79,7 +80,8 @@ as_bad left why = Err (faults.Bad left why)
 bad_left : (m n : ℕ) (v w : Why) → as_bad m v ≡ as_bad n w → m ≡ n
 bad_left m n v w e = cc
 
-placed_at : (t : Types) (k : Kind) (front y : List ℕ) (why : Why) (r : reading.AtFront Datum) → value_at 64 t k front ≡ r
+placed_at : (t : Types) (k : Kind) (front y : List ℕ) (why : Why) (r : reading.AtFront Datum)
+    → value_at 64 t k front ≡ r
     → IsBytes y → IsBytes front → value_at 64 t k (front ++ y) ≡ Err (faults.Bad (length y) why)
     → value_at 64 t k front ≡ Err faults.Short
 placed_at t k front y why (Ok x) e y_fits fits h = absurd (cc (stayed t k front y y_fits (Ok x) e, h))

@@ -1,5 +1,6 @@
 -- An item is read as it is spelled, and the other laws of a reading.
-use Rattle.std.proofs.Common.{◌≡◌, ◌↔◌, ℕ, ◌^◌, ◌<◌, ◌≤◌, Bool, true, false, cond, ltb, List, [], ◌∷◌, ◌++◌, length, drop, Ok, Err, refl, sym, ap, subst, ◌∙◌, arith}
+use Rattle.std.proofs.Common.{◌≡◌, ◌↔◌, ℕ, ◌^◌, ◌<◌, ◌≤◌, Bool, true, false, cond, ltb, List, [], ◌∷◌, ◌++◌, length}
+use Rattle.std.proofs.Common.{drop, Ok, Err, refl, sym, ap, subst, ◌∙◌, arith}
 use Rattle.std.specs.Int.{w32, from_be_bytes}
 use Rattle.std.proofs.lemmas.Nat.{from_be_bytes-to_be_bytes_4}
 use Rattle.std.proofs.lemmas.Bool.{ltb-true, ltb-false, lt-ltb, le-ltb, leb-true, le-leb}
@@ -12,7 +13,8 @@ use Rattle.xdr_code.specs.Reading.{AtFront, in_set_at, limited_at}
 use Rattle.xdr_code.proofs.Bytes.{IsBytes, IsBytes-drop, word_bytes, wide32, from_front4}
 use Rattle.xdr_code.proofs.Meets.{Meets}
 use Rattle.xdr_code.proofs.Content.{number_meets_at}
-use Rattle.xdr_code.proofs.Reach.{IsReached, grows, some_number, high_is, high_falls, high_below, low_high, low_grows, begins}
+use Rattle.xdr_code.proofs.Reach.{IsReached, grows, some_number, high_is, high_falls, high_below, low_high, low_grows}
+use Rattle.xdr_code.proofs.Reach.{begins}
 use Rattle.xdr_code.proofs.Relations.{Stays, Ends, Deepens}
 
 -- what four bytes at the front say, low to high
@@ -31,7 +33,8 @@ Allowed = HasNumber
 
 -- ---- what is read
 
-meets_at : (item : NumberSet) (why : Why) (bytes : List ℕ) (a b c : Bool) → ltb 0 (length bytes) ≡ a → may item bytes ≡ b
+meets_at : (item : NumberSet) (why : Why) (bytes : List ℕ) (a b c : Bool) → ltb 0 (length bytes) ≡ a
+    → may item bytes ≡ b
     → ltb (length bytes) 4 ≡ c → IsBytes bytes → Meets bytes word (Allowed item) (chosen a b c why bytes)
 meets_at item why bytes false b c p q r fits = tt
 meets_at item why bytes true false c p q r fits = (ltb-true _ _ p, omega arith)
@@ -97,7 +100,8 @@ same_may item bytes y long =
     is ∙ sym (high_is bytes long) in
     ap (λ (n : ℕ). reached item n (high_word (bytes ++ y))) is ∙ ap (reached item (from_be_bytes w32 bytes)) top
 
-stays_at : (item : NumberSet) (why : Why) (bytes y : List ℕ) (a b c : Bool) → ltb 0 (length bytes) ≡ a → may item bytes ≡ b
+stays_at : (item : NumberSet) (why : Why) (bytes y : List ℕ) (a b c : Bool) → ltb 0 (length bytes) ≡ a
+    → may item bytes ≡ b
     → ltb (length bytes) 4 ≡ c → IsBytes y → Stays y (chosen a b c why bytes) (in_set_at item why (bytes ++ y))
 unfolding in_set_at
 stays_at item why bytes y false b c p q r fits = tt

@@ -1,5 +1,6 @@
 -- Numbers and their four bytes.
-use Rattle.std.proofs.Common.{◌≡◌, ℕ, ℤ, zero, suc, ◌-◌, ◌^◌, ◌<◌, ◌≤◌, true, ltb, leb, refl, sym, subst, arith, inl, inr, rules, eqb}
+use Rattle.std.proofs.Common.{◌≡◌, ℕ, ℤ, zero, suc, ◌-◌, ◌^◌, ◌<◌, ◌≤◌, true, ltb, leb, refl, sym, subst, arith, inl}
+use Rattle.std.proofs.Common.{inr, rules, eqb}
 use lib.IntN.{pos, negsuc}
 use Rattle.std.specs.Int.{w32, w64, cast_signed, cast_unsigned}
 use Rattle.std.specs.Int.RustNames.{FitsSigned}

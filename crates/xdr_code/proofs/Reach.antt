@@ -1,5 +1,7 @@
 -- What the bytes at the front can become.
-use Rattle.std.proofs.Common.{◌≡◌, ℕ, ℤ, zero, suc, ◌-◌, ◌/◌, ◌%◌, ◌^◌, ◌<◌, ◌≤◌, Bool, true, false, ◌&&◌, ◌||◌, cond, ltb, leb, List, [], ◌∷◌, ◌++◌, length, get_or, drop, Option, Some, None, refl, sym, ap, subst, ◌∙◌, arith, inl, inr}
+use Rattle.std.proofs.Common.{◌≡◌, ℕ, ℤ, zero, suc, ◌-◌, ◌/◌, ◌%◌, ◌^◌, ◌<◌, ◌≤◌, Bool, true, false, ◌&&◌, ◌||◌, cond}
+use Rattle.std.proofs.Common.{ltb, leb, List, [], ◌∷◌, ◌++◌, length, get_or, drop, Option, Some, None, refl, sym, ap}
+use Rattle.std.proofs.Common.{subst, ◌∙◌, arith, inl, inr}
 use Rattle.std.specs.Int.{w32, from_be_bytes, cast_unsigned, cast_signed}
 use Rattle.std.specs.Ordering.{int_eq}
 use lib.IntN.{pos, negsuc}
@@ -10,9 +12,9 @@ use Rattle.xdr_value.specs.Ranges.{IsWithin, has_number}
 use Rattle.xdr_value.specs.Heads.{own_arm, is_case}
 use Rattle.xdr_value.specs.Spelling.{word}
 use Rattle.xdr_value.proofs.Tells.{within, below}
-use Rattle.xdr_code.specs.NumberSets.{NumberSet, up_to, around, among, in_word, between, some_between, reached, high_word, numbers, with_case, case_numbers}
+use Rattle.xdr_code.specs.NumberSets.{NumberSet, up_to, around, among, in_word, between, some_between, reached}
+use Rattle.xdr_code.specs.NumberSets.{high_word, numbers, with_case, case_numbers}
 use Rattle.xdr_code.proofs.Bytes.{IsBytes}
-use Rattle.xdr_code.proofs.Numbers.{word32}
 
 -- the number that four bytes hold
 abbrev pub numbered : Bool → ℕ → ℤ
@@ -62,11 +64,6 @@ of_one signed (y ∷ ys) z low high h r =
       | inr p ↦ or_right (between signed y low high) (some_between signed ys low high) (of_one signed ys z low high p r)
     ]
 
-holds_word : (signed : Bool) (z : ℤ) → in_word signed z ≡ true → cast_unsigned w32 z < 2 ^ 32
-holds_word true z h = word32 z ((within (2 ^ 31) z).0 h)
-holds_word false (pos n) h = (below (2 ^ 32) (pos n)).0 h
-holds_word false (negsuc n) h = absurd ((below (2 ^ 32) (negsuc n)).0 h)
-
 holds_back : (signed : Bool) (z : ℤ) → in_word signed z ≡ true
     → ((w : ℤ) → IsWithin (2 ^ 31) w → cast_signed w32 (cast_unsigned w32 w) ≡ w)
     → numbered signed (cast_unsigned w32 z) ≡ z
@@ -107,7 +104,8 @@ pub record IsReached (item : NumberSet) (low high : ℕ) : Type 0 where
   pub under : number ≤ high
   pub allowed : reached item number number ≡ true
 
-pub some_number : (item : NumberSet) (low high : ℕ) → low ≤ high → reached item low high ≡ true → IsReached item low high
+pub some_number : (item : NumberSet) (low high : ℕ) → low ≤ high → reached item low high ≡ true
+    → IsReached item low high
 some_number (up_to n) low high le h = record { number = low; above = omega arith; under = le; allowed = h }
 some_number (around m) low high le h =
     elim (or_cases (ltb low m) (leb (2 ^ 32 - m) high) h) [

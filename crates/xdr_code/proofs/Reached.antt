@@ -1,7 +1,9 @@
 -- A fault is given only where an item stops the reading, behind what is whole.
-use Rattle.std.proofs.Common.{◌≡◌, ℕ, zero, suc, ◌≤◌, ◌<◌, ◌^◌, List, [], ◌∷◌, ◌++◌, Option, Some, None, Ok, Err, refl, arith, inl, inr, ◌⊎◌}
+use Rattle.std.proofs.Common.{◌≡◌, ℕ, zero, suc, ◌≤◌, ◌<◌, ◌^◌, List, [], ◌∷◌, ◌++◌, Option, Some, None, Ok, Err, refl}
+use Rattle.std.proofs.Common.{arith, inl, inr, ◌⊎◌}
 use Rattle.xdr_value.specs.Data.{Kind, Part, Datum, union, some, items, more, Types, Choice}
-use Rattle.xdr_value.specs.Heads.{arm_of, arm_kind, Head, is_basic, is_enum, is_struct, is_union, is_array, is_array_up_to, is_maybe, is_unknown, head_of}
+use Rattle.xdr_value.specs.Heads.{arm_of, arm_kind, Head, is_basic, is_enum, is_struct, is_union, is_array}
+use Rattle.xdr_value.specs.Heads.{is_array_up_to, is_maybe, is_unknown, head_of}
 use Rattle.xdr_value.specs.Fits.{Fits, depth}
 use Rattle.std.proofs.lemmas.Bool.{cases_lt}
 use Rattle.xdr_code.proofs.Again.{again}
@@ -9,7 +11,8 @@ use Rattle.xdr_value.specs.Spelling.{word, tag_spelling, spelling}
 use Rattle.xdr_code.specs.declared.fault.Why.TheVariants as whys
 use Rattle.xdr_code.specs.declared.fault.Fault.{Fault}
 use Rattle.xdr_code.specs.declared.fault.Fault.TheVariants.{Deep, Short, Bad}
-use Rattle.xdr_code.specs.Reading.{◌>>=◌, AtFront, Read, limited_at, basic_at, enum_at, tag_at, parts_at, elements_at, optional_at, arm_at, chosen_at, head_at, value_at}
+use Rattle.xdr_code.specs.Reading.{◌>>=◌, AtFront, Read, limited_at, basic_at, enum_at, tag_at, parts_at, elements_at}
+use Rattle.xdr_code.specs.Reading.{optional_at, arm_at, chosen_at, head_at, value_at}
 use Rattle.xdr_value.specs.Hollow.{list_limit}
 use Rattle.xdr_code.specs.Opens.{There, InParts, InElements, InArm, InHead}
 use Rattle.xdr_code.proofs.Bytes.{IsBytes}

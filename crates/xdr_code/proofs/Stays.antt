@@ -1,5 +1,6 @@
 -- An answer other than Short stays as it is where more bytes follow.
-use Rattle.std.proofs.Common.{◌≡◌, ℕ, ℤ, zero, suc, ◌+◌, ◌^◌, ◌≤◌, Bool, true, false, cond, ltb, List, [], ◌∷◌, ◌++◌, length, take, drop, Option, Some, None, Result, Ok, Err, refl, sym, ap, ◌∙◌, arith, eqb}
+use Rattle.std.proofs.Common.{◌≡◌, ℕ, ℤ, zero, suc, ◌+◌, ◌^◌, ◌≤◌, Bool, true, false, cond, ltb, List, [], ◌∷◌, ◌++◌}
+use Rattle.std.proofs.Common.{length, take, drop, Option, Some, None, Result, Ok, Err, refl, sym, ap, ◌∙◌, arith, eqb}
 use Rattle.std.specs.Int.{Width, w32, w64, byte_len, from_be_bytes, cast_signed}
 use lib.IntN.{pos}
 use Rattle.std.proofs.lemmas.Bool.{ltb-false, le-ltb}
@@ -7,13 +8,16 @@ use Rattle.std.proofs.lemmas.List.{length-append, drop-append-le, take-append-le
 use Rattle.xdr_value.specs.declared.ty.Basic.{Basic}
 use Rattle.xdr_value.specs.declared.ty.Basic.TheVariants as basics
 use Rattle.xdr_value.specs.Data.{Kind, Part, Choice, Datum, number, flag, octets, items, union, some, more, Types}
-use Rattle.xdr_value.specs.Heads.{arm_of, arm_kind, Head, is_basic, is_enum, is_struct, is_union, is_array, is_array_up_to, is_maybe, is_unknown, head_of}
+use Rattle.xdr_value.specs.Heads.{arm_of, arm_kind, Head, is_basic, is_enum, is_struct, is_union, is_array}
+use Rattle.xdr_value.specs.Heads.{is_array_up_to, is_maybe, is_unknown, head_of}
 use Rattle.xdr_value.specs.Spelling.{padding}
 use Rattle.xdr_value.specs.Fits.{tag_number}
 use Rattle.xdr_code.specs.declared.fault.Why.TheVariants as whys
 use Rattle.xdr_code.specs.declared.fault.Fault.{Fault}
 use Rattle.xdr_code.specs.declared.fault.Fault.TheVariants.{Deep, Short, Bad}
-use Rattle.xdr_code.specs.Reading.{◌>>=◌, AtFront, Read, in_set_at, limited_at, any_number_at, padding_at, octets_at, counted_octets_at, basic_at, enum_at, tag_at, parts_at, elements_at, optional_at, arm_at, chosen_at, head_at, value_at}
+use Rattle.xdr_code.specs.Reading.{◌>>=◌, AtFront, Read, in_set_at, limited_at, any_number_at, padding_at, octets_at}
+use Rattle.xdr_code.specs.Reading.{counted_octets_at, basic_at, enum_at, tag_at, parts_at, elements_at, optional_at}
+use Rattle.xdr_code.specs.Reading.{arm_at, chosen_at, head_at, value_at}
 use Rattle.xdr_code.specs.NumberSets.{around, among, numbers}
 use Rattle.xdr_value.specs.Hollow.{list_limit}
 use Rattle.xdr_code.proofs.Bytes.{IsBytes, IsWide, wide32, wide64}

@@ -1,5 +1,7 @@
 -- A union's tag is read as it is spelled where it has an arm, and the other laws of a reading.
-use Rattle.std.proofs.Common.{◌≡◌, ℕ, ℤ, zero, suc, ◌+◌, ◌-◌, ◌^◌, ◌<◌, ◌≤◌, Bool, true, false, cond, ltb, eqb, List, [], ◌∷◌, ◌++◌, length, Option, Some, None, Ok, Err, refl, sym, ap, subst, ◌∙◌, arith, inl, inr}
+use Rattle.std.proofs.Common.{◌≡◌, ℕ, ℤ, zero, suc, ◌+◌, ◌-◌, ◌^◌, ◌<◌, ◌≤◌, Bool, true, false, cond, ltb, eqb, List}
+use Rattle.std.proofs.Common.{[], ◌∷◌, ◌++◌, length, Option, Some, None, Ok, Err, refl, sym, ap, subst, ◌∙◌, arith, inl}
+use Rattle.std.proofs.Common.{inr}
 use Rattle.std.specs.Prelude.{is_some}
 use lib.IntN.{pos, negsuc}
 use Rattle.std.specs.Ordering.{int_eq}
@@ -10,7 +12,8 @@ use Rattle.std.proofs.lemmas.Bool.{ltb-true, ltb-false, lt-ltb, le-ltb, leb-true
 use Rattle.std.proofs.lemmas.Bool.Decides.{Decides-int_eq}
 use Rattle.std.proofs.lemmas.List.{length-append, drop-append-le}
 use Rattle.xdr_value.specs.Data.{Kind, Choice, Datum, number, flag}
-use Rattle.xdr_value.specs.Heads.{Tag, tag_int, tag_uint, tag_bool, tag_enum, tag_other, own_arm, default_arm, or_else, arm_of}
+use Rattle.xdr_value.specs.Heads.{Tag, tag_int, tag_uint, tag_bool, tag_enum, tag_other, own_arm, default_arm, or_else}
+use Rattle.xdr_value.specs.Heads.{arm_of}
 use Rattle.xdr_value.specs.Fits.{TagFits, tag_number}
 use Rattle.xdr_value.specs.Spelling.{word, tag_spelling}
 use Rattle.xdr_value.specs.Facts.{IsCase, CaseInRange}
@@ -20,13 +23,16 @@ use Rattle.xdr_value.proofs.Tells.{within, below}
 use Rattle.xdr_code.specs.declared.fault.Why.{Why}
 use Rattle.xdr_code.specs.declared.fault.Why.TheVariants as whys
 use Rattle.xdr_code.specs.declared.fault.Fault.TheVariants.{Short, Bad}
-use Rattle.xdr_code.specs.NumberSets.{NumberSet, among, in_word, reached, high_word, numbers, with_case, case_numbers, is_signed, tag_set, case_set}
+use Rattle.xdr_code.specs.NumberSets.{NumberSet, among, in_word, reached, high_word, numbers, with_case, case_numbers}
+use Rattle.xdr_code.specs.NumberSets.{is_signed, tag_set, case_set}
 use Rattle.xdr_code.specs.Reading.{◌>>=◌, AtFront, in_set_at, tag_datum, tag_why, tag_at}
 use Rattle.xdr_code.proofs.Bytes.{IsBytes}
 use Rattle.xdr_code.proofs.Meets.{Meets}
 use Rattle.xdr_code.proofs.Numbers.{within32, back32, word32, within_around}
-use Rattle.xdr_code.proofs.Reach.{numbered, IsBetween, is_in, of_one, exactly, some_number, low_high, of_enum, own_case, case_own}
-use Rattle.xdr_code.proofs.ItemLaws.{may, chosen, Allowed, item_meets, word_low, word_high, word_may, item_again, still_not, same_word, same_may, completed}
+use Rattle.xdr_code.proofs.Reach.{numbered, IsBetween, is_in, of_one, exactly, some_number, low_high, of_enum, own_case}
+use Rattle.xdr_code.proofs.Reach.{case_own}
+use Rattle.xdr_code.proofs.ItemLaws.{may, chosen, Allowed, item_meets, word_low, word_high, word_may, item_again}
+use Rattle.xdr_code.proofs.ItemLaws.{still_not, same_word, same_may, completed}
 use Rattle.xdr_code.proofs.Relations.{Stays, Ends, Deepens}
 
 -- the tag is one of its type, and has an arm
@@ -146,7 +152,8 @@ case_allowed tag cs d c h has = (case_by tag cs d c (default_arm cs) refl h has,
 
 -- ---- what is read
 
-reached_at : (item : NumberSet) (n : ℕ) (bytes rest : List ℕ) → n < 2 ^ 32 → bytes ≡ word n ++ rest → may item bytes ≡ true
+reached_at : (item : NumberSet) (n : ℕ) (bytes rest : List ℕ) → n < 2 ^ 32 → bytes ≡ word n ++ rest
+    → may item bytes ≡ true
     → reached item n n ≡ true
 reached_at item n bytes rest lt is h =
     let front : may item (word n ++ rest) ≡ true = subst (λ (s : List ℕ). may item s ≡ true) is h in

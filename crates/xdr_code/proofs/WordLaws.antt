@@ -1,5 +1,6 @@
 -- Values of int and unsigned are words, and are spelled as such.
-use Rattle.std.proofs.Common.{◌≡◌, subst, ℕ, ℤ, ◌<◌, ◌+◌, ◌^◌, length, drop, get_or, List, [], ◌∷◌, ◌++◌, true, refl, sym, arith}
+use Rattle.std.proofs.Common.{◌≡◌, subst, ℕ, ℤ, ◌<◌, ◌+◌, ◌^◌, length, drop, get_or, List, [], ◌∷◌, ◌++◌, true, refl}
+use Rattle.std.proofs.Common.{sym, arith}
 use Rattle.std.proofs.lemmas.Bool.{and_parts}
 use Rattle.std.proofs.lemmas.List.{drop_more, drop_all}
 use lib.IntN.{pos, negsuc}
@@ -11,7 +12,8 @@ use Rattle.xdr_value.specs.Fits.{Fits, ItemsFit, PartsFit, AllFit, count}
 use Rattle.xdr_value.specs.Spelling.{spelling, items_spelling, parts_spelling, all_spelling}
 use Rattle.xdr_value.specs.View.{value_of, values_of}
 use Rattle.xdr_value.specs.declared.value.Value.{Value}
-use Rattle.xdr_code.specs.Words.{is_word, are_words, IsWord, word_spelling, AreWords, words_spelling, AreRows, rows_spelling}
+use Rattle.xdr_code.specs.Words.{is_word, are_words, IsWord, word_spelling, AreWords, words_spelling, AreRows}
+use Rattle.xdr_code.specs.Words.{rows_spelling}
 
 within_word : (z : ℤ) → IsWithin (2 ^ 31) z → IsWord (number z)
 within_word (pos n) h = omega (arith, h)

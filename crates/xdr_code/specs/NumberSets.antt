@@ -1,5 +1,6 @@
 -- The numbers that four bytes may have at a place. Public clauses cite this module.
-use Rattle.std.specs.Prelude.{◌≡◌, ◌<◌, ◌++◌, ℕ, ℤ, ◌-◌, ◌^◌, Bool, true, false, ◌&&◌, ◌||◌, nat_lt, nat_le, List, [], ◌∷◌, Option, Some, None, is_some, map, slice_index_or, if◌then◌else◌}
+use Rattle.std.specs.Prelude.{◌≡◌, ◌<◌, ◌++◌, ℕ, ℤ, ◌-◌, ◌^◌, Bool, true, false, ◌&&◌, ◌||◌, nat_lt, nat_le, List, []}
+use Rattle.std.specs.Prelude.{◌∷◌, Option, Some, None, is_some, map, slice_index_or, if◌then◌else◌}
 use Rattle.std.specs.Int.{w32, from_be_bytes, cast_unsigned}
 use Rattle.xdr_value.specs.Data.{Choice}
 use Rattle.xdr_value.specs.Spelling.{word}

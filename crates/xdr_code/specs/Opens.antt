@@ -1,7 +1,8 @@
 -- Where, read from the front, a level too many begins. Public clauses cite this module.
 use Rattle.std.specs.Prelude.{◌≡◌, ℕ, zero, suc, ◌≤◌, ◌<◌, ◌^◌, List, [], ◌∷◌, ◌++◌, ◌⊎◌, Option, Some, None}
 use Rattle.xdr_value.specs.Data.{Kind, Part, Choice, Datum, Types}
-use Rattle.xdr_value.specs.Heads.{Head, is_basic, is_enum, is_struct, is_union, is_array, is_array_up_to, is_maybe, is_unknown, head_of, arm_of, arm_kind}
+use Rattle.xdr_value.specs.Heads.{Head, is_basic, is_enum, is_struct, is_union, is_array, is_array_up_to, is_maybe}
+use Rattle.xdr_value.specs.Heads.{is_unknown, head_of, arm_of, arm_kind}
 use Rattle.xdr_value.specs.Hollow.{list_limit}
 use Rattle.xdr_value.specs.Fits.{Fits, TagFits, tag_number}
 use Rattle.xdr_value.specs.Spelling.{word, tag_spelling, spelling}

@@ -1,15 +1,19 @@
 -- Reading from left to right, with the first fault that is met. Public clauses cite `value_at` and `parts_at`.
-use Rattle.std.specs.Prelude.{◌≡◌, ℕ, ℤ, zero, suc, List, [], ◌∷◌, ◌++◌, length, take, drop, true, Option, Some, None, Result, Ok, Err, nat_lt, ◌==◌, if◌then◌else◌}
+use Rattle.std.specs.Prelude.{◌≡◌, ℕ, ℤ, zero, suc, List, [], ◌∷◌, ◌++◌, length, take, drop, true, Option, Some, None}
+use Rattle.std.specs.Prelude.{Result, Ok, Err, nat_lt, ◌==◌, if◌then◌else◌}
 use Rattle.std.specs.Int.{Width, w32, w64, byte_len, from_be_bytes, cast_signed}
 use lib.IntN.{pos}
 use Rattle.xdr_value.specs.declared.ty.Basic.{Basic}
 use Rattle.xdr_value.specs.declared.ty.Basic.TheVariants as basics
-use Rattle.xdr_value.specs.Data.{Kind, Part, Choice, Datum, number, flag, octets, items, union, none, some, nothing, Data, end, more, Types}
+use Rattle.xdr_value.specs.Data.{Kind, Part, Choice, Datum, number, flag, octets, items, union, none, some, nothing}
+use Rattle.xdr_value.specs.Data.{Data, end, more, Types}
 use Rattle.xdr_value.specs.View.{value_of}
 use Rattle.xdr_value.specs.declared.value.Value.{Value}
 use Rattle.xdr_value.specs.Hollow.{list_limit}
 use Rattle.xdr_value.specs.Fits.{tag_number}
-use Rattle.xdr_value.specs.Heads.{Tag, tag_int, tag_uint, tag_bool, tag_enum, tag_other, arm_of, arm_kind, Head, is_basic, is_enum, is_struct, is_union, is_array, is_array_up_to, is_maybe, is_unknown, head_of}
+use Rattle.xdr_value.specs.Heads.{Tag, tag_int, tag_uint, tag_bool, tag_enum, tag_other, arm_of, arm_kind, Head}
+use Rattle.xdr_value.specs.Heads.{is_basic, is_enum, is_struct, is_union, is_array, is_array_up_to, is_maybe}
+use Rattle.xdr_value.specs.Heads.{is_unknown, head_of}
 use Rattle.xdr_value.specs.Spelling.{padding}
 use Rattle.xdr_code.specs.declared.fault.Why.{Why}
 use Rattle.xdr_code.specs.declared.fault.Why.TheVariants as whys

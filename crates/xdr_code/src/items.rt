@@ -4,9 +4,11 @@ ghost use Rattle.std.specs.Prelude.{◌≡◌, length, map, slice_index, slice_i
 ghost use Rattle.std.specs.Int.{w32, w64, from_be_bytes};
 ghost use Rattle.xdr_value.specs.View.{value_of, member_of, choice_of};
 ghost use Rattle.xdr_value.specs.HeadView.{tag_view};
-ghost use Rattle.xdr_code.specs.NumberSets.{high_word, in_word, between, some_between, reached, numbers, case_numbers, is_signed, tag_set, case_set};
+ghost use Rattle.xdr_code.specs.NumberSets.{high_word, in_word, between, some_between, reached, numbers, case_numbers};
+ghost use Rattle.xdr_code.specs.NumberSets.{is_signed, tag_set, case_set};
 ghost use Rattle.xdr_code.specs.NumberSetView.{set_view};
-ghost use Rattle.xdr_code.specs.Reading.{Gives, in_set_at, limited_at, any_number_at, padding_at, octets_at, counted_octets_at, tag_datum, tag_why, tag_at};
+ghost use Rattle.xdr_code.specs.Reading.{Gives, in_set_at, limited_at, any_number_at, padding_at, octets_at};
+ghost use Rattle.xdr_code.specs.Reading.{counted_octets_at, tag_datum, tag_why, tag_at};
 
 use crate::fault::{Fault, Stop, Why};
 use std::alloc::Global;

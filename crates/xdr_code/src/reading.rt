@@ -6,7 +6,8 @@ ghost use Rattle.xdr_value.specs.View.{kind_of, types_of, value_of, values_of, p
 ghost use Rattle.xdr_value.specs.Heads.{is_struct, arm_kind, head_of};
 ghost use Rattle.xdr_value.specs.HeadView.{head_view};
 ghost use Rattle.xdr_value.specs.declared.ty.Basic.TheVariants as basics;
-ghost use Rattle.xdr_code.specs.Reading.{Gives, Adds, basic_at, maybe_at, chosen_at, parts_at, elements_at, head_at, value_at};
+ghost use Rattle.xdr_code.specs.Reading.{Gives, Adds, basic_at, maybe_at, chosen_at, parts_at, elements_at, head_at};
+ghost use Rattle.xdr_code.specs.Reading.{value_at};
 
 use crate::fault::{Fault, Stop, Why};
 use crate::items::{limited, read_tag, word};

@@ -5,7 +5,8 @@ ghost use Rattle.std.specs.Int.{w32, cast_unsigned};
 ghost use Rattle.xdr_value.specs.Data.{number};
 ghost use Rattle.xdr_value.specs.View.{kind_of, part_of, value_of, values_of};
 ghost use Rattle.xdr_value.specs.Spelling.{word};
-ghost use Rattle.xdr_code.specs.Words.{is_word, are_words, IsWord, word_spelling, AreWords, words_spelling, AreRows, rows_spelling};
+ghost use Rattle.xdr_code.specs.Words.{is_word, are_words, IsWord, word_spelling, AreWords, words_spelling, AreRows};
+ghost use Rattle.xdr_code.specs.Words.{rows_spelling};
 
 use std::alloc::AllocError;
 use xdr_value::{Field, Ty, Value};

@@ -6,8 +6,10 @@ ghost use Rattle.xdr_value.specs.View.{kind_of, types_of, value_of, values_of, p
 ghost use Rattle.xdr_value.specs.HeadView.{head_view, tag_view};
 ghost use Rattle.xdr_value.specs.Ranges.{IsBelow, IsWithin};
 ghost use Rattle.xdr_value.specs.Heads.{head_of, arm_of, arm_kind};
-ghost use Rattle.xdr_value.specs.Fits.{Fits, PartsFit, AllFit, NumberFits, OctetsFit, ItemsFit, TagFits, ArmFits, tag_number, count, depth};
-ghost use Rattle.xdr_value.specs.Spelling.{word, padded, spelling, parts_spelling, all_spelling, number_spelling, octets_spelling, items_spelling, tag_spelling, arm_spelling};
+ghost use Rattle.xdr_value.specs.Fits.{Fits, PartsFit, AllFit, NumberFits, OctetsFit, ItemsFit, TagFits, ArmFits};
+ghost use Rattle.xdr_value.specs.Fits.{tag_number, count, depth};
+ghost use Rattle.xdr_value.specs.Spelling.{word, padded, spelling, parts_spelling, all_spelling, number_spelling};
+ghost use Rattle.xdr_value.specs.Spelling.{octets_spelling, items_spelling, tag_spelling, arm_spelling};
 
 use crate::words::{are_words, is_word, low_word, put_one, put_rows, put_word, put_words};
 use std::alloc::{AllocError, Global};

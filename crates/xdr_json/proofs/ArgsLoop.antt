@@ -1,5 +1,6 @@
 -- Judging the values of arguments one after the other.
-use Rattle.std.proofs.Common.{◌≡◌, ℕ, suc, ◌+◌, ◌≤◌, true, false, List, [], ◌∷◌, ◌++◌, length, length-append, take, drop, ◌-◌, get_or, map, Ok, refl, sym, ap, ◌∙◌, subst, arith}
+use Rattle.std.proofs.Common.{◌≡◌, ℕ, suc, ◌+◌, ◌≤◌, true, false, List, [], ◌∷◌, ◌++◌, length, length-append, take}
+use Rattle.std.proofs.Common.{drop, ◌-◌, get_or, map, Ok, refl, sym, ap, ◌∙◌, subst, arith}
 use Rattle.std.proofs.lemmas.List.{take_all}
 use Rattle.serde_json.specs.Data.{depth as nesting, items_depth}
 use Rattle.serde_json.specs.View.{view, items_view}
@@ -8,9 +9,6 @@ use Rattle.xdr_value.specs.declared.def.Arg.{Arg}
 use Rattle.xdr_value.specs.Data.{Datum, Data, end, more, Kind, Param, Types}
 use Rattle.xdr_value.specs.View.{param_of}
 use Rattle.xdr_value.proofs.Lists.{append, append_end}
-use Rattle.xdr_json.specs.declared.fault.Stop.{Stop}
-use Rattle.xdr_json.specs.declared.fault.Stop.TheVariants as stops
-use Rattle.xdr_json.specs.Answers.{Fails}
 use Rattle.xdr_json.specs.Args.{args_judged, comes_in, in_kinds}
 use Rattle.xdr_json.specs.Judged.{Judged, below, index_step}
 use Rattle.xdr_json.specs.Judging.{judged}
@@ -63,18 +61,6 @@ args_go_on t k ks all front i j left js d total is kinds h so_far =
     ≡ with_front (append front (more d end)) (args_judged t ks (items_view js) (suc i)) =
     rw (is, kinds, h) (regroup front d (args_judged t ks (items_view js) (suc i))) in
     sym one ∙ so_far
-
--- a value couldn't be judged
-pub args_stop : (t : Types) (k : Kind) (ks all : List Kind) (e : Stop) (front : Data) (i : ℕ) (j : JsonValue)
-    (left js : List JsonValue) (total : Judged Data)
-    → left ≡ j ∷ js
-    → all ≡ k ∷ ks
-    → Fails e (below (index_step i) (judged t (view j) k))
-    → with_front front (args_judged t all (items_view left) i) ≡ total
-    → Fails e total
-args_stop t k ks all stops.Memory front i j left js total is kinds h so_far = tt
-args_stop t k ks all (stops.Misfit m) front i j left js total is kinds h so_far =
-    sym so_far ∙ rw (is, kinds, h) refl
 
 -- no argument is left
 pub args_done : (t : Types) (front : Data) (all : List Kind) (i : ℕ) (left : List JsonValue) (total : Judged Data)

@@ -1,5 +1,6 @@
 -- What is printed of a value is judged to be the value.
-use Rattle.std.proofs.Common.{◌≡◌, ℕ, ℤ, suc, ◌+◌, ◌^◌, ◌==◌, ◌&&◌, List, [], ◌∷◌, length, Bool, true, false, Option, Some, None, Ok, true≢false, bytes_eq, leb, ltb, refl, sym, ap, ◌∙◌}
+use Rattle.std.proofs.Common.{◌≡◌, ℕ, ℤ, suc, ◌+◌, ◌^◌, ◌==◌, ◌&&◌, List, [], ◌∷◌, length, Bool, true, false, Option}
+use Rattle.std.proofs.Common.{Some, None, Ok, true≢false, bytes_eq, leb, ltb, refl, sym, ap, ◌∙◌}
 use lib.IntN.{pos, negsuc}
 use Rattle.std.proofs.lemmas.Bool.{and_parts}
 use Rattle.std.proofs.lemmas.Bool.Decides.{Decides-int_eq}
@@ -17,16 +18,22 @@ use Rattle.serde_json.specs.Data.{Data as Json}
 use Rattle.serde_json.specs.Find.{as_integer, of_integer}
 use Rattle.serde_json.specs.Events.{items_len}
 use Rattle.xdr_value.specs.declared.ty.Basic.TheVariants as basics
-use Rattle.xdr_value.specs.Data.{Kind, Part, Choice, Datum, number, flag, octets, items, union, none, some, nothing, Data, end, more, Types}
-use Rattle.xdr_value.specs.Heads.{Tag, tag_int, tag_uint, tag_bool, tag_enum, tag_other, Head, is_basic, is_enum, is_struct, is_union, is_array, is_array_up_to, is_maybe, is_unknown, head_of, arm_of, arm_kind}
+use Rattle.xdr_value.specs.Data.{Kind, Part, Choice, Datum, number, flag, octets, items, union, none, some, nothing}
+use Rattle.xdr_value.specs.Data.{Data, end, more, Types}
+use Rattle.xdr_value.specs.Heads.{Tag, tag_int, tag_uint, tag_bool, tag_enum, tag_other, Head, is_basic, is_enum}
+use Rattle.xdr_value.specs.Heads.{is_struct, is_union, is_array, is_array_up_to, is_maybe, is_unknown, head_of, arm_of}
+use Rattle.xdr_value.specs.Heads.{arm_kind}
 use Rattle.xdr_value.specs.Hollow.{list_limit}
 use Rattle.xdr_value.specs.Ranges.{is_within, has_number}
 use Rattle.xdr_value.specs.Facts.{names_of}
 use Rattle.xdr_value.specs.Fits.{count, tag_number}
-use Rattle.xdr_value.specs.Fitting.{number_fits, flag_fits, octets_fit, nothing_fits, items_fit, maybe_fits, tag_fits, arm_fits, union_fits, does_fit, parts_fit, all_fit}
-use Rattle.xdr_json.specs.Json.{member_name, number_json, is_text, text_or_hex, tag_json, arm_json, union_json, items_json, maybe_json, json_of, members_json, elements_json}
+use Rattle.xdr_value.specs.Fitting.{number_fits, flag_fits, octets_fit, nothing_fits, items_fit, maybe_fits, tag_fits}
+use Rattle.xdr_value.specs.Fitting.{arm_fits, union_fits, does_fit, parts_fit, all_fit}
+use Rattle.xdr_json.specs.Json.{member_name, number_json, is_text, text_or_hex, tag_json, arm_json, union_json}
+use Rattle.xdr_json.specs.Json.{items_json, maybe_json, json_of, members_json, elements_json}
 use Rattle.xdr_json.specs.Judged.{Judged, below}
-use Rattle.xdr_json.specs.Judging.{member_number, tag_of_json, arm_judged, parts_judged, judged, elements_judged, member_judge}
+use Rattle.xdr_json.specs.Judging.{member_number, tag_of_json, arm_judged, parts_judged, judged, elements_judged}
+use Rattle.xdr_json.specs.Judging.{member_judge}
 use Rattle.xdr_json.specs.Bytes.{OctetsAreBytes, AllAreBytes}
 use Rattle.xdr_json.proofs.Names.{TagSound, HeadSound, Forms, head_sound}
 use Rattle.xdr_json.proofs.Fields.{HasAll, has_all, judge_of, fields_there}

@@ -1,5 +1,7 @@
 -- The members that are printed of a struct, found again by their names.
-use Rattle.std.proofs.Common.{◌≡◌, ℕ, zero, suc, max, ◌+◌, ◌≤◌, ◌<◌, unwrap_or, ◌&&◌, List, [], ◌∷◌, length, map, Bool, true, false, Option, Some, None, option_map, Ordering, Less, Equal, Greater, true≢false, bytes_eq, refl, sym, ap, ◌∙◌, arith}
+use Rattle.std.proofs.Common.{◌≡◌, ℕ, zero, suc, max, ◌+◌, ◌≤◌, ◌<◌, unwrap_or, ◌&&◌, List, [], ◌∷◌, length, map, Bool}
+use Rattle.std.proofs.Common.{true, false, Option, Some, None, option_map, Ordering, Less, Equal, Greater, true≢false}
+use Rattle.std.proofs.Common.{bytes_eq, refl, sym, ap, ◌∙◌, arith}
 use Rattle.std.proofs.lemmas.Slice.Eq.{bytes_eq-Decides}
 use Rattle.std.specs.List.{AllByRecursion, IsDistinct}
 use Rattle.std.specs.Ordering.{nat_cmp, match_ordering}

@@ -1,5 +1,6 @@
 -- JSON that says a value which fits is judged to be the value.
-use Rattle.std.proofs.Common.{◌≡◌, ℕ, ℤ, suc, ◌+◌, ◌^◌, ◌==◌, ◌&&◌, List, [], ◌∷◌, length, true, false, Some, Ok, bytes_eq, leb, ltb, inl, inr, refl, ap, subst}
+use Rattle.std.proofs.Common.{◌≡◌, ℕ, ℤ, suc, ◌+◌, ◌^◌, ◌==◌, ◌&&◌, List, [], ◌∷◌, length, true, false, Some, Ok}
+use Rattle.std.proofs.Common.{bytes_eq, leb, ltb, inl, inr, refl, ap, subst}
 use Rattle.std.proofs.lemmas.Bool.{and_parts, and_from, eq-eqb}
 use Rattle.std.proofs.lemmas.Slice.Eq.{bytes_eq-Decides}
 use Rattle.std.specs.Prelude.{codes}
@@ -13,10 +14,15 @@ use Rattle.xdr_value.specs.Heads.{Tag, Head, is_basic, arm_of, arm_kind}
 use Rattle.xdr_value.specs.Hollow.{list_limit}
 use Rattle.xdr_value.specs.Facts.{names_of}
 use Rattle.xdr_value.specs.Fits.{Fits, count, tag_number}
-use Rattle.xdr_value.specs.Fitting.{number_fits, octets_fit, items_fit, maybe_fits, tag_fits, arm_fits, union_fits, does_fit, parts_fit, all_fit}
+use Rattle.xdr_value.specs.Fitting.{number_fits, octets_fit, items_fit, maybe_fits, tag_fits, arm_fits, union_fits}
+use Rattle.xdr_value.specs.Fitting.{does_fit, parts_fit, all_fit}
 use Rattle.xdr_value.proofs.FitsLaw.{fits_is}
-use Rattle.xdr_json.specs.Judging.{member_number, tag_of_json, all_there, parts_judged, judged, elements_judged, member_judge}
-use Rattle.xdr_json.specs.Says.{IsMember, SaysTag, int_tag, uint_tag, bool_tag, enum_tag, Says, whole_number, true_or_false, void_is_null, name_of_member, hex_digits, hex_digits_up_to, as_it_stands, text_in_hex, elements, elements_up_to, fields, tag_and_arm, no_data, one_datum, SaysParts, no_part, one_part, SaysAll, no_element, one_element, TextSays}
+use Rattle.xdr_json.specs.Judging.{member_number, tag_of_json, all_there, parts_judged, judged, elements_judged}
+use Rattle.xdr_json.specs.Judging.{member_judge}
+use Rattle.xdr_json.specs.Says.{IsMember, SaysTag, int_tag, uint_tag, bool_tag, enum_tag, Says, whole_number}
+use Rattle.xdr_json.specs.Says.{true_or_false, void_is_null, name_of_member, hex_digits, hex_digits_up_to, as_it_stands}
+use Rattle.xdr_json.specs.Says.{text_in_hex, elements, elements_up_to, fields, tag_and_arm, no_data, one_datum}
+use Rattle.xdr_json.specs.Says.{SaysParts, no_part, one_part, SaysAll, no_element, one_element, TextSays}
 use Rattle.xdr_json.specs.Answers.{value_in}
 use Rattle.xdr_json.proofs.Fields.{judge_of}
 use Rattle.xdr_json.proofs.Names.{TagSound, HeadSound, Forms, head_sound}
@@ -33,7 +39,8 @@ member_found : (ms : List (List ℕ × ℤ)) (name : List ℕ) (z : ℤ) → IsD
     → IsMember ms name z → member_number ms name ≡ Some z
 unfolding IsDistinct
 member_found [] name z differ is = absurd is
-member_found (m ∷ ms) name z differ (inl same) = rw ((bytes_eq-Decides m.0 name).1 same.0) (ap (λ (y : ℤ). Some y) same.1)
+member_found (m ∷ ms) name z differ (inl same) =
+    rw ((bytes_eq-Decides m.0 name).1 same.0) (ap (λ (y : ℤ). Some y) same.1)
 member_found (m ∷ ms) name z differ (inr behind) =
     let apart : bytes_eq m.0 name ≡ false = of_member (λ y. bytes_eq m.0 y ≡ false) ms name z differ.0 behind in
     rw apart (member_found ms name z differ.1 behind)
@@ -104,7 +111,17 @@ mutual
       let found = tag_heard tag case chosen tag_sound said both.0 in
       let fits : does_fit t (arm_kind c) e ≡ true =
       subst (λ o. arm_fits o (λ i. does_fit t i e) ≡ true) arm both.1 in
-      rw (is, two, judge_of t ms (codes "value"), has, held, found, arm, said_judged t sound (arm_kind c) value e inner fits) refl
+      rw (
+        is,
+        two,
+        judge_of t ms (codes "value"),
+        has,
+        held,
+        found,
+        arm,
+        said_judged t sound (arm_kind c) value e
+            inner fits,
+      ) refl
   said_judged t sound k j d (no_data k' e is) fit = rw is refl
   said_judged t sound k j d (one_datum k' e i inner is said) fit =
       let fits : does_fit t e inner ≡ true = at_head (λ h. maybe_fits h (λ f. does_fit t f inner) ≡ true) _ _ is fit in

@@ -1,5 +1,6 @@
 -- In sound types, the names in one enum or one struct differ, and the numbers of an enum are ints.
-use Rattle.std.proofs.Common.{◌≡◌, ℕ, ℤ, zero, suc, ◌^◌, List, [], ◌∷◌, true, true≢false, Option, Some, None, map, inl, inr, refl, sym, subst}
+use Rattle.std.proofs.Common.{◌≡◌, ℕ, ℤ, zero, suc, ◌^◌, List, [], ◌∷◌, true, true≢false, Option, Some, None, map, inl}
+use Rattle.std.proofs.Common.{inr, refl, sym, subst}
 use Rattle.std.proofs.lemmas.Bool.{or_cases}
 use Rattle.std.proofs.lemmas.Bool.Decides.{Decides-int_eq}
 use Rattle.std.specs.Ordering.{int_eq}
@@ -7,8 +8,11 @@ use Rattle.std.specs.List.{AllByRecursion, IsDistinct}
 use Rattle.std.specs.Str.{bytes_eq}
 use Rattle.xdr_value.specs.declared.ty.Basic.{Basic}
 use Rattle.xdr_value.specs.declared.ty.Basic.TheVariants as basics
-use Rattle.xdr_value.specs.Data.{Kind, basic, array, array_up_to, maybe, named, Part, Form, alias, enum, struct, choice, Types}
-use Rattle.xdr_value.specs.Heads.{Tag, tag_int, tag_uint, tag_bool, tag_enum, tag_other, tag_of, Head, is_basic, is_enum, is_struct, is_union, is_array, is_array_up_to, is_maybe, is_unknown, head_within, head_of, head_of_form, form_named}
+use Rattle.xdr_value.specs.Data.{Kind, basic, array, array_up_to, maybe, named, Part, Form, alias, enum, struct, choice}
+use Rattle.xdr_value.specs.Data.{Types}
+use Rattle.xdr_value.specs.Heads.{Tag, tag_int, tag_uint, tag_bool, tag_enum, tag_other, tag_of, Head, is_basic}
+use Rattle.xdr_value.specs.Heads.{is_enum, is_struct, is_union, is_array, is_array_up_to, is_maybe, is_unknown}
+use Rattle.xdr_value.specs.Heads.{head_within, head_of, head_of_form, form_named}
 use Rattle.xdr_value.specs.Ranges.{IsWithin, is_within, has_number}
 use Rattle.xdr_value.specs.Facts.{FormIsSound, names_of}
 use Rattle.xdr_value.proofs.Forms.{of_found}

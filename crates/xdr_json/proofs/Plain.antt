@@ -1,5 +1,6 @@
 -- The JSON of a value has no float, and nests at most one deeper than the value.
-use Rattle.std.proofs.Common.{◌≡◌, ℕ, ℤ, zero, suc, ◌≤◌, ◌||◌, List, [], ◌∷◌, Bool, true, false, Option, Some, None, Ordering, Less, Equal, Greater, true≢false, refl, arith}
+use Rattle.std.proofs.Common.{◌≡◌, ℕ, ℤ, zero, suc, ◌≤◌, ◌||◌, List, [], ◌∷◌, Bool, true, false, Option, Some, None}
+use Rattle.std.proofs.Common.{Ordering, Less, Equal, Greater, true≢false, refl, arith}
 use lib.IntN.{pos, negsuc}
 use Rattle.std.specs.Prelude.{codes}
 use Rattle.std.proofs.Math.Nat.{max-le, le-max_left, le-max_right}
@@ -9,10 +10,15 @@ use Rattle.std.specs.Str.{is_utf8}
 use Rattle.serde_json.specs.Data.{Data as Json, Items, Members, put, no_items, no_members, item, member, array, object}
 use Rattle.serde_json.specs.Data as json
 use Rattle.serde_json.specs.Written.{has_float, items_have_float, members_have_float}
-use Rattle.xdr_value.specs.Data.{Kind, Part, Choice, Datum, number, flag, octets, items, union, none, some, nothing, Data, end, more, Types}
-use Rattle.xdr_value.specs.Heads.{Tag, tag_int, tag_uint, tag_bool, tag_enum, tag_other, Head, is_basic, is_enum, is_struct, is_union, is_array, is_array_up_to, is_maybe, is_unknown, head_of, arm_kind}
+use Rattle.xdr_value.specs.Data.{Kind, Part, Choice, Datum, number, flag, octets, items, union, none, some, nothing}
+use Rattle.xdr_value.specs.Data.{Data, end, more, Types}
+use Rattle.xdr_value.specs.Heads.{Tag, tag_int, tag_uint, tag_bool, tag_enum, tag_other, Head, is_basic, is_enum}
+use Rattle.xdr_value.specs.Heads.{is_struct, is_union, is_array, is_array_up_to, is_maybe, is_unknown, head_of}
+use Rattle.xdr_value.specs.Heads.{arm_kind}
 use Rattle.xdr_value.specs.Fits.{depth, depths}
-use Rattle.xdr_json.specs.Json.{integer_json, number_json, is_text, text_or_hex, number_tag_json, tag_json, union_object, arm_json, union_json, items_json, maybe_json, json_of, members_json, elements_json}
+use Rattle.xdr_json.specs.Json.{integer_json, number_json, is_text, text_or_hex, number_tag_json, tag_json}
+use Rattle.xdr_json.specs.Json.{union_object, arm_json, union_json, items_json, maybe_json, json_of, members_json}
+use Rattle.xdr_json.specs.Json.{elements_json}
 
 -- no float, and at most n deep
 pub record Plain (n : ℕ) (j : Json) : Type 0 where

@@ -1,5 +1,7 @@
 -- What JSON is judged to be fits the type, and the JSON says it.
-use Rattle.std.proofs.Common.{◌≡◌, ℕ, ℤ, suc, ◌+◌, ◌^◌, ◌==◌, ◌&&◌, List, [], ◌∷◌, length, Bool, true, false, Option, Some, None, is_some, Result, Ok, Err, Ordering, Less, Equal, Greater, bytes_eq, inl, inr, refl, ap, ◌∙◌, subst, arith, nat_lt, nat_le, if◌then◌else◌}
+use Rattle.std.proofs.Common.{◌≡◌, ℕ, ℤ, suc, ◌+◌, ◌^◌, ◌==◌, ◌&&◌, List, [], ◌∷◌, length, Bool, true, false, Option}
+use Rattle.std.proofs.Common.{Some, None, is_some, Result, Ok, Err, Ordering, Less, Equal, Greater, bytes_eq, inl, inr}
+use Rattle.std.proofs.Common.{refl, ap, ◌∙◌, subst, arith, nat_lt, nat_le, if◌then◌else◌}
 use Rattle.std.proofs.lemmas.Bool.{and_parts, and_from, or_right, eqb-true}
 use Rattle.std.proofs.lemmas.Bool.Decides.{Decides-int_eq}
 use Rattle.std.proofs.lemmas.Slice.Eq.{bytes_eq-Decides}
@@ -15,16 +17,27 @@ use Rattle.serde_json.specs.Events.{items_len, members_len}
 use Rattle.serde_json.specs.Read.{read}
 use Rattle.xdr_value.specs.declared.ty.Basic.{Basic}
 use Rattle.xdr_value.specs.declared.ty.Basic.TheVariants as basics
-use Rattle.xdr_value.specs.Data.{Kind, Part, Choice, Datum, number, flag, octets, items, union, none, some, nothing, Data, end, more, Types}
-use Rattle.xdr_value.specs.Heads.{Tag, tag_int, tag_uint, tag_bool, tag_enum, tag_other, Head, is_basic, is_enum, is_struct, is_union, is_array, is_array_up_to, is_maybe, is_unknown, head_of, arm_of, arm_kind}
+use Rattle.xdr_value.specs.Data.{Kind, Part, Choice, Datum, number, flag, octets, items, union, none, some, nothing}
+use Rattle.xdr_value.specs.Data.{Data, end, more, Types}
+use Rattle.xdr_value.specs.Heads.{Tag, tag_int, tag_uint, tag_bool, tag_enum, tag_other, Head, is_basic, is_enum}
+use Rattle.xdr_value.specs.Heads.{is_struct, is_union, is_array, is_array_up_to, is_maybe, is_unknown, head_of, arm_of}
+use Rattle.xdr_value.specs.Heads.{arm_kind}
 use Rattle.xdr_value.specs.Hollow.{list_limit}
 use Rattle.xdr_value.specs.Ranges.{is_within, is_below, has_number}
 use Rattle.xdr_value.specs.Fits.{Fits, count, tag_number}
 use Rattle.xdr_value.proofs.FitsLaw.{fits_is}
 use Rattle.xdr_value.specs.Fitting.{number_fits, octets_fit, tag_fits, does_fit, parts_fit, all_fit}
 use Rattle.xdr_json.specs.Judged.{Judged, ◌>>=◌, misfit, below, field_step, index_step}
-use Rattle.xdr_json.specs.Judging.{Judge, or_misfit, asked, member_number, as_number, null_value, bool_value, whole_value, hex_value, string_value, hex_string, hex_form, whole_tag, name_tag, bool_tag, tag_of_json, tag_found, has_fields, has_union, all_there, parts_judged, arm_judged, chosen_judged, object_judged, list_judged, optional_judged, array_judged, judged, elements_judged, first_judged, member_judge}
-use Rattle.xdr_json.specs.Says.{HasNumbers, IsMember, SaysTag, int_tag, uint_tag, bool_tag as bool_tag_says, enum_tag, Says, whole_number, true_or_false, void_is_null, name_of_member, hex_digits, hex_digits_up_to, as_it_stands, text_in_hex, elements, elements_up_to, fields, tag_and_arm, no_data, one_datum, SaysParts, no_part, one_part, SaysAll, no_element, one_element, TextSays}
+use Rattle.xdr_json.specs.Judging.{Judge, or_misfit, asked, member_number, as_number, null_value, bool_value}
+use Rattle.xdr_json.specs.Judging.{whole_value, hex_value, string_value, hex_string, hex_form, whole_tag, name_tag}
+use Rattle.xdr_json.specs.Judging.{bool_tag, tag_of_json, tag_found, has_fields, has_union, all_there, parts_judged}
+use Rattle.xdr_json.specs.Judging.{arm_judged, chosen_judged, object_judged, list_judged, optional_judged, array_judged}
+use Rattle.xdr_json.specs.Judging.{judged, elements_judged, first_judged, member_judge}
+use Rattle.xdr_json.specs.Says.{HasNumbers, IsMember, SaysTag, int_tag, uint_tag, bool_tag as bool_tag_says, enum_tag}
+use Rattle.xdr_json.specs.Says.{Says, whole_number, true_or_false, void_is_null, name_of_member, hex_digits}
+use Rattle.xdr_json.specs.Says.{hex_digits_up_to, as_it_stands, text_in_hex, elements, elements_up_to, fields}
+use Rattle.xdr_json.specs.Says.{tag_and_arm, no_data, one_datum, SaysParts, no_part, one_part, SaysAll, no_element}
+use Rattle.xdr_json.specs.Says.{one_element, TextSays}
 use Rattle.xdr_json.proofs.Names.{TagSound, HeadSound, Forms, head_sound}
 
 -- the JSON says the value, which is one of the type
@@ -348,7 +361,8 @@ struct_says t k ps ms d false is right test found = cc found
 struct_says t k ps ms d true is right test found =
     let ds = bound (parts_judged ps (member_judge t ms)) (λ es. Ok (items es)) d found in
     let parts = parts_say t ms ps ds.0 right ds.1 in
-    let counted = eqb-true (members_len ms) (length ps) (and_parts (members_len ms == length ps) (all_there ps ms) test).0
+    let counted = eqb-true (members_len ms) (length ps)
+    (and_parts (members_len ms == length ps) (all_there ps ms) test).0
     in
     let same : items ds.0 ≡ d = let eq = ds.2 in cc eq in
     subst (Right t k (json.object ms)) same (fields k ps ms ds.0 is counted parts.0, rw is parts.1)

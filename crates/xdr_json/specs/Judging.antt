@@ -1,5 +1,6 @@
 -- Which value JSON is, or its first part that doesn't fit. Public clauses cite this module.
-use Rattle.std.specs.Prelude.{ℕ, ℤ, zero, suc, ◌+◌, ◌^◌, ◌==◌, ◌&&◌, nat_lt, nat_le, List, [], ◌∷◌, length, codes, Bool, true, Option, Some, None, is_some, Result, Ok, Err, if◌then◌else◌}
+use Rattle.std.specs.Prelude.{ℕ, ℤ, zero, suc, ◌+◌, ◌^◌, ◌==◌, ◌&&◌, nat_lt, nat_le, List, [], ◌∷◌, length, codes, Bool}
+use Rattle.std.specs.Prelude.{true, Option, Some, None, is_some, Result, Ok, Err, if◌then◌else◌}
 use Rattle.std.specs.Ordering.{nat_cmp, match_ordering}
 use Rattle.std.specs.Cmp.Lexicographic.{slice_cmp}
 use Rattle.std.specs.Str.{bytes_eq}
@@ -10,8 +11,11 @@ use Rattle.serde_json.specs.Data as json
 use Rattle.serde_json.specs.Find.{as_integer, get_member}
 use Rattle.serde_json.specs.Events.{items_len, members_len}
 use Rattle.xdr_value.specs.declared.ty.Basic.TheVariants as basics
-use Rattle.xdr_value.specs.Data.{Kind, basic, array, array_up_to, maybe, named, Part, Choice, Form, alias, enum, struct, choice, Types, Datum, number, flag, octets, items, union, none, some, nothing, Data, end, more}
-use Rattle.xdr_value.specs.Heads.{Tag, tag_int, tag_uint, tag_bool, tag_enum, Head, is_basic, is_enum, is_struct, is_union, is_array, is_array_up_to, is_maybe, head_of, form_named, arm_of, arm_kind}
+use Rattle.xdr_value.specs.Data.{Kind, basic, array, array_up_to, maybe, named, Part, Choice, Form, alias, enum, struct}
+use Rattle.xdr_value.specs.Data.{choice, Types, Datum, number, flag, octets, items, union, none, some, nothing, Data}
+use Rattle.xdr_value.specs.Data.{end, more}
+use Rattle.xdr_value.specs.Heads.{Tag, tag_int, tag_uint, tag_bool, tag_enum, Head, is_basic, is_enum, is_struct}
+use Rattle.xdr_value.specs.Heads.{is_union, is_array, is_array_up_to, is_maybe, head_of, form_named, arm_of, arm_kind}
 use Rattle.xdr_value.specs.Hollow.{list_limit}
 use Rattle.xdr_value.specs.Fits.{tag_number}
 use Rattle.xdr_value.specs.Fitting.{number_fits, octets_fit}

@@ -9,8 +9,10 @@ use Rattle.serde_json.specs.Events.{members_len}
 use Rattle.serde_json.specs.Read.{read}
 use Rattle.xdr_value.specs.declared.ty.Basic.{Basic}
 use Rattle.xdr_value.specs.declared.ty.Basic.TheVariants as basics
-use Rattle.xdr_value.specs.Data.{Kind, Part, Choice, Param, Datum, number, flag, octets, items, union, none, some, nothing, Data, end, more, Types}
-use Rattle.xdr_value.specs.Heads.{Tag, tag_int, tag_uint, tag_bool, tag_enum, is_basic, is_enum, is_struct, is_union, is_array, is_array_up_to, is_maybe, head_of, arm_of, arm_kind}
+use Rattle.xdr_value.specs.Data.{Kind, Part, Choice, Param, Datum, number, flag, octets, items, union, none, some}
+use Rattle.xdr_value.specs.Data.{nothing, Data, end, more, Types}
+use Rattle.xdr_value.specs.Heads.{Tag, tag_int, tag_uint, tag_bool, tag_enum, is_basic, is_enum, is_struct, is_union}
+use Rattle.xdr_value.specs.Heads.{is_array, is_array_up_to, is_maybe, head_of, arm_of, arm_kind}
 use Rattle.xdr_value.specs.Fits.{Fits, tag_number}
 use Rattle.xdr_json.specs.Args.{in_kinds}
 
@@ -51,17 +53,20 @@ mutual
   -- the JSON says the value of the type
   pub data Says (t : Types) : Kind → Json → Datum → Type 0 where
     -- a number is a whole number
-    whole_number : (k : Kind) (b : Basic) (n : Num) (z : ℤ) → head_of t k ≡ is_basic b → HasNumbers b → as_integer n ≡ Some z
+    whole_number : (k : Kind) (b : Basic) (n : Num) (z : ℤ) → head_of t k ≡ is_basic b → HasNumbers b
+        → as_integer n ≡ Some z
         → Says t k (json.number n) (number z)
     -- a bool is true or false
     true_or_false : (k : Kind) (b : Bool) → head_of t k ≡ is_basic basics.Bool → Says t k (json.boolean b) (flag b)
     -- void is null
     void_is_null : (k : Kind) → head_of t k ≡ is_basic basics.Void → Says t k json.null nothing
     -- an enum is its member's name
-    name_of_member : (k : Kind) (ms : List (List ℕ × ℤ)) (name : List ℕ) (z : ℤ) → head_of t k ≡ is_enum ms → IsMember ms name z
+    name_of_member : (k : Kind) (ms : List (List ℕ × ℤ)) (name : List ℕ) (z : ℤ) → head_of t k ≡ is_enum ms
+        → IsMember ms name z
         → Says t k (json.string name) (number z)
     -- opaque data is hex
-    hex_digits : (k : Kind) (n : ℕ) (digits bytes : List ℕ) → head_of t k ≡ is_basic (basics.Opaque n) → IsHex digits bytes
+    hex_digits : (k : Kind) (n : ℕ) (digits bytes : List ℕ) → head_of t k ≡ is_basic (basics.Opaque n)
+        → IsHex digits bytes
         → Says t k (json.string digits) (octets bytes)
     hex_digits_up_to : (k : Kind) (n : ℕ) (digits bytes : List ℕ) → head_of t k ≡ is_basic (basics.OpaqueUpTo n)
         → IsHex digits bytes → Says t k (json.string digits) (octets bytes)
@@ -74,13 +79,15 @@ mutual
     -- an array is an array
     elements : (k e : Kind) (n : ℕ) (js : Items) (ds : Data) → head_of t k ≡ is_array e n → SaysAll t e js ds
         → Says t k (json.array js) (items ds)
-    elements_up_to : (k e : Kind) (n : ℕ) (js : Items) (ds : Data) → head_of t k ≡ is_array_up_to e n → SaysAll t e js ds
+    elements_up_to : (k e : Kind) (n : ℕ) (js : Items) (ds : Data) → head_of t k ≡ is_array_up_to e n
+        → SaysAll t e js ds
         → Says t k (json.array js) (items ds)
     -- a struct is an object with exactly its fields: as many members as fields, and one for each
     fields : (k : Kind) (ps : List Part) (ms : Members) (ds : Data) → head_of t k ≡ is_struct ps
         → members_len ms ≡ length ps → SaysParts t ps ms ds → Says t k (json.object ms) (items ds)
     -- a union is an object of two members: `case`, and `value` with what the tag's arm holds
-    tag_and_arm : (k : Kind) (tag : Tag) (cs : List Choice) (ms : Members) (case value : Json) (d e : Datum) (c : Choice)
+    tag_and_arm : (k : Kind) (tag : Tag) (cs : List Choice) (ms : Members) (case value : Json)
+        (d e : Datum) (c : Choice)
         → head_of t k ≡ is_union tag cs → members_len ms ≡ 2
         → get_member (codes "case") ms ≡ Some case → SaysTag tag case d → arm_of (tag_number d) cs ≡ Some c
         → get_member (codes "value") ms ≡ Some value → Says t (arm_kind c) value e

@@ -15,7 +15,8 @@ ghost use Rattle.xdr_value.specs.Fits.{depth};
 ghost use Rattle.xdr_json.specs.Answers.{value_in};
 ghost use Rattle.xdr_json.specs.Bytes.{OctetsAreBytes, AllAreBytes};
 ghost use Rattle.xdr_json.specs.Says.{TextSays};
-ghost use Rattle.xdr_json.specs.Json.{FitsInteger, integer_json, member_name, number_json, hex_object, text_or_hex, octets_json};
+ghost use Rattle.xdr_json.specs.Json.{FitsInteger, integer_json, member_name, number_json, hex_object, text_or_hex};
+ghost use Rattle.xdr_json.specs.Json.{octets_json};
 ghost use Rattle.xdr_json.specs.Json.{tag_json, union_object, arm_json, json_of, members_json, elements_json};
 
 use serde_json::{Map, Value as Json};

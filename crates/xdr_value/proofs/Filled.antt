@@ -1,5 +1,6 @@
 -- In sound types each type whose names are defined has its zero as a value.
-use Rattle.std.proofs.Common.{◌≡◌, ◌≢◌, ℕ, ℤ, zero, suc, ◌^◌, Bool, true, false, List, [], ◌∷◌, length, map, Option, Some, None, refl, sym, ap, subst, ◌∙◌, arith, cond, inl, inr, ◌⊎◌}
+use Rattle.std.proofs.Common.{◌≡◌, ◌≢◌, ℕ, ℤ, zero, suc, ◌^◌, Bool, true, false, List, [], ◌∷◌, length, map, Option}
+use Rattle.std.proofs.Common.{Some, None, refl, sym, ap, subst, ◌∙◌, arith, cond, inl, inr, ◌⊎◌}
 use lib.IntN.{pos, negsuc}
 use Rattle.std.specs.Prelude.{is_some}
 use Rattle.std.specs.Ordering.{int_eq}
@@ -9,14 +10,18 @@ use Rattle.std.proofs.lemmas.Bool.Decides.{Decides-int_eq}
 use Rattle.std.proofs.lemmas.List.{length-replicate}
 use Rattle.xdr_value.specs.declared.ty.Basic.{Basic}
 use Rattle.xdr_value.specs.declared.ty.Basic.TheVariants as basics
-use Rattle.xdr_value.specs.Data.{Kind, basic, array, array_up_to, maybe, named, Part, Choice, Form, alias, enum, struct, choice, Types, Procs, Datum, number, flag, octets, items, union, none, some, nothing}
+use Rattle.xdr_value.specs.Data.{Kind, basic, array, array_up_to, maybe, named, Part, Choice, Form, alias, enum, struct}
+use Rattle.xdr_value.specs.Data.{choice, Types, Procs, Datum, number, flag, octets, items, union, none, some, nothing}
 use Rattle.xdr_value.specs.Ranges.{IsWithin, has_number}
-use Rattle.xdr_value.specs.Heads.{Tag, tag_bool, tag_other, tag_of, Head, is_basic, is_enum, is_struct, is_union, is_array, is_array_up_to, is_maybe, is_unknown, form_named, head_of_form, head_within, head_of, own_arm, default_arm, or_else, arm_of, arm_kind, is_case, is_default}
+use Rattle.xdr_value.specs.Heads.{Tag, tag_bool, tag_other, tag_of, Head, is_basic, is_enum, is_struct, is_union}
+use Rattle.xdr_value.specs.Heads.{is_array, is_array_up_to, is_maybe, is_unknown, form_named, head_of_form, head_within}
+use Rattle.xdr_value.specs.Heads.{head_of, own_arm, default_arm, or_else, arm_of, arm_kind, is_case, is_default}
 use Rattle.xdr_value.specs.Hollow.{core}
 use Rattle.xdr_value.specs.Fits.{Fits, PartsFit, AllFit, TagFits, ArmFits, count, tag_number}
 use Rattle.xdr_value.specs.Facts.{IsCase, CaseInRange, part_kinds, form_kinds, FormIsSound}
 use Rattle.xdr_value.specs.Tests.{is_known, kinds_known, core_ends, kinds_end, form_ends, name_ends, all_end, is_sound}
-use Rattle.xdr_value.specs.Zero.{copies, basic_zero, kind_zero, parts_zero, first_number, tag_zero, case_or, first_case, tag_value, arm_zero, form_zero, name_zero, zero_of}
+use Rattle.xdr_value.specs.Zero.{copies, basic_zero, kind_zero, parts_zero, first_number, tag_zero, case_or, first_case}
+use Rattle.xdr_value.specs.Zero.{tag_value, arm_zero, form_zero, name_zero, zero_of}
 use Rattle.xdr_value.specs.Values.{EnumHas, ArmsHave, PartsHave, HaveValues}
 use Rattle.xdr_value.proofs.Tells.{known, kinds_are_known}
 use Rattle.xdr_value.proofs.Forms.{of_found}

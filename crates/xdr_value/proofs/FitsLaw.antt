@@ -1,13 +1,19 @@
 -- The test of `fits` says yes exactly where the value is one of the type.
-use Rattle.std.proofs.Common.{◌≡◌, ◌↔◌, ℕ, ℤ, ◌^◌, ◌≤◌, ◌<◌, Bool, true, ◌&&◌, eqb, leb, ltb, List, [], ◌∷◌, length, Option, Some, None}
+use Rattle.std.proofs.Common.{◌≡◌, ◌↔◌, ℕ, ℤ, ◌^◌, ◌≤◌, ◌<◌, Bool, true, ◌&&◌, eqb, leb, ltb, List, [], ◌∷◌, length}
+use Rattle.std.proofs.Common.{Option, Some, None}
 use Rattle.std.proofs.lemmas.Bool.{leb-true, le-leb, ltb-true, lt-ltb, eqb-true, eq-eqb, and_parts, and_from}
 use Rattle.xdr_value.specs.declared.ty.Basic.TheVariants as basics
-use Rattle.xdr_value.specs.Data.{Kind, Part, Choice, Datum, number, flag, octets, items, union, none, some, nothing, Data, end, more, Types}
+use Rattle.xdr_value.specs.Data.{Kind, Part, Choice, Datum, number, flag, octets, items, union, none, some, nothing}
+use Rattle.xdr_value.specs.Data.{Data, end, more, Types}
 use Rattle.xdr_value.specs.Ranges.{IsWithin, is_within, has_number}
-use Rattle.xdr_value.specs.Heads.{Tag, tag_int, tag_uint, tag_bool, tag_enum, tag_other, Head, is_basic, is_enum, is_struct, is_union, is_array, is_array_up_to, is_maybe, is_unknown, head_of, arm_of, arm_kind}
+use Rattle.xdr_value.specs.Heads.{Tag, tag_int, tag_uint, tag_bool, tag_enum, tag_other, Head, is_basic, is_enum}
+use Rattle.xdr_value.specs.Heads.{is_struct, is_union, is_array, is_array_up_to, is_maybe, is_unknown, head_of, arm_of}
+use Rattle.xdr_value.specs.Heads.{arm_kind}
 use Rattle.xdr_value.specs.Hollow.{list_limit}
-use Rattle.xdr_value.specs.Fits.{Fits, PartsFit, AllFit, NumberFits, FlagFits, OctetsFit, NothingFits, ItemsFit, MaybeFits, TagFits, ArmFits, UnionFits, count, tag_number}
-use Rattle.xdr_value.specs.Fitting.{does_fit, parts_fit, all_fit, number_fits, flag_fits, octets_fit, nothing_fits, items_fit, maybe_fits, tag_fits, arm_fits, union_fits}
+use Rattle.xdr_value.specs.Fits.{Fits, PartsFit, AllFit, NumberFits, FlagFits, OctetsFit, NothingFits, ItemsFit}
+use Rattle.xdr_value.specs.Fits.{MaybeFits, TagFits, ArmFits, UnionFits, count, tag_number}
+use Rattle.xdr_value.specs.Fitting.{does_fit, parts_fit, all_fit, number_fits, flag_fits, octets_fit, nothing_fits}
+use Rattle.xdr_value.specs.Fitting.{items_fit, maybe_fits, tag_fits, arm_fits, union_fits}
 use Rattle.xdr_value.proofs.Tells.{never, always, both, below, within}
 
 member : (ms : List (List ℕ × ℤ)) (z : ℤ)

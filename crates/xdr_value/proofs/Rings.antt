@@ -1,5 +1,6 @@
 -- No type holds itself exactly where each type ends within as many names as there are.
-use Rattle.std.proofs.Common.{◌≡◌, ℕ, zero, suc, ◌+◌, ◌<◌, ◌≤◌, Bool, true, false, List, [], ◌∷◌, length, Option, Some, refl, sym, subst, inl, inr, arith}
+use Rattle.std.proofs.Common.{◌≡◌, ℕ, zero, suc, ◌+◌, ◌<◌, ◌≤◌, Bool, true, false, List, [], ◌∷◌, length, Option, Some}
+use Rattle.std.proofs.Common.{refl, sym, subst, inl, inr, arith}
 use Rattle.std.specs.Str.{bytes_eq}
 use Rattle.std.specs.List.{AllByRecursion, IsDistinct, list_any}
 use Rattle.std.proofs.lemmas.List.{length-map}
@@ -9,7 +10,8 @@ use Rattle.std.proofs.lemmas.Bool.{and_parts, and_from, or_cases, false_from_ne_
 use Rattle.xdr_value.specs.Data.{Kind, basic, array, array_up_to, maybe, named, Form, Types}
 use Rattle.xdr_value.specs.Heads.{form_named}
 use Rattle.xdr_value.specs.Hollow.{core}
-use Rattle.xdr_value.specs.Facts.{IsDefined, IsKnown, form_kinds, OneHolds, TypeHolds, at_once, through, IsEndless, names_of}
+use Rattle.xdr_value.specs.Facts.{IsDefined, IsKnown, form_kinds, OneHolds, TypeHolds, at_once, through, IsEndless}
+use Rattle.xdr_value.specs.Facts.{names_of}
 use Rattle.xdr_value.specs.Tests.{core_ends, kinds_end, form_ends, name_ends, all_end}
 use Rattle.xdr_value.proofs.Forms.{of_name, name_laws, is_name, all_map, each_defined}
 

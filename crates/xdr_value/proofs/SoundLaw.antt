@@ -6,9 +6,12 @@ use Rattle.std.specs.List.{AllByRecursion, IsDistinct}
 use Rattle.std.proofs.lemmas.Bool.{and_parts, and_from}
 use Rattle.xdr_value.specs.Data.{Kind, Part, Choice, Form, alias, enum, struct, choice, Types, Param, Procedure, Procs}
 use Rattle.xdr_value.specs.Heads.{tag_of, head_of, arm_kind, tag_other}
-use Rattle.xdr_value.specs.Facts.{IsKnown, CaseInRange, part_kinds, form_kinds, same_case, names_of, FormIsSound, ProcIsSound, IsSound}
-use Rattle.xdr_value.specs.Tests.{differ, is_known, kinds_known, all_end, members_in_range, arms_in_range, is_tag, is_filled, form_sound, all_sound, params_known, proc_sound, procs_sound, is_sound}
-use Rattle.xdr_value.proofs.Tells.{both, always, distinct, differs, filled, known, kinds_are_known, params_are_known, members, arms, a_tag}
+use Rattle.xdr_value.specs.Facts.{IsKnown, CaseInRange, part_kinds, form_kinds, same_case, names_of, FormIsSound}
+use Rattle.xdr_value.specs.Facts.{ProcIsSound, IsSound}
+use Rattle.xdr_value.specs.Tests.{differ, is_known, kinds_known, all_end, members_in_range, arms_in_range, is_tag}
+use Rattle.xdr_value.specs.Tests.{is_filled, form_sound, all_sound, params_known, proc_sound, procs_sound, is_sound}
+use Rattle.xdr_value.proofs.Tells.{both, always, distinct, differs, filled, known, kinds_are_known, params_are_known}
+use Rattle.xdr_value.proofs.Tells.{members, arms, a_tag}
 use Rattle.xdr_value.proofs.Forms.{of_found}
 use Rattle.xdr_value.proofs.Rings.{none_endless, all_will_end}
 

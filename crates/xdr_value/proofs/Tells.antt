@@ -1,14 +1,17 @@
 -- What the tests tell: each is true exactly where its fact holds.
-use Rattle.std.proofs.Common.{◌≡◌, ◌≢◌, ◌↔◌, ℕ, ℤ, ◌^◌, Bool, true, false, ◌&&◌, not, List, [], ◌∷◌, Option, Some, None, refl, subst}
+use Rattle.std.proofs.Common.{◌≡◌, ◌≢◌, ◌↔◌, ℕ, ℤ, ◌^◌, Bool, true, false, ◌&&◌, not, List, [], ◌∷◌, Option, Some, None}
+use Rattle.std.proofs.Common.{refl, subst}
 use lib.IntN.{pos, negsuc}
 use Rattle.std.specs.Prelude.{is_some}
 use Rattle.std.specs.List.{AllByRecursion, IsDistinct}
-use Rattle.std.proofs.lemmas.Bool.{and_parts, and_from, or_parts, or_from, not-true, not_from_false, ltb-true, lt-ltb, false≢true}
+use Rattle.std.proofs.lemmas.Bool.{and_parts, and_from, or_parts, or_from, not-true, not_from_false, ltb-true, lt-ltb}
+use Rattle.std.proofs.lemmas.Bool.{false≢true}
 use Rattle.xdr_value.specs.Data.{Kind, basic, array, array_up_to, maybe, named, Choice, Form, Types, Param}
 use Rattle.xdr_value.specs.Ranges.{IsBelow, IsWithin, is_below, is_within}
 use Rattle.xdr_value.specs.Heads.{Tag, tag_int, tag_uint, tag_bool, tag_enum, tag_other, form_named}
 use Rattle.xdr_value.specs.Facts.{IsDefined, IsKnown, IsCase, CaseInRange}
-use Rattle.xdr_value.specs.Tests.{has_one, differ, is_known, kinds_known, members_in_range, case_in_range, arm_in_range, arms_in_range, is_tag, is_filled, params_known}
+use Rattle.xdr_value.specs.Tests.{has_one, differ, is_known, kinds_known, members_in_range, case_in_range, arm_in_range}
+use Rattle.xdr_value.specs.Tests.{arms_in_range, is_tag, is_filled, params_known}
 
 -- a test that is false tells what cannot be
 pub never : (false ≡ true) ↔ ⊥

@@ -1,10 +1,13 @@
 -- What an interface keeps of its types and procedures, in plain words. Public clauses cite this module.
-use Rattle.std.specs.Prelude.{◌≡◌, ◌≢◌, ℕ, ℤ, ◌^◌, Bool, true, false, nat_eq, List, [], ◌∷◌, Option, Some, None, map, ◌⊎◌}
+use Rattle.std.specs.Prelude.{◌≡◌, ◌≢◌, ℕ, ℤ, ◌^◌, Bool, true, false, nat_eq, List, [], ◌∷◌, Option, Some, None, map}
+use Rattle.std.specs.Prelude.{◌⊎◌}
 use Rattle.std.specs.Ordering.{int_eq}
 use Rattle.std.specs.Str.{bytes_eq}
 use Rattle.std.specs.List.{AllByRecursion, IsDistinct}
-use Rattle.xdr_value.specs.Data.{Kind, basic, array, array_up_to, maybe, named, Part, Choice, Form, alias, enum, struct, choice, Types, Param, Procedure, Procs}
-use Rattle.xdr_value.specs.Heads.{Tag, tag_int, tag_uint, tag_bool, tag_enum, tag_other, tag_of, head_of, form_named, arm_kind}
+use Rattle.xdr_value.specs.Data.{Kind, basic, array, array_up_to, maybe, named, Part, Choice, Form, alias, enum, struct}
+use Rattle.xdr_value.specs.Data.{choice, Types, Param, Procedure, Procs}
+use Rattle.xdr_value.specs.Heads.{Tag, tag_int, tag_uint, tag_bool, tag_enum, tag_other, tag_of, head_of, form_named}
+use Rattle.xdr_value.specs.Heads.{arm_kind}
 use Rattle.xdr_value.specs.Hollow.{core}
 use Rattle.xdr_value.specs.Ranges.{IsBelow, IsWithin, has_number}
 

@@ -1,10 +1,13 @@
 -- Which values a type has, and how deep a value is. Public clauses cite this module.
-use Rattle.std.specs.Prelude.{◌≡◌, ℕ, ℤ, suc, ◌≤◌, ◌<◌, ◌^◌, max, List, [], ◌∷◌, length, ⊤, true, false, Option, Some, None}
+use Rattle.std.specs.Prelude.{◌≡◌, ℕ, ℤ, suc, ◌≤◌, ◌<◌, ◌^◌, max, List, [], ◌∷◌, length, ⊤, true, false, Option, Some}
+use Rattle.std.specs.Prelude.{None}
 use Rattle.xdr_value.specs.Ranges.{IsBelow, IsWithin, has_number}
 use lib.IntN.{pos}
 use Rattle.xdr_value.specs.declared.ty.Basic.TheVariants as basics
-use Rattle.xdr_value.specs.Data.{Kind, Part, Choice, Datum, number, flag, octets, items, union, none, some, nothing, Data, end, more, Types}
-use Rattle.xdr_value.specs.Heads.{Tag, tag_int, tag_uint, tag_bool, tag_enum, Head, is_basic, is_enum, is_struct, is_union, is_array, is_array_up_to, is_maybe, head_of, arm_of, arm_kind}
+use Rattle.xdr_value.specs.Data.{Kind, Part, Choice, Datum, number, flag, octets, items, union, none, some, nothing}
+use Rattle.xdr_value.specs.Data.{Data, end, more, Types}
+use Rattle.xdr_value.specs.Heads.{Tag, tag_int, tag_uint, tag_bool, tag_enum, Head, is_basic, is_enum, is_struct}
+use Rattle.xdr_value.specs.Heads.{is_union, is_array, is_array_up_to, is_maybe, head_of, arm_of, arm_kind}
 use Rattle.xdr_value.specs.Hollow.{list_limit}
 
 -- how many values

@@ -1,9 +1,12 @@
 -- The test that computes `Fits`. Public clauses cite this module.
-use Rattle.std.specs.Prelude.{ℕ, ℤ, ◌^◌, List, [], ◌∷◌, length, Bool, true, false, ◌&&◌, ◌==◌, nat_lt, nat_le, Option, Some, None}
+use Rattle.std.specs.Prelude.{ℕ, ℤ, ◌^◌, List, [], ◌∷◌, length, Bool, true, false, ◌&&◌, ◌==◌, nat_lt, nat_le, Option}
+use Rattle.std.specs.Prelude.{Some, None}
 use Rattle.xdr_value.specs.Ranges.{is_below, is_within, has_number}
 use Rattle.xdr_value.specs.declared.ty.Basic.TheVariants as basics
-use Rattle.xdr_value.specs.Data.{Kind, Part, Choice, Datum, number, flag, octets, items, union, none, some, nothing, Data, end, more, Types}
-use Rattle.xdr_value.specs.Heads.{Tag, tag_int, tag_uint, tag_bool, tag_enum, Head, is_basic, is_enum, is_struct, is_union, is_array, is_array_up_to, is_maybe, head_of, arm_of, arm_kind}
+use Rattle.xdr_value.specs.Data.{Kind, Part, Choice, Datum, number, flag, octets, items, union, none, some, nothing}
+use Rattle.xdr_value.specs.Data.{Data, end, more, Types}
+use Rattle.xdr_value.specs.Heads.{Tag, tag_int, tag_uint, tag_bool, tag_enum, Head, is_basic, is_enum, is_struct}
+use Rattle.xdr_value.specs.Heads.{is_union, is_array, is_array_up_to, is_maybe, head_of, arm_of, arm_kind}
 use Rattle.xdr_value.specs.Hollow.{list_limit}
 use Rattle.xdr_value.specs.Fits.{count, tag_number}
 

@@ -1,7 +1,8 @@
 -- What an answer of `resolve` stands for. Public clauses cite this module.
 use Rattle.std.specs.Prelude.{map}
 use Rattle.xdr_value.specs.View.{kind_of, part_of, member_of, choice_of}
-use Rattle.xdr_value.specs.Heads.{Tag, tag_int, tag_uint, tag_bool, tag_enum, tag_other, Head, is_basic, is_enum, is_struct, is_union, is_array, is_array_up_to, is_maybe, is_unknown}
+use Rattle.xdr_value.specs.Heads.{Tag, tag_int, tag_uint, tag_bool, tag_enum, tag_other, Head, is_basic, is_enum}
+use Rattle.xdr_value.specs.Heads.{is_struct, is_union, is_array, is_array_up_to, is_maybe, is_unknown}
 use Rattle.xdr_value.specs.declared.head.Head.{Head as CodeHead}
 use Rattle.xdr_value.specs.declared.head.Head.TheVariants as code
 use Rattle.xdr_value.specs.declared.head.Tag.{Tag as CodeTag}

@@ -1,7 +1,9 @@
 -- Types whose values take no bytes, and how many of them a list may hold. Public clauses cite this module.
-use Rattle.std.specs.Prelude.{ℕ, zero, suc, Bool, true, false, ◌&&◌, ◌||◌, ◌==◌, min, List, [], ◌∷◌, length, Option, Some, None, if◌then◌else◌}
+use Rattle.std.specs.Prelude.{ℕ, zero, suc, Bool, true, false, ◌&&◌, ◌||◌, ◌==◌, min, List, [], ◌∷◌, length, Option}
+use Rattle.std.specs.Prelude.{Some, None, if◌then◌else◌}
 use Rattle.xdr_value.specs.declared.ty.Basic.TheVariants as basics
-use Rattle.xdr_value.specs.Data.{Kind, basic, array, array_up_to, maybe, named, Part, Form, alias, enum, struct, choice, Types}
+use Rattle.xdr_value.specs.Data.{Kind, basic, array, array_up_to, maybe, named, Part, Form, alias, enum, struct, choice}
+use Rattle.xdr_value.specs.Data.{Types}
 use Rattle.xdr_value.specs.Heads.{form_named}
 
 -- the type of what fixed arrays hold

@@ -1,10 +1,13 @@
 -- The tests that compute what an interface keeps; the law `sound_is` says that they ask for its facts. Public clauses
 -- cite `is_known` and `is_sound`.
-use Rattle.std.specs.Prelude.{ℕ, ℤ, zero, suc, ◌^◌, Bool, true, false, ◌&&◌, ◌||◌, not, nat_eq, List, [], ◌∷◌, length, Option, Some, None, is_some, map}
+use Rattle.std.specs.Prelude.{ℕ, ℤ, zero, suc, ◌^◌, Bool, true, false, ◌&&◌, ◌||◌, not, nat_eq, List, [], ◌∷◌, length}
+use Rattle.std.specs.Prelude.{Option, Some, None, is_some, map}
 use Rattle.std.specs.Str.{bytes_eq}
-use Rattle.xdr_value.specs.Data.{Kind, basic, array, array_up_to, maybe, named, Part, Choice, Form, alias, enum, struct, choice, Types, Param, Procedure, Procs}
+use Rattle.xdr_value.specs.Data.{Kind, basic, array, array_up_to, maybe, named, Part, Choice, Form, alias, enum, struct}
+use Rattle.xdr_value.specs.Data.{choice, Types, Param, Procedure, Procs}
 use Rattle.xdr_value.specs.Ranges.{is_below, is_within, has_number}
-use Rattle.xdr_value.specs.Heads.{Tag, tag_int, tag_uint, tag_bool, tag_enum, tag_other, tag_of, head_of, form_named, arm_kind}
+use Rattle.xdr_value.specs.Heads.{Tag, tag_int, tag_uint, tag_bool, tag_enum, tag_other, tag_of, head_of, form_named}
+use Rattle.xdr_value.specs.Heads.{arm_kind}
 use Rattle.xdr_value.specs.Hollow.{core}
 use Rattle.xdr_value.specs.Facts.{part_kinds, form_kinds, same_case, names_of}
 

@@ -3,7 +3,8 @@ use Rattle.std.specs.Prelude.{◌≡◌, ℕ, ℤ, ◌^◌, List, true, Some}
 use Rattle.std.specs.List.{AllByRecursion}
 use Rattle.xdr_value.specs.Ranges.{IsWithin, has_number}
 use Rattle.xdr_value.specs.Data.{Kind, Choice, Datum, Types}
-use Rattle.xdr_value.specs.Heads.{Tag, Head, is_basic, is_enum, is_struct, is_union, is_array, is_array_up_to, is_maybe, is_unknown, head_of, arm_kind, arm_of}
+use Rattle.xdr_value.specs.Heads.{Tag, Head, is_basic, is_enum, is_struct, is_union, is_array, is_array_up_to, is_maybe}
+use Rattle.xdr_value.specs.Heads.{is_unknown, head_of, arm_kind, arm_of}
 use Rattle.xdr_value.specs.Facts.{IsCase, CaseInRange}
 use Rattle.xdr_value.specs.Fits.{Fits, TagFits, tag_number}
 use Rattle.xdr_value.specs.Zero.{tag_value, first_number}

@@ -1,7 +1,9 @@
 -- The data that the types of the code stand for. Public clauses cite this module.
 use Rattle.std.specs.Prelude.{ℕ, ℤ, List, [], ◌∷◌, Some, None, option_map, map, string_bytes}
 use Rattle.xdr_value.specs.declared.ty.Basic.TheVariants as basics
-use Rattle.xdr_value.specs.Data.{Kind, basic, array, array_up_to, maybe, named, Datum, number, flag, octets, items, union, none, some, nothing, Data, end, more, Part, Choice, Form, alias, enum, struct, choice, Types, Param, Procedure, Procs}
+use Rattle.xdr_value.specs.Data.{Kind, basic, array, array_up_to, maybe, named, Datum, number, flag, octets, items}
+use Rattle.xdr_value.specs.Data.{union, none, some, nothing, Data, end, more, Part, Choice, Form, alias, enum, struct}
+use Rattle.xdr_value.specs.Data.{choice, Types, Param, Procedure, Procs}
 use Rattle.xdr_value.specs.declared.ty.Ty.{Ty, fold-Ty}
 use Rattle.xdr_value.specs.declared.ty.Ty.TheOpen.{Ty-F}
 use Rattle.xdr_value.specs.declared.value.Value.{Value, fold-Value}

@@ -4,8 +4,11 @@ use Rattle.std.specs.Ordering.{int_eq}
 use lib.IntN.{pos}
 use Rattle.xdr_value.specs.declared.ty.Basic.{Basic}
 use Rattle.xdr_value.specs.declared.ty.Basic.TheVariants as basics
-use Rattle.xdr_value.specs.Data.{Kind, basic, array, array_up_to, maybe, named, Part, Choice, Form, alias, enum, struct, choice, Types, Datum, number, flag, octets, items, union, none, nothing, Data, end, more}
-use Rattle.xdr_value.specs.Heads.{Tag, tag_int, tag_uint, tag_bool, tag_enum, tag_other, tag_of, head_of, form_named, arm_of, arm_kind}
+use Rattle.xdr_value.specs.Data.{Kind, basic, array, array_up_to, maybe, named, Part, Choice, Form, alias, enum, struct}
+use Rattle.xdr_value.specs.Data.{choice, Types, Datum, number, flag, octets, items, union, none, nothing, Data, end}
+use Rattle.xdr_value.specs.Data.{more}
+use Rattle.xdr_value.specs.Heads.{Tag, tag_int, tag_uint, tag_bool, tag_enum, tag_other, tag_of, head_of, form_named}
+use Rattle.xdr_value.specs.Heads.{arm_of, arm_kind}
 use Rattle.xdr_value.specs.Hollow.{core}
 
 -- n times the value

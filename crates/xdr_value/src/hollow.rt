@@ -2,7 +2,8 @@
 
 ghost use Rattle.std.specs.Prelude.{◌≡◌, map};
 ghost use Rattle.xdr_value.specs.View.{kind_of, types_of, part_of};
-ghost use Rattle.xdr_value.specs.Hollow.{core, has_zero, core_hollow, kind_hollow, parts_hollow, name_hollow, is_hollow, list_limit};
+ghost use Rattle.xdr_value.specs.Hollow.{core, has_zero, core_hollow, kind_hollow, parts_hollow, name_hollow};
+ghost use Rattle.xdr_value.specs.Hollow.{is_hollow, list_limit};
 
 use crate::def::{Def, Field, Shape};
 use crate::ends::core_of;

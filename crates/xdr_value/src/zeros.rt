@@ -6,7 +6,8 @@ ghost use Rattle.xdr_value.specs.View.{kind_of, types_of, value_of, values_of, p
 ghost use Rattle.xdr_value.specs.HeadView.{tag_view};
 ghost use Rattle.xdr_value.specs.Hollow.{core};
 ghost use Rattle.xdr_value.specs.Fits.{Fits};
-ghost use Rattle.xdr_value.specs.Zero.{copies, wrapped, basic_zero, core_zero, kind_zero, parts_zero, arm_zero, first_number, tag_zero, first_case, tag_value, union_zero, name_zero, zero_of};
+ghost use Rattle.xdr_value.specs.Zero.{copies, wrapped, basic_zero, core_zero, kind_zero, parts_zero, arm_zero};
+ghost use Rattle.xdr_value.specs.Zero.{first_number, tag_zero, first_case, tag_value, union_zero, name_zero, zero_of};
 ghost use Rattle.xdr_value.specs.Tests.{is_known};
 
 use crate::def::{Arm, Def, Field, Member, Shape};

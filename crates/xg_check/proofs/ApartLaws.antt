@@ -1,5 +1,6 @@
 -- What follows where nothing stands twice: names of one space differ.
-use Rattle.std.proofs.Common.{◌≡◌, ℕ, suc, Bool, true, false, cond, List, [], ◌∷◌, ◌++◌, map, flat_map, slice_get, Option, Some, None, refl, sym, ap, subst, ◌∙◌, arith}
+use Rattle.std.proofs.Common.{◌≡◌, ℕ, suc, Bool, true, false, cond, List, [], ◌∷◌, ◌++◌, map, flat_map, slice_get}
+use Rattle.std.proofs.Common.{Option, Some, None, refl, sym, ap, subst, ◌∙◌, arith}
 use Rattle.std.specs.Prelude.{⊤}
 use Rattle.std.specs.Str.{bytes_eq}
 use Rattle.std.specs.List.{AllByRecursion, IsDistinct}
@@ -21,7 +22,10 @@ use Rattle.xdr_value.specs.Facts.{names_of}
 use Rattle.xg_check.specs.declared.marks.Space.{Space}
 use Rattle.xg_check.specs.declared.marks.Space.TheVariants as spaces
 use Rattle.xg_check.specs.Constants.{ConstantDef}
-use Rattle.xg_check.specs.Marks.{Mark, declares, union_case, uses_type, uses_constant, valued, sized, enum_type, struct_type, union_type, optional_constant, form_type, form_bound, optional_name, decl_marks, member_marks, field_marks, arg_marks, case_marks, held_marks, arm_marks, default_marks, part_marks, marks_from}
+use Rattle.xg_check.specs.Marks.{Mark, declares, union_case, uses_type, uses_constant, valued, sized, enum_type}
+use Rattle.xg_check.specs.Marks.{struct_type, union_type, optional_constant, form_type, form_bound, optional_name}
+use Rattle.xg_check.specs.Marks.{decl_marks, member_marks, field_marks, arg_marks, case_marks, held_marks, arm_marks}
+use Rattle.xg_check.specs.Marks.{default_marks, part_marks, marks_from}
 use Rattle.xg_check.specs.Judged.{same_space, are_same, IsTwice}
 use Rattle.xg_check.specs.Meant.{part_type, types_meant}
 

@@ -1,6 +1,7 @@
 -- Ways the other way round, one by one.
-use Rattle.std.proofs.Common.{◌≡◌, ℕ, zero, suc, ◌+◌, ◌<◌, ◌≤◌, List, [], ◌∷◌, ◌++◌, length, set, replicate, slice_get, Option, Some, refl, sym, ap, subst, ◌∙◌, arith, ◌⊎◌, inl, inr}
-use Rattle.std.proofs.lemmas.List.{length-set, length-replicate}
+use Rattle.std.proofs.Common.{◌≡◌, ℕ, zero, suc, ◌+◌, ◌<◌, ◌≤◌, List, [], ◌∷◌, ◌++◌, length, set, replicate, slice_get}
+use Rattle.std.proofs.Common.{Option, Some, refl, sym, ap, subst, ◌∙◌, arith, ◌⊎◌, inl, inr}
+use Rattle.std.proofs.lemmas.List.{length-set}
 use Rattle.std.proofs.lemmas.Option.{slice_get_within}
 use Rattle.std.specs.List.{AllByRecursion}
 use Rattle.xg_check.specs.Graphs.{IsGraph, Step, AreReversed}
@@ -9,14 +10,6 @@ use Rattle.xg_check.proofs.SearchLaws.{at_front, at_end, of_pushed, set_here, se
 
 pub the_same : {A : Type 0} (o : Option A) (x y : A) → o ≡ Some x → o ≡ Some y → x ≡ y
 the_same {A} o x y e h = let both : Some x ≡ Some y = sym e ∙ h in cc
-
-pub back_none : (lists : List (List ℕ)) (node : ℕ) → AreBack lists lists node []
-back_none lists node = record {
-  size = refl;
-  kept = λ j i s. s;
-  added = λ p j h. absurd cc;
-  only = λ j i s. inl s;
-}
 
 pub pushed_back : (lists : List (List ℕ)) (node other : ℕ) (ws : List ℕ) → slice_get lists other ≡ Some ws
     → AreBack lists (set lists other (ws ++ node ∷ [])) node (other ∷ [])
@@ -36,7 +29,8 @@ pushed_back lists node other ws had = record {
     kept : (j i : ℕ) → Step lists j i → Step (set lists other (ws ++ node ∷ [])) j i
     kept j i s = elim (same_or_not j other) [
       | inl same ↦
-          let at : slice_get lists other ≡ Some s.next = subst (λ (k : ℕ). slice_get lists k ≡ Some s.next) same s.from in
+          let at : slice_get lists other ≡ Some s.next =
+          subst (λ (k : ℕ). slice_get lists k ≡ Some s.next) same s.from in
           let is : s.next ≡ ws = the_same (slice_get lists other) s.next ws at had in
           let to : slice_get ws s.place ≡ Some i = subst (λ (xs : List ℕ). slice_get xs s.place ≡ Some i) is s.to in
           record {
@@ -128,32 +122,6 @@ back_more l0 l1 l2 node xs x a b = record {
       | inr new ↦ inr (new.0, last j new.1.0 new.1.1)
     ]
 
--- the ways from one node more
-pub turned_more : (g b0 b1 : List (List ℕ)) (node : ℕ) (next : List ℕ) → AreTurned g b0 node
-    → slice_get g node ≡ Some next → AreBack b0 b1 node next → AreTurned g b1 (node + 1)
-turned_more g b0 b1 node next t at a = record {
-  size = a.size ∙ t.size;
-  turned = turned;
-  turned_back = turned_back;
-}
-  where
-    turned : (i j : ℕ) → i < node + 1 → Step g i j → Step b1 j i
-    turned i j lt s = elim (same_or_not i node) [
-      | inl same ↦
-          let here : slice_get g node ≡ Some s.next = subst (λ (k : ℕ). slice_get g k ≡ Some s.next) same s.from in
-          let is : s.next ≡ next = the_same (slice_get g node) s.next next here at in
-          subst (λ (k : ℕ). Step b1 j k) (sym same)
-          (a.added s.place j (subst (λ (xs : List ℕ). slice_get xs s.place ≡ Some j) is s.to))
-      | inr ne ↦ a.kept j i (t.turned i j (omega (arith, lt, ne)) s)
-    ]
-
-    turned_back : (i j : ℕ) → Step b1 j i → Step g i j
-    turned_back i j s = elim (a.only j i s) [
-      | inl old ↦ t.turned_back i j old
-      | inr new ↦ subst (λ (k : ℕ). Step g k j) (sym new.0)
-          (record { next = next; from = at; place = new.1.0; to = new.1.1 })
-    ]
-
 pub all_turned : (g back : List (List ℕ)) (seen : ℕ) → AreTurned g back seen → length g ≤ seen → AreReversed g back
 all_turned g back seen t le = record {
   size = t.size;
@@ -165,19 +133,6 @@ of_replicate : {A : Type 0} (n : ℕ) (x y : A) (i : ℕ) → slice_get (replica
 of_replicate zero x y i e = absurd cc
 of_replicate (suc n) x y zero e = cc
 of_replicate (suc n) x y (suc i) e = of_replicate n x y i e
-
-pub none_turned : (g : List (List ℕ)) → AreTurned g (replicate (length g) []) 0
-none_turned g = record {
-  size = length-replicate (length g) [];
-  turned = λ i j lt s. absurd (omega (arith, lt));
-  turned_back = λ i j s. absurd (nothing j i s);
-}
-  where
-    nothing : (j i : ℕ) → Step (replicate (length g) []) j i → ⊥
-    nothing j i s =
-        let is : [] ≡ s.next = of_replicate (length g) [] s.next j s.from in
-        let no : slice_get [] s.place ≡ Some i = subst (λ (xs : List ℕ). slice_get xs s.place ≡ Some i) (sym is) s.to in
-        absurd cc
 
 all_by : {A : Type 0} (P : A → Type 0) (xs : List A) → ((j : ℕ) (x : A) → slice_get xs j ≡ Some x → P x)
     → AllByRecursion P xs

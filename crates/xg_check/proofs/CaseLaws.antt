@@ -1,5 +1,7 @@
 -- The cases of a union of which none stands twice, and each is a value of its tag.
-use Rattle.std.proofs.Common.{◌≡◌, ◌≢◌, ℕ, ℤ, ◌<◌, ◌^◌, Bool, true, false, cond, not, ◌||◌, nat_eq, List, [], ◌∷◌, ◌++◌, map, flat_map, slice_get, Option, Some, None, is_some, refl, sym, ap, subst, ◌∙◌, arith, inl, inr}
+use Rattle.std.proofs.Common.{◌≡◌, ◌≢◌, ℕ, ℤ, ◌<◌, ◌^◌, Bool, true, false, cond, not, ◌||◌, nat_eq, List, [], ◌∷◌, ◌++◌}
+use Rattle.std.proofs.Common.{map, flat_map, slice_get, Option, Some, None, is_some, refl, sym, ap, subst, ◌∙◌, arith}
+use Rattle.std.proofs.Common.{inl, inr}
 use lib.IntN.{pos, negsuc}
 use Rattle.std.specs.Prelude.{⊤}
 use Rattle.std.specs.Ordering.{int_eq}
@@ -23,7 +25,9 @@ use Rattle.xg_check.specs.declared.tags.Tag.{Tag}
 use Rattle.xg_check.specs.declared.tags.Tag.TheVariants as tags
 use Rattle.xg_check.specs.Constants.{ConstantDef, value_of, value_named}
 use Rattle.xg_check.specs.Tags.{tag_of, is_value, members_have, enum_has, has_case}
-use Rattle.xg_check.specs.Marks.{Mark, declares, union_case, uses_type, uses_constant, valued, sized, enum_type, struct_type, union_type, optional_constant, form_type, form_bound, case_marks, held_marks, arm_marks, default_marks}
+use Rattle.xg_check.specs.Marks.{Mark, declares, union_case, uses_type, uses_constant, valued, sized, enum_type}
+use Rattle.xg_check.specs.Marks.{struct_type, union_type, optional_constant, form_type, form_bound, case_marks}
+use Rattle.xg_check.specs.Marks.{held_marks, arm_marks, default_marks}
 use Rattle.xg_check.specs.Judged.{Scope, is_unknown_constant, same_value, are_same, is_no_case, has_case_word, has_arm}
 use Rattle.xg_check.specs.Meant.{value_or_zero, held_meant, case_meant, arm_meant, default_meant}
 use Rattle.xg_check.proofs.ApartLaws.{Apart}
@@ -336,7 +340,8 @@ of_all : (cs : List ConstantDef) (arms : List ArmItem) → cases_in (flat_map (a
 of_all cs [] = refl
 of_all cs (a ∷ arms) =
     cases_join (arm_meant cs a) (flat_map (arm_meant cs) arms)
-    ∙ ap (λ (zs : List (Option ℤ)). zs ++ cases_in (flat_map (arm_meant cs) arms)) (of_one cs (held_meant cs a.decl) a.cases)
+    ∙ ap (λ (zs : List (Option ℤ)). zs ++ cases_in (flat_map (arm_meant cs) arms))
+    (of_one cs (held_meant cs a.decl) a.cases)
     ∙ ap (λ (zs : List (Option ℤ)). map (λ (w : ConstWord). Some (value_or_zero (value_of cs w))) a.cases ++ zs)
     (of_all cs arms)
     ∙ sym (map_join cs a.cases (case_words arms))
@@ -405,7 +410,8 @@ choices_differ s tag arms o all h =
 
 module _ (s : Scope) (tag : TypeWord) (seen : XdrTag)
     (is_seen : (z : ℤ) → has_case s.types s.constants (tag_of s.types tag) z ≡ true → IsCase seen z) where
-  one_in_range : (held : Option Field) (w : ConstWord) → CaseOf s tag w → CaseInRange seen (case_meant s.constants held w)
+  one_in_range : (held : Option Field) (w : ConstWord) → CaseOf s tag w
+      → CaseInRange seen (case_meant s.constants held w)
   one_in_range held w c z e =
       let is : value_or_zero (value_of s.constants w) ≡ z = cc in
       subst (IsCase seen) (sym (case_value s tag w c) ∙ is) (is_seen c.value c.has)

@@ -1,5 +1,6 @@
 -- The faults of a text, from what the passes answer.
-use Rattle.std.proofs.Common.{◌≡◌, ℕ, ℤ, ◌<◌, List, length, map, slice_get, Option, Some, None, option_map, option_and_then, unwrap_or, refl, sym, ap, subst, ◌∙◌, arith}
+use Rattle.std.proofs.Common.{◌≡◌, ℕ, ℤ, ◌<◌, List, length, map, slice_get, Option, Some, None, option_map}
+use Rattle.std.proofs.Common.{option_and_then, unwrap_or, refl, sym, ap, subst, ◌∙◌, arith}
 use Rattle.std.specs.Borrow.{Bor}
 use Rattle.std.proofs.lemmas.Option.{slice_get-map}
 use Rattle.std.proofs.lemmas.List.{length-map}
@@ -13,7 +14,8 @@ use Rattle.xg_check.specs.Marks.{Mark, marks_in}
 use Rattle.xg_check.specs.Judged.{Scope, IsTwice, IsUnknown, IsSizeFault, IsEndless, opcode_at}
 use Rattle.xg_check.specs.Counting.{number_at, IsMissing, StandsAgain}
 use Rattle.xg_check.specs.Answers.{IsFirstNamed, IsFirstOf, IsFirstPlace, IsFirstNumber, IsFaultOf}
-use Rattle.xg_check.specs.Meaning.{TwiceAt, UnknownAt, SizeAt, EndlessAt, OpcodeAt, OpcodeTwiceAt, opcodes_of, IsFaultless, MarkNamed}
+use Rattle.xg_check.specs.Meaning.{TwiceAt, UnknownAt, SizeAt, EndlessAt, OpcodeAt, OpcodeTwiceAt, opcodes_of}
+use Rattle.xg_check.specs.Meaning.{IsFaultless, MarkNamed}
 use Rattle.xg_check.proofs.OrderLaws.{item_at}
 
 abbrev pub NumberedOps : Type 0
@@ -35,7 +37,8 @@ number_is ops k =
 
 module _ (tree : Tree) (cs : List ConstantDef) (ts : List Part) (ms : List Mark)
     (cs_is : cs ≡ constants_in tree.items) (ts_is : ts ≡ types_in tree.items) (ms_is : ms ≡ marks_in tree.items) where
-  pub twice_named : (o : Option (Bor (List ℕ))) → IsFirstNamed (IsTwice cs ms) ms o → IsFirstNamed (TwiceAt tree) (marks_in tree.items) o
+  pub twice_named : (o : Option (Bor (List ℕ))) → IsFirstNamed (IsTwice cs ms) ms o
+      → IsFirstNamed (TwiceAt tree) (marks_in tree.items) o
   twice_named o h =
       subst (λ (xs : List Mark). IsFirstNamed (IsTwice (constants_in tree.items) xs) xs o) ms_is
       (subst (λ (ds : List ConstantDef). IsFirstNamed (IsTwice ds ms) ms o) cs_is h)
@@ -49,7 +52,8 @@ module _ (tree : Tree) (cs : List ConstantDef) (ts : List Part) (ms : List Mark)
       → IsFirstNamed (UnknownAt tree) (marks_in tree.items) o
   unknown_named o h =
       subst (λ (xs : List Mark).
-      IsFirstNamed (IsUnknown (record { constants = constants_in tree.items; types = types_in tree.items }) xs) xs o) ms_is
+      IsFirstNamed (IsUnknown (record { constants = constants_in tree.items; types = types_in tree.items }) xs) xs o)
+      ms_is
       (subst (λ (s : Scope). IsFirstNamed (IsUnknown s ms) ms o) scope_is h)
 
   pub size_named : (o : Option (Bor (List ℕ)))
@@ -57,7 +61,8 @@ module _ (tree : Tree) (cs : List ConstantDef) (ts : List Part) (ms : List Mark)
       → IsFirstNamed (SizeAt tree) (marks_in tree.items) o
   size_named o h =
       subst (λ (xs : List Mark).
-      IsFirstNamed (IsSizeFault (record { constants = constants_in tree.items; types = types_in tree.items }) xs) xs o) ms_is
+      IsFirstNamed (IsSizeFault (record { constants = constants_in tree.items; types = types_in tree.items }) xs) xs o)
+      ms_is
       (subst (λ (s : Scope). IsFirstNamed (IsSizeFault s ms) ms o) scope_is h)
 
   pub endless_named : (o : Option (Bor (List ℕ))) → IsFirstOf (IsEndless ts) (type_names ts) o
@@ -125,7 +130,8 @@ module _ (tree : Tree) (list : List (Option ℤ)) (list_is : list ≡ values_of_
   differ_all none k h = none k (again_back k h)
 
   named_there : (k : ℕ) (o : Option (Bor (List ℕ))) (name : List ℕ) → k < length (opcodes_of tree)
-      → option_map (λ (s : Bor (List ℕ)). s.now) o ≡ slice_get (map (λ (p : List ℕ × Option ℤ). p.0) (opcodes_of tree)) k
+      → option_map (λ (s : Bor (List ℕ)). s.now) o ≡ slice_get
+      (map (λ (p : List ℕ × Option ℤ). p.0) (opcodes_of tree)) k
       → name ≡ unwrap_or (option_map (λ (s : Bor (List ℕ)). s.now) o) name
       → slice_get (map (λ (p : List ℕ × Option ℤ). p.0) (opcodes_of tree)) k ≡ Some name
   named_there k o name lt e is =
@@ -136,7 +142,8 @@ module _ (tree : Tree) (list : List (Option ℤ)) (list_is : list ≡ values_of_
 
   pub opcode_fault : (k : ℕ) (o : Option (Bor (List ℕ))) (name : List ℕ) → IsFaultless tree
       → IsFirstPlace (IsMissing list) (Some k)
-      → option_map (λ (s : Bor (List ℕ)). s.now) o ≡ slice_get (map (λ (p : List ℕ × Option ℤ). p.0) (opcodes_of tree)) k
+      → option_map (λ (s : Bor (List ℕ)). s.now) o ≡ slice_get
+      (map (λ (p : List ℕ × Option ℤ). p.0) (opcodes_of tree)) k
       → name ≡ unwrap_or (option_map (λ (s : Bor (List ℕ)). s.now) o) name
       → IsFaultOf tree (faults.Opcode name)
   opcode_fault k o name f h e is =

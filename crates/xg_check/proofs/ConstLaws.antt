@@ -1,5 +1,7 @@
 -- To which others constants lead, and how large their values are.
-use Rattle.std.proofs.Common.{◌≡◌, ℕ, ℤ, zero, suc, ◌+◌, ◌^◌, ◌<◌, ◌≤◌, ◌<ℤ◌, ◌+ℤ◌, pos, Bool, true, List, [], ◌∷◌, ◌++◌, length, set, replicate, get_or, take, slice_get, Option, Some, None, option_map, IfSome, refl, sym, ap, subst, ◌∙◌, arith, inl, inr}
+use Rattle.std.proofs.Common.{◌≡◌, ℕ, ℤ, zero, suc, ◌+◌, ◌^◌, ◌<◌, ◌≤◌, ◌<ℤ◌, ◌+ℤ◌, pos, Bool, true, List, [], ◌∷◌}
+use Rattle.std.proofs.Common.{◌++◌, length, set, replicate, get_or, take, slice_get, Option, Some, None, option_map}
+use Rattle.std.proofs.Common.{IfSome, refl, sym, ap, subst, ◌∙◌, arith, inl, inr}
 use Rattle.std.specs.List.{AllByRecursion}
 use Rattle.std.specs.Option.{SomeIff}
 use Rattle.std.specs.Int.RustNames.{FitsSigned}
@@ -10,7 +12,8 @@ use Rattle.std.proofs.lemmas.Option.{slice_get-map, slice_get-get_or, slice_get_
 use Rattle.xg_parse.specs.declared.tree.ConstWord.TheVariants as consts
 use Rattle.xg_check.specs.declared.constants.Constant.{Constant as CodeConstant}
 use Rattle.xg_check.specs.Graphs.{IsGraph, AreOrdered}
-use Rattle.xg_check.specs.Constants.{Given, word, first, next, ConstantDef, constant_names, one_or_none, given_source, given_value, ways_from, constant_ways}
+use Rattle.xg_check.specs.Constants.{Given, word, first, next, ConstantDef, constant_names, one_or_none, given_source}
+use Rattle.xg_check.specs.Constants.{given_value, ways_from, constant_ways}
 use Rattle.xg_check.specs.Views.{constant_of, constants_of}
 use Rattle.xg_check.specs.Held.{flat, held_value, AreFound, AreBelow, AreBounded}
 use Rattle.xg_check.proofs.RingLaws.{place_inside, length_ways}

@@ -1,5 +1,7 @@
 -- Opcodes counted one procedure at a time, and procedures with their names.
-use Rattle.std.proofs.Common.{◌≡◌, ℕ, ℤ, zero, suc, ◌+◌, ◌-◌, ◌<◌, ◌≤◌, ◌<ℤ◌, ◌+ℤ◌, pos, Bool, true, false, List, [], ◌∷◌, ◌++◌, length, drop, get_or, map, slice_get, Option, Some, None, option_map, IfSome, refl, sym, ap, ◌∙◌, arith, append_assoc}
+use Rattle.std.proofs.Common.{◌≡◌, ℕ, ℤ, zero, suc, ◌+◌, ◌-◌, ◌<◌, ◌≤◌, ◌<ℤ◌, ◌+ℤ◌, pos, Bool, true, false, List, []}
+use Rattle.std.proofs.Common.{◌∷◌, ◌++◌, length, drop, get_or, map, slice_get, Option, Some, None, IfSome}
+use Rattle.std.proofs.Common.{refl, sym, ap, ◌∙◌, arith, append_assoc}
 use Rattle.std.proofs.lemmas.List.{at_drop_more, at_drop_all}
 use Rattle.std.proofs.lemmas.Int.{ints}
 use Rattle.xg_parse.specs.declared.tree.ConstWord.{ConstWord}
@@ -9,10 +11,11 @@ use Rattle.xg_parse.specs.declared.tree.Part.{Part}
 use Rattle.xg_parse.specs.declared.tree.Part.TheVariants as parts
 use Rattle.xg_parse.specs.declared.tree.Item.{Item}
 use Rattle.xg_check.specs.declared.opcodes.Count.{Count}
-use Rattle.xg_check.specs.declared.opcodes.Count.TheVariants as counts
 use Rattle.xg_check.specs.Constants.{ConstantDef, value_of}
-use Rattle.xg_check.specs.Opcodes.{last_start, none_counted, last_opcode, counted_from, opcode_behind, with_opcode, opcodes_behind}
-use Rattle.xg_check.specs.Counts.{counted_next, count_given, count_counted, IsCountBelow, count_from, count_behind, part_opcode, count_part, part_proc_name}
+use Rattle.xg_check.specs.Opcodes.{last_start, none_counted, last_opcode, counted_from, opcode_behind, with_opcode}
+use Rattle.xg_check.specs.Opcodes.{opcodes_behind}
+use Rattle.xg_check.specs.Counts.{counted_next, count_given, count_counted, count_from, count_behind}
+use Rattle.xg_check.specs.Counts.{part_opcode, count_part, part_proc_name}
 
 -- ---- what the next opcode is counted from
 
@@ -57,7 +60,8 @@ module _ (cs : List ConstantDef) where
 
   pub opcodes_more : (front : List Part) (items : List Item) (i : ℕ) (d : Item) → i < length items
       → opcodes_behind cs front (drop i items)
-      ≡ with_opcode cs front (get_or items i d).part (opcodes_behind cs ((get_or items i d).part ∷ front) (drop (i + 1) items))
+      ≡ with_opcode cs front (get_or items i d).part
+      (opcodes_behind cs ((get_or items i d).part ∷ front) (drop (i + 1) items))
   opcodes_more front items i d lt = at_drop_more (opcodes_behind cs front) items i d lt
 
   pub part_counted : (front : List Part) (count : Count) (p : Part) → count ≡ count_behind cs front
@@ -92,7 +96,8 @@ module _ (cs : List ConstantDef) where
       ap (λ (v : Option ℤ). v ∷ map (λ (q : List ℕ × Option ℤ). q.1) rest) (sym (next_is front count e))
 
   -- an item more
-  pub list_more : (front : List Part) (count : Count) (items : List Item) (i : ℕ) (d : Item) (list new total : List (Option ℤ))
+  pub list_more : (front : List Part) (count : Count) (items : List Item) (i : ℕ) (d : Item)
+      (list new total : List (Option ℤ))
       → i < length items → d ≡ get_or items i d → count ≡ count_behind cs front
       → list ++ map (λ (q : List ℕ × Option ℤ). q.1) (opcodes_behind cs front (drop i items)) ≡ total
       → new ≡ list ++ part_opcode cs count d.part
@@ -102,7 +107,8 @@ module _ (cs : List ConstantDef) where
       let seconds : List (List ℕ × Option ℤ) → List (Option ℤ) = λ ops. map (λ (q : List ℕ × Option ℤ). q.1) ops in
       let here : opcodes_behind cs front (drop i items) ≡ with_opcode cs front d.part rest =
       opcodes_more front items i d lt
-      ∙ ap (λ (x : Item). with_opcode cs front x.part (opcodes_behind cs (x.part ∷ front) (drop (i + 1) items))) (sym is) in
+      ∙ ap (λ (x : Item). with_opcode cs front x.part (opcodes_behind cs (x.part ∷ front) (drop (i + 1) items)))
+      (sym is) in
       ap (λ (xs : List (Option ℤ)). xs ++ seconds rest) made
       ∙ append_assoc list (part_opcode cs count d.part) (seconds rest)
       ∙ ap (λ (xs : List (Option ℤ)). list ++ xs) (sym (part_opcodes front count d.part rest e))
@@ -125,27 +131,6 @@ list_last cs front items i list total le e =
 pub higher : (m n : ℕ) (o : Option ℤ) → m < n + 1 → IfSome o (λ z. z <ℤ pos m) → IfSome o (λ z. z <ℤ pos n)
 higher m n None lt h = h
 higher m n (Some z) lt h = omega (arith, ints, h, lt)
-
-pub count_higher : (m n : ℕ) (c : Count) → m < n + 1 → IsCountBelow m c → IsCountBelow n c
-count_higher m n counts.Nothing lt h = tt
-count_higher m n (counts.Start v) lt h = higher m n v lt h
-count_higher m n (counts.Last v) lt h = higher m n v lt h
-
-pub given_below : (n : ℕ) (c : Count) (v : Option ℤ) → IsCountBelow n c → IfSome v (λ z. z <ℤ pos n)
-    → IsCountBelow n (count_given c v)
-given_below n counts.Nothing v h k = tt
-given_below n (counts.Start s) v h k = h
-given_below n (counts.Last l) v h k = k
-
-one_higher : (n : ℕ) (o : Option ℤ) → IfSome o (λ z. z <ℤ pos n)
-    → IfSome (option_map (λ z. z +ℤ pos 1) o) (λ z. z <ℤ pos (n + 1))
-one_higher n None h = h
-one_higher n (Some z) h = omega (arith, ints, h)
-
-pub counted_below : (n : ℕ) (c : Count) → IsCountBelow n c → IsCountBelow (n + 1) (count_counted c)
-counted_below n counts.Nothing h = tt
-counted_below n (counts.Start s) h = higher n (n + 1) s (omega arith) h
-counted_below n (counts.Last l) h = one_higher n l h
 
 -- ---- names of procedures
 

@@ -1,5 +1,7 @@
 -- A type of the interface that holds itself is one of the text that leads to itself.
-use Rattle.std.proofs.Common.{◌≡◌, ℕ, zero, suc, Bool, true, false, cond, List, [], ◌∷◌, ◌++◌, map, flat_map, filter, slice_get, Option, Some, None, is_some, option_map, option_and_then, refl, sym, ap, subst, ◌∙◌, ◌⊎◌, inl, inr}
+use Rattle.std.proofs.Common.{◌≡◌, ℕ, zero, suc, Bool, true, false, cond, List, [], ◌∷◌, ◌++◌, map, flat_map, filter}
+use Rattle.std.proofs.Common.{slice_get, Option, Some, None, is_some, option_map, option_and_then, refl, sym, ap, subst}
+use Rattle.std.proofs.Common.{◌∙◌, ◌⊎◌, inl, inr}
 use Rattle.std.specs.Str.{bytes_eq}
 use Rattle.std.specs.List.{AllByRecursion}
 use Rattle.std.proofs.lemmas.Slice.Eq.{bytes_eq-Decides}
@@ -10,7 +12,8 @@ use Rattle.xdr_value.specs.declared.ty.Basic.{Basic}
 use Rattle.xdr_value.specs.Data.{named, Part as Field, Choice, Form as Shape, alias, enum, struct, choice, Types}
 use Rattle.xdr_value.specs.Heads.{form_named, part_kind, arm_kind}
 use Rattle.xdr_value.specs.Hollow.{core}
-use Rattle.xdr_value.specs.Facts.{part_kinds, form_kinds, OneHolds, TypeHolds, at_once as holds_at_once, through as holds_through}
+use Rattle.xdr_value.specs.Facts.{part_kinds, form_kinds, OneHolds, TypeHolds, at_once as holds_at_once}
+use Rattle.xdr_value.specs.Facts.{through as holds_through}
 use Rattle.xg_parse.specs.declared.tree.ConstWord.{ConstWord}
 use Rattle.xg_parse.specs.declared.tree.TypeWord.{TypeWord}
 use Rattle.xg_parse.specs.declared.tree.TypeWord.TheVariants as types
@@ -26,8 +29,10 @@ use Rattle.xg_check.specs.Places.{place_of}
 use Rattle.xg_check.specs.Bases.{base_named}
 use Rattle.xg_check.specs.Constants.{ConstantDef, one_or_none}
 use Rattle.xg_check.specs.Graphs.{Step, Leads, at_once, through}
-use Rattle.xg_check.specs.Typed.{type_name, name_in, types_in, type_names, word_place, form_word, decl_places, held_places, default_places, part_places, type_ways}
-use Rattle.xg_check.specs.Meant.{base_kind, word_kind, form_kind, field_meant, held_meant, case_meant, arm_meant, default_meant, part_type, types_meant}
+use Rattle.xg_check.specs.Typed.{type_name, name_in, types_in, type_names, word_place, form_word, decl_places}
+use Rattle.xg_check.specs.Typed.{held_places, default_places, part_places, type_ways}
+use Rattle.xg_check.specs.Meant.{base_kind, word_kind, form_kind, field_meant, held_meant, case_meant, arm_meant}
+use Rattle.xg_check.specs.Meant.{default_meant, part_type, types_meant}
 
 -- ---- lists
 
@@ -132,7 +137,8 @@ found cs (p ∷ ts) all s f e = by_test (bytes_eq (name_in p) s) (bytes_eq s (na
 
 -- ---- what a type holds
 
-module _ (cs : List ConstantDef) (ts : List Part) (u : List ℕ) (j : ℕ) (place : place_of u (type_names ts) ≡ Some j) where
+module _ (cs : List ConstantDef) (ts : List Part) (u : List ℕ) (j : ℕ)
+    (place : place_of u (type_names ts) ≡ Some j) where
   word_holds : (t : TypeWord) → core (word_kind t) ≡ named u → word_place ts t ≡ Some j
   word_holds (types.Base words) e = by_base (base_named words) e
     where
@@ -226,13 +232,16 @@ module _ (cs : List ConstantDef) (ts : List Part) (u : List ℕ) (j : ℕ) (plac
       let same : choice (word_kind tag) all ≡ f = forms_same n s (choice (word_kind tag) all) f is in
       by_kind (subst (λ (x : Shape). OneHolds (form_kinds x) u) (sym same) h)
     where
-      by_arms : OneHolds (map arm_kind (flat_map (arm_meant cs) arms)) u ⊎ OneHolds (map arm_kind (default_meant cs o)) u
+      by_arms : OneHolds (map arm_kind (flat_map (arm_meant cs) arms)) u
+          ⊎ OneHolds (map arm_kind (default_meant cs o)) u
           → Among (flat_map (λ (a : ArmItem). held_places ts ways.Held a.decl) arms ++ default_places ts ways.Held o) j
       by_arms (inl k) =
-          among_front (flat_map (λ (a : ArmItem). held_places ts ways.Held a.decl) arms) (default_places ts ways.Held o) j
+          among_front (flat_map (λ (a : ArmItem). held_places ts ways.Held a.decl) arms)
+          (default_places ts ways.Held o) j
           (arms_hold arms k)
       by_arms (inr k) =
-          among_rest (flat_map (λ (a : ArmItem). held_places ts ways.Held a.decl) arms) (default_places ts ways.Held o) j
+          among_rest (flat_map (λ (a : ArmItem). held_places ts ways.Held a.decl) arms)
+          (default_places ts ways.Held o) j
           (default_holds o k)
 
       by_kind : OneHolds (word_kind tag ∷ map arm_kind (flat_map (arm_meant cs) arms ++ default_meant cs o)) u

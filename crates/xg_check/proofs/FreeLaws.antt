@@ -1,5 +1,7 @@
 -- Types that hold no endless one.
-use Rattle.std.proofs.Common.{◌≡◌, ℕ, zero, suc, ◌+◌, ◌<◌, ◌≤◌, Bool, true, false, nat_eq, List, [], ◌∷◌, ◌++◌, length, map, slice_get, Option, Some, None, option_map, option_and_then, refl, sym, ap, subst, ◌∙◌, arith, ◌⊎◌, inl, inr}
+use Rattle.std.proofs.Common.{◌≡◌, ℕ, zero, suc, ◌+◌, ◌<◌, ◌≤◌, Bool, true, false, nat_eq, List, [], ◌∷◌, ◌++◌, length}
+use Rattle.std.proofs.Common.{map, slice_get, Option, Some, None, option_map, option_and_then, refl, sym, ap, subst}
+use Rattle.std.proofs.Common.{◌∙◌, arith, ◌⊎◌, inl, inr}
 use Rattle.std.specs.List.{AllByRecursion, IsDistinct}
 use Rattle.std.proofs.lemmas.Option.{slice_get_within, slice_get-map}
 use Rattle.xg_parse.specs.declared.tree.Form.{Form}
@@ -10,8 +12,10 @@ use Rattle.xg_parse.specs.declared.tree.Part.{Part}
 use Rattle.xg_parse.specs.declared.tree.Part.TheVariants as parts
 use Rattle.xg_check.specs.declared.types.Ways.TheVariants as ways
 use Rattle.xg_check.specs.Constants.{one_or_none}
-use Rattle.xg_check.specs.Typed.{word_place, form_word, decl_places, decls_places, held_places, arms_places, default_places, part_places, type_ways}
-use Rattle.xg_check.specs.Graphs.{Step, Leads, at_once, through, Ends, ends, IsReached, start, step, AreReached, AreOrdered, AreReversed}
+use Rattle.xg_check.specs.Typed.{word_place, form_word, decl_places, decls_places, held_places, arms_places}
+use Rattle.xg_check.specs.Typed.{default_places, part_places, type_ways}
+use Rattle.xg_check.specs.Graphs.{Step, Leads, at_once, through, Ends, ends, IsReached, start, step, AreReached}
+use Rattle.xg_check.specs.Graphs.{AreOrdered, AreReversed}
 use Rattle.xg_check.specs.Judged.{IsEndless, HoldsNoEndless}
 use Rattle.xg_check.specs.Held.{TypeEnds}
 use Rattle.xg_check.specs.Judging.{AreWithoutEnd}
@@ -88,7 +92,8 @@ module _ (ts : List Part) (j : ℕ) where
   arms_named (x ∷ arms) a = both_wider (held_places ts ways.Held x.decl) (arms_places ts ways.Held arms)
       (held_places ts ways.All x.decl) (arms_places ts ways.All arms) j (held_named x.decl) (arms_named arms) a
 
-  default_named : (o : Option ArmItem) → Among (default_places ts ways.Held o) j → Among (default_places ts ways.All o) j
+  default_named : (o : Option ArmItem) → Among (default_places ts ways.Held o) j
+      → Among (default_places ts ways.All o) j
   default_named None a = a
   default_named (Some x) a = held_named x.decl a
 

@@ -1,5 +1,7 @@
 -- The values of constants, each found from that of the one that it leads to.
-use Rattle.std.proofs.Common.{◌≡◌, ℕ, ℤ, zero, suc, ◌+◌, ◌<◌, ◌≤◌, Bool, true, false, nat_eq, List, [], ◌∷◌, length, set, replicate, slice_get, Option, Some, None, option_map, option_and_then, refl, sym, ap, subst, ◌∙◌, arith, ◌⊎◌, inl, inr, pos, ◌+ℤ◌}
+use Rattle.std.proofs.Common.{◌≡◌, ℕ, ℤ, zero, suc, ◌+◌, ◌<◌, ◌≤◌, Bool, true, false, nat_eq, List, [], ◌∷◌, length}
+use Rattle.std.proofs.Common.{set, replicate, slice_get, Option, Some, None, option_map, option_and_then, refl, sym, ap}
+use Rattle.std.proofs.Common.{subst, ◌∙◌, arith, ◌⊎◌, inl, inr, pos, ◌+ℤ◌}
 use Rattle.std.specs.List.{AllByRecursion, IsDistinct}
 use Rattle.std.proofs.lemmas.Bool.{false_from_ne_true}
 use Rattle.std.proofs.lemmas.Bool.Decides.{Decides-eqb}
@@ -8,7 +10,8 @@ use Rattle.std.proofs.lemmas.List.{length-map, length-set, length-replicate}
 use Rattle.xg_parse.specs.declared.tree.ConstWord.TheVariants as consts
 use Rattle.xg_check.specs.Graphs.{Step, Leads, at_once, Ends, ends, AreOrdered}
 use Rattle.xg_check.specs.Places.{place_of}
-use Rattle.xg_check.specs.Constants.{Given, word, first, next, ConstantDef, constant_names, given_value, constant_value, value_within, value_at, one_or_none, given_source, constant_ways}
+use Rattle.xg_check.specs.Constants.{Given, word, first, next, ConstantDef, constant_names, given_value, constant_value}
+use Rattle.xg_check.specs.Constants.{value_within, value_at, one_or_none, given_source, constant_ways}
 use Rattle.xg_check.specs.Held.{flat, held_value, AreValues, AreFound}
 use Rattle.xg_check.proofs.GraphLaws.{snoc, no_ring, marked_end}
 use Rattle.xg_check.proofs.RingLaws.{few, place_inside, at_ways, length_ways, source_step}
@@ -104,7 +107,8 @@ module _ (cs : List ConstantDef) where
 
   from_step : (i j : ℕ) (c : ConstantDef) → slice_get cs i ≡ Some c → Step (constant_ways cs) i j
       → given_source cs i c.given ≡ Some j
-  from_step i j c at s = by_source (given_source cs i c.given) (subst (λ (xs : List ℕ). slice_get xs s.place ≡ Some j) is s.to)
+  from_step i j c at s = by_source (given_source cs i c.given)
+      (subst (λ (xs : List ℕ). slice_get xs s.place ≡ Some j) is s.to)
     where
       zeroth : zero + i ≡ i
       zeroth = omega arith
@@ -131,7 +135,8 @@ module _ (cs : List ConstantDef) where
       there c w at e = of_source cs i j c w at e
 
       by_read : (o : Option ConstantDef) → slice_get cs i ≡ o → j < length (constant_ways cs)
-      by_read None at = absurd (omega (arith, slice_get_within (constant_ways cs) i s.next s.from, same_size, past_end cs i at))
+      by_read None at = absurd
+          (omega (arith, slice_get_within (constant_ways cs) i s.next s.from, same_size, past_end cs i at))
       by_read (Some c) at = below j (there c c.given at (from_step i j c at s))
 
   depends : (n m i : ℕ) → ((j : ℕ) → Step (constant_ways cs) i j → value_within n cs j ≡ value_within m cs j)
@@ -223,7 +228,8 @@ module _ (cs : List ConstantDef) where
           → held_value (set values i (given_value (held_value values) cs i c.given)) j ≡ value_at cs j
       done m j lt e = elim (same_or_not j i) [
         | inl same ↦ subst (λ (q : ℕ).
-            held_value (set values i (given_value (held_value values) cs i c.given)) q ≡ value_at cs q) (sym same) now_here
+            held_value (set values i (given_value (held_value values) cs i c.given)) q ≡ value_at cs q)
+            (sym same) now_here
         | inr ne ↦ ap flat (set_there values i j (given_value (held_value values) cs i c.given) ne)
             ∙ f.done m j (earlier ne (same_or_not m k)) e
       ]
@@ -268,4 +274,5 @@ module _ (cs : List ConstantDef) where
           none_there [] marks q s n = refl
           none_there (d ∷ ds) [] q s n = absurd cc
           none_there (d ∷ ds) (m ∷ marks) zero s n = absurd cc
-          none_there (d ∷ ds) (m ∷ marks) (suc q) s n = let t : length marks ≡ length ds = cc in none_there ds marks q t n
+          none_there (d ∷ ds) (m ∷ marks) (suc q) s n = let t : length marks ≡ length ds =
+              cc in none_there ds marks q t n

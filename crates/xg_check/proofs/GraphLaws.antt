@@ -1,8 +1,10 @@
 -- Which nodes end, and which lead back to themselves.
-use Rattle.std.proofs.Common.{◌≡◌, ℕ, zero, suc, ◌<◌, Bool, true, false, List, Some, slice_get, refl, sym, subst, ◌∙◌, arith}
+use Rattle.std.proofs.Common.{◌≡◌, ℕ, zero, suc, ◌<◌, Bool, true, false, List, Some, slice_get, refl, sym, subst, ◌∙◌}
+use Rattle.std.proofs.Common.{arith}
 use Rattle.std.proofs.Common.{[], ◌∷◌}
 use Rattle.std.specs.List.{AllByRecursion}
-use Rattle.xg_check.specs.Graphs.{IsGraph, AreNodes, Step, Leads, at_once, through, Ends, ends, IsReached, start, step, AreReached, AreOrdered}
+use Rattle.xg_check.specs.Graphs.{IsGraph, AreNodes, Step, Leads, at_once, through, Ends, ends, IsReached, start, step}
+use Rattle.xg_check.specs.Graphs.{AreReached, AreOrdered}
 
 -- ---- ways
 
@@ -78,7 +80,8 @@ leads_reached g next i j at (through a m b s rest) = reached_on g next m j (from
 
 -- ---- nodes of a graph
 
-all_at : {A : Type 0} (P : A → Type 0) (xs : List A) (i : ℕ) (x : A) → AllByRecursion P xs → slice_get xs i ≡ Some x → P x
+all_at : {A : Type 0} (P : A → Type 0) (xs : List A) (i : ℕ) (x : A) → AllByRecursion P xs
+    → slice_get xs i ≡ Some x → P x
 all_at P [] i x h e = absurd cc
 all_at {A} P (y ∷ xs) zero x h e = let same : y ≡ x = cc in subst P same h.0
 all_at P (y ∷ xs) (suc i) x h e = all_at P xs i x h.1 e

@@ -1,5 +1,6 @@
 -- What is found of a type from those that it holds: whether it takes no bytes, how many it has at least, and its tag.
-use Rattle.std.proofs.Common.{◌≡◌, ℕ, zero, suc, ◌+◌, ◌<◌, Bool, ◌&&◌, ◌||◌, max, List, [], ◌∷◌, ◌++◌, length, slice_get, Option, Some, None, option_map, option_and_then, refl, ap, subst, ◌∙◌, arith}
+use Rattle.std.proofs.Common.{◌≡◌, ℕ, zero, suc, ◌+◌, ◌<◌, Bool, ◌&&◌, ◌||◌, max, List, [], ◌∷◌, ◌++◌, length}
+use Rattle.std.proofs.Common.{slice_get, Option, Some, None, option_map, option_and_then, refl, ap, subst, ◌∙◌, arith}
 use Rattle.std.specs.List.{AllByRecursion}
 use Rattle.std.proofs.lemmas.Option.{slice_get-map, slice_get_within}
 use Rattle.std.proofs.lemmas.List.{length-map}
@@ -14,9 +15,13 @@ use Rattle.xg_parse.specs.declared.tree.Part.TheVariants as parts
 use Rattle.xg_check.specs.declared.types.Ways.TheVariants as ways
 use Rattle.xg_check.specs.declared.tags.Tag.{Tag}
 use Rattle.xg_check.specs.Constants.{ConstantDef, size_of, one_or_none}
-use Rattle.xg_check.specs.Typed.{word_place, form_word, decl_places, decls_places, held_places, arms_places, default_places, part_places, type_ways}
+use Rattle.xg_check.specs.Typed.{word_place, form_word, decl_places, decls_places, held_places, arms_places}
+use Rattle.xg_check.specs.Typed.{default_places, part_places, type_ways}
 use Rattle.xg_check.specs.Graphs.{Step, Ends}
-use Rattle.xg_check.specs.Encodings.{place_hollow, is_zero, form_hollow, decls_hollow, part_hollow, optional_hollow, hollow_within, hollow_at, array_bytes, both, form_bytes, decls_bytes, struct_bytes, held_bytes, default_bytes, arms_bytes, part_bytes, word_bytes, bytes_within, bytes_at}
+use Rattle.xg_check.specs.Encodings.{place_hollow, is_zero, form_hollow, decls_hollow, part_hollow, optional_hollow}
+use Rattle.xg_check.specs.Encodings.{hollow_within, hollow_at, array_bytes, both, form_bytes, decls_bytes, struct_bytes}
+use Rattle.xg_check.specs.Encodings.{held_bytes, default_bytes, arms_bytes, part_bytes, word_bytes, bytes_within}
+use Rattle.xg_check.specs.Encodings.{bytes_at}
 use Rattle.xg_check.specs.Tags.{place_tag, word_tag, form_tag, part_tag, tag_within, tag_at}
 use Rattle.xg_check.proofs.EndlessLaws.{Among, among_front, among_rest}
 use Rattle.xg_check.proofs.WayLaws.{ways_inside}
@@ -25,7 +30,8 @@ use Rattle.xg_check.proofs.OrderLaws.{the_same}
 
 -- ---- ways
 
-pub step_of : (ts : List Part) (i : ℕ) (p : Part) → slice_get ts i ≡ Some p → (j : ℕ) → Among (part_places ts ways.Held p) j
+pub step_of : (ts : List Part) (i : ℕ) (p : Part) → slice_get ts i ≡ Some p → (j : ℕ)
+    → Among (part_places ts ways.Held p) j
     → Step (type_ways ts ways.Held) i j
 step_of ts i p at j a = record {
   next = part_places ts ways.Held p;
@@ -34,7 +40,8 @@ step_of ts i p at j a = record {
   to = a.1;
 }
 
-pub of_step : (ts : List Part) (i : ℕ) (p : Part) → slice_get ts i ≡ Some p → (j : ℕ) → Step (type_ways ts ways.Held) i j
+pub of_step : (ts : List Part) (i : ℕ) (p : Part) → slice_get ts i ≡ Some p → (j : ℕ)
+    → Step (type_ways ts ways.Held) i j
     → Among (part_places ts ways.Held p) j
 of_step ts i p at j s = (s.place, subst (λ (xs : List ℕ). slice_get xs s.place ≡ Some j) is s.to)
   where
@@ -42,7 +49,8 @@ of_step ts i p at j s = (s.place, subst (λ (xs : List ℕ). slice_get xs s.plac
     is = the_same (slice_get (type_ways ts ways.Held) i) s.next (part_places ts ways.Held p) s.from
         (slice_get-map (part_places ts ways.Held) ts i ∙ ap (option_map (part_places ts ways.Held)) at)
 
-item_has : {A : Type 0} (P : A → Type 0) (xs : List A) (i : ℕ) (x : A) → AllByRecursion P xs → slice_get xs i ≡ Some x → P x
+item_has : {A : Type 0} (P : A → Type 0) (xs : List A) (i : ℕ) (x : A) → AllByRecursion P xs
+    → slice_get xs i ≡ Some x → P x
 item_has P [] i x all e = absurd cc
 item_has P (y ∷ xs) zero x all e = let is : y ≡ x = cc in subst P is all.0
 item_has P (y ∷ xs) (suc i) x all e = item_has P xs i x all.1 e
@@ -142,7 +150,8 @@ module _ (ts : List Part) (cs : List ConstantDef) (f h : ℕ → Option ℕ) whe
   word_bytes_same (types.Base words) same = refl
   word_bytes_same (types.Name name) same = by_place (word_place ts (types.Name name)) same
     where
-      by_place : (o : Option ℕ) → ((j : ℕ) → Among (one_or_none o) j → f j ≡ h j) → option_and_then f o ≡ option_and_then h o
+      by_place : (o : Option ℕ) → ((j : ℕ) → Among (one_or_none o) j → f j ≡ h j)
+          → option_and_then f o ≡ option_and_then h o
       by_place None k = refl
       by_place (Some i) k = k i (0, refl)
 

@@ -1,5 +1,6 @@
 -- What the tables say of a type that holds no endless one.
-use Rattle.std.proofs.Common.{◌≡◌, ◌↔◌, ℕ, ℤ, ◌<◌, Bool, true, false, not, List, length, slice_get, Option, Some, None, unwrap_or, option_map, option_and_then, refl, sym, ap, subst, ◌∙◌, arith, inl, inr}
+use Rattle.std.proofs.Common.{◌≡◌, ◌↔◌, ℕ, ℤ, ◌<◌, Bool, true, false, not, List, length, slice_get, Option, Some, None}
+use Rattle.std.proofs.Common.{unwrap_or, option_map, option_and_then, refl, sym, ap, subst, ◌∙◌, arith, inl, inr}
 use Rattle.std.specs.Prelude.{IsTrue}
 use Rattle.std.proofs.lemmas.Bool.{false≢true}
 use Rattle.xg_parse.specs.declared.tree.ConstWord.{ConstWord}
@@ -12,7 +13,8 @@ use Rattle.xg_check.specs.declared.tags.Tag.TheVariants as tags
 use Rattle.xg_check.specs.Places.{place_of}
 use Rattle.xg_check.specs.Constants.{ConstantDef, size_of}
 use Rattle.xg_check.specs.Typed.{type_names, word_place}
-use Rattle.xg_check.specs.Encodings.{place_hollow, hollow_at, is_hollow, array_bytes, both, form_bytes, word_bytes, bytes_at, declared_bytes}
+use Rattle.xg_check.specs.Encodings.{place_hollow, hollow_at, is_hollow, array_bytes, both, form_bytes, word_bytes}
+use Rattle.xg_check.specs.Encodings.{bytes_at, declared_bytes}
 use Rattle.xg_check.specs.Tags.{place_tag, word_tag, tag_at, tag_of, has_case}
 use Rattle.xg_check.specs.Judged.{Scope, HoldsNoEndless, passes_most, IsTooLarge, IsTypeTooLarge, is_no_case}
 use Rattle.xg_check.specs.Held.{flat, capped, held_count, hollow_word, held_tag, IsCapped, AreEncodings}
@@ -63,7 +65,8 @@ module _ (ts : List Part) (cs : List ConstantDef) (hollow : List Bool) (least : 
   fixed_bytes t size free = ap (λ (o : Option ℕ). both array_bytes (size_of cs size) o) (word_is t free)
 
 -- the tags
-pub tags_right : (ts : List Part) (found : List Tag) → ((i : ℕ) → i < length ts → slice_get found i ≡ Some (tag_at ts i))
+pub tags_right : (ts : List Part) (found : List Tag)
+    → ((i : ℕ) → i < length ts → slice_get found i ≡ Some (tag_at ts i))
     → (t : TypeWord) → word_tag (held_tag found) ts t ≡ tag_of ts t
 tags_right ts found are (types.Base words) = refl
 tags_right ts found are (types.Name name) = by_place (word_place ts (types.Name name)) refl
@@ -94,13 +97,6 @@ abbrev pub scope : List Part → List ConstantDef → Scope
 scope ts cs = record { constants = cs; types = ts }
 
 module _ (ts : List Part) (cs : List ConstantDef) where
-  pub no_such_type : (name : List ℕ) → None ≡ place_of name (type_names ts)
-      → IsTrue false ↔ IsTypeTooLarge (scope ts cs) name
-  no_such_type name e = (
-    λ t. absurd (false≢true t),
-    λ w. let two : None ≡ Some w.place = e ∙ w.stands in absurd cc,
-  )
-
   same_place : (name : List ℕ) (i : ℕ) → Some i ≡ place_of name (type_names ts)
       → (w : IsTypeTooLarge (scope ts cs) name) → w.place ≡ i
   same_place name i e w = let two : Some w.place ≡ Some i = sym w.stands ∙ sym e in cc
@@ -128,14 +124,6 @@ module _ (ts : List Part) (cs : List ConstantDef) where
       → r ≡ passes_most (declared_bytes ts cs (forms.Fixed t size))
       → IsTrue r ↔ IsTooLarge (scope ts cs) (forms.Fixed t size)
   held_large t size r free is = (λ so. (free, sym is ∙ so), λ h. is ∙ h.1)
-
-  pub not_held : (t : TypeWord) (r : Bool) → r ≡ false → (HoldsNoEndless ts (word_place ts t) → ⊥)
-      → IsTrue r ↔ (HoldsNoEndless ts (word_place ts t) × (is_hollow ts cs t ≡ true))
-  not_held t r is not_so = (λ u. absurd (false≢true (sym is ∙ u)), λ h. absurd (not_so h.0))
-
-  pub not_large : (t : TypeWord) (size : ConstWord) (r : Bool) → r ≡ false → (HoldsNoEndless ts (word_place ts t) → ⊥)
-      → IsTrue r ↔ IsTooLarge (scope ts cs) (forms.Fixed t size)
-  not_large t size r is not_so = (λ u. absurd (false≢true (sym is ∙ u)), λ h. absurd (not_so h.0))
 
   pub opaque_large : (size : ConstWord) (r : Bool) → r ≡ passes_most (declared_bytes ts cs (forms.Opaque size))
       → IsTrue r ↔ IsTooLarge (scope ts cs) (forms.Opaque size)

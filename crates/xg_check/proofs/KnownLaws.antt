@@ -1,5 +1,6 @@
 -- What follows where each name is defined: the types of a text name only types of it.
-use Rattle.std.proofs.Common.{◌≡◌, ℕ, suc, Bool, true, false, cond, List, [], ◌∷◌, ◌++◌, map, flat_map, filter, Option, Some, None, is_some, is_none, option_map, refl, sym, ap, subst}
+use Rattle.std.proofs.Common.{◌≡◌, ℕ, suc, Bool, true, false, cond, List, [], ◌∷◌, ◌++◌, map, flat_map, filter, Option}
+use Rattle.std.proofs.Common.{Some, None, is_some, is_none, option_map, refl, sym, ap, subst}
 use Rattle.std.specs.Str.{bytes_eq}
 use Rattle.std.specs.List.{AllByRecursion}
 use Rattle.std.proofs.lemmas.Slice.Eq.{bytes_eq-Decides}
@@ -27,9 +28,11 @@ use Rattle.xg_check.specs.Places.{place_of}
 use Rattle.xg_check.specs.Bases.{base_named}
 use Rattle.xg_check.specs.Constants.{ConstantDef}
 use Rattle.xg_check.specs.Typed.{type_name, types_in, type_names}
-use Rattle.xg_check.specs.Marks.{Mark, sized, form_type, form_bound, optional_name, decl_marks, field_marks, arg_marks, case_marks, held_marks, arm_marks, default_marks}
+use Rattle.xg_check.specs.Marks.{Mark, sized, form_type, form_bound, optional_name, decl_marks, field_marks, arg_marks}
+use Rattle.xg_check.specs.Marks.{case_marks, held_marks, arm_marks, default_marks}
 use Rattle.xg_check.specs.Judged.{Scope, is_unknown, is_unknown_type, IsUnknown}
-use Rattle.xg_check.specs.Meant.{base_kind, word_kind, form_kind, field_meant, held_meant, case_meant, arm_meant, default_meant, part_type, types_meant, mode_behind, arg_kind, args_meant}
+use Rattle.xg_check.specs.Meant.{base_kind, word_kind, form_kind, field_meant, held_meant, case_meant, arm_meant}
+use Rattle.xg_check.specs.Meant.{default_meant, part_type, types_meant, mode_behind, arg_kind, args_meant}
 
 -- ---- marks of which each is known
 
@@ -53,7 +56,8 @@ known_rest s (x ∷ xs) ys h = known_rest s xs ys h.1
 
 -- ---- definitions by their names
 
-pub names_meant : (cs : List ConstantDef) (items : List Item) → names_of (types_meant cs items) ≡ type_names (types_in items)
+pub names_meant : (cs : List ConstantDef) (items : List Item) → names_of (types_meant cs items) ≡ type_names
+    (types_in items)
 names_meant cs [] = refl
 names_meant cs (i ∷ is) = by_part i.part (names_meant cs is)
   where
@@ -98,7 +102,8 @@ place_defined (d ∷ ds) name e = by_test (bytes_eq d.0 name) (bytes_eq name d.0
 -- ---- known types
 
 module _ (cs : List ConstantDef) (items : List Item) where
-  pub word_known : (t : TypeWord) → is_unknown_type (types_in items) t ≡ false → IsKnown (types_meant cs items) (word_kind t)
+  pub word_known : (t : TypeWord) → is_unknown_type (types_in items) t ≡ false
+      → IsKnown (types_meant cs items) (word_kind t)
   word_known (types.Base words) e = by_base (base_named words)
     where
       by_base : (b : Option Basic) → IsKnown (types_meant cs items) (base_kind b)

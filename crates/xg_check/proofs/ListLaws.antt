@@ -1,24 +1,11 @@
 -- Lists that are made one item at a time.
-use Rattle.std.proofs.Common.{◌≡◌, ℕ, zero, suc, ◌+◌, ◌<◌, Bool, true, cond, nat_eq, List, [], ◌∷◌, ◌++◌, length, get_or, take, map, flat_map, refl, ap, sym, subst, ◌∙◌, arith, append_assoc}
+use Rattle.std.proofs.Common.{◌≡◌, ℕ, zero, suc, ◌+◌, ◌<◌, Bool, true, cond, nat_eq, List, [], ◌∷◌, ◌++◌, length}
+use Rattle.std.proofs.Common.{get_or, take, map, refl, ap, sym, subst, ◌∙◌, arith, append_assoc}
 use Rattle.std.proofs.lemmas.Bool.{false_from_ne_true}
 use Rattle.std.proofs.lemmas.Bool.Decides.{Decides-eqb}
-use Rattle.std.proofs.lemmas.List.{take_more, get_or-map, map-append, map_more, length-map}
-use Rattle.std.proofs.lemmas.List.Concat.{flat_map-append}
+use Rattle.std.proofs.lemmas.List.{get_or-map, map-append, map_more, length-map}
 use Rattle.xg_parse.specs.declared.tree.MembItem.{MembItem}
 use Rattle.xg_check.specs.Constants.{Given, next, ConstantDef, given_or, members_from}
-
--- one piece more
-pub flat_map-more : {X A : Type 0} (f : X → List A) (xs : List X) (i : ℕ) (d : X) → i < length xs
-    → flat_map f (take (i + 1) xs) ≡ flat_map f (take i xs) ++ f (get_or xs i d)
-flat_map-more {X} {A} f xs i d h =
-    ap (flat_map f) (take_more xs i d h) ∙ flat_map-append f (take i xs) (get_or xs i d ∷ []) ∙ last
-  where
-    nil : (ys : List A) → ys ++ [] ≡ ys
-    nil [] = refl
-    nil (y ∷ ys) = ap (λ (zs : List A). y ∷ zs) (nil ys)
-
-    last : flat_map f (take i xs) ++ (f (get_or xs i d) ++ []) ≡ flat_map f (take i xs) ++ f (get_or xs i d)
-    last = ap (λ (zs : List A). flat_map f (take i xs) ++ zs) (nil (f (get_or xs i d)))
 
 -- the member at a place
 abbrev pub member_at : Given → ℕ → MembItem → ConstantDef
@@ -39,17 +26,24 @@ members-more other (m ∷ ms) (suc zero) d h = ap (λ (xs : List ConstantDef). m
 members-more other (m ∷ ms) (suc (suc i)) d h =
     ap (λ (xs : List ConstantDef). member_at other 0 m ∷ xs) (members-more next ms (suc i) d (omega (arith, h)))
     ∙ ap (λ (g : Given). member_at other 0 m ∷ (members_from next (take (suc i) ms)
-    ++ record { name = (get_or ms (suc i) d).name; given = given_or g (get_or ms (suc i) d).value; is_member = true } ∷ []))
+    ++ record {
+      name = (get_or ms (suc i) d).name;
+      given = given_or g (get_or ms (suc i) d).value;
+      is_member =
+          true;
+    } ∷ []))
     (given_behind next i ∙ sym (given_behind other (suc i)))
 
 -- the image of a list of images, one item more
-pub image-more : {V A B P : Type 0} (items : V → B) (f : A → B) (now : P → A) (vs new : List V) (ps : List P) (k : ℕ) (v : V)
+pub image-more : {V A B P : Type 0} (items : V → B) (f : A → B) (now : P → A) (vs new : List V) (ps : List P)
+    (k : ℕ) (v : V)
     (p : P) → map items vs ≡ map f (take k (map now ps)) → new ≡ vs ++ v ∷ [] → k < length ps → p ≡ get_or ps k p
     → items v ≡ f (now p) → map items new ≡ map f (take (k + 1) (map now ps))
 image-more {V} {A} {B} {P} items f now vs new ps k v p old pushed lt at is =
     ap (map items) pushed ∙ map-append items vs (v ∷ [])
     ∙ ap (λ (xs : List B). xs ++ items v ∷ []) old
-    ∙ ap (λ (b : B). map f (take k (map now ps)) ++ b ∷ []) (is ∙ ap f (ap now at ∙ sym (get_or-map now ps k p (now p) lt)))
+    ∙ ap (λ (b : B). map f (take k (map now ps)) ++ b ∷ [])
+    (is ∙ ap f (ap now at ∙ sym (get_or-map now ps k p (now p) lt)))
     ∙ sym (map_more f (map now ps) k (now p) (omega (arith, lt, length-map ps now)))
 
 -- ---- one item more, where the count goes up
@@ -58,7 +52,8 @@ pub members_more : (other : Given) (ms : List MembItem) (i : ℕ) (d : MembItem)
     → members_from other (take (i + 1) ms) ≡ members_from other (take i ms) ++ member_at other i (get_or ms i d) ∷ []
 members_more other ms i d h =
     let e : suc i ≡ i + 1 = omega arith in
-    subst (λ (n : ℕ). members_from other (take n ms) ≡ members_from other (take i ms) ++ member_at other i (get_or ms i d) ∷ [])
+    subst (λ (n : ℕ). members_from other (take n ms) ≡ members_from other (take i ms)
+    ++ member_at other i (get_or ms i d) ∷ [])
     e (members-more other ms i d h)
 
 pub map_push : {X A : Type 0} (f : X → A) (xs : List X) (x : X) → map f (xs ++ x ∷ []) ≡ map f xs ++ f x ∷ []
@@ -78,9 +73,3 @@ push_behind {X} {A} f new cur v old a b w is was more here =
     ap (map f) is ∙ map_push f cur v ∙ ap (λ (zs : List A). zs ++ f v ∷ []) was
     ∙ ap (λ (y : A). (old ++ a) ++ y ∷ []) here
     ∙ append_assoc old a (w ∷ []) ∙ ap (λ (zs : List A). old ++ zs) (sym more)
-
--- a piece appended behind what was there
-pub piece_step : {A : Type 0} (new cur old a b piece : List A) → new ≡ cur ++ piece → cur ≡ old ++ a → b ≡ a ++ piece
-    → new ≡ old ++ b
-piece_step {A} new cur old a b piece is was more =
-    is ∙ ap (λ (zs : List A). zs ++ piece) was ∙ append_assoc old a piece ∙ ap (λ (zs : List A). old ++ zs) (sym more)

@@ -1,5 +1,7 @@
 -- Types measured one by one, along an order in which each stands behind those that it holds.
-use Rattle.std.proofs.Common.{◌≡◌, ℕ, zero, suc, ◌+◌, ◌<◌, ◌≤◌, Bool, false, List, length, set, replicate, slice_get, Option, Some, None, unwrap_or, option_map, refl, sym, ap, subst, ◌∙◌, arith, ◌⊎◌, inl, inr}
+use Rattle.std.proofs.Common.{◌≡◌, ℕ, zero, suc, ◌+◌, ◌<◌, ◌≤◌, Bool, false, List, length, set, replicate, slice_get}
+use Rattle.std.proofs.Common.{Option, Some, None, unwrap_or, option_map, refl, sym, ap, subst, ◌∙◌, arith, ◌⊎◌, inl}
+use Rattle.std.proofs.Common.{inr}
 use Rattle.std.proofs.lemmas.List.{length-set, length-replicate}
 use Rattle.std.proofs.lemmas.Option.{slice_get_within}
 use Rattle.xg_parse.specs.declared.tree.Part.{Part}
@@ -42,7 +44,8 @@ module _ (ts : List Part) (cs : List ConstantDef) (least : List (Option ℕ)) wh
   unfolding known_of
   known_is j e = by_bytes (bytes_at ts cs j) refl
     where
-      by_bytes : (v : Option ℕ) → bytes_at ts cs j ≡ v → known_of (held_count least j) (bytes_at ts cs j) ≡ bytes_at ts cs j
+      by_bytes : (v : Option ℕ) → bytes_at ts cs j ≡ v → known_of (held_count least j)
+          (bytes_at ts cs j) ≡ bytes_at ts cs j
       by_bytes None b = ap (λ (v : Option ℕ). known_of v (bytes_at ts cs j)) (e ∙ ap (option_map capped) b) ∙ sym b
       by_bytes (Some n) b = ap (λ (v : Option ℕ). known_of v (bytes_at ts cs j)) (e ∙ ap (option_map capped) b)
 
@@ -72,7 +75,8 @@ module _ (ts : List Part) (cs : List ConstantDef) (nodes : List ℕ) where
         by_place (inr differ) = omega (arith, differ, lt)
 
     module _ (k i : ℕ) (p : Part) (hollow : List Bool) (least : List (Option ℕ))
-        (f : AreMeasured ts cs nodes k hollow least) (here : slice_get nodes k ≡ Some i) (at : slice_get ts i ≡ Some p) where
+        (f : AreMeasured ts cs nodes k hollow least) (here : slice_get nodes k ≡ Some i)
+        (at : slice_get ts i ≡ Some p) where
       ends_here : Ends (type_ways ts ways.Held) i
       ends_here = marked_end (type_ways ts ways.Held) nodes ended o i (o.there k i here)
 
@@ -81,7 +85,8 @@ module _ (ts : List Part) (cs : List ConstantDef) (nodes : List ℕ) where
           ∙ part_hollow_same ts cs (λ j. unwrap_or (slice_get hollow j) false) (hollow_at ts cs) p from
           ∙ sym (hollow_step ts cs i p at ends_here)
         where
-          from : (j : ℕ) → Among (part_places ts ways.Held p) j → unwrap_or (slice_get hollow j) false ≡ hollow_at ts cs j
+          from : (j : ℕ) → Among (part_places ts ways.Held p) j
+              → unwrap_or (slice_get hollow j) false ≡ hollow_at ts cs j
           from j a =
               let b = o.behind k i j here (step_of ts i p at j a) in
               ap (λ (x : Option Bool). unwrap_or x false) (f.hollow_is b.0 j b.1 b.2)
@@ -124,14 +129,16 @@ module _ (ts : List Part) (cs : List ConstantDef) (nodes : List ℕ) where
           hollow_is : (m j : ℕ) → m < k + 1 → slice_get nodes m ≡ Some j
               → slice_get (set hollow i v) j ≡ Some (hollow_at ts cs j)
           hollow_is m j lt e = elim (same_or_not j i) [
-            | inl same ↦ subst (λ (q : ℕ). slice_get (set hollow i v) q ≡ Some (hollow_at ts cs q)) (sym same) hollow_here
+            | inl same ↦ subst (λ (q : ℕ). slice_get (set hollow i v) q ≡ Some (hollow_at ts cs q))
+                (sym same) hollow_here
             | inr ne ↦ set_there hollow i j v ne ∙ f.hollow_is m j (earlier k m i j here e ne lt) e
           ]
 
           least_is : (m j : ℕ) → m < k + 1 → slice_get nodes m ≡ Some j
               → held_count (set least i n) j ≡ option_map capped (bytes_at ts cs j)
           least_is m j lt e = elim (same_or_not j i) [
-            | inl same ↦ subst (λ (q : ℕ). held_count (set least i n) q ≡ option_map capped (bytes_at ts cs q)) (sym same)
+            | inl same ↦ subst (λ (q : ℕ). held_count (set least i n) q ≡ option_map capped (bytes_at ts cs q))
+                (sym same)
                 least_here
             | inr ne ↦ ap flat (set_there least i j n ne) ∙ f.least_is m j (earlier k m i j here e ne lt) e
           ]

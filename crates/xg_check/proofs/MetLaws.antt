@@ -1,5 +1,6 @@
 -- What was met, with one mark more.
-use Rattle.std.proofs.Common.{◌≡◌, ℕ, ℤ, Bool, true, false, cond, not, ◌&&◌, ◌||◌, nat_eq, List, [], ◌∷◌, ◌++◌, Option, Some, None, refl, sym, ap, ◌∙◌}
+use Rattle.std.proofs.Common.{◌≡◌, ℕ, ℤ, Bool, true, false, cond, not, ◌&&◌, ◌||◌, nat_eq, List, [], ◌∷◌, ◌++◌, Option}
+use Rattle.std.proofs.Common.{Some, None, refl, sym, ap, ◌∙◌}
 use Rattle.std.specs.Borrow.{Bor}
 use Rattle.std.specs.Str.{bytes_eq}
 use Rattle.std.specs.List.{list_any}
@@ -15,7 +16,8 @@ use Rattle.xg_check.specs.declared.marks.Space.{Space}
 use Rattle.xg_check.specs.declared.marks.Space.TheVariants as spaces
 use Rattle.xg_check.specs.declared.twice.Met.{Met}
 use Rattle.xg_check.specs.Constants.{ConstantDef, value_of}
-use Rattle.xg_check.specs.Marks.{Mark, declares, union_case, uses_type, uses_constant, valued, sized, enum_type, struct_type, union_type}
+use Rattle.xg_check.specs.Marks.{Mark, declares, union_case, uses_type, uses_constant, valued, sized, enum_type}
+use Rattle.xg_check.specs.Marks.{struct_type, union_type}
 use Rattle.xg_check.specs.Judged.{same_space, same_value, are_same}
 use Rattle.xg_check.specs.Held.{same_pair}
 use Rattle.xg_check.specs.Met.{is_met, is_case_at, same_text, same_listed, AreMet}
@@ -39,9 +41,11 @@ or_none : (a : Bool) → (a || false) ≡ a
 or_none true = refl
 or_none false = refl
 
-any_more : {A : Type 0} (test : A → Bool) (xs : List A) (x : A) → list_any test (xs ++ x ∷ []) ≡ (list_any test xs || test x)
+any_more : {A : Type 0} (test : A → Bool) (xs : List A) (x : A)
+    → list_any test (xs ++ x ∷ []) ≡ (list_any test xs || test x)
 any_more test [] x = or_none (test x)
-any_more test (y ∷ xs) x = ap (λ (b : Bool). test y || b) (any_more test xs x) ∙ or_more (test y) (list_any test xs) (test x)
+any_more test (y ∷ xs) x = ap (λ (b : Bool). test y || b) (any_more test xs x)
+    ∙ or_more (test y) (list_any test xs) (test x)
 
 texts_turn : (a b : List ℕ) → bytes_eq a b ≡ bytes_eq b a
 texts_turn a b = same_from_decides (bytes_eq a b) (bytes_eq b a)
@@ -137,7 +141,8 @@ module _ (cs : List ConstantDef) (front : List Mark) (met : Met) (is : AreMet cs
   }
 
   pub meets_constant : (n : List ℕ) (new : TextSet)
-      → ((q : Bor (List ℕ)) → contains same_text new q ≡ cond (bytes_eq n q.now) true (contains same_text met.constants q))
+      → ((q : Bor (List ℕ)) → contains same_text new q ≡ cond (bytes_eq n q.now) true
+      (contains same_text met.constants q))
       → AreMet cs (front ++ declares spaces.Constant n ∷ []) (record met { constants = new })
   meets_constant n new h = record {
     types = texts_kept spaces.Type (declares spaces.Constant n) met.types (λ q. refl) is.types;
@@ -148,7 +153,8 @@ module _ (cs : List ConstantDef) (front : List Mark) (met : Met) (is : AreMet cs
   }
 
   pub meets_procedure : (n : List ℕ) (new : TextSet)
-      → ((q : Bor (List ℕ)) → contains same_text new q ≡ cond (bytes_eq n q.now) true (contains same_text met.procedures q))
+      → ((q : Bor (List ℕ)) → contains same_text new q ≡ cond (bytes_eq n q.now) true
+      (contains same_text met.procedures q))
       → AreMet cs (front ++ declares spaces.Procedure n ∷ []) (record met { procedures = new })
   meets_procedure n new h = record {
     types = texts_kept spaces.Type (declares spaces.Procedure n) met.types (λ q. refl) is.types;
@@ -174,7 +180,8 @@ module _ (cs : List ConstantDef) (front : List Mark) (met : Met) (is : AreMet cs
           ≡ is_met cs (front ++ declares (spaces.List j) n ∷ []) (declares (spaces.List i) q.now)
       listed i q =
           h i q
-          ∙ put (nat_eq j i && bytes_eq n q.now) (nat_eq i j && bytes_eq q.now n) (contains same_listed met.listed (i, q))
+          ∙ put (nat_eq j i && bytes_eq n q.now) (nat_eq i j && bytes_eq q.now n)
+          (contains same_listed met.listed (i, q))
           (is_met cs front (declares (spaces.List i) q.now))
           (ap (λ (b : Bool). b && bytes_eq n q.now) (numbers_turn j i)
           ∙ ap (λ (b : Bool). nat_eq i j && b) (texts_turn n q.now))

@@ -1,12 +1,14 @@
 -- A text has one meaning, or one first fault.
-use Rattle.std.proofs.Common.{◌≡◌, ◌≢◌, ℕ, ℤ, List, Option, Some, slice_get, Result, Ok, Err, IfOk, IfErr, IsOkAnd, refl, sym, ap, subst, ◌∙◌}
+use Rattle.std.proofs.Common.{◌≡◌, ◌≢◌, ℕ, ℤ, List, Option, Some, slice_get, Result, Ok, Err, IfOk, IfErr, IsOkAnd}
+use Rattle.std.proofs.Common.{refl, sym, ap, subst, ◌∙◌}
 use Rattle.xdr_value.specs.declared.interface.Interface.{Interface}
 use Rattle.xg_parse.specs.declared.tree.Tree.{Tree}
 use Rattle.xg_check.specs.declared.fault.CheckFault.{CheckFault}
 use Rattle.xg_check.specs.declared.fault.CheckFault.TheVariants as faults
 use Rattle.xg_check.specs.Marks.{mark_name}
 use Rattle.xg_check.specs.Judged.{opcode_at}
-use Rattle.xg_check.specs.Meaning.{Meant, interface_of, marks_of, opcodes_of, TwiceAt, UnknownAt, SizeAt, EndlessAt, OpcodeAt, OpcodeTwiceAt, MarkNamed, IsFirstFault, Meaning}
+use Rattle.xg_check.specs.Meaning.{Meant, interface_of, marks_of, opcodes_of, TwiceAt, UnknownAt, SizeAt, EndlessAt}
+use Rattle.xg_check.specs.Meaning.{OpcodeAt, OpcodeTwiceAt, MarkNamed, IsFirstFault, Meaning}
 use Rattle.xg_check.specs.Answers.{IsChecked}
 use Rattle.xg_check.proofs.PlaceLaws.{one_first}
 
@@ -19,7 +21,8 @@ mark_names tree j k m n e a b =
     let same : a.0 ≡ b.0 = same_some (slice_get (marks_of tree) k) a.0 b.0 at b.1 in
     a.2 ∙ ap mark_name same ∙ sym b.2
 
-at_one_place : {A : Type 0} (xs : List A) (j k : ℕ) (m n : A) → j ≡ k → slice_get xs j ≡ Some m → slice_get xs k ≡ Some n
+at_one_place : {A : Type 0} (xs : List A) (j k : ℕ) (m n : A) → j ≡ k → slice_get xs j ≡ Some m
+    → slice_get xs k ≡ Some n
     → m ≡ n
 at_one_place {A} xs j k m n e a b =
     same_some (slice_get xs k) m n (subst (λ (i : ℕ). slice_get xs i ≡ Some m) e a) b

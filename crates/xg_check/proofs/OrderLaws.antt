@@ -1,12 +1,14 @@
 -- What the search for the nodes that end keeps, step by step.
-use Rattle.std.proofs.Common.{◌≡◌, ℕ, zero, suc, ◌+◌, ◌<◌, ◌≤◌, Bool, true, false, List, [], ◌∷◌, ◌++◌, length, set, replicate, slice_get, Option, Some, refl, sym, subst, ◌∙◌, arith, ◌⊎◌, inl, inr}
+use Rattle.std.proofs.Common.{◌≡◌, ℕ, zero, suc, ◌+◌, ◌<◌, ◌≤◌, Bool, true, false, List, [], ◌∷◌, ◌++◌, length, set}
+use Rattle.std.proofs.Common.{replicate, slice_get, Option, Some, refl, sym, subst, ◌∙◌, arith, ◌⊎◌, inl, inr}
 use Rattle.std.specs.List.{AllByRecursion}
 use Rattle.std.proofs.lemmas.List.{length-set, length-replicate}
 use Rattle.std.proofs.lemmas.Option.{slice_get_within}
 use Rattle.xg_check.specs.Graphs.{Step, AreOrdered}
 use Rattle.xg_check.specs.Searching.{marked_count}
 use Rattle.xg_check.specs.Ordering.{IsNew, AreEnded, IsIn, IsOrdering, IsLooked, Waits, AllLooked, AllWait, AllButSome}
-use Rattle.xg_check.proofs.SearchLaws.{at_front, at_end, of_pushed, set_here, set_there, same_or_not, not_both, mark_at, marked_now}
+use Rattle.xg_check.proofs.SearchLaws.{at_front, at_end, of_pushed, set_here, set_there, same_or_not, not_both, mark_at}
+use Rattle.xg_check.proofs.SearchLaws.{marked_now}
 
 pub the_same : {A : Type 0} (o : Option A) (x y : A) → o ≡ Some x → o ≡ Some y → x ≡ y
 the_same {A} o x y e h = let both : Some x ≡ Some y = sym e ∙ h in cc
@@ -19,33 +21,7 @@ below n (x ∷ xs) h (suc p) i e = below n xs h.1 p i e
 
 -- ---- the first that hasn't ended
 
-pub ended_more : (ended : List Bool) (next : List ℕ) (from at j : ℕ) → AreEnded ended next from at
-    → slice_get next at ≡ Some j → slice_get ended j ≡ Some true → AreEnded ended next from (at + 1)
-ended_more ended next from at j h here e m i le lt there = elim (same_or_not m at) [
-  | inl same ↦
-      let at_m : slice_get next at ≡ Some i = subst (λ (k : ℕ). slice_get next k ≡ Some i) same there in
-      let is : j ≡ i = the_same (slice_get next at) j i here at_m in
-      subst (λ (k : ℕ). slice_get ended k ≡ Some true) is e
-  | inr ne ↦ h m i le (omega (arith, lt, ne)) there
-]
-
-pub ended_all : (ended : List Bool) (next : List ℕ) (from at : ℕ) → AreEnded ended next from at → length next ≤ at
-    → AreEnded ended next from (length next)
-ended_all ended next from at h le m i low lt there = h m i low (omega (arith, lt, le)) there
-
 -- ---- a look at a node
-
--- one that ended is passed over
-pub passed_over : (g : List (List ℕ)) (node : ℕ) (e : List Bool) (n : List ℕ) (w : List (List ℕ)) (l : List ℕ)
-    → IsOrdering g e n w l → slice_get e node ≡ Some true → IsLooked g node e n w e n w l
-passed_over g node e n w l o ended = record {
-  is = o;
-  kept = λ i h. h;
-  grown = λ k i h. h;
-  waits_on = λ i j h. h;
-  added = λ k i h. inl h;
-  outcome = inl ended;
-}
 
 module _ (g : List (List ℕ)) (node : ℕ) (e : List Bool) (n : List ℕ) (w : List (List ℕ)) (l : List ℕ) (next : List ℕ)
     (from : ℕ) (o : IsOrdering g e n w l) (there : slice_get g node ≡ Some next)
@@ -250,10 +226,6 @@ looked_one_more g node e0 e1 n0 n1 w0 w1 l0 l1 all look = record { is = look.is;
       | inr ne ↦ old i (all.each i (omega (arith, lt, ne)))
     ]
 
-pub all_looked : (g : List (List ℕ)) (seen : ℕ) (e : List Bool) (n : List ℕ) (w : List (List ℕ)) (l : List ℕ)
-    → AllLooked g seen e n w l → length g ≤ seen → AllWait g 0 e n w l
-all_looked g seen e n w l all le = record { is = all.is; each = λ i lt. all.each i (omega (arith, lt, le)) }
-
 -- those that wait for a node that has ended are taken from its list
 pub released : (g : List (List ℕ)) (at node : ℕ) (e : List Bool) (n : List ℕ) (w : List (List ℕ)) (l ws : List ℕ)
     → AllWait g at e n w l → slice_get n at ≡ Some node → slice_get w node ≡ Some ws
@@ -418,7 +390,8 @@ count-none (suc n) = count-none n
 pub nothing_looked : (g : List (List ℕ)) (e : List Bool) (n : List ℕ) (w : List (List ℕ)) (l : List ℕ)
     → IsNew (length g) e n w l → AllLooked g 0 e n w l
 nothing_looked g e n w l new =
-    let base : AllLooked g 0 (replicate (length g) false) [] (replicate (length g) []) (replicate (length g) 0) = begun in
+    let base : AllLooked g 0 (replicate (length g) false) [] (replicate (length g) []) (replicate (length g) 0) =
+    begun in
     subst (λ (xs : List Bool). AllLooked g 0 xs n w l) (sym new.ended_is)
     (subst (λ (xs : List ℕ). AllLooked g 0 (replicate (length g) false) xs w l) (sym new.nodes_is)
     (subst (λ (xs : List (List ℕ)). AllLooked g 0 (replicate (length g) false) [] xs l) (sym new.waiting_is)

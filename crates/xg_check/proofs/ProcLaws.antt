@@ -1,5 +1,6 @@
 -- Procedures of a text differ by their names and their opcodes.
-use Rattle.std.proofs.Common.{◌≡◌, ℕ, ℤ, suc, ◌<◌, false, nat_eq, List, [], ◌∷◌, ◌++◌, length, map, flat_map, slice_get, Option, Some, None, unwrap_or, option_and_then, refl, sym, ap, subst, ◌∙◌, arith}
+use Rattle.std.proofs.Common.{◌≡◌, ℕ, ℤ, suc, ◌<◌, false, nat_eq, List, [], ◌∷◌, ◌++◌, length, map, flat_map, slice_get}
+use Rattle.std.proofs.Common.{Option, Some, None, unwrap_or, option_and_then, refl, sym, ap, subst, ◌∙◌, arith}
 use Rattle.std.specs.Str.{bytes_eq}
 use Rattle.std.specs.List.{AllByRecursion, IsDistinct}
 use Rattle.std.proofs.lemmas.Bool.{false_from_ne_true}
@@ -17,7 +18,8 @@ use Rattle.xg_check.specs.Marks.{member_marks, field_marks, arg_marks, optional_
 use Rattle.xg_check.specs.Opcodes.{opcode_behind, with_opcode, opcodes_behind}
 use Rattle.xg_check.specs.Judged.{opcode_at, IsWithoutOpcode, IsOpcodeTwice, IsTwice}
 use Rattle.xg_check.specs.Meant.{mode_behind, args_meant, with_proc, procs_behind}
-use Rattle.xg_check.proofs.ApartLaws.{apart, distinct_in, declared_in, declared_both, none_of, no_constant, of_decl, of_arms}
+use Rattle.xg_check.proofs.ApartLaws.{apart, distinct_in, declared_in, declared_both, none_of, no_constant, of_decl}
+use Rattle.xg_check.proofs.ApartLaws.{of_arms}
 
 -- ---- opcodes
 
@@ -45,7 +47,8 @@ numbers_meant cs front (i ∷ is) = by_part i.part (numbers_meant cs (i.part ∷
     by_part (parts.Struct n ds) rest = rest
     by_part (parts.Union n t tn arms o) rest = rest
 
-has_opcode : (ops : List (List ℕ × Option ℤ)) (k : ℕ) (p : List ℕ × Option ℤ) → slice_get ops k ≡ Some p → k < length ops
+has_opcode : (ops : List (List ℕ × Option ℤ)) (k : ℕ) (p : List ℕ × Option ℤ) → slice_get ops k ≡ Some p
+    → k < length ops
     → (IsWithoutOpcode ops k → ⊥) → (n : ℕ) × (in_32_bits p.1 ≡ Some n)
 has_opcode ops k p at lt h = by_number (in_32_bits p.1) refl
   where

@@ -1,5 +1,7 @@
 -- Where no node leads to itself, each ends; and each constant has a value.
-use Rattle.std.proofs.Common.{◌≡◌, ℕ, ℤ, zero, suc, ◌+◌, ◌<◌, ◌≤◌, Bool, true, false, cond, nat_eq, List, [], ◌∷◌, length, slice_get, Option, Some, None, is_none, option_map, option_and_then, refl, sym, ap, subst, ◌∙◌, arith, inl, inr, pos, ◌+ℤ◌}
+use Rattle.std.proofs.Common.{◌≡◌, ℕ, ℤ, zero, suc, ◌+◌, ◌<◌, ◌≤◌, Bool, true, false, cond, nat_eq, List, [], ◌∷◌}
+use Rattle.std.proofs.Common.{length, slice_get, Option, Some, None, is_none, option_map, option_and_then, refl, sym}
+use Rattle.std.proofs.Common.{ap, subst, ◌∙◌, arith, inl, inr, pos, ◌+ℤ◌}
 use Rattle.std.specs.Str.{bytes_eq}
 use Rattle.std.specs.Cmp.{IsEquivalence}
 use Rattle.std.specs.List.{AllByRecursion, IsDistinct, list_any}
@@ -12,7 +14,9 @@ use Rattle.xg_parse.specs.declared.tree.ConstWord.{ConstWord}
 use Rattle.xg_parse.specs.declared.tree.ConstWord.TheVariants as consts
 use Rattle.xg_check.specs.Places.{place_of}
 use Rattle.xg_check.specs.Graphs.{Step, Leads, at_once, Ends, ends}
-use Rattle.xg_check.specs.Constants.{Given, word, first, next, ConstantDef, constant_names, signed, given_value, constant_value, value_within, value_at, value_of, one_or_none, given_source, ways_from, constant_ways}
+use Rattle.xg_check.specs.Constants.{Given, word, first, next, ConstantDef, constant_names, signed, given_value}
+use Rattle.xg_check.specs.Constants.{constant_value, value_within, value_at, value_of, one_or_none, given_source}
+use Rattle.xg_check.specs.Constants.{ways_from, constant_ways}
 use Rattle.xg_check.specs.Judged.{is_unknown_constant}
 use Rattle.xg_check.proofs.GraphLaws.{snoc}
 use Rattle.xg_check.proofs.SearchLaws.{same_or_not}
@@ -109,7 +113,8 @@ GivenKnown cs (word w) = is_unknown_constant cs w ≡ false
 GivenKnown cs first = Unit {0}
 GivenKnown cs next = Unit {0}
 
-pub at_ways : (all : List ConstantDef) (k : ℕ) (cs : List ConstantDef) (i : ℕ) (c : ConstantDef) → slice_get cs i ≡ Some c
+pub at_ways : (all : List ConstantDef) (k : ℕ) (cs : List ConstantDef) (i : ℕ) (c : ConstantDef)
+    → slice_get cs i ≡ Some c
     → slice_get (ways_from all k cs) i ≡ Some (one_or_none (given_source all (k + i) c.given))
 at_ways all k [] i c e = absurd cc
 at_ways all k (d ∷ cs) zero c e =

@@ -1,5 +1,6 @@
 -- What a search through a graph keeps, step by step.
-use Rattle.std.proofs.Common.{◌≡◌, ℕ, zero, suc, ◌+◌, ◌<◌, ◌≤◌, Bool, true, false, List, [], ◌∷◌, ◌++◌, length, get_or, set, replicate, slice_get, Option, Some, refl, sym, ap, subst, ◌∙◌, arith, ◌⊎◌, inl, inr}
+use Rattle.std.proofs.Common.{◌≡◌, ℕ, zero, suc, ◌+◌, ◌<◌, ◌≤◌, Bool, true, false, List, [], ◌∷◌, ◌++◌, length, get_or}
+use Rattle.std.proofs.Common.{set, replicate, slice_get, Option, Some, refl, sym, ap, subst, ◌∙◌, arith, ◌⊎◌, inl, inr}
 use Rattle.std.proofs.lemmas.List.{length-append, length-set}
 use Rattle.std.proofs.lemmas.Option.{slice_get-get_or, slice_get_within}
 use Rattle.xg_check.specs.Graphs.{Step, IsReached, start, step, AreReached}
@@ -82,22 +83,6 @@ not_both o e h = let both : Some true ≡ Some false = sym e ∙ h in absurd cc
 
 -- ---- one node more
 
--- nothing is added where the node is marked
-pub marked_already : (marks : List Bool) (nodes : List ℕ) (i : ℕ) → AreListed marks nodes
-    → slice_get marks i ≡ Some true → AreAdded marks marks nodes nodes (i ∷ [])
-marked_already marks nodes i listed e = record {
-  size = refl;
-  listed = listed;
-  kept = λ j h. h;
-  added_are = one;
-  only = λ j h. inl h;
-  grown = λ k j h. h;
-}
-  where
-    one : (p j : ℕ) → slice_get (i ∷ []) p ≡ Some j → slice_get marks j ≡ Some true
-    one zero j h = let same : i ≡ j = cc in subst (λ (n : ℕ). slice_get marks n ≡ Some true) same e
-    one (suc p) j h = absurd cc
-
 now_marked : (marks : List Bool) (i j : ℕ) → i < length marks → slice_get (set marks i true) j ≡ Some true
     → (slice_get marks j ≡ Some true) ⊎ (j ≡ i)
 now_marked marks i j lt h = elim (same_or_not j i) [
@@ -163,16 +148,6 @@ marked_now marks nodes i listed lt e = record {
     ]
 
 -- ---- more nodes
-
-pub added_none : (marks : List Bool) (nodes : List ℕ) → AreListed marks nodes → AreAdded marks marks nodes nodes []
-added_none marks nodes listed = record {
-  size = refl;
-  listed = listed;
-  kept = λ j h. h;
-  added_are = λ p j h. absurd cc;
-  only = λ j h. inl h;
-  grown = λ k j h. h;
-}
 
 pub added_more : (m0 m1 m2 : List Bool) (n0 n1 n2 : List ℕ) (xs : List ℕ) (x : ℕ) → AreAdded m0 m1 n0 n1 xs
     → AreAdded m1 m2 n1 n2 (x ∷ []) → AreAdded m0 m2 n0 n2 (xs ++ x ∷ [])

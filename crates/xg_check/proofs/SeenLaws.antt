@@ -1,5 +1,6 @@
 -- The first place of a text of which something holds, found one place after the other.
-use Rattle.std.proofs.Common.{◌≡◌, ℕ, ◌<◌, ◌≤◌, true, false, List, length, get_or, slice_get, Some, option_map, sym, ap, subst, ◌∙◌, arith}
+use Rattle.std.proofs.Common.{◌≡◌, ℕ, ◌<◌, ◌≤◌, true, false, List, length, get_or, slice_get, Some, option_map, sym, ap}
+use Rattle.std.proofs.Common.{subst, ◌∙◌, arith}
 use Rattle.std.specs.Borrow.{Bor}
 use Rattle.std.proofs.lemmas.Option.{slice_get-map, slice_get-get_or, slice_get_within}
 use Rattle.std.proofs.lemmas.List.{length-map}
@@ -17,7 +18,8 @@ mark_at_place marks i m lt e =
     slice_get-map mark_of marks i ∙ ap (option_map mark_of) (slice_get-get_or marks i m lt)
     ∙ ap (λ (x : CodeMark). Some (mark_of x)) (sym e)
 
-pub first_found : (P : ℕ → Type 0) (marks : List CodeMark) (i : ℕ) (m : CodeMark) (name : Bor (List ℕ)) → i < length marks
+pub first_found : (P : ℕ → Type 0) (marks : List CodeMark) (i : ℕ) (m : CodeMark) (name : Bor (List ℕ))
+    → i < length marks
     → m ≡ get_or marks i m → ((k : ℕ) → k < i → P k → ⊥) → P i → name.now ≡ mark_name (mark_of m)
     → IsFirstNamed P (marks_of marks) (Some name)
 first_found P marks i m name lt e before here is = (i, (here, before), (mark_of m, mark_at_place marks i m lt e, is))
@@ -41,11 +43,6 @@ right_here s marks i m lt e not_so f =
     let same : f.mark ≡ mark_of m =
     the_same (slice_get (marks_of marks) i) f.mark (mark_of m) f.stands (mark_at_place marks i m lt e) in
     not_so (subst (IsWrong s) same f.wrong)
-
-pub wrong_here : (s : Scope) (marks : List CodeMark) (i : ℕ) (m : CodeMark) → i < length marks → m ≡ get_or marks i m
-    → IsWrong s (mark_of m) → IsSizeFault s (marks_of marks) i
-wrong_here s marks i m lt e so =
-    record { mark = mark_of m; stands = mark_at_place marks i m lt e; wrong = so }
 
 pub nowhere_unknown : (s : Scope) (marks : List CodeMark) (i : ℕ) → length marks ≤ i
     → ((k : ℕ) → k < i → IsUnknown s (marks_of marks) k → ⊥) → HoldsNowhere (IsUnknown s (marks_of marks))

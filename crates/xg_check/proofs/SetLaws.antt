@@ -1,5 +1,7 @@
 -- The values of enums, one member and one type more.
-use Rattle.std.proofs.Common.{◌≡◌, ℕ, ℤ, ◌+◌, ◌<◌, ◌≤◌, Bool, true, false, cond, ◌&&◌, ◌||◌, nat_eq, ltb, List, [], ◌∷◌, ◌++◌, length, take, get_or, slice_get, Option, Some, None, refl, sym, ap, ◌∙◌, arith, inl, inr}
+use Rattle.std.proofs.Common.{◌≡◌, ℕ, ℤ, ◌+◌, ◌<◌, ◌≤◌, Bool, true, false, cond, ◌&&◌, ◌||◌, nat_eq, ltb, List, [], ◌∷◌}
+use Rattle.std.proofs.Common.{◌++◌, length, take, get_or, slice_get, Option, Some, None, refl, sym, ap, ◌∙◌, arith, inl}
+use Rattle.std.proofs.Common.{inr}
 use Rattle.std.specs.Ordering.{int_eq}
 use Rattle.std.proofs.lemmas.Bool.{false_from_ne_true, lt-ltb, ltb-true}
 use Rattle.std.proofs.lemmas.Bool.Decides.{same_from_decides, Decides-eqb}
@@ -52,7 +54,8 @@ pub members_more : (cs : List ConstantDef) (ms : List MembItem) (i : ℕ) (d : M
 members_more cs ms i d z lt =
     ap (λ (xs : List MembItem). members_have cs xs z) (take_more ms i d lt)
     ∙ members_both cs (take i ms) (get_or ms i d ∷ []) z
-    ∙ ap (λ (b : Bool). members_have cs (take i ms) z || b) (or_false (is_value (value_named cs (get_or ms i d).name) z))
+    ∙ ap (λ (b : Bool). members_have cs (take i ms) z || b)
+    (or_false (is_value (value_named cs (get_or ms i d).name) z))
 
 spread : (o e h v : Bool) → ((o || (e && h)) || (e && v)) ≡ (o || (e && (h || v)))
 spread true e h v = refl
@@ -60,7 +63,8 @@ spread false true h v = refl
 spread false false h v = refl
 
 -- what a set has after a member more
-pub set_more : (cs : List ConstantDef) (ms : List MembItem) (k : ℕ) (d : MembItem) (place i : ℕ) (z : ℤ) (was o new : Bool)
+pub set_more : (cs : List ConstantDef) (ms : List MembItem) (k : ℕ) (d : MembItem) (place i : ℕ) (z : ℤ)
+    (was o new : Bool)
     → k < length ms → was ≡ (o || (nat_eq i place && members_have cs (take k ms) z))
     → new ≡ (was || (nat_eq i place && is_value (value_named cs (get_or ms k d).name) z))
     → new ≡ (o || (nat_eq i place && members_have cs (take (k + 1) ms) z))

@@ -1,5 +1,6 @@
 -- The types and procedures of a text without a fault are those of an interface.
-use Rattle.std.proofs.Common.{◌≡◌, ◌≢◌, ℕ, ℤ, suc, ◌^◌, Bool, true, false, cond, nat_eq, List, [], ◌∷◌, ◌++◌, map, flat_map, slice_get, Option, Some, None, is_some, refl, sym, ap, subst, ◌∙◌}
+use Rattle.std.proofs.Common.{◌≡◌, ◌≢◌, ℕ, ℤ, suc, ◌^◌, Bool, true, false, cond, nat_eq, List, [], ◌∷◌, ◌++◌, map}
+use Rattle.std.proofs.Common.{flat_map, slice_get, Option, Some, None, is_some, refl, sym, ap, subst, ◌∙◌}
 use Rattle.std.specs.Prelude.{⊤}
 use Rattle.std.specs.Str.{bytes_eq}
 use Rattle.std.specs.List.{AllByRecursion, IsDistinct}
@@ -27,17 +28,23 @@ use Rattle.xg_check.specs.Places.{HoldsNowhere}
 use Rattle.xg_check.specs.Constants.{ConstantDef, constants_in, value_of, value_named}
 use Rattle.xg_check.specs.Typed.{type_name, types_in, type_names}
 use Rattle.xg_check.specs.Tags.{tag_of}
-use Rattle.xg_check.specs.Marks.{Mark, form_type, optional_name, sized, form_bound, member_marks, field_marks, arg_marks, optional_constant, arm_marks, default_marks, part_marks, marks_from}
+use Rattle.xg_check.specs.Marks.{Mark, form_type, optional_name, sized, form_bound, member_marks, field_marks}
+use Rattle.xg_check.specs.Marks.{arg_marks, optional_constant, arm_marks, default_marks, part_marks, marks_from}
 use Rattle.xg_check.specs.Judged.{Scope, is_unknown_type, is_unknown_constant, is_tag, IsUnionWrong, no_arm, no_tag}
 use Rattle.xg_check.specs.Opcodes.{opcode_behind, opcodes_behind}
-use Rattle.xg_check.specs.Meant.{word_kind, field_meant, member_meant, value_or_zero, arm_meant, default_meant, part_type, types_meant, proc_meant, with_proc, procs_behind}
+use Rattle.xg_check.specs.Meant.{word_kind, field_meant, member_meant, value_or_zero, arm_meant, default_meant}
+use Rattle.xg_check.specs.Meant.{part_type, types_meant, proc_meant, with_proc, procs_behind}
 use Rattle.xg_check.specs.Meaning.{IsFaultless, OpcodeAt, OpcodeTwiceAt}
-use Rattle.xg_check.proofs.ApartLaws.{Apart, apart, apart_front, apart_rest, distinct_in, of_members, of_fields, of_args, types_differ}
-use Rattle.xg_check.proofs.KnownLaws.{AllKnown, all_known, known_front, known_rest, names_meant, word_known, form_known, fields_known, args_known, choices_known}
+use Rattle.xg_check.proofs.ApartLaws.{Apart, apart, apart_front, apart_rest, distinct_in, of_members, of_fields}
+use Rattle.xg_check.proofs.ApartLaws.{of_args, types_differ}
+use Rattle.xg_check.proofs.KnownLaws.{AllKnown, all_known, known_front, known_rest, names_meant, word_known, form_known}
+use Rattle.xg_check.proofs.KnownLaws.{fields_known, args_known, choices_known}
 use Rattle.xg_check.proofs.EndlessLaws.{none_endless, only_types, types_are}
-use Rattle.xg_check.proofs.ValueLaws.{AllRight, all_right, right_front, right_rest, all_at, all_both, constants_differ, known_exists, wider, members_int}
+use Rattle.xg_check.proofs.ValueLaws.{AllRight, all_right, right_front, right_rest, all_at, all_both, constants_differ}
+use Rattle.xg_check.proofs.ValueLaws.{known_exists, wider, members_int}
 use Rattle.xg_check.proofs.TagLaws.{AreSmall, tag_seen, tags_are, one_each, a_tag_seen, case_seen}
-use Rattle.xg_check.proofs.CaseLaws.{WordsApart, words_apart, of_union, arms_of, choices_differ, choices_in_range, some_choice}
+use Rattle.xg_check.proofs.CaseLaws.{WordsApart, words_apart, of_union, arms_of, choices_differ, choices_in_range}
+use Rattle.xg_check.proofs.CaseLaws.{some_choice}
 use Rattle.xg_check.proofs.ProcLaws.{numbers_meant, numbers_differ, procs_differ, arg_names}
 
 -- ---- members of enums have values of int
@@ -68,7 +75,8 @@ small_parts : (s : Scope) (k : ℕ) (items : List Item) → AllRight s (marks_fr
     → AllByRecursion (SmallPart s.constants) (types_in items)
 small_parts s k [] h = tt
 small_parts s k (i ∷ is) h =
-    by_test (is_some (type_name i.part)) (small_part s k i.part (right_front s (part_marks k i.part) (marks_from (suc k) is) h))
+    by_test (is_some (type_name i.part))
+    (small_part s k i.part (right_front s (part_marks k i.part) (marks_from (suc k) is) h))
     (small_parts s (suc k) is (right_rest s (part_marks k i.part) (marks_from (suc k) is) h))
   where
     by_test : (b : Bool) → SmallPart s.constants i.part → AllByRecursion (SmallPart s.constants) (types_in is)
@@ -176,10 +184,12 @@ module _ (s : Scope) (items : List Item) (types_so : s.types ≡ types_in items)
   -- the type that a part defines
   part_sound : (k : ℕ) (p : Part) → Apart s.constants (part_marks k p) → AllKnown s (part_marks k p)
       → AllRight s (part_marks k p)
-      → AllByRecursion (λ (d : List ℕ × Shape). FormIsSound (types_meant s.constants items) d.1) (part_type s.constants p)
+      → AllByRecursion (λ (d : List ℕ × Shape). FormIsSound (types_meant s.constants items) d.1)
+      (part_type s.constants p)
   part_sound k (parts.Typedef d) far known right = (
     form_known s.constants items d.form (as_scope (form_type d.form)
-        (known_front s (form_type d.form) (optional_name (Some spaces.Type) d.name ++ (sized d ∷ form_bound d.form)) known)),
+        (known_front s (form_type d.form) (optional_name (Some spaces.Type) d.name ++ (sized d ∷ form_bound d.form))
+        known)),
     tt,
   )
   part_sound k (parts.Enum n ms) far known right = (enum_sound n ms far.1.1 right.1.1 right.1.0, tt)
@@ -195,7 +205,8 @@ module _ (s : Scope) (items : List Item) (types_so : s.types ≡ types_in items)
 
   pub forms_sound : (k : ℕ) (is : List Item) → Apart s.constants (marks_from k is) → AllKnown s (marks_from k is)
       → AllRight s (marks_from k is)
-      → AllByRecursion (λ (d : List ℕ × Shape). FormIsSound (types_meant s.constants items) d.1) (types_meant s.constants is)
+      → AllByRecursion (λ (d : List ℕ × Shape). FormIsSound (types_meant s.constants items) d.1)
+      (types_meant s.constants is)
   forms_sound k [] far known right = tt
   forms_sound k (i ∷ is) far known right =
       all_both (λ (d : List ℕ × Shape). FormIsSound (types_meant s.constants items) d.1) (part_type s.constants i.part)
@@ -209,7 +220,8 @@ module _ (s : Scope) (items : List Item) (types_so : s.types ≡ types_in items)
 
   -- ---- procedures
 
-  proc_sound : (k : ℕ) (opcode : Option ℤ) (n : List ℕ) (args : List ArgItem) (kind : Option KindWord) (given : Option ConstWord)
+  proc_sound : (k : ℕ) (opcode : Option ℤ) (n : List ℕ) (args : List ArgItem) (kind : Option KindWord)
+      (given : Option ConstWord)
       → Apart s.constants (part_marks k (parts.Proc n args kind given))
       → AllKnown s (part_marks k (parts.Proc n args kind given))
       → ProcIsSound (types_meant s.constants items) (proc_meant s.constants opcode n args kind)
@@ -244,7 +256,8 @@ module _ (s : Scope) (items : List Item) (types_so : s.types ≡ types_in items)
       with_sound k front i.part (procs_behind s.constants (i.part ∷ front) is)
       (apart_front s.constants (part_marks k i.part) (marks_from (suc k) is) far)
       (known_front s (part_marks k i.part) (marks_from (suc k) is) known)
-      (procs_sound (suc k) (i.part ∷ front) is (apart_rest s.constants (part_marks k i.part) (marks_from (suc k) is) far)
+      (procs_sound (suc k) (i.part ∷ front) is
+      (apart_rest s.constants (part_marks k i.part) (marks_from (suc k) is) far)
       (known_rest s (part_marks k i.part) (marks_from (suc k) is) known))
 
 -- ---- the interface of a text

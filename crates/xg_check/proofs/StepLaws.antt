@@ -1,5 +1,6 @@
 -- Procedures with their opcodes, one item more.
-use Rattle.std.proofs.Common.{◌≡◌, ℕ, ℤ, zero, suc, ◌+◌, ◌<◌, ◌≤◌, List, [], ◌∷◌, ◌++◌, length, drop, get_or, map, slice_get, Option, Some, refl, sym, ap, subst, ◌∙◌, arith, append_assoc}
+use Rattle.std.proofs.Common.{◌≡◌, ℕ, ℤ, zero, suc, ◌+◌, ◌<◌, ◌≤◌, List, [], ◌∷◌, ◌++◌, length, drop, get_or, map}
+use Rattle.std.proofs.Common.{slice_get, Option, Some, refl, sym, ap, subst, ◌∙◌, arith, append_assoc}
 use Rattle.std.proofs.lemmas.List.{at_drop_more, at_drop_all}
 use Rattle.xdr_value.specs.Data.{Procs}
 use Rattle.xg_parse.specs.declared.tree.Part.{Part}
@@ -69,9 +70,11 @@ module _ (cs : List ConstantDef) (front : List Part) (list : List (Option ℤ)) 
 
   module _ (items : List Item) (i : ℕ) (d : Item) (lt : i < length items) (at : d ≡ get_or items i d)
       (left : drop n list ≡ seconds (opcodes_behind cs front (drop i items))) where
-    here_opcodes : drop n list ≡ seconds (with_opcode cs front d.part (opcodes_behind cs (d.part ∷ front) (drop (i + 1) items)))
+    here_opcodes : drop n list ≡ seconds
+        (with_opcode cs front d.part (opcodes_behind cs (d.part ∷ front) (drop (i + 1) items)))
     here_opcodes = left ∙ ap seconds (at_drop_more (opcodes_behind cs front) items i d lt
-        ∙ ap (λ (x : Item). with_opcode cs front x.part (opcodes_behind cs (x.part ∷ front) (drop (i + 1) items))) (sym at))
+        ∙ ap (λ (x : Item). with_opcode cs front x.part (opcodes_behind cs (x.part ∷ front) (drop (i + 1) items)))
+        (sym at))
 
     pub procs_more : (was new total : Procs) → was ++ procs_behind cs front (drop i items) ≡ total
         → new ≡ was ++ part_proc cs opcode d.part
@@ -87,8 +90,10 @@ module _ (cs : List ConstantDef) (front : List Part) (list : List (Option ℤ)) 
 
     pub left_more : (m : ℕ) → m ≡ n + length (part_proc cs opcode d.part)
         → drop m list ≡ seconds (opcodes_behind cs (d.part ∷ front) (drop (i + 1) items))
-    left_more m e = subst (λ (k : ℕ). drop k list ≡ seconds (opcodes_behind cs (d.part ∷ front) (drop (i + 1) items))) (sym e)
-        (part_left d.part (opcodes_behind cs (d.part ∷ front) (drop (i + 1) items)) (length (part_proc cs opcode d.part))
+    left_more m e = subst (λ (k : ℕ). drop k list ≡ seconds (opcodes_behind cs (d.part ∷ front) (drop (i + 1) items)))
+        (sym e)
+        (part_left d.part (opcodes_behind cs (d.part ∷ front) (drop (i + 1) items))
+        (length (part_proc cs opcode d.part))
         refl here_opcodes)
 
 nothing_behind : {A : Type 0} (xs : List A) → xs ++ [] ≡ xs

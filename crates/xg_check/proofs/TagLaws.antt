@@ -1,5 +1,7 @@
 -- The tag that a type of the text is, is that of its type in the interface.
-use Rattle.std.proofs.Common.{◌≡◌, ℕ, ℤ, zero, suc, ◌^◌, Bool, true, false, cond, List, [], ◌∷◌, ◌++◌, length, map, flat_map, slice_get, Option, Some, None, is_some, is_none, refl, sym, ap, subst, ◌∙◌, inl, inr}
+use Rattle.std.proofs.Common.{◌≡◌, ℕ, ℤ, zero, suc, ◌^◌, Bool, true, false, cond, List, [], ◌∷◌, ◌++◌, length, map}
+use Rattle.std.proofs.Common.{flat_map, slice_get, Option, Some, None, is_some, is_none, refl, sym, ap, subst, ◌∙◌, inl}
+use Rattle.std.proofs.Common.{inr}
 use Rattle.std.specs.Ordering.{int_eq}
 use Rattle.std.specs.List.{AllByRecursion}
 use lib.IntN.{pos}
@@ -7,7 +9,8 @@ use Rattle.std.proofs.lemmas.Bool.{false≢true, or_cases, or_left, or_right}
 use Rattle.xdr_value.specs.declared.ty.Basic.{Basic}
 use Rattle.xdr_value.specs.declared.ty.Basic.TheVariants as basics
 use Rattle.xdr_value.specs.Data.{Form as Shape, alias, enum, struct, choice, Types}
-use Rattle.xdr_value.specs.Heads.{Tag as XdrTag, tag_int, tag_uint, tag_bool, tag_enum, tag_other, tag_of as xdr_tag_of, head_of_form, head_within, head_of, form_named}
+use Rattle.xdr_value.specs.Heads.{Tag as XdrTag, tag_int, tag_uint, tag_bool, tag_enum, tag_other, tag_of as xdr_tag_of}
+use Rattle.xdr_value.specs.Heads.{head_of_form, head_within, head_of, form_named}
 use Rattle.xdr_value.specs.Ranges.{is_within, has_number}
 use Rattle.xdr_value.specs.Facts.{IsDefined, names_of}
 use Rattle.xdr_value.specs.Tests.{is_tag as xdr_is_tag, case_in_range}
@@ -24,7 +27,8 @@ use Rattle.xg_check.specs.Places.{place_of}
 use Rattle.xg_check.specs.Bases.{base_named}
 use Rattle.xg_check.specs.Constants.{ConstantDef, value_named}
 use Rattle.xg_check.specs.Typed.{type_name, type_names}
-use Rattle.xg_check.specs.Tags.{base_tag, place_tag, word_tag, form_tag, part_tag, tag_within, tag_at, tag_of, is_value, members_have, enum_has, has_case}
+use Rattle.xg_check.specs.Tags.{base_tag, place_tag, word_tag, form_tag, part_tag, tag_within, tag_at, tag_of, is_value}
+use Rattle.xg_check.specs.Tags.{members_have, enum_has, has_case}
 use Rattle.xg_check.specs.Judged.{is_tag}
 use Rattle.xg_check.specs.Meant.{base_kind, word_kind, form_kind, value_or_zero, member_meant, part_type}
 use Rattle.xg_check.proofs.KnownLaws.{place_defined}

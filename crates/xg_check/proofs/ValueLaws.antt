@@ -1,5 +1,7 @@
 -- Where a text has no fault of names and sizes, each constant has a value, and each member one of int.
-use Rattle.std.proofs.Common.{◌≡◌, ℕ, ℤ, zero, suc, ◌<◌, ◌^◌, Bool, true, false, cond, not, List, [], ◌∷◌, ◌++◌, length, map, flat_map, slice_get, Option, Some, None, option_map, option_and_then, refl, sym, ap, subst, ◌∙◌, arith}
+use Rattle.std.proofs.Common.{◌≡◌, ℕ, ℤ, zero, suc, ◌<◌, ◌^◌, Bool, true, false, cond, not, List, [], ◌∷◌, ◌++◌, length}
+use Rattle.std.proofs.Common.{map, flat_map, slice_get, Option, Some, None, option_map, option_and_then, refl, sym, ap}
+use Rattle.std.proofs.Common.{subst, ◌∙◌, arith}
 use lib.IntN.{pos, negsuc}
 use Rattle.std.specs.Str.{bytes_eq}
 use Rattle.std.specs.List.{AllByRecursion, IsDistinct}
@@ -15,10 +17,14 @@ use Rattle.xg_parse.specs.declared.tree.Item.{Item}
 use Rattle.xg_check.specs.declared.marks.Space.TheVariants as spaces
 use Rattle.xg_check.specs.Places.{place_of}
 use Rattle.xg_check.specs.Graphs.{Step, Leads, at_once, through}
-use Rattle.xg_check.specs.Constants.{Given, word, first, next, ConstantDef, given_or, members_from, part_constants, constants_in, constant_names, value_at, value_of, value_named, ways_from, constant_ways}
+use Rattle.xg_check.specs.Constants.{Given, word, first, next, ConstantDef, given_or, members_from, part_constants}
+use Rattle.xg_check.specs.Constants.{constants_in, constant_names, value_at, value_of, value_named, ways_from}
+use Rattle.xg_check.specs.Constants.{constant_ways}
 use Rattle.xg_check.specs.Marks.{Mark, optional_constant, member_marks, field_marks, arg_marks, part_marks, marks_from}
-use Rattle.xg_check.specs.Judged.{Scope, is_unknown_constant, is_no_int, IsConstantWrong, ring, no_int, IsWrong, IsSizeFault, IsTwice}
-use Rattle.xg_check.proofs.ApartLaws.{apart, declared_in, distinct_in, declared_both, none_of, no_constant, of_decl, of_arms, of_members}
+use Rattle.xg_check.specs.Judged.{Scope, is_unknown_constant, is_no_int, IsConstantWrong, ring, no_int, IsWrong}
+use Rattle.xg_check.specs.Judged.{IsSizeFault, IsTwice}
+use Rattle.xg_check.proofs.ApartLaws.{apart, declared_in, distinct_in, declared_both, none_of, no_constant, of_decl}
+use Rattle.xg_check.proofs.ApartLaws.{of_arms, of_members}
 use Rattle.xg_check.proofs.KnownLaws.{AllKnown, known_front, known_rest}
 use Rattle.xg_check.proofs.RingLaws.{GivenKnown, word_exists}
 
@@ -154,11 +160,6 @@ module _ (s : Scope) where
       (part_known k i.part (known_front s (part_marks k i.part) (marks_from (suc k) is) h))
       (given_known (suc k) is (known_rest s (part_marks k i.part) (marks_from (suc k) is) h))
 
-  -- it is in no ring
-  abbrev InNoRing : ConstantDef → Type 0
-  InNoRing c = (j : ℕ) → place_of c.name (constant_names s.constants) ≡ Some j
-      → Leads (constant_ways s.constants) j j → ⊥
-
   members_right : (other : Given) (ms : List MembItem) → AllRight s (flat_map member_marks ms)
       → AllByRecursion (λ (c : ConstantDef). (j : ℕ) → place_of c.name (constant_names s.constants) ≡ Some j
       → Leads (constant_ways s.constants) j j → ⊥) (members_from other ms)
@@ -244,7 +245,8 @@ known_exists s items is known right differ w here =
     word_exists s.constants none
     (λ i c at. all_at (λ (d : ConstantDef). GivenKnown s.constants d.given) (constants_in items) i c
     (given_known s 0 items known) (subst (λ (cs : List ConstantDef). slice_get cs i ≡ Some c) is at))
-    (λ c at follows. first_follows_none items c (subst (λ (cs : List ConstantDef). slice_get cs 0 ≡ Some c) is at) follows)
+    (λ c at follows. first_follows_none items c (subst (λ (cs : List ConstantDef). slice_get cs 0 ≡ Some c) is at)
+    follows)
     w here
   where
     none : (i : ℕ) → Leads (constant_ways s.constants) i i → ⊥

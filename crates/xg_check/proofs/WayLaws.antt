@@ -1,5 +1,6 @@
 -- Each type leads to types of the text.
-use Rattle.std.proofs.Common.{◌≡◌, ℕ, ◌<◌, List, [], ◌∷◌, ◌++◌, length, map, Option, Some, None, option_and_then, refl, sym, subst, arith}
+use Rattle.std.proofs.Common.{◌≡◌, ℕ, ◌<◌, List, [], ◌∷◌, ◌++◌, length, map, Option, Some, None, option_and_then, refl}
+use Rattle.std.proofs.Common.{sym, subst, arith}
 use Rattle.std.specs.List.{AllByRecursion}
 use Rattle.std.proofs.lemmas.List.{length-map}
 use Rattle.xg_parse.specs.declared.tree.TypeWord.{TypeWord}
@@ -10,7 +11,8 @@ use Rattle.xg_parse.specs.declared.tree.Part.{Part}
 use Rattle.xg_parse.specs.declared.tree.Part.TheVariants as parts
 use Rattle.xg_check.specs.declared.types.Ways.{Ways}
 use Rattle.xg_check.specs.Constants.{one_or_none}
-use Rattle.xg_check.specs.Typed.{name_in, type_names, word_place, form_word, decl_places, decls_places, held_places, arms_places, default_places, part_places, type_ways}
+use Rattle.xg_check.specs.Typed.{name_in, type_names, word_place, form_word, decl_places, decls_places, held_places}
+use Rattle.xg_check.specs.Typed.{arms_places, default_places, part_places, type_ways}
 use Rattle.xg_check.specs.Graphs.{IsGraph}
 use Rattle.xg_check.proofs.RingLaws.{place_inside}
 
@@ -62,7 +64,8 @@ module _ (ts : List Part) (w : Ways) where
   part_below (parts.Union name tag tag_name arms otherwise) =
       both (length ts) (one_or_none (word_place ts tag)) (arms_places ts w arms ++ default_places ts w otherwise)
       (one_inside (length ts) (word_place ts tag) (λ i e. word_inside ts tag i e))
-      (both (length ts) (arms_places ts w arms) (default_places ts w otherwise) (arms_below arms) (default_below otherwise))
+      (both (length ts) (arms_places ts w arms) (default_places ts w otherwise) (arms_below arms)
+      (default_below otherwise))
   part_below (parts.Package name) = tt
   part_below (parts.Prefix name) = tt
   part_below (parts.StatIndex number) = tt

@@ -1,5 +1,6 @@
 -- The constants of a text and their values. Public clauses cite this module.
-use Rattle.std.specs.Prelude.{ℕ, ℤ, zero, suc, ◌^◌, Bool, true, false, List, [], ◌∷◌, length, Option, Some, None, map, flat_map, slice_get, nat_lt, if◌then◌else◌, ◌+ℤ◌, ◌-ℤ◌, option_and_then}
+use Rattle.std.specs.Prelude.{ℕ, ℤ, zero, suc, ◌^◌, Bool, true, false, List, [], ◌∷◌, length, Option, Some, None, map}
+use Rattle.std.specs.Prelude.{flat_map, slice_get, nat_lt, if◌then◌else◌, ◌+ℤ◌, ◌-ℤ◌, option_and_then}
 use Rattle.std.specs.Option.{option_map}
 use lib.IntN.{pos, negsuc}
 use Rattle.xg_parse.specs.declared.tree.ConstWord.{ConstWord}
@@ -10,7 +11,8 @@ use Rattle.xg_parse.specs.declared.tree.Part.TheVariants as parts
 use Rattle.xg_parse.specs.declared.tree.Item.{Item}
 use Rattle.xg_check.specs.Places.{place_of}
 
--- where a constant has its value from: a word, or as a member of an enum without one 0 or what follows the member before
+-- where a constant has its value from: a word, or as a member of an enum without one 0 or what follows the member
+-- before
 pub data Given : Type 0 where
   word : ConstWord → Given
   first : Given

@@ -1,5 +1,6 @@
 -- What the next opcode is counted from. No public clause cites this module.
-use Rattle.std.specs.Prelude.{ℕ, ℤ, ◌<ℤ◌, ◌+ℤ◌, pos, Bool, true, false, List, [], ◌∷◌, Option, Some, None, IfSome, option_map}
+use Rattle.std.specs.Prelude.{ℕ, ℤ, ◌<ℤ◌, ◌+ℤ◌, pos, Bool, true, false, List, [], ◌∷◌, Option, Some, None, IfSome}
+use Rattle.std.specs.Prelude.{option_map}
 use Rattle.xg_parse.specs.declared.tree.ConstWord.{ConstWord}
 use Rattle.xg_parse.specs.declared.tree.Part.{Part}
 use Rattle.xg_parse.specs.declared.tree.Part.TheVariants as parts

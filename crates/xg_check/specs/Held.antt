@@ -1,5 +1,6 @@
 -- What tables keep of what they were made for. No public clause cites this module.
-use Rattle.std.specs.Prelude.{◌≡◌, ℕ, ℤ, ◌<◌, ◌+◌, ◌^◌, ◌<ℤ◌, pos, Bool, true, false, ◌&&◌, ◌⊎◌, nat_eq, min, List, length, Option, Some, None, slice_get, unwrap_or, option_map}
+use Rattle.std.specs.Prelude.{◌≡◌, ℕ, ℤ, ◌<◌, ◌+◌, ◌^◌, ◌<ℤ◌, pos, Bool, true, false, ◌&&◌, ◌⊎◌, nat_eq, min, List}
+use Rattle.std.specs.Prelude.{length, Option, Some, None, slice_get, unwrap_or, option_map}
 use Rattle.xg_parse.specs.declared.tree.Part.{Part}
 use Rattle.xg_check.specs.declared.tags.Tag.{Tag}
 use Rattle.xg_check.specs.declared.types.Ways.TheVariants as ways

@@ -1,5 +1,6 @@
 -- What is a fault, place by place. Public clauses cite this module.
-use Rattle.std.specs.Prelude.{◌≡◌, ℕ, ℤ, ◌<◌, ◌^◌, Bool, true, false, ◌&&◌, ◌||◌, not, nat_eq, nat_lt, List, [], ◌∷◌, length, Option, Some, None, is_some, is_none, slice_get, option_and_then}
+use Rattle.std.specs.Prelude.{◌≡◌, ℕ, ℤ, ◌<◌, ◌^◌, Bool, true, false, ◌&&◌, ◌||◌, not, nat_eq, nat_lt, List, [], ◌∷◌}
+use Rattle.std.specs.Prelude.{length, Option, Some, None, is_some, is_none, slice_get, option_and_then}
 use Rattle.std.specs.Ordering.{int_eq}
 use Rattle.std.specs.Str.{bytes_eq}
 use Rattle.xdr_value.specs.Ranges.{is_within}
@@ -19,10 +20,12 @@ use Rattle.xg_check.specs.declared.tags.Tag.TheVariants as tags
 use Rattle.xg_check.specs.declared.types.Ways.TheVariants as ways
 use Rattle.xg_check.specs.Places.{place_of}
 use Rattle.xg_check.specs.Bases.{base_named}
-use Rattle.xg_check.specs.Constants.{ConstantDef, constants_in, constant_names, constant_ways, value_of, value_at, size_of, in_32_bits}
+use Rattle.xg_check.specs.Constants.{ConstantDef, constants_in, constant_names, constant_ways, value_of, value_at}
+use Rattle.xg_check.specs.Constants.{size_of, in_32_bits}
 use Rattle.xg_check.specs.Typed.{types_in, type_names, type_ways, word_place}
 use Rattle.xg_check.specs.Graphs.{Leads}
-use Rattle.xg_check.specs.Marks.{Mark, declares, union_case, uses_type, uses_constant, valued, sized, enum_type, struct_type, union_type}
+use Rattle.xg_check.specs.Marks.{Mark, declares, union_case, uses_type, uses_constant, valued, sized, enum_type}
+use Rattle.xg_check.specs.Marks.{struct_type, union_type}
 use Rattle.xg_check.specs.Encodings.{is_hollow, bytes_at, declared_bytes}
 use Rattle.xg_check.specs.Tags.{tag_of, has_case}
 

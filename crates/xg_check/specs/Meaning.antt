@@ -11,7 +11,8 @@ use Rattle.xg_check.specs.Constants.{constants_in}
 use Rattle.xg_check.specs.Typed.{types_in, type_names}
 use Rattle.xg_check.specs.Marks.{Mark, mark_name, marks_in}
 use Rattle.xg_check.specs.Opcodes.{opcodes_in}
-use Rattle.xg_check.specs.Judged.{scope_of, IsTwice, IsUnknown, IsSizeFault, IsEndless, opcode_at, IsWithoutOpcode, IsOpcodeTwice}
+use Rattle.xg_check.specs.Judged.{scope_of, IsTwice, IsUnknown, IsSizeFault, IsEndless, opcode_at, IsWithoutOpcode}
+use Rattle.xg_check.specs.Judged.{IsOpcodeTwice}
 use Rattle.xg_check.specs.Meant.{types_meant, procs_meant, package_in, prefix_in}
 
 -- an interface, without where it lies in memory

@@ -1,8 +1,10 @@
 -- The types and procedures that a text means. Public clauses cite this module.
-use Rattle.std.specs.Prelude.{ℕ, ℤ, ◌^◌, if◌then◌else◌, Bool, true, false, List, [], ◌∷◌, ◌++◌, Option, Some, None, map, flat_map, unwrap_or}
+use Rattle.std.specs.Prelude.{ℕ, ℤ, ◌^◌, if◌then◌else◌, Bool, true, false, List, [], ◌∷◌, ◌++◌, Option, Some, None, map}
+use Rattle.std.specs.Prelude.{flat_map, unwrap_or}
 use Rattle.std.specs.Option.{option_map}
 use lib.IntN.{pos}
-use Rattle.xdr_value.specs.Data.{Kind, basic, array, array_up_to, maybe, named, Part as Field, Choice, alias, enum, struct, choice, Types, Param, Procedure, Procs}
+use Rattle.xdr_value.specs.Data.{Kind, basic, array, array_up_to, maybe, named, Part as Field, Choice, alias, enum}
+use Rattle.xdr_value.specs.Data.{struct, choice, Types, Param, Procedure, Procs}
 use Rattle.xdr_value.specs.Ranges.{is_within}
 use Rattle.xdr_value.specs.declared.ty.Basic.{Basic}
 use Rattle.xdr_value.specs.declared.ty.Basic.TheVariants as basics

@@ -1,5 +1,6 @@
 -- Which tags of unions types are. Public clauses cite this module.
-use Rattle.std.specs.Prelude.{ℕ, ℤ, zero, suc, ◌^◌, Bool, false, ◌||◌, List, [], ◌∷◌, length, Option, Some, None, slice_get}
+use Rattle.std.specs.Prelude.{ℕ, ℤ, zero, suc, ◌^◌, Bool, false, ◌||◌, List, [], ◌∷◌, length, Option, Some, None}
+use Rattle.std.specs.Prelude.{slice_get}
 use Rattle.std.specs.Ordering.{int_eq}
 use Rattle.xdr_value.specs.Ranges.{is_below, is_within}
 use Rattle.xdr_value.specs.declared.ty.Basic.{Basic}

@@ -1,5 +1,6 @@
 -- The types that a text defines, by their numbers in its order, and which each holds. Public clauses cite this module.
-use Rattle.std.specs.Prelude.{ℕ, List, [], ◌++◌, Option, Some, None, map, filter, flat_map, is_some, unwrap_or, option_and_then}
+use Rattle.std.specs.Prelude.{ℕ, List, [], ◌++◌, Option, Some, None, map, filter, flat_map, is_some, unwrap_or}
+use Rattle.std.specs.Prelude.{option_and_then}
 use Rattle.xg_parse.specs.declared.tree.TypeWord.{TypeWord}
 use Rattle.xg_parse.specs.declared.tree.TypeWord.TheVariants as types
 use Rattle.xg_parse.specs.declared.tree.Form.{Form}

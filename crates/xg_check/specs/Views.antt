@@ -10,7 +10,8 @@ use Rattle.xg_check.specs.declared.constants.Constant.{Constant as CodeConstant}
 use Rattle.xg_check.specs.declared.marks.Mark.{Mark as CodeMark}
 use Rattle.xg_check.specs.declared.marks.Mark.TheVariants as marks
 use Rattle.xg_check.specs.Constants.{Given, word, first, next, ConstantDef}
-use Rattle.xg_check.specs.Marks.{Mark, declares, union_case, uses_type, uses_constant, valued, sized, enum_type, struct_type, union_type}
+use Rattle.xg_check.specs.Marks.{Mark, declares, union_case, uses_type, uses_constant, valued, sized, enum_type}
+use Rattle.xg_check.specs.Marks.{struct_type, union_type}
 
 abbrev pub given_of : CodeGiven → Given
 given_of (givens.Word w) = word w.now

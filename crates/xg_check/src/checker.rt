@@ -4,7 +4,8 @@ ghost use Rattle.std.specs.Prelude.{◌≡◌, ◌≢◌, ℕ, ℤ, List, Option
 ghost use Rattle.xg_check.specs.Places.{HoldsNowhere};
 ghost use Rattle.xg_check.specs.Answers.{IsFaultOf, IsChecked};
 ghost use Rattle.xg_check.specs.Constants.{constants_in};
-ghost use Rattle.xg_check.specs.Meaning.{Meant, interface_of, Meaning, IsFirstFault, IsFaultless, opcodes_of, OpcodeAt, OpcodeTwiceAt};
+ghost use Rattle.xg_check.specs.Meaning.{Meant, interface_of, Meaning, IsFirstFault, IsFaultless, opcodes_of, OpcodeAt};
+ghost use Rattle.xg_check.specs.Meaning.{OpcodeTwiceAt};
 
 use crate::endless::endless;
 use crate::fault::CheckFault;

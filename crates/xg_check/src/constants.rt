@@ -1,7 +1,8 @@
 //! The constants of a tree.
 
 ghost use Rattle.std.specs.Prelude.{◌≡◌, ◌++◌, true, OnOk, IfOk, if◌then◌else◌, nat_eq};
-ghost use Rattle.xg_check.specs.Constants.{given_or, first, next, members_from, part_constants, constants_in, constant_names};
+ghost use Rattle.xg_check.specs.Constants.{given_or, first, next, members_from, part_constants, constants_in};
+ghost use Rattle.xg_check.specs.Constants.{constant_names};
 ghost use Rattle.xg_check.specs.Views.{given_of, constants_of};
 
 use crate::names::Names;
@@ -35,7 +36,8 @@ fn member_given(member: &MembItem, at: usize) -> Given<'_>
 }
 
 fn add_members<'a>(list: &mut Vec<Constant<'a>>, members: &'a [MembItem]) -> Result<(), AllocError>
-    ensures { OnOk result (constants_of list.new.items ≡ constants_of list.old.items ++ members_from first members.now) }
+    ensures { OnOk result (constants_of list.new.items ≡ constants_of list.old.items
+        ++ members_from first members.now) }
 {
     for at in 0..members.len() {
         let member = &members[at];

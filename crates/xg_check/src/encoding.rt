@@ -5,7 +5,8 @@ ghost use Rattle.xg_check.specs.Constants.{size_of};
 ghost use Rattle.xg_check.specs.Graphs.{AreOrdered};
 ghost use Rattle.xg_check.specs.Typed.{type_ways};
 ghost use Rattle.xg_check.specs.Encodings.{is_zero, form_hollow, decls_hollow, part_hollow, base_bytes, opaque_bytes};
-ghost use Rattle.xg_check.specs.Encodings.{array_bytes, form_bytes, decls_bytes, held_bytes, arms_bytes, part_bytes, word_bytes};
+ghost use Rattle.xg_check.specs.Encodings.{array_bytes, form_bytes, decls_bytes, held_bytes, arms_bytes, part_bytes};
+ghost use Rattle.xg_check.specs.Encodings.{word_bytes};
 ghost use Rattle.xg_check.specs.Held.{capped, hollow_word, IsCapped, held_count, AreEncodings};
 
 use crate::bases::base;

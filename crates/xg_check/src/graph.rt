@@ -87,7 +87,8 @@ fn push_back(back: &mut Vec<Vec<usize>>, node: usize, other: usize) -> Result<()
 // The node stands behind each of these.
 fn add_back(back: &mut Vec<Vec<usize>>, node: usize, next: &[usize]) -> Result<(), AllocError>
     requires { AllByRecursion (λ i. i < length back.old.items) next.now }
-    ensures { OnOk result (AreBack (map (λ v. v.items) back.old.items) (map (λ v. v.items) back.new.items) node next.now) }
+    ensures { OnOk result (AreBack (map (λ v. v.items) back.old.items) (map (λ v. v.items) back.new.items)
+        node next.now) }
 {
     for other in next {
         push_back(back, node, *other)?;

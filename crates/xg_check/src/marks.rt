@@ -229,7 +229,8 @@ fn add_arms<'a>(
     tag: &'a TypeWord,
     arms: &'a [ArmItem],
 ) -> Result<(), AllocError>
-    ensures { OnOk result (marks_of marks.new.items ≡ marks_of marks.old.items ++ flat_map (arm_marks item name.now tag.now) arms.now) }
+    ensures { OnOk result (marks_of marks.new.items ≡ marks_of marks.old.items
+        ++ flat_map (arm_marks item name.now tag.now) arms.now) }
 {
     for arm in arms {
         add_arm(marks, item, name, tag, arm)?;

@@ -3,7 +3,8 @@
 ghost use Rattle.std.specs.Prelude.{◌≡◌, ◌++◌, map, flat_map, IfOk, OnOk, option_map, string_bytes};
 ghost use Rattle.xdr_value.specs.Data.{basic};
 ghost use Rattle.xdr_value.specs.View.{kind_of, part_of, member_of, choice_of, def_of, types_of};
-ghost use Rattle.xg_check.specs.Meant.{word_kind, size_number, bound_number, form_kind, field_meant, value_or_zero, member_meant};
+ghost use Rattle.xg_check.specs.Meant.{word_kind, size_number, bound_number, form_kind, field_meant, value_or_zero};
+ghost use Rattle.xg_check.specs.Meant.{member_meant};
 ghost use Rattle.xg_check.specs.Meant.{held_meant, arm_meant, default_meant, part_type, types_meant};
 ghost use Rattle.xg_check.specs.Counts.{package_or, prefix_or};
 ghost use Rattle.xg_check.specs.Meant.{package_in, prefix_in};

@@ -5,7 +5,8 @@ ghost use Rattle.xg_check.specs.Constants.{in_32_bits};
 ghost use Rattle.xg_check.specs.Opcodes.{opcodes_in};
 ghost use Rattle.xg_check.specs.Answers.{IsFirstPlace, IsFirstNumber};
 ghost use Rattle.xg_check.specs.Counting.{number_at, IsMissing, StandsAgain};
-ghost use Rattle.xg_check.specs.Counts.{IsCountBelow, counted_next, count_given, count_counted, part_opcode, count_part};
+ghost use Rattle.xg_check.specs.Counts.{IsCountBelow, counted_next, count_given, count_counted, part_opcode};
+ghost use Rattle.xg_check.specs.Counts.{count_part};
 
 use crate::values::{Constants, behind};
 use std::alloc::{AllocError, Global};
@@ -69,7 +70,8 @@ fn add_opcode(
     requires { IsCountBelow (2 ^ 67) count }
     ensures list { OnOk result (list.new.items ≡ list.old.items ++ part_opcode constants.now count part.now) }
     ensures count { IfOk result (λ next. next ≡ count_part constants.now count part.now) }
-    ensures below { (n : ℕ) → IsCountBelow (2 ^ 66 + n) count → IfOk result (λ next. IsCountBelow (2 ^ 66 + (n + 1)) next) }
+    ensures below { (n : ℕ) → IsCountBelow (2 ^ 66 + n) count
+        → IfOk result (λ next. IsCountBelow (2 ^ 66 + (n + 1)) next) }
 {
     match part {
         Part::StartingOpcode(word) => Ok(Count::Start(constants.value(word))),
@@ -97,7 +99,8 @@ pub fn opcodes(
     constants: &Constants<'_>,
     tree: &Tree,
 ) -> Result<Vec<Option<i128>>, AllocError>
-    ensures { IfOk result (λ list. list.items ≡ map (λ (p : List ℕ × Option ℤ). p.1) (opcodes_in constants.now tree.now.items)) }
+    ensures { IfOk result (λ list. list.items ≡ map (λ (p : List ℕ × Option ℤ). p.1)
+        (opcodes_in constants.now tree.now.items)) }
 {
     let mut list = Vec::new(alloc);
     let mut count = Count::Nothing;

@@ -1,6 +1,7 @@
 //! The nodes whose ways all end.
 
-ghost use Rattle.std.specs.Prelude.{◌≡◌, ◌<◌, ◌+◌, ◌++◌, ◌∷◌, ℕ, List, [], true, length, map, IfOk, OnOk, slice_get, slice_set, Some};
+ghost use Rattle.std.specs.Prelude.{◌≡◌, ◌<◌, ◌+◌, ◌++◌, ◌∷◌, ℕ, List, [], true, length, map, IfOk, OnOk, slice_get};
+ghost use Rattle.std.specs.Prelude.{slice_set, Some};
 ghost use Rattle.std.specs.List.{AllByRecursion};
 ghost use Rattle.xg_check.specs.Graphs.{AreOrdered};
 ghost use Rattle.xg_check.specs.Ordering.{IsNew, IsFirstOpen, IsOrdering, IsLooked, AllWait};
@@ -27,7 +28,8 @@ struct Search {
 impl Search {
     // A search of so many nodes, none of which was looked at.
     fn make(alloc: Global, count: usize) -> Result<Search, AllocError>
-        ensures { IfOk result (λ s. IsNew count s.ended.items s.nodes.items (map (λ v. v.items) s.waiting.items) s.looked.items) }
+        ensures { IfOk result (λ s. IsNew count s.ended.items s.nodes.items (map (λ v. v.items) s.waiting.items)
+            s.looked.items) }
     {
         Ok(Search {
             ended: vec![in alloc; false; count]?,
@@ -81,7 +83,8 @@ impl Search {
         requires other_there { other < length self.old.waiting.items }
         ensures ended { OnOk result (self.new.ended.items ≡ self.old.ended.items) }
         ensures nodes { OnOk result (self.new.nodes.items ≡ self.old.nodes.items) }
-        ensures waiting { OnOk result ((ws : List ℕ) → slice_get (map (λ v. v.items) self.old.waiting.items) other ≡ Some ws
+        ensures waiting { OnOk result
+            ((ws : List ℕ) → slice_get (map (λ v. v.items) self.old.waiting.items) other ≡ Some ws
             → map (λ v. v.items) self.new.waiting.items
             ≡ slice_set (map (λ v. v.items) self.old.waiting.items) other (ws ++ node ∷ [])) }
         ensures looked { OnOk result (self.new.looked.items ≡ slice_set self.old.looked.items node at) }
@@ -96,7 +99,8 @@ impl Search {
         requires { node < length self.old.ended.items }
         ensures ended { OnOk result (self.new.ended.items ≡ slice_set self.old.ended.items node true) }
         ensures nodes { OnOk result (self.new.nodes.items ≡ self.old.nodes.items ++ node ∷ []) }
-        ensures waiting { OnOk result (map (λ v. v.items) self.new.waiting.items ≡ map (λ v. v.items) self.old.waiting.items) }
+        ensures waiting { OnOk result
+            (map (λ v. v.items) self.new.waiting.items ≡ map (λ v. v.items) self.old.waiting.items) }
         ensures looked { OnOk result (self.new.looked.items ≡ self.old.looked.items) }
     {
         self.nodes.push(node)?;

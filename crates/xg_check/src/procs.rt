@@ -108,7 +108,8 @@ fn add_proc(
     opcode: Option<i128>,
     part: &Part,
 ) -> Result<(), AllocError>
-    ensures { OnOk result (procs_of procs.new.items ≡ procs_of procs.old.items ++ part_proc constants.now opcode part.now) }
+    ensures { OnOk result (procs_of procs.new.items ≡ procs_of procs.old.items
+        ++ part_proc constants.now opcode part.now) }
 {
     match proc(alloc, constants, opcode, part)? {
         None => Ok(()),

@@ -32,7 +32,8 @@ impl Reached {
     fn mark(&mut self, node: usize) -> Result<(), AllocError>
         requires there { node < length self.old.marks.items }
         requires listed { AreListed self.old.marks.items self.old.nodes.items }
-        ensures { OnOk result (AreAdded self.old.marks.items self.new.marks.items self.old.nodes.items self.new.nodes.items (node ∷ [])) }
+        ensures { OnOk result (AreAdded self.old.marks.items self.new.marks.items self.old.nodes.items
+            self.new.nodes.items (node ∷ [])) }
     {
         if self.marks[node] {
             return Ok(());
@@ -46,7 +47,8 @@ impl Reached {
     fn add(&mut self, nodes: &[usize]) -> Result<(), AllocError>
         requires there { AllByRecursion (λ i. i < length self.old.marks.items) nodes.now }
         requires listed { AreListed self.old.marks.items self.old.nodes.items }
-        ensures { OnOk result (AreAdded self.old.marks.items self.new.marks.items self.old.nodes.items self.new.nodes.items nodes.now) }
+        ensures { OnOk result (AreAdded self.old.marks.items self.new.marks.items self.old.nodes.items
+            self.new.nodes.items nodes.now) }
     {
         for node in nodes {
             self.mark(*node)?;

@@ -5,7 +5,8 @@ ghost use Rattle.xg_check.specs.Graphs.{AreOrdered};
 ghost use Rattle.xg_check.specs.Typed.{type_ways};
 ghost use Rattle.xg_check.specs.Marks.{valued, sized};
 ghost use Rattle.xg_check.specs.Judged.{is_out_of_range, form_bound_word, IsHollowArray, IsTooLarge, IsTypeTooLarge};
-ghost use Rattle.xg_check.specs.Judged.{has_arm, is_tag, is_no_int, is_no_case, passes_most, IsWrong, IsSizeFault, IsSizeWrong};
+ghost use Rattle.xg_check.specs.Judged.{has_arm, is_tag, is_no_int, is_no_case, passes_most, IsWrong, IsSizeFault};
+ghost use Rattle.xg_check.specs.Judged.{IsSizeWrong};
 ghost use Rattle.xg_check.specs.Judged.{HoldsNoEndless};
 ghost use Rattle.xg_check.specs.Constants.{value_of};
 ghost use Rattle.xg_check.specs.Tags.{tag_of};
@@ -201,7 +202,8 @@ impl Judge {
         mark: &Mark<'_>,
     ) -> Result<bool, AllocError>
         requires { CanJudge types.now constants.now self.now }
-        ensures { IfOk result (λ b. IsTrue b ↔ IsWrong (record { constants = constants.now; types = types.now }) (mark_of mark.now)) }
+        ensures { IfOk result (λ b. IsTrue b ↔ IsWrong (record { constants = constants.now; types = types.now })
+            (mark_of mark.now)) }
     {
         match *mark {
             Mark::Name { .. } | Mark::Type(_) | Mark::Number(_) => Ok(false),
@@ -266,7 +268,8 @@ fn is_constant_bad(
     name: &str,
     is_member: bool,
 ) -> Result<bool, AllocError>
-    ensures { IfOk result (λ b. IsTrue b ↔ IsWrong (record { constants = constants.now; types = [] }) (valued name.now is_member)) }
+    ensures { IfOk result (λ b. IsTrue b ↔ IsWrong (record { constants = constants.now; types = [] })
+        (valued name.now is_member)) }
 {
     match constants.place(name) {
         None => Ok(false),

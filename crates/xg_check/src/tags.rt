@@ -6,7 +6,8 @@ ghost use Rattle.xg_parse.specs.declared.tree.Part.{Part};
 ghost use Rattle.xg_check.specs.Constants.{ConstantDef};
 ghost use Rattle.xg_check.specs.Graphs.{AreOrdered};
 ghost use Rattle.xg_check.specs.Typed.{type_ways};
-ghost use Rattle.xg_check.specs.Tags.{base_tag, word_tag, form_tag, part_tag, has_case, enum_has, members_have, is_value};
+ghost use Rattle.xg_check.specs.Tags.{base_tag, word_tag, form_tag, part_tag, has_case, enum_has, members_have};
+ghost use Rattle.xg_check.specs.Tags.{is_value};
 ghost use Rattle.xg_check.specs.Held.{held_tag, same_pair, AreTags};
 
 use crate::bases::base;

@@ -56,7 +56,8 @@ impl<'a> Met<'a> {
 
     // Meets a case of the item, and answers whether it is a new one.
     fn meet_case(&mut self, item: usize, value: i128) -> Result<bool, AllocError>
-        ensures { IfOk result (λ b. (cs : List ConstantDef) (front : List Marked) (n : List ℕ) (u : TypeWord) (w : ConstWord)
+        ensures { IfOk result (λ b. (cs : List ConstantDef) (front : List Marked) (n : List ℕ) (u : TypeWord)
+            (w : ConstWord)
             → value_of cs w ≡ Some value → AreMet cs front self.old
             → AreMet cs (front ++ union_case item n u w ∷ []) self.new
             × (not b ≡ is_met cs front (union_case item n u w))) }

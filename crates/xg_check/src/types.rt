@@ -1,6 +1,7 @@
 //! The types of a tree, and which of them each holds.
 
-ghost use Rattle.std.specs.Prelude.{◌≡◌, ◌++◌, ◌<◌, length, map, option_map, OnOk, IfOk, slice_get, Some, option_and_then};
+ghost use Rattle.std.specs.Prelude.{◌≡◌, ◌++◌, ◌<◌, length, map, option_map, OnOk, IfOk, slice_get, Some};
+ghost use Rattle.std.specs.Prelude.{option_and_then};
 ghost use Rattle.xg_check.specs.Places.{place_of};
 ghost use Rattle.xg_check.specs.Constants.{one_or_none};
 ghost use Rattle.xg_check.specs.Typed.{type_name, types_in, type_names, word_place, form_word, type_ways};

@@ -1,10 +1,12 @@
 //! The values of constants.
 
-ghost use Rattle.std.specs.Prelude.{◌≡◌, ◌<◌, ◌+◌, ◌↔◌, ◌^◌, ◌<ℤ◌, ◌+ℤ◌, pos, ℕ, List, length, option_map, IfOk, IfSome, IsTrue};
+ghost use Rattle.std.specs.Prelude.{◌≡◌, ◌<◌, ◌+◌, ◌↔◌, ◌^◌, ◌<ℤ◌, ◌+ℤ◌, pos, ℕ, List, length, option_map, IfOk};
+ghost use Rattle.std.specs.Prelude.{IfSome, IsTrue};
 ghost use Rattle.std.specs.Option.{ForSome};
 ghost use Rattle.xg_check.specs.Places.{place_of};
 ghost use Rattle.xg_check.specs.Graphs.{Leads, AreOrdered};
-ghost use Rattle.xg_check.specs.Constants.{ConstantDef, one_or_none, given_source, given_value, signed, word_value, constant_names};
+ghost use Rattle.xg_check.specs.Constants.{ConstantDef, one_or_none, given_source, given_value, signed, word_value};
+ghost use Rattle.xg_check.specs.Constants.{constant_names};
 ghost use Rattle.xg_check.specs.Constants.{constants_in, constant_ways, value_at, value_of, value_named};
 ghost use Rattle.xg_check.specs.Views.{given_of, constants_of};
 ghost use Rattle.xg_check.specs.Held.{held_value, AreValues, AreBelow, AreBounded};
@@ -45,7 +47,8 @@ impl<'a> Model for Constants<'a> {
 
 // The constant from whose value that of this one comes.
 fn source(given: Given<'_>, names: &Names<'_>, at: usize) -> Option<usize>
-    ensures { (cs : List ConstantDef) → names.now ≡ constant_names cs → result ≡ given_source cs at (given_of given.entry) }
+    ensures { (cs : List ConstantDef) → names.now ≡ constant_names cs
+        → result ≡ given_source cs at (given_of given.entry) }
 {
     match given {
         Given::Word(ConstWord::Name(name)) => names.place(name.as_str()),
@@ -96,7 +99,8 @@ pub fn value_in(values: &[Option<i128>], place: usize) -> Option<i128>
 
 // The value of a word, where the constants have these.
 fn word_value(names: &Names<'_>, values: &[Option<i128>], word: &ConstWord) -> Option<i128>
-    ensures value { (cs : List ConstantDef) → names.now ≡ constant_names cs → result ≡ word_value (held_value values.now) cs word.now }
+    ensures value { (cs : List ConstantDef) → names.now ≡ constant_names cs
+        → result ≡ word_value (held_value values.now) cs word.now }
     ensures bound { (n : ℕ) → AreBelow n values.now → IfSome result (λ z. z <ℤ pos (2 ^ 64 + n)) }
 {
     match word {

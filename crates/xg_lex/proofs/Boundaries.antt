@@ -1,12 +1,14 @@
 -- A text may be cut behind a part.
-use Rattle.std.proofs.Common.{◌≡◌, ℕ, ◌+◌, ◌<◌, Bool, true, false, List, [], ◌∷◌, ◌++◌, length, get_or, Ok, refl, sym, ap, ◌∙◌, subst, arith, append_assoc, length-append, lit<, inl, inr}
+use Rattle.std.proofs.Common.{◌≡◌, ℕ, ◌+◌, ◌<◌, Bool, true, false, List, [], ◌∷◌, ◌++◌, length, get_or, Ok, refl, sym}
+use Rattle.std.proofs.Common.{ap, ◌∙◌, subst, arith, append_assoc, length-append, lit<, inl, inr}
 use Rattle.std.specs.List.{prefix_len}
 use Rattle.std.specs.Str.{IsUtf8, IsCharBoundary}
 use Rattle.std.proofs.lemmas.Str.{IsCharBoundary-end, IsCharBoundary-after_ascii, IsCharBoundary-before_ascii}
 use Rattle.std.proofs.lemmas.List.{append-nil}
 use Rattle.std.proofs.lemmas.Bool.Decides.{nat_tests}
 use Rattle.xg_lex.specs.Bytes.{slash, star, is_blank, is_in_line, is_in_name, is_in_number, is_sign}
-use Rattle.xg_lex.specs.Grammar.{Lexeme, blank, comment, skipped, name, number, sign, spelling, CanStand, Stops, IsSkipped, IsNumber}
+use Rattle.xg_lex.specs.Grammar.{Lexeme, blank, comment, skipped, name, number, sign, spelling, CanStand, Stops}
+use Rattle.xg_lex.specs.Grammar.{IsSkipped, IsNumber}
 use Rattle.xg_lex.specs.Steps.{step_at}
 use Rattle.xg_lex.specs.declared.part.Step.{Step}
 use Rattle.xg_lex.proofs.Runs.{run_boundary, in_name_is_ascii, in_number_is_ascii}

@@ -1,5 +1,7 @@
 -- Where a comment ends.
-use Rattle.std.proofs.Common.{◌≡◌, ℕ, suc, ◌+◌, ◌-◌, ◌<◌, ◌≤◌, Bool, true, false, cond, ◌&&◌, eqb, List, [], ◌∷◌, length, get_or, drop, Option, Some, None, option_map, refl, sym, ap, ◌∙◌, arith, drop-cons, add-one, length-drop, zero}
+use Rattle.std.proofs.Common.{◌≡◌, ℕ, suc, ◌+◌, ◌-◌, ◌<◌, ◌≤◌, Bool, true, false, cond, ◌&&◌, eqb, List, [], ◌∷◌}
+use Rattle.std.proofs.Common.{length, get_or, drop, Option, Some, None, option_map, refl, sym, ap, ◌∙◌, arith}
+use Rattle.std.proofs.Common.{drop-cons, add-one, length-drop, zero}
 use Rattle.std.proofs.lemmas.Bool.{and_right, and_from, and_parts, eqb-true, eq-eqb, false_from_ne_true}
 use Rattle.xg_lex.specs.Bytes.{star, slash}
 use Rattle.xg_lex.specs.Steps.{close_len, begins_with}

@@ -1,14 +1,20 @@
 -- What is found at the front of a text can stand there, and where nothing is found the fault has its name.
-use Rattle.std.proofs.Common.{◌≡◌, ℕ, ◌+◌, Bool, true, false, cond, ◌&&◌, eqb, List, [], ◌∷◌, ◌++◌, length, take, drop, Option, Some, None, Result, Ok, Err, refl, sym, ap, ◌∙◌, subst, arith, inl, inr, ◌⊎◌, append_assoc, length-append}
+use Rattle.std.proofs.Common.{◌≡◌, ℕ, ◌+◌, Bool, true, false, cond, ◌&&◌, eqb, List, [], ◌∷◌, ◌++◌, length, take, drop}
+use Rattle.std.proofs.Common.{Option, Some, None, Result, Ok, Err, refl, sym, ap, ◌∙◌, subst, arith, inl, inr, ◌⊎◌}
+use Rattle.std.proofs.Common.{append_assoc, length-append}
 use Rattle.std.specs.List.{prefix_len}
 use Rattle.std.specs.Char.{is_ascii_digit}
 use Rattle.std.proofs.lemmas.List.{take-append-drop}
 use Rattle.std.proofs.lemmas.List.Folds.{length-prefix_len}
 use Rattle.std.proofs.lemmas.Bool.Decides.{nat_tests}
 use Rattle.std.proofs.lemmas.Bool.{and_parts, eqb-true}
-use Rattle.xg_lex.specs.Bytes.{hash, percent, star, slash, is_blank, is_in_line, begins_name, is_in_name, is_in_number, is_sign}
-use Rattle.xg_lex.specs.Grammar.{Lexeme, blank, comment, skipped, name, number, sign, spelling, CanStand, IsSkipped, IsLineMark, fault_from}
-use Rattle.xg_lex.specs.Steps.{gap_step, token_step, number_of, numbered, number_step, close_len, closed, comment_step, mark_step, is_mark_rest, line_or_nothing, sign_or_comment, name_or_number, step_at, fault_of}
+use Rattle.xg_lex.specs.Bytes.{hash, percent, star, slash, is_blank, is_in_line, begins_name, is_in_name, is_in_number}
+use Rattle.xg_lex.specs.Bytes.{is_sign}
+use Rattle.xg_lex.specs.Grammar.{Lexeme, blank, comment, skipped, name, number, sign, spelling, CanStand, IsSkipped}
+use Rattle.xg_lex.specs.Grammar.{IsLineMark, fault_from}
+use Rattle.xg_lex.specs.Steps.{gap_step, token_step, number_of, numbered, number_step, close_len, closed, comment_step}
+use Rattle.xg_lex.specs.Steps.{mark_step, is_mark_rest, line_or_nothing, sign_or_comment, name_or_number, step_at}
+use Rattle.xg_lex.specs.Steps.{fault_of}
 use Rattle.xg_lex.specs.declared.token.TokenKind.{TokenKind}
 use Rattle.xg_lex.specs.declared.token.TokenKind.TheVariants as kinds
 use Rattle.xg_lex.specs.declared.part.Step.{Step}

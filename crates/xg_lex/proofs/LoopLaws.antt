@@ -1,11 +1,14 @@
 -- Where the lexer stands in a text.
-use Rattle.std.proofs.Common.{◌≡◌, ℕ, ◌+◌, ◌<◌, ◌≤◌, Bool, true, false, eqb, Option, List, [], ◌∷◌, ◌++◌, length, take, drop, Ok, Err, refl, sym, ap, ◌∙◌, subst, arith, append_assoc, length-append}
+use Rattle.std.proofs.Common.{◌≡◌, ℕ, ◌+◌, ◌<◌, ◌≤◌, Bool, true, false, eqb, Option, List, [], ◌∷◌, ◌++◌, length, take}
+use Rattle.std.proofs.Common.{drop, Ok, Err, refl, sym, ap, ◌∙◌, subst, arith, append_assoc, length-append}
 use Rattle.std.specs.List.{flat_map, list_all}
 use Rattle.std.proofs.lemmas.List.{append-nil, nil_from_length}
 use Rattle.std.proofs.lemmas.List.Sums.{sum_by-append, sum_by-cons}
 use Rattle.std.proofs.lemmas.Bool.{and_parts, ne_eqb, false≢true}
 use Rattle.xg_lex.specs.Bytes.{line_feed, is_in_name, is_in_number, is_sign}
-use Rattle.xg_lex.specs.Grammar.{Lexeme, blank, comment, skipped, name, number, sign, spelling, CanStand, Reads, begins_line, starts_after, IsStuck, line_feeds, line_after, last_line, tokens_of, token_of, AllOf, IsTokensOf, IsFirstFault, fault_from}
+use Rattle.xg_lex.specs.Grammar.{Lexeme, blank, comment, skipped, name, number, sign, spelling, CanStand, Reads}
+use Rattle.xg_lex.specs.Grammar.{begins_line, starts_after, IsStuck, line_feeds, line_after, last_line, tokens_of}
+use Rattle.xg_lex.specs.Grammar.{token_of, AllOf, IsTokensOf, IsFirstFault, fault_from}
 use Rattle.xg_lex.specs.Steps.{step_at, is_line_end, token_with, feeds_of, fault_of, IsLexed}
 use Rattle.xg_lex.specs.declared.token.TokenKind.{TokenKind}
 use Rattle.xg_lex.specs.declared.token.Token.{Token}

@@ -1,5 +1,6 @@
 -- The numbers that words write.
-use Rattle.std.proofs.Common.{◌≡◌, ℕ, ◌^◌, ◌<◌, Bool, true, false, cond, ltb, List, [], ◌∷◌, length, Some, None, Result, Ok, Err, refl, ap, subst}
+use Rattle.std.proofs.Common.{◌≡◌, ℕ, ◌^◌, ◌<◌, Bool, true, false, cond, ltb, List, [], ◌∷◌, length, Some, None, Result}
+use Rattle.std.proofs.Common.{Ok, Err, refl, ap, subst}
 use Rattle.std.specs.Bool.{Decides}
 use Rattle.std.specs.Result.{result_ok, OkIff}
 use Rattle.std.specs.List.{list_all}

@@ -2,7 +2,8 @@
 use Rattle.std.proofs.Common.{◌≡◌, ◌≢◌, ℕ, Bool, true, List, [], ◌∷◌, Result, Ok, Err, refl, sym, ap, ◌∙◌}
 use Rattle.std.specs.List.{flat_map}
 use Rattle.std.specs.Result.{IfOk, IfErr}
-use Rattle.xg_lex.specs.Grammar.{spelling, IsTokensOf, IsFirstFault, fault_from, line_after, line_feeds, last_line, starts_after}
+use Rattle.xg_lex.specs.Grammar.{spelling, IsTokensOf, IsFirstFault, fault_from, line_after, line_feeds, last_line}
+use Rattle.xg_lex.specs.Grammar.{starts_after}
 use Rattle.xg_lex.specs.Steps.{IsLexed}
 use Rattle.xg_lex.specs.declared.token.Token.{Token}
 use Rattle.xg_lex.specs.declared.token.Tokens.{Tokens}

@@ -1,15 +1,19 @@
 -- The part at the front of a text is the one that can stand there.
-use Rattle.std.proofs.Common.{◌≡◌, ℕ, ◌<◌, Bool, true, List, [], ◌∷◌, ◌++◌, length, drop, Option, Some, None, Ok, refl, ap, ◌∙◌, arith, inl, inr, append_assoc, length-append}
+use Rattle.std.proofs.Common.{◌≡◌, ℕ, ◌<◌, Bool, true, List, [], ◌∷◌, ◌++◌, length, drop, Option, Some, None, Ok, refl}
+use Rattle.std.proofs.Common.{ap, ◌∙◌, arith, inl, inr, append_assoc, length-append}
 use Rattle.std.specs.Char.{is_ascii_digit, digit_value}
 use Rattle.std.proofs.lemmas.Bool.{cond-true}
 use Rattle.std.proofs.lemmas.Bool.Decides.{nat_tests}
-use Rattle.xg_lex.specs.Bytes.{hash, percent, star, slash, zero_digit, is_blank, is_in_line, is_in_name, is_in_number, is_sign}
-use Rattle.xg_lex.specs.Grammar.{Lexeme, blank, comment, skipped, name, number, sign, spelling, CanStand, Stops, AllOf, IsName, IsNumber, IsSkipped, IsLineMark}
+use Rattle.xg_lex.specs.Bytes.{hash, percent, star, slash, zero_digit, is_blank, is_in_line, is_in_name, is_in_number}
+use Rattle.xg_lex.specs.Bytes.{is_sign}
+use Rattle.xg_lex.specs.Grammar.{Lexeme, blank, comment, skipped, name, number, sign, spelling, CanStand, Stops, AllOf}
+use Rattle.xg_lex.specs.Grammar.{IsName, IsNumber, IsSkipped, IsLineMark}
 use Rattle.xg_lex.specs.Steps.{gap_step, number_step, mark_step, is_mark_rest, sign_or_comment, step_at}
 use Rattle.xg_lex.specs.declared.token.TokenKind.{TokenKind}
 use Rattle.xg_lex.specs.declared.token.TokenKind.TheVariants as kinds
 use Rattle.xg_lex.specs.declared.part.Step.{Step}
-use Rattle.xg_lex.proofs.ByteKinds.{name_not_blank, digit_not_blank, digit_not_name, sign_not_name, sign_not_blank, sign_not_digit}
+use Rattle.xg_lex.proofs.ByteKinds.{name_not_blank, digit_not_blank, digit_not_name, sign_not_name, sign_not_blank}
+use Rattle.xg_lex.proofs.ByteKinds.{sign_not_digit}
 use Rattle.xg_lex.proofs.RunLaws.{prefix_len-run, take-front}
 use Rattle.xg_lex.proofs.NumberLaws.{number_of-IsNumber}
 use Rattle.xg_lex.proofs.CloseLaws.{close_len-body}

@@ -1,9 +1,11 @@
 -- A text has one reading: its parts, and what stands behind them.
-use Rattle.std.proofs.Common.{◌≡◌, ℕ, ◌+◌, Bool, true, false, Option, List, [], ◌∷◌, ◌++◌, length, take, drop, Ok, refl, sym, ap, ◌∙◌, subst}
+use Rattle.std.proofs.Common.{◌≡◌, ℕ, ◌+◌, Bool, true, false, Option, List, [], ◌∷◌, ◌++◌, length, take, drop, Ok, refl}
+use Rattle.std.proofs.Common.{sym, ap, ◌∙◌, subst}
 use Rattle.std.specs.List.{flat_map}
 use Rattle.std.proofs.lemmas.Bool.{and_parts, ne_eqb, false≢true}
 use Rattle.xg_lex.specs.Bytes.{line_feed, slash, star, is_in_line, is_in_name, is_in_number, is_sign}
-use Rattle.xg_lex.specs.Grammar.{Lexeme, blank, comment, skipped, name, number, sign, spelling, CanStand, Reads, begins_line, starts_after, IsStuck, line_feeds, tokens_of, token_of, AllOf}
+use Rattle.xg_lex.specs.Grammar.{Lexeme, blank, comment, skipped, name, number, sign, spelling, CanStand, Reads}
+use Rattle.xg_lex.specs.Grammar.{begins_line, starts_after, IsStuck, line_feeds, tokens_of, token_of, AllOf}
 use Rattle.xg_lex.specs.Steps.{step_at, is_line_end, token_with}
 use Rattle.xg_lex.specs.declared.token.TokenKind.{TokenKind}
 use Rattle.xg_lex.specs.declared.token.Token.{Token}

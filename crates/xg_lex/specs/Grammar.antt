@@ -1,9 +1,11 @@
 -- What an interface file is made of, and the tokens that it has. Public clauses cite this module.
-use Rattle.std.specs.Prelude.{◌≡◌, ◌≢◌, ℕ, ◌+◌, ◌-◌, ◌^◌, ◌<◌, ◌⊎◌, Bool, true, false, ◌==◌, ◌&&◌, if◌then◌else◌, List, [], ◌∷◌, ◌++◌, length, slice_index, take, count_by, nat_lt, ⊤}
+use Rattle.std.specs.Prelude.{◌≡◌, ◌≢◌, ℕ, ◌+◌, ◌-◌, ◌^◌, ◌<◌, ◌⊎◌, Bool, true, false, ◌==◌, ◌&&◌, if◌then◌else◌, List}
+use Rattle.std.specs.Prelude.{[], ◌∷◌, ◌++◌, length, slice_index, take, count_by, nat_lt, ⊤}
 use Rattle.std.specs.List.{list_all, flat_map}
 use Rattle.std.specs.Str.Parse.{IsNumeral, digits_value}
 use Rattle.std.specs.Char.{is_ascii_digit}
-use Rattle.xg_lex.specs.Bytes.{line_feed, quote, hash, percent, star, slash, zero_digit, hex_mark, is_space, is_blank, is_in_line, begins_name, is_in_name, is_in_number, is_sign}
+use Rattle.xg_lex.specs.Bytes.{line_feed, quote, hash, percent, star, slash, zero_digit, hex_mark, is_space, is_blank}
+use Rattle.xg_lex.specs.Bytes.{is_in_line, begins_name, is_in_name, is_in_number, is_sign}
 use Rattle.xg_lex.specs.declared.token.TokenKind.TheVariants.{Name, Number, Sign}
 use Rattle.xg_lex.specs.declared.token.Token.{Token}
 use Rattle.xg_lex.specs.declared.token.Tokens.{Tokens}

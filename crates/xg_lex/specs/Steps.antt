@@ -1,9 +1,12 @@
 -- The part at the front of a text, as it is found byte by byte. No public clause cites this module.
-use Rattle.std.specs.Prelude.{ℕ, ◌+◌, ◌^◌, Bool, false, ◌==◌, ◌&&◌, if◌then◌else◌, nat_lt, List, [], ◌∷◌, length, slice_index, take, drop, Option, Some, None, option_map, option_and_then, Result, Ok, Err, ⊤}
+use Rattle.std.specs.Prelude.{ℕ, ◌+◌, ◌^◌, Bool, false, ◌==◌, ◌&&◌, if◌then◌else◌, nat_lt, List, [], ◌∷◌, length}
+use Rattle.std.specs.Prelude.{slice_index, take, drop, Option, Some, None, option_map, option_and_then, Result, Ok, Err}
+use Rattle.std.specs.Prelude.{⊤}
 use Rattle.std.specs.List.{prefix_len, list_any, list_all}
 use Rattle.std.specs.Str.Parse.{digits_value}
 use Rattle.std.specs.Char.{digit_value, is_ascii_digit}
-use Rattle.xg_lex.specs.Bytes.{line_feed, quote, hash, percent, star, slash, zero_digit, hex_mark, is_space, is_blank, is_in_line, begins_name, is_in_name, is_in_number, is_sign}
+use Rattle.xg_lex.specs.Bytes.{line_feed, quote, hash, percent, star, slash, zero_digit, hex_mark, is_space, is_blank}
+use Rattle.xg_lex.specs.Bytes.{is_in_line, begins_name, is_in_name, is_in_number, is_sign}
 use Rattle.xg_lex.specs.declared.token.TokenKind.{TokenKind}
 use Rattle.xg_lex.specs.declared.token.TokenKind.TheVariants as kinds
 use Rattle.xg_lex.specs.declared.token.Token.{Token}

@@ -1,5 +1,7 @@
 -- A rule that repeats, step by step.
-use Rattle.std.proofs.Common.{◌≡◌, ℕ, zero, suc, ◌<◌, ◌≤◌, Bool, true, false, cond, ◌&&◌, ◌||◌, List, [], ◌∷◌, ◌++◌, length, Option, Some, None, Result, Ok, Err, refl, sym, ap, ◌∙◌, subst, arith, append_assoc, inl, inr}
+use Rattle.std.proofs.Common.{◌≡◌, ℕ, zero, suc, ◌<◌, ◌≤◌, Bool, true, false, cond, ◌&&◌, ◌||◌, List, [], ◌∷◌, ◌++◌}
+use Rattle.std.proofs.Common.{length, Option, Some, None, Result, Ok, Err, refl, sym, ap, ◌∙◌, subst, arith}
+use Rattle.std.proofs.Common.{append_assoc, inl, inr}
 use Rattle.std.proofs.lemmas.List.{append-nil}
 use Rattle.std.proofs.lemmas.Bool.{or_parts, and_cases, false≢true}
 use Rattle.xg_lex.specs.declared.token.Token.{Token}
@@ -7,7 +9,8 @@ use Rattle.xg_parse.specs.declared.terminal.Terminal.{Terminal}
 use Rattle.xg_parse.specs.declared.cursor.Stop.{Stop}
 use Rattle.xg_parse.specs.declared.cursor.Stop.TheVariants.{Memory, Refused}
 use Rattle.xg_parse.specs.Rules.{Rule, word, pair, either, maybe, many, change, has}
-use Rattle.xg_parse.specs.Reading.{nullable, firsts, Place, place_at, without, least_terminal, Read, ◌>>=◌, word_at, many_at, read_rule}
+use Rattle.xg_parse.specs.Reading.{nullable, firsts, Place, place_at, without, least_terminal, Read, ◌>>=◌, word_at}
+use Rattle.xg_parse.specs.Reading.{many_at, read_rule}
 use Rattle.xg_parse.proofs.TerminalLaws.{lesser_there}
 use Rattle.xg_parse.specs.Gives.{Fails, Gives, cursor_place}
 
@@ -166,11 +169,6 @@ with_more : {A : Type 0} (front : List A) (a : A) (r : Read (List A)) →
     with_front front (with_first a r) ≡ with_front (front ++ a ∷ []) r
 with_more front a (Ok x) = ap (λ (ys : List _). Ok (ys, x.1)) (sym (append_assoc front (a ∷ []) x.0))
 with_more front a (Err q) = refl
-
--- before the first step
-pub loop_starts : {A : Type 0} (r : Read (List A)) → with_front [] r ≡ r
-loop_starts (Ok x) = refl
-loop_starts (Err q) = refl
 
 -- one more was read
 pub loop_goes_on : {A : Type 0} (g : Rule A) → nullable g ≡ false →

@@ -1,11 +1,15 @@
 -- The texts of a rule, and that they are read again.
-use Rattle.std.proofs.Common.{◌≡◌, ℕ, zero, suc, ◌<◌, Bool, true, false, ◌&&◌, ◌||◌, not, List, [], ◌∷◌, ◌++◌, length, Option, Some, None, Ok, refl, sym, ap, ◌∙◌, subst, arith, inl, inr, append_assoc, length-append}
-use Rattle.std.proofs.lemmas.Bool.{and_parts, or_parts, or_left, or_right, false≢true, not-true, false_from_ne_true, and_from}
+use Rattle.std.proofs.Common.{◌≡◌, ℕ, zero, suc, ◌<◌, Bool, true, false, ◌&&◌, ◌||◌, not, List, [], ◌∷◌, ◌++◌, length}
+use Rattle.std.proofs.Common.{Option, Some, None, Ok, refl, sym, ap, ◌∙◌, subst, arith, inl, inr, append_assoc}
+use Rattle.std.proofs.Common.{length-append}
+use Rattle.std.proofs.lemmas.Bool.{and_parts, or_parts, or_left, or_right, false≢true, not-true, false_from_ne_true}
+use Rattle.std.proofs.lemmas.Bool.{and_from}
 use Rattle.xg_lex.specs.declared.token.Token.{Token}
 use Rattle.xg_parse.specs.declared.terminal.Terminal.{Terminal}
 use Rattle.xg_parse.specs.Words.{terminal_of}
 use Rattle.xg_parse.specs.Rules.{Rule, word, pair, either, maybe, many, change, has, EachHas, Derives}
-use Rattle.xg_parse.specs.Reading.{nullable, firsts, tails, are_apart, is_decided, Place, next_of, place_at, without, Read, word_at, many_at, read_rule}
+use Rattle.xg_parse.specs.Reading.{nullable, firsts, tails, are_apart, is_decided, Place, next_of, place_at, without}
+use Rattle.xg_parse.specs.Reading.{Read, word_at, many_at, read_rule}
 use Rattle.xg_parse.proofs.TerminalLaws.{apart_sets}
 
 -- the next terminal is that of the first token

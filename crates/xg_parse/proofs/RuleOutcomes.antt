@@ -1,13 +1,16 @@
 -- Where the reading of a rule stops.
-use Rattle.std.proofs.Common.{◌≡◌, ℕ, zero, suc, ◌<◌, Bool, true, false, cond, ◌&&◌, not, List, [], ◌∷◌, ◌++◌, length, Option, Some, None, Ok, Err, refl, sym, ap, ◌∙◌, subst, arith, inl, inr, length-append}
+use Rattle.std.proofs.Common.{◌≡◌, ℕ, zero, suc, ◌<◌, Bool, true, false, cond, ◌&&◌, not, List, [], ◌∷◌, ◌++◌, length}
+use Rattle.std.proofs.Common.{Option, Some, None, Ok, Err, refl, sym, ap, ◌∙◌, subst, arith, inl, inr, length-append}
 use Rattle.std.proofs.lemmas.List.{append-nil}
 use Rattle.std.proofs.lemmas.Bool.{and_parts, false≢true, not-true}
 use Rattle.xg_lex.specs.declared.token.Token.{Token}
 use Rattle.xg_parse.specs.declared.terminal.Terminal.{Terminal}
 use Rattle.xg_parse.specs.Words.{terminal_of}
 use Rattle.xg_parse.specs.Rules.{Rule, word, pair, either, maybe, many, change, has, EachHas, Both, Derives}
-use Rattle.xg_parse.specs.Reading.{has_some, nullable, firsts, tails, are_apart, is_decided, Place, next_of, place_at, without, least_terminal, Read, ◌>>=◌, word_at, many_at, read_rule}
-use Rattle.xg_parse.proofs.TerminalLaws.{least_is_in, least_before, lesser_left, lesser_right, lesser_is, least_there, lesser_there}
+use Rattle.xg_parse.specs.Reading.{has_some, nullable, firsts, tails, are_apart, is_decided, Place, next_of, place_at}
+use Rattle.xg_parse.specs.Reading.{without, least_terminal, Read, ◌>>=◌, word_at, many_at, read_rule}
+use Rattle.xg_parse.proofs.TerminalLaws.{least_is_in, least_before, lesser_left, lesser_right, lesser_is, least_there}
+use Rattle.xg_parse.proofs.TerminalLaws.{lesser_there}
 use Rattle.xg_parse.proofs.RuleLaws.{IsRight, next_is, begins, empties, again, apart_back, longer}
 use Rattle.xg_parse.proofs.SampleLaws.{TextFrom, some_text, starts}
 use Rattle.xg_parse.proofs.OutcomeLaws.{Stop, Done, Refused, Outcome, Told, pair_outcome}
@@ -288,10 +291,6 @@ either_outcome g h dg some_g apart p right first second false fails = second_cho
     fails (read_rule h (without (firsts g) p)) second
 
 -- ---- [x] and {x}
-
-maybe_begins : {A : Type 0} (g : Rule A) (b : Option A) (t : Token) (ts : List Token) →
-    Derives (maybe g) b (t ∷ ts) → has (firsts g) (terminal_of t) ≡ true
-maybe_begins g b t ts d = begins (maybe g) b t ts d
 
 maybe_read : {A : Type 0} (g : Rule A) → is_decided g ≡ true → (p : Place) → IsRight p →
     has (firsts g) p.next ≡ true → (q : Place) (front : List Token) → Stop (Derives g) p q front →

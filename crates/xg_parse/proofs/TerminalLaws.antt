@@ -1,10 +1,11 @@
 -- The terminals, one by one.
-use Rattle.std.proofs.Common.{◌≡◌, ℕ, zero, suc, ◌<◌, ◌≤◌, Bool, true, false, cond, ◌&&◌, ◌||◌, not, leb, List, [], ◌∷◌, length, get_or, Option, Some, None, refl, sym, ap, ◌∙◌, subst, arith, lit<, inl, inr, ◌⊎◌}
+use Rattle.std.proofs.Common.{◌≡◌, ℕ, zero, suc, ◌<◌, ◌≤◌, Bool, true, false, cond, ◌&&◌, ◌||◌, not, leb, List, [], ◌∷◌}
+use Rattle.std.proofs.Common.{length, get_or, Option, Some, None, refl, sym, ap, ◌∙◌, subst, arith, lit<, inl, inr, ◌⊎◌}
 use Rattle.std.specs.List.{list_all, list_any}
 use Rattle.std.proofs.lemmas.Bool.{and_parts, leb-true, leb-false, false≢true, not-true}
 use Rattle.xg_parse.specs.declared.terminal.Terminal.{Terminal}
 use Rattle.xg_parse.specs.declared.terminal.Terminal.TheVariants as terms
-use Rattle.xg_parse.specs.Terminals.{terminals, order_of, same}
+use Rattle.xg_parse.specs.Terminals.{terminals, order_of}
 use Rattle.xg_parse.specs.Rules.{has}
 use Rattle.xg_parse.specs.Reading.{are_apart, first_in, least_terminal, lesser_terminal}
 
@@ -116,60 +117,6 @@ rank_below terms.AfsInt32 = lit< tt
 rank_below terms.AfsUint32 = lit< tt
 rank_below terms.AfsInt64 = lit< tt
 rank_below terms.AfsUint64 = lit< tt
-
-pub least_same : (t : Terminal) → least_terminal (same t) ≡ Some t
-least_same terms.Package = refl
-least_same terms.Name = refl
-least_same terms.Semicolon = refl
-least_same terms.Prefix = refl
-least_same terms.StatIndex = refl
-least_same terms.StartingOpcode = refl
-least_same terms.Const = refl
-least_same terms.Equals = refl
-least_same terms.Typedef = refl
-least_same terms.Enum = refl
-least_same terms.LeftBrace = refl
-least_same terms.Comma = refl
-least_same terms.RightBrace = refl
-least_same terms.Struct = refl
-least_same terms.Union = refl
-least_same terms.Switch = refl
-least_same terms.LeftParen = refl
-least_same terms.RightParen = refl
-least_same terms.Default = refl
-least_same terms.Colon = refl
-least_same terms.Proc = refl
-least_same terms.Split = refl
-least_same terms.Multi = refl
-least_same terms.Case = refl
-least_same terms.Void = refl
-least_same terms.In = refl
-least_same terms.Out = refl
-least_same terms.InOut = refl
-least_same terms.Star = refl
-least_same terms.LeftBracket = refl
-least_same terms.RightBracket = refl
-least_same terms.Less = refl
-least_same terms.Greater = refl
-least_same terms.Opaque = refl
-least_same terms.StringWord = refl
-least_same terms.Minus = refl
-least_same terms.Number = refl
-least_same terms.Int = refl
-least_same terms.Long = refl
-least_same terms.Short = refl
-least_same terms.Char = refl
-least_same terms.Hyper = refl
-least_same terms.Bool = refl
-least_same terms.Unsigned = refl
-least_same terms.UInt = refl
-least_same terms.ULong = refl
-least_same terms.UShort = refl
-least_same terms.UChar = refl
-least_same terms.AfsInt32 = refl
-least_same terms.AfsUint32 = refl
-least_same terms.AfsInt64 = refl
-least_same terms.AfsUint64 = refl
 
 pub rank_injective : (a b : Terminal) → order_of a ≡ order_of b → a ≡ b
 rank_injective a b e = sym (at_rank a) ∙ (ap (λ (n : ℕ). get_or terminals n terms.Package) e ∙ at_rank b)

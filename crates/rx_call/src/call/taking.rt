@@ -1,15 +1,18 @@
-ghost use Rattle.std.specs.Prelude.{nat_lt, ◌≡◌, ◌≤◌, ◌<◌, ◌+◌, ◌-◌, ◌^◌, ◌||◌, ◌&&◌, not, if◌then◌else◌, length, ℕ, true, false};
+ghost use Rattle.std.specs.Prelude.{nat_lt, ◌≡◌, ◌≤◌, ◌<◌, ◌+◌, ◌-◌, ◌^◌, ◌||◌, ◌&&◌, not, if◌then◌else◌, length, ℕ};
+ghost use Rattle.std.specs.Prelude.{true, false};
 ghost use Rattle.rx_model.specs.Body as bodies;
 ghost use Rattle.rx_model.specs.declared.answers.Took.TheVariants as tooks;
 ghost use Rattle.rx_packet.specs.Seen.{message_of, message_with_head, body_of, ack_of};
-ghost use Rattle.rx_rules.specs.CallLooks.{CallLooks, call_row, after_taken, after_newly, after_data, found, freed, held};
+ghost use Rattle.rx_rules.specs.CallLooks.{CallLooks, call_row, after_taken, after_newly, after_data, found, freed};
+ghost use Rattle.rx_rules.specs.CallLooks.{held};
 ghost use Rattle.rx_rules.specs.CallLooks.{lead, after_ack, packet_of};
 ghost use Rattle.rx_rules.specs.Received.{is_no_seq};
 ghost use Rattle.rx_rules.specs.Sent.{is_all_given, is_strange_ack, after_all};
 ghost use Rattle.rx_pool.specs.Pool.{Slots};
 ghost use Rattle.rx_pool.specs.Held.{Holds, Keeps};
 ghost use Rattle.rx_sendwin.specs.Window.{as_newly};
-ghost use Rattle.rx_call.specs.Standing.{StandsCall, IsSameEnd, HasSpare, FitsSlot, slots_of, view_of, leadless, is_sent};
+ghost use Rattle.rx_call.specs.Standing.{StandsCall, IsSameEnd, HasSpare, FitsSlot, slots_of, view_of, leadless};
+ghost use Rattle.rx_call.specs.Standing.{is_sent};
 ghost use Rattle.rx_call.specs.Standing.{data_row, heard_or_same};
 
 use crate::call::Call;

@@ -1,16 +1,17 @@
-//! What changes a call, each with a counter of its own for its look at the call: its contract is that of the method that
-//! calls it.
+//! What changes a call, each with a counter of its own for its look at the call: its contract is that of the method
+//! that calls it.
 
 ghost use Rattle.std.specs.Prelude.{◌≡◌, ◌≤◌, ◌<◌, ◌+◌, ◌-◌, ◌^◌, ◌↔◌, length, take, drop, min, Some, None};
 ghost use Rattle.std.specs.Prelude.{IfSome, IsNone, IfNone};
 ghost use Rattle.rx_packet.specs.Seen.{message_of, body_of};
-ghost use Rattle.rx_rules.specs.CallLooks.{CallLooks, after_read, after_shut, after_taken, after_write, call_row, fresh_call, lead};
+ghost use Rattle.rx_rules.specs.CallLooks.{CallLooks, after_read, after_shut, after_taken, after_write, call_row};
+ghost use Rattle.rx_rules.specs.CallLooks.{fresh_call, has_lead, lead};
 ghost use Rattle.rx_rules.specs.Received.{read_of};
 ghost use Rattle.rx_rules.specs.Sent.{room_of};
 ghost use Rattle.rx_recvwin.specs.Window.{given_count, tells_end};
 ghost use Rattle.rx_pool.specs.Pool.{Slots};
 ghost use Rattle.rx_call.specs.Kept.{beside_of, call_under, live_count};
-ghost use Rattle.rx_call.specs.Standing.{FitsSlot, StandsCall};
+ghost use Rattle.rx_call.specs.Standing.{FitsSlot, StandsCall, holds_lead};
 ghost use Rattle.rx_ends.specs.Ends.{IsThere, IsIdleAt, IsUnshut, StandsEnd, KeepsEnds, StepsEnd, beside_looks};
 ghost use Rattle.rx_ends.specs.Ends.{HasShutSlot, view_at};
 
@@ -169,6 +170,7 @@ impl Ends {
 fn beside(call: &Call) -> u32
     ensures value { result ≡ beside_of call.now }
     ensures answered { (pool : Slots) (k : CallLooks) → StandsCall pool call.now k → result ≡ beside_looks k }
+    ensures lead { (pool : Slots) (k : CallLooks) → StandsCall pool call.now k → holds_lead call.now ≡ has_lead k }
 {
     let held = call.held();
     if call.lead() {

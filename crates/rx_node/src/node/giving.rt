@@ -1,6 +1,7 @@
 //! What a node gives when it is polled.
 
-ghost use Rattle.std.specs.Prelude.{◌≡◌, ◌≤◌, ◌<◌, ◌%◌, ◌^◌, ℕ, suc, List, length, take, drop, Some, None, IfSome, false};
+ghost use Rattle.std.specs.Prelude.{◌≡◌, ◌≤◌, ◌<◌, ◌%◌, ◌^◌, ℕ, suc, List, length, take, drop, Some, None, IfSome};
+ghost use Rattle.std.specs.Prelude.{false};
 ghost use Rattle.std.specs.Prelude.{if◌then◌else◌, option_map, slice_get};
 ghost use Rattle.rx_model.specs.declared.event.Event.TheVariants as events;
 ghost use Rattle.rx_model.specs.declared.wire.TheConstants.{DATAGRAM_BYTES};
@@ -14,7 +15,8 @@ ghost use Rattle.rx_rules.specs.Least.{least_by};
 ghost use Rattle.rx_rules.specs.Looks.{Looks, channel_at, conn_at, latest, latest_name, on_channel};
 ghost use Rattle.rx_rules.specs.Looks as rules;
 ghost use Rattle.rx_rules.specs.Setup.{side_flag};
-ghost use Rattle.rx_node.specs.Due.{AreDueAs, CanGive, Gave, GaveBehind, HasItem, IsDueAs, OwesAtOnce, SendsItem, at_once, challenge_of};
+ghost use Rattle.rx_node.specs.Due.{AreDueAs, CanGive, Gave, GaveBehind, HasItem, IsDueAs, OwesAtOnce, SendsItem};
+ghost use Rattle.rx_node.specs.Due.{at_once, challenge_of};
 ghost use Rattle.rx_node.specs.Due.{death_of, lesser_of, owed_at, unsilenced};
 ghost use Rattle.rx_node.specs.Mirrors.{IsActiveAt, IsChannel, IsKey, Mirrors, StepsAt};
 ghost use Rattle.rx_node.specs.Node.{KeepsNode, setup_of};
@@ -54,8 +56,8 @@ impl<C: Class> Node<C> {
         Some(self.give(&due, to, steps))
     }
 
-    /// From which moment on, in milliseconds, a poll would do something; none where no call lives that isn't broken, and
-    /// nothing is owed.
+    /// From which moment on, in milliseconds, a poll would do something; none where no call lives that isn't broken,
+    /// and nothing is owed.
     pub fn due<L: Ledger>(&self, steps: &mut Steps<L>) -> Option<u64>
         ensures { (l : Looks) → Mirrors C.class_of self.now l → result ≡ rules_due (setup_of C.class_of self.now) l }
     {
@@ -161,7 +163,8 @@ impl<C: Class> Node<C> {
     /// Counts a datagram that is given now on the connection at a place, and answers its serial.
     fn count(&mut self, place: u32) -> u32
         requires { place < length self.old.table.conns }
-        ensures serial { (l : Looks) (x : rules.ConnLooks) → Mirrors C.class_of self.old l → slice_get l.conns place ≡ Some x →
+        ensures serial { (l : Looks) (x : rules.ConnLooks) → Mirrors C.class_of self.old l
+            → slice_get l.conns place ≡ Some x →
             result ≡ suc x.given % 2 ^ 32 }
         ensures steps { (l : Looks) (x : rules.ConnLooks) → Mirrors C.class_of self.old l →
             slice_get l.conns place ≡ Some x → Mirrors C.class_of self.new (counted x.connection l) }
@@ -255,7 +258,8 @@ impl<C: Class> Node<C> {
         requires key { IsKey self.old key }
         ensures steps { StepsAt C.class_of self.old self.new key
             (λ ch l. on_channel ch (λ q. record q { owed_response = None }) l) }
-        ensures written { (l : Looks) (ch : Channel) (bytes : List ℕ) → Mirrors C.class_of self.old l → IsChannel l key ch →
+        ensures written { (l : Looks) (ch : Channel) (bytes : List ℕ) → Mirrors C.class_of self.old l
+            → IsChannel l key ch →
             (channel_at l ch).owed_response ≡ Some bytes →
             take result to.new ≡ made (message_with_head head.now (models.Response bytes)) }
         ensures rest { drop result to.new ≡ drop result to.old }
@@ -337,7 +341,8 @@ impl<C: Class> Node<C> {
         requires room { DATAGRAM_BYTES ≤ length to.old }
         requires active { IsActiveAt self.old key end }
         requires flags { head.now.flags ≡ side_flag self.old.kind }
-        ensures gives { (l : Looks) (ch : Channel) (i : RulesItem) → Mirrors C.class_of self.old l → IsChannel l key ch →
+        ensures gives { (l : Looks) (ch : Channel) (i : RulesItem) → Mirrors C.class_of self.old l
+            → IsChannel l key ch →
             SendsItem (setup_of C.class_of self.old) l ch i → i.rank ≤ l.now → head.now.number ≡ i.name.number →
             head.now.seq ≡ 0 →
             GaveBehind C.class_of self.new l head.now i (take result to.new) }

@@ -1,12 +1,14 @@
 //! The lives of calls: how they start, change and end.
 
-ghost use Rattle.std.specs.Prelude.{◌≡◌, ◌≤◌, ◌<◌, ◌+◌, ◌^◌, ℕ, Some, None, Option, IfSome, length, take, drop, min, true, false, is_some, slice_get};
+ghost use Rattle.std.specs.Prelude.{◌≡◌, ◌≤◌, ◌<◌, ◌+◌, ◌^◌, ℕ, Some, None, Option, IfSome, length, take, drop, min};
+ghost use Rattle.std.specs.Prelude.{true, false, is_some, slice_get};
 ghost use Rattle.std.specs.Prelude.{option_map};
 ghost use Rattle.rx_model.specs.Names.{Channel};
 ghost use Rattle.rx_rules.specs.After.{owing_ackall, read_done, settled, stopped_all};
 ghost use Rattle.rx_rules.specs.CallLooks.{after_shut, after_write};
 ghost use Rattle.rx_rules.specs.Life.{after_code, after_end, is_active, is_calling, is_live};
-ghost use Rattle.rx_rules.specs.Looks.{CallRecord, ConnLooks, Looks, call_named, is_call, latest, latest_name, on_call, on_channel, on_life, on_looks};
+ghost use Rattle.rx_rules.specs.Looks.{CallRecord, ConnLooks, Looks, call_named, is_call, latest, latest_name, on_call};
+ghost use Rattle.rx_rules.specs.Looks.{on_channel, on_life, on_looks};
 ghost use Rattle.rx_rules.specs.Received.{read_of};
 ghost use Rattle.rx_rules.specs.Records.{silenced, started, unless_silent};
 ghost use Rattle.rx_rules.specs.Setup.{is_client};
@@ -91,7 +93,8 @@ impl<C: Class> Node<C> {
     pub fn set_life(&mut self, key: u32, life: Life)
         requires key { IsKey self.old key }
         requires kind { is_of (is_client self.old.kind) (life_of life) ≡ true }
-        ensures steps { (l : Looks) (ch : Channel) (k : CallRecord) → Mirrors C.class_of self.old l → IsChannel l key ch →
+        ensures steps { (l : Looks) (ch : Channel) (k : CallRecord) → Mirrors C.class_of self.old l
+            → IsChannel l key ch →
             latest l ch ≡ Some k → is_live k.life ≡ true → Falls k.life (life_of life) →
             Mirrors C.class_of self.new (on_life (latest_name l ch) (λ before. life_of life) l) }
         ensures ended { (l : Looks) (ch : Channel) → Mirrors C.class_of self.old l → IsChannel l key ch →

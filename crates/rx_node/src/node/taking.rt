@@ -6,9 +6,11 @@ ghost use Rattle.rx_model.specs.Names.{Channel, channel_of};
 ghost use Rattle.rx_model.specs.Strays.{is_stray};
 ghost use Rattle.rx_model.specs.declared.names.CallName as names;
 ghost use Rattle.rx_packet.specs.Seen.{body_of, message_of, message_with_head};
-ghost use Rattle.rx_rules.specs.After.{challenged, owing_abort, owing_ackall, owing_busy, taken_at, taken_over, taken_with};
+ghost use Rattle.rx_rules.specs.After.{challenged, owing_abort, owing_ackall, owing_busy, taken_at, taken_over};
+ghost use Rattle.rx_rules.specs.After.{taken_with};
 ghost use Rattle.rx_rules.specs.Judging.{end_row, facts_of, is_data as is_data_body, is_right, live_row};
-ghost use Rattle.rx_rules.specs.Looks.{CallRecord, Looks, channel_at, is_proved, latest, latest_name, on_channel, on_conn};
+ghost use Rattle.rx_rules.specs.Looks.{CallRecord, Looks, channel_at, is_proved, latest, latest_name, on_channel};
+ghost use Rattle.rx_rules.specs.Looks.{on_conn};
 ghost use Rattle.rx_rules.specs.Setup.{is_client};
 ghost use Rattle.rx_call.specs.Standing.{FitsSlot};
 ghost use Rattle.rx_node.specs.Lives.{life_of};
@@ -136,8 +138,8 @@ impl<C: Class> Node<C> {
         took
     }
 
-    /// A RESPONSE that is right proves the client of its connection; a wrong one stops the call (`rx.h`, `RX_PROTOCOL_ERROR`),
-    /// unless a right one came before.
+    /// A RESPONSE that is right proves the client of its connection; a wrong one stops the call (`rx.h`,
+    /// `RX_PROTOCOL_ERROR`), unless a right one came before.
     fn take_response(
         &mut self,
         key: u32,
@@ -200,7 +202,8 @@ impl<C: Class> Node<C> {
     /// A server's call of a client that isn't proved owes a CHALLENGE, where the class challenges.
     fn challenge(&mut self, key: u32)
         requires { IsKey self.old key }
-        ensures steps { (l : Looks) (c : names.CallName) → Mirrors C.class_of self.old l → IsChannel l key (channel_of c) →
+        ensures steps { (l : Looks) (c : names.CallName) → Mirrors C.class_of self.old l
+            → IsChannel l key (channel_of c) →
             Mirrors C.class_of self.new (challenged (setup_of C.class_of self.old) c l) }
         ensures same { KeepsNode self.old self.new }
     {
@@ -284,7 +287,8 @@ impl<C: Class> Node<C> {
     pub fn facts(&self, c: &CallName, head: &Head, body: &Body<'_>) -> Facts
         requires { c.now.chan < 4 }
         ensures { (l : Looks) → Mirrors C.class_of self.now l → facts_seen result
-            ≡ record (facts_of (setup_of C.class_of self.now) l c.now (message_of head.now body.now)) { has_place = true } }
+            ≡ record (facts_of (setup_of C.class_of self.now) l c.now (message_of head.now body.now))
+            { has_place = true } }
     {
         let channel = self.channel(c);
         let number = self.number_on(channel);

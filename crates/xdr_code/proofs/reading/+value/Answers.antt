@@ -77,7 +77,8 @@ parts-returns-in_err-rest t c =
     let read = value_at c.args.levels (types_of c.args.types.now) in
     let left = in_left c.deref-field-items.result.now c.loop-field.field-index c.field-item.result
     c.loop-field-test.true c.field-item.is in
-    rw (p.1, p.2) (parts_end read c.in_err-rest.field-0.0 (values_of c.loop-field.items.items) (part_of c.field-item.result) _ _
+    rw (p.1, p.2) (parts_end read c.in_err-rest.field-0.0 (values_of c.loop-field.items.items)
+    (part_of c.field-item.result) _ _
     c.loop-field.rest.now (parts_at read (map part_of c.args.fields.now.items) c.args.bytes.now)
     (ap (map part_of) left)
     c.in_err-rest.ensures c.loop-field.invariant)

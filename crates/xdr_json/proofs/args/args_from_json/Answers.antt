@@ -8,7 +8,8 @@ pub returns-clause-fits : goal.returns-clause-fits
 returns-clause-fits c =
     let types = types_of c.args.iface.now.types.items in
     let sound = (sound_says types (procs_of c.args.iface.now.procs.items)).0 c.args.iface.now.sound in
-    args_fit types sound.forms (map param_of c.args.args.now) c.args.text.now _ (rw (← ap types_of c.deref.ensures.value)
+    args_fit types sound.forms (map param_of c.args.args.now) c.args.text.now _
+    (rw (← ap types_of c.deref.ensures.value)
     c.read_args.ensures)
 
 pub returns-clause-says : goal.returns-clause-says

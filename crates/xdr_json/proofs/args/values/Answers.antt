@@ -7,7 +7,8 @@ use Rattle.xdr_json.specs.Judging.{judged}
 use Rattle.xdr_json.specs.Args.{in_kinds}
 use Rattle.xdr_json.proofs.ArgsLoop.{args_done, args_go_on, first_is, length-push, left_go, left_stay, less_deep}
 use Rattle.xdr_json.proofs.args.values.Goals as goal
-use Rattle.xdr_json.proofs.args.values.Goals.{then-comes_in+in-len1-up+in_ok-value-in-len1-up+in_ok-push-in-len1-up, else-comes_in}
+use Rattle.xdr_json.proofs.args.values.Goals.{then-comes_in+in-len1-up+in_ok-value-in-len1-up+in_ok-push-in-len1-up}
+use Rattle.xdr_json.proofs.args.values.Goals.{else-comes_in}
 
 pub loop-arg-preserved : goal.loop-arg-preserved
 loop-arg-preserved c =

@@ -1,7 +1,8 @@
 use Rattle.std.proofs.Common.{◌≡◌, Some, None, ap, ◌∙◌}
 use Rattle.xg_check.specs.Marks.{marks_in}
 use Rattle.xg_check.specs.Views.{marks_of}
-use Rattle.xg_check.proofs.CheckLaws.{after_twice, after_unknown, after_size, after_endless, twice_fault, unknown_fault, size_fault, endless_fault}
+use Rattle.xg_check.proofs.CheckLaws.{after_twice, after_unknown, after_size, after_endless, twice_fault, unknown_fault}
+use Rattle.xg_check.proofs.CheckLaws.{size_fault, endless_fault}
 use Rattle.xg_check.proofs.checker.judge.Goals as goal
 
 pub returns-in-Some-clause-fault : goal.returns-in-Some-clause-fault
@@ -70,7 +71,8 @@ returns-clause-faultless c =
           c.in_ok-name.ensures;
       unknown = after_unknown tree cs ts ms c.requires c.in_ok-found.ensures ms_is c.unknown.result None
           c.in_default-unknown.is c.unknown.ensures;
-      size = after_size tree cs ts ms c.requires c.in_ok-found.ensures ms_is c.in_ok-name-4.field-0 None c.in_default-2.is
+      size = after_size tree cs ts ms c.requires c.in_ok-found.ensures ms_is c.in_ok-name-4.field-0 None
+          c.in_default-2.is
           c.in_ok-name-4.ensures;
       endless = after_endless tree cs ts ms c.requires c.in_ok-found.ensures ms_is c.in_ok-name-6.field-0 None
           c.in_default-3.is c.in_ok-name-6.ensures;

@@ -1,4 +1,5 @@
-use Rattle.std.proofs.Common.{◌≡◌, ℕ, [], List, Option, None, Some, Bor, length, option_map, unwrap_or, refl, ap, sym, ◌∙◌, arith, below_more}
+use Rattle.std.proofs.Common.{◌≡◌, ℕ, [], List, Option, None, Some, Bor, length, option_map, unwrap_or, refl, ap, sym}
+use Rattle.std.proofs.Common.{◌∙◌, arith, below_more}
 use Rattle.std.proofs.lemmas.Bool.{false≢true}
 use Rattle.std.proofs.lemmas.Option.{slice_get-map}
 use Rattle.xg_check.specs.Typed.{name_in}
@@ -31,7 +32,8 @@ returns-then-branch c =
 
 pub loop-place-preserved : goal.loop-place-preserved
 loop-place-preserved c =
-    below_more _ _ c.loop-place.invariant (λ ring. false≢true (sym c.if-branch.false ∙ c.in_ok-is_endless.ensures.1 ring))
+    below_more _ _ c.loop-place.invariant
+    (λ ring. false≢true (sym c.if-branch.false ∙ c.in_ok-is_endless.ensures.1 ring))
 
 pub returns : goal.returns
 returns c =

@@ -4,5 +4,6 @@ use Rattle.xg_check.specs.Searching.{AreBack}
 use Rattle.xg_check.proofs.graph.add_back.Given as goal
 
 abbrev pub invariant-loop-other : goal.invariant-loop-other
-invariant-loop-other l = AreBack (map (λ (v : Vec ℕ Global). v.items) l.fn.back.items) (map (λ (v : Vec ℕ Global). v.items) l.back.items) l.node
+invariant-loop-other l = AreBack (map (λ (v : Vec ℕ Global). v.items) l.fn.back.items)
+    (map (λ (v : Vec ℕ Global). v.items) l.back.items) l.node
     (take l.other-index l.next)

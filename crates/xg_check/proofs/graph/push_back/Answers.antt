@@ -1,4 +1,5 @@
-use Rattle.std.proofs.Common.{◌≡◌, ◌++◌, ◌∷◌, [], ℕ, List, Vec, map, length, slice_get, slice_set, Some, option_map, refl, ap, ◌∙◌}
+use Rattle.std.proofs.Common.{◌≡◌, ◌++◌, ◌∷◌, [], ℕ, List, Vec, map, length, slice_get, slice_set, Some, option_map}
+use Rattle.std.proofs.Common.{refl, ap, ◌∙◌}
 use Rattle.std.specs.declared.alloc.Global.{Global}
 use Rattle.std.proofs.lemmas.List.{map-set}
 use Rattle.std.proofs.lemmas.Option.{slice_get_read, slice_get-map}
@@ -9,7 +10,8 @@ pub returns : goal.returns
 returns c = λ ws h.
     let vs = c.args.back.now.items in
     let items : Vec ℕ Global → List ℕ = λ v. v.items in
-    let read = slice_get_read vs (length vs) c.args.other c.index_mut.result.now refl c.requires c.index_mut.ensures.value in
+    let read = slice_get_read vs (length vs) c.args.other c.index_mut.result.now refl c.requires
+    c.index_mut.ensures.value in
     let at : slice_get (map items vs) c.args.other ≡ Some c.index_mut.result.now.items =
     slice_get-map items vs c.args.other ∙ ap (option_map items) read in
     let same : c.index_mut.result.now.items ≡ ws =

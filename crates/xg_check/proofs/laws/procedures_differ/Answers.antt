@@ -11,4 +11,5 @@ returns-clause-names c = λ tree h. procs_differ (constants_in tree.items) tree.
 pub returns-clause-opcodes : goal.returns-clause-opcodes
 returns-clause-opcodes c = λ tree has once.
     let cs = constants_in tree.items in
-    subst (IsDistinct nat_eq) (sym (numbers_meant cs [] tree.items)) (numbers_differ (opcodes_in cs tree.items) has once)
+    subst (IsDistinct nat_eq) (sym (numbers_meant cs [] tree.items))
+    (numbers_differ (opcodes_in cs tree.items) has once)

@@ -6,4 +6,5 @@ use Rattle.xg_check.proofs.marks.add_enum.Given as goal
 
 abbrev pub invariant-loop-member : goal.invariant-loop-member
 invariant-loop-member l = marks_of l.marks.items ≡ marks_of l.fn.marks.items
-    ++ ((declares spaces.Type l.name ∷ enum_type l.name l.members ∷ []) ++ flat_map member_marks (take l.member-index l.members))
+    ++ ((declares spaces.Type l.name ∷ enum_type l.name l.members ∷ [])
+    ++ flat_map member_marks (take l.member-index l.members))

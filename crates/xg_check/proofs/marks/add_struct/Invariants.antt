@@ -6,4 +6,5 @@ use Rattle.xg_check.proofs.marks.add_struct.Given as goal
 
 abbrev pub invariant-loop-field : goal.invariant-loop-field
 invariant-loop-field l = marks_of l.marks.items ≡ marks_of l.fn.marks.items
-    ++ ((declares spaces.Type l.name ∷ struct_type l.name ∷ []) ++ flat_map (field_marks l.item) (take l.field-index l.fields))
+    ++ ((declares spaces.Type l.name ∷ struct_type l.name ∷ [])
+    ++ flat_map (field_marks l.item) (take l.field-index l.fields))

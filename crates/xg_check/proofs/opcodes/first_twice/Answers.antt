@@ -5,7 +5,8 @@ use Rattle.std.proofs.lemmas.Bool.{false≢true}
 use Rattle.std.proofs.lemmas.Option.{slice_get-get_or}
 use Rattle.xg_check.specs.Constants.{in_32_bits}
 use Rattle.xg_check.specs.Counting.{number_at}
-use Rattle.xg_check.proofs.AgainLaws.{before_none, only_more, once_none, before_some, only_some, once_some, again_here, nowhere_again, is_fresh, is_met}
+use Rattle.xg_check.proofs.AgainLaws.{before_none, only_more, once_none, before_some, only_some, once_some, again_here}
+use Rattle.xg_check.proofs.AgainLaws.{nowhere_again, is_fresh, is_met}
 use Rattle.xg_check.proofs.opcodes.first_twice.Goals as goal
 use Rattle.xg_check.proofs.opcodes.first_twice.Goals.{in-None, in-Some+in_ok-insert-in-Some+else-not-branch}
 
@@ -41,7 +42,8 @@ loop-opcode-preserved c =
             met_before = before_some ops i n here old new made inv.met_before;
             only_met = only_some ops i n here old new made inv.only_met;
             no_twice = once_some ops i n here old new made
-                (is_fresh _ (old n) w.in_ok-insert-in-Some.ensures.added w.if-not-branch.false) inv.met_before inv.no_twice;
+                (is_fresh _ (old n) w.in_ok-insert-in-Some.ensures.added w.if-not-branch.false)
+                inv.met_before inv.no_twice;
           })
     ]
 
@@ -59,4 +61,5 @@ returns-then-not-branch c =
 
 pub returns : goal.returns
 returns c =
-    nowhere_again c.args.opcodes.now c.loop-opcode.opcode-index c.loop-opcode-test.false c.loop-opcode.invariant.no_twice
+    nowhere_again c.args.opcodes.now c.loop-opcode.opcode-index c.loop-opcode-test.false
+    c.loop-opcode.invariant.no_twice

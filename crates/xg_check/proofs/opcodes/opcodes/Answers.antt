@@ -24,4 +24,5 @@ returns c =
     let cs = c.args.constants.now in
     list_last cs c.loop-item.invariant.front c.as_slice-item-items.result.now c.loop-item.item-index
     c.loop-item.list.items _ c.loop-item-test.false c.loop-item.invariant.list_is
-    ∙ ap (λ (items : List Item). map (λ (q : List ℕ × Option ℤ). q.1) (opcodes_in cs items)) c.as_slice-item-items.ensures
+    ∙ ap (λ (items : List Item). map (λ (q : List ℕ × Option ℤ). q.1) (opcodes_in cs items))
+    c.as_slice-item-items.ensures

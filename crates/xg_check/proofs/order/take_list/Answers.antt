@@ -8,7 +8,8 @@ pub returns-clause-taken : goal.returns-clause-taken
 returns-clause-taken c =
     let vs = c.args.lists.now.items in
     let items : Vec ℕ Global → List ℕ = λ v. v.items in
-    let read = slice_get_read vs (length vs) c.args.node c.index_mut.result.now refl c.requires c.index_mut.ensures.value in
+    let read = slice_get_read vs (length vs) c.args.node c.index_mut.result.now refl c.requires
+    c.index_mut.ensures.value in
     slice_get-map items vs c.args.node ∙ ap (option_map items) read
     ∙ ap (λ (v : Vec ℕ Global). Some v.items) (sym c.replace.ensures.value)
 

@@ -1,4 +1,5 @@
-use Rattle.std.proofs.Common.{◌≡◌, ◌+◌, ◌∷◌, ◌++◌, ℕ, ℤ, [], List, Option, length, drop, map, slice_get, sym, ap, ◌∙◌, arith}
+use Rattle.std.proofs.Common.{◌≡◌, ◌+◌, ◌∷◌, ◌++◌, ℕ, ℤ, [], List, Option, length, drop, map, slice_get, sym, ap, ◌∙◌}
+use Rattle.std.proofs.Common.{arith}
 use Rattle.std.proofs.lemmas.List.{length-map, length-append}
 use Rattle.xdr_value.specs.View.{proc_of, procs_of}
 use Rattle.xg_parse.specs.declared.tree.Item.{Item}
@@ -18,7 +19,8 @@ loop-item-init c =
       front = [];
       procs_are = ap (λ (ps : List Proc). procs_of ps ++ procs_behind cs [] items) c.new-procs.ensures.items;
       left_are = ap (λ (ps : List Proc). drop (length ps) c.args.opcodes.now) c.new-procs.ensures.items ∙ c.requires
-          ∙ ap (λ (xs : List Item). map (λ (p : List ℕ × Option ℤ). p.1) (opcodes_in cs xs)) (sym c.as_slice-item-items.ensures);
+          ∙ ap (λ (xs : List Item). map (λ (p : List ℕ × Option ℤ). p.1) (opcodes_in cs xs))
+          (sym c.as_slice-item-items.ensures);
     }
 
 pub loop-item-preserved : goal.loop-item-preserved

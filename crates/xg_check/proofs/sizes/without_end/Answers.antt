@@ -6,7 +6,8 @@ use Rattle.xg_check.specs.declared.types.Ways.TheVariants as ways
 use Rattle.xg_check.specs.Typed.{part_places}
 use Rattle.xg_check.specs.Graphs.{AreNodes, AreReversed, AreReached}
 use Rattle.xg_check.specs.Judging.{AreWithoutEnd}
-use Rattle.xg_check.proofs.FreeLaws.{starts_open_more, open_starts_more, open_starts_same, all_starts, starts_small, without_end_are}
+use Rattle.xg_check.proofs.FreeLaws.{starts_open_more, open_starts_more, open_starts_same, all_starts, starts_small}
+use Rattle.xg_check.proofs.FreeLaws.{without_end_are}
 use Rattle.xg_check.proofs.sizes.without_end.Goals as goal
 use Rattle.xg_check.proofs.sizes.without_end.Goals.{then-not-index+in_ok-push, else-not-index}
 
@@ -14,14 +15,17 @@ pub loop-place-preserved : goal.loop-place-preserved
 loop-place-preserved c =
     let ended = c.args.order.now.ended.items in
     let i = c.loop-place.place in
-    let lt : i < length ended = omega (arith, c.loop-place-test.true, c.len-place-end.ensures, c.args.order.now.ended.ok.0) in
+    let lt : i < length ended =
+    omega (arith, c.loop-place-test.true, c.len-place-end.ensures, c.args.order.now.ended.ok.0) in
     let read = slice_get_read ended (length ended) i c.index.result.now refl lt c.index.ensures in
     elim c.if-not-index.branch [
       | then-not-index+in_ok-push w ↦
           rw w.starts-is (record {
-            starts_open = starts_open_more ended c.loop-place.starts.items w.push.new.self.items i w.in_ok-push.ensures.items
+            starts_open = starts_open_more ended c.loop-place.starts.items w.push.new.self.items i
+                w.in_ok-push.ensures.items
                 (read ∙ ap Some w.if-not-index.true) c.loop-place.invariant.starts_open;
-            open_starts = open_starts_more ended c.loop-place.starts.items w.push.new.self.items i w.in_ok-push.ensures.items
+            open_starts = open_starts_more ended c.loop-place.starts.items w.push.new.self.items i
+                w.in_ok-push.ensures.items
                 c.loop-place.invariant.open_starts;
           })
       | else-not-index w ↦

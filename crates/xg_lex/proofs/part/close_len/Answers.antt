@@ -1,7 +1,8 @@
 use Rattle.std.proofs.Common.{arith}
 use Rattle.xg_lex.proofs.Closes.{close_more, close_found, close_none}
 use Rattle.xg_lex.proofs.part.close_len.Goals as goal
-use Rattle.xg_lex.proofs.part.close_len.Goals.{else-bytes-i-eq42-via-then-bytes-i-eq42+else-bytes-i-eq47, else-bytes-i-eq42-via-else-bytes-i-eq42}
+use Rattle.xg_lex.proofs.part.close_len.Goals.{else-bytes-i-eq42-via-then-bytes-i-eq42+else-bytes-i-eq47}
+use Rattle.xg_lex.proofs.part.close_len.Goals.{else-bytes-i-eq42-via-else-bytes-i-eq42}
 
 pub loop-i-preserved : goal.loop-i-preserved
 loop-i-preserved c =

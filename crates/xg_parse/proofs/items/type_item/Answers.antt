@@ -1,7 +1,8 @@
 use Rattle.std.proofs.Common.{refl, sym, ◌∙◌}
 use Rattle.xg_parse.specs.declared.terminal.Terminal.TheVariants as terms
 use Rattle.xg_parse.specs.Rules.{◌▹◌, ◌∣◌}
-use Rattle.xg_parse.specs.Grammar.{the, name, members, decl_line, decl_lines, typedef_item, enum_item, struct_item, union_item, type_item}
+use Rattle.xg_parse.specs.Grammar.{the, name, members, decl_line, decl_lines, typedef_item, enum_item, struct_item}
+use Rattle.xg_parse.specs.Grammar.{union_item, type_item}
 use Rattle.xg_parse.specs.Gives.{cursor_place}
 use Rattle.xg_parse.proofs.LoopLaws.{first_of, choose_first, choose_other, gives_at}
 use Rattle.xg_parse.proofs.items.type_item.Goals as goal

@@ -5,7 +5,8 @@ use Rattle.xg_parse.specs.declared.terminal.Terminal.TheVariants as terms
 use Rattle.xg_parse.specs.Reading.{read_rule}
 use Rattle.xg_parse.specs.Grammar.{the, members, member, next_members, next_member}
 use Rattle.xg_parse.specs.Gives.{cursor_place}
-use Rattle.xg_parse.proofs.LoopLaws.{with_front, shorter, list_starts, loop_goes_on, loop_ends, loop_stops, loop_gives, first_of}
+use Rattle.xg_parse.proofs.LoopLaws.{with_front, shorter, list_starts, loop_goes_on, loop_ends, loop_stops, loop_gives}
+use Rattle.xg_parse.proofs.LoopLaws.{first_of}
 use Rattle.xg_parse.proofs.lists.members.Goals as goal
 
 pub each-init : goal.each-init

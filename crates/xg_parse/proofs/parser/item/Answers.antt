@@ -1,6 +1,8 @@
 use Rattle.std.proofs.Common.{sym, ◌∙◌}
 use Rattle.xg_parse.specs.Rules.{◌∣◌}
-use Rattle.xg_parse.specs.Grammar.{item, named_item, package_item, prefix_item, number_item, stat_index_item, starting_opcode_item, const_item, type_item, typedef_item, enum_item, struct_item, union_item, proc_item}
+use Rattle.xg_parse.specs.Grammar.{item, named_item, package_item, prefix_item, number_item, stat_index_item}
+use Rattle.xg_parse.specs.Grammar.{starting_opcode_item, const_item, type_item, typedef_item, enum_item, struct_item}
+use Rattle.xg_parse.specs.Grammar.{union_item, proc_item}
 use Rattle.xg_parse.specs.Gives.{cursor_place}
 use Rattle.xg_parse.proofs.LoopLaws.{choose_first, choose_other, gives_at}
 use Rattle.xg_parse.proofs.parser.item.Goals as goal

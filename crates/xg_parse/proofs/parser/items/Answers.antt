@@ -2,7 +2,9 @@ use Rattle.std.proofs.Common.{List, refl, sym, ap, ◌∙◌}
 use Rattle.std.proofs.lemmas.Result.{err_from_is_err_and}
 use Rattle.xg_parse.specs.declared.tree.Item.{Item}
 use Rattle.xg_parse.specs.Reading.{read_rule}
-use Rattle.xg_parse.specs.Grammar.{file, item, named_item, package_item, prefix_item, number_item, stat_index_item, starting_opcode_item, const_item, type_item, typedef_item, enum_item, struct_item, union_item, proc_item, optional}
+use Rattle.xg_parse.specs.Grammar.{file, item, named_item, package_item, prefix_item, number_item, stat_index_item}
+use Rattle.xg_parse.specs.Grammar.{starting_opcode_item, const_item, type_item, typedef_item, enum_item, struct_item}
+use Rattle.xg_parse.specs.Grammar.{union_item, proc_item, optional}
 use Rattle.xg_parse.specs.Gives.{cursor_place}
 use Rattle.xg_parse.proofs.LoopLaws.{with_front, shorter, loop_goes_on, loop_ends, loop_stops, loop_gives}
 use Rattle.xg_parse.proofs.parser.items.Goals as goal

@@ -6,7 +6,8 @@ use Rattle.xg_parse.specs.Rules.{◌▹◌}
 use Rattle.xg_parse.specs.Reading.{read_rule}
 use Rattle.xg_parse.specs.Grammar.{the, case_list, case, more_cases, const_word}
 use Rattle.xg_parse.specs.Gives.{cursor_place}
-use Rattle.xg_parse.proofs.LoopLaws.{with_front, shorter, list_starts, loop_goes_on, loop_ends, loop_stops, loop_gives, first_of}
+use Rattle.xg_parse.proofs.LoopLaws.{with_front, shorter, list_starts, loop_goes_on, loop_ends, loop_stops, loop_gives}
+use Rattle.xg_parse.proofs.LoopLaws.{first_of}
 use Rattle.xg_parse.proofs.unions.case_list.Goals as goal
 
 pub each-init : goal.each-init

@@ -91,5 +91,6 @@ returns-clause-stands c =
 
 pub returns-clause-held : goal.returns-clause-held
 returns-clause-held c =
-    λ pool k st. subst (λ (g : Giving). HoldsGiven c.give_piece.new.self (Some g)) (sym (c.give_piece.ensures.result pool k st))
+    λ pool k st. subst (λ (g : Giving). HoldsGiven c.give_piece.new.self (Some g))
+    (sym (c.give_piece.ensures.result pool k st))
     (c.give_piece.ensures.held pool k st)

@@ -16,7 +16,8 @@ returns-clause-stands c =
     let all = c.if-not-all_sent.false in
     rw (← c.self.view_is) (λ k st. heard_one c.ack_all.new.pool _ k _ _
     (ap not (sym (c.all_sent.ensures.answered c.args.pool.now k.sent st.sent) ∙ all))
-    (now_heard c.ack_all.new.pool _ _ c.args.now (sent_changed c.args.pool.now c.ack_all.new.pool _ c.ack_all.new.self k _
+    (now_heard c.ack_all.new.pool _ _ c.args.now
+    (sent_changed c.args.pool.now c.ack_all.new.pool _ c.ack_all.new.self k _
     holds c.ack_all.ensures.keeps st (c.ack_all.ensures.stands k.sent st.sent))))
 
 pub returns-clause-keeps : goal.returns-clause-keeps

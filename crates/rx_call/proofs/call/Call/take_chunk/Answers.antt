@@ -20,7 +20,8 @@ returns-clause-answered c =
     let left = c.settle_request-left.result in
     c.keep.ensures.answered (found client k) (c.settle_request-left.ensures.stands k st)
     ∙ ap (λ (w : ℕ). data_row w left p (found client k)) c.settle_request-left.ensures.same.window
-    ∙ chunk_row client c.args.self.now.window left c.args.common p k none plain (c.settle_request-left.ensures.left k st)
+    ∙ chunk_row client c.args.self.now.window left c.args.common p k none plain
+    (c.settle_request-left.ensures.left k st)
 
 pub returns-clause-stands : goal.returns-clause-stands
 returns-clause-stands c =
@@ -34,7 +35,8 @@ returns-clause-stands c =
     let left = c.settle_request-left.result in
     let f = found client k in
     let there = c.settle_request-left.ensures.stands k st in
-    let a = arrival_of c.settle_request-left.new.self.window (has_slot (not (has_lead f)) left p.seq f.received) p f.received in
+    let a = arrival_of c.settle_request-left.new.self.window (has_slot (not (has_lead f)) left p.seq f.received)
+    p f.received in
     subst (λ (l : CallLooks). StandsCall c.keep.new.pool c.keep.new.self l)
     (data_taken (view_of c.args.self.now c.args.common c.args.now) c.args.head.now payload k c.keep.result a none
     (c.keep.ensures.answered f there)) (c.keep.ensures.stands f there)

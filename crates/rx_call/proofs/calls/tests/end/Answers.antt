@@ -14,4 +14,5 @@ returns-clause-one g c =
     changes_one c.args.pool.now pool c.args.calls.now c.args.key _ c.clear.new.self c.at_mut-call.ensures.call
     c.requires.holds c.clear.ensures.keeps in
     changes_then c.args.pool.now pool pool c.args.calls.now cleared c.leave.new.self c.args.key first
-    (changes_kept pool cleared c.leave.new.self c.args.key first.keeps.holds c.leave.ensures.others c.leave.ensures.slots)
+    (changes_kept pool cleared c.leave.new.self c.args.key first.keeps.holds c.leave.ensures.others
+    c.leave.ensures.slots)

@@ -1,9 +1,7 @@
-use Rattle.std.proofs.Common.{◌≡◌, ◌-◌, arith, false}
+use Rattle.std.proofs.Common.{◌-◌, arith}
 use Rattle.rx_rules.specs.CallLooks.{after_shut}
-use Rattle.rx_call.specs.Standing.{EndOfCall, holds_lead}
-use Rattle.rx_call.proofs.CallsAt.{of_some_and}
 use Rattle.rx_ends.proofs.Changing.{counted_fits, counted_keeps, counted_steps, holds_of, spare_of}
-use Rattle.rx_ends.proofs.Most.{shut_free, shut_most}
+use Rattle.rx_ends.proofs.Most.{shut_free, shut_most, slot_of}
 use Rattle.rx_ends.proofs.ends.Ends.shut_counted.Goals as goal
 
 pub shut-requires-clause-holds : goal.shut-requires-clause-holds
@@ -12,8 +10,9 @@ shut-requires-clause-holds g c = holds_of _ c.args.key _ c.self.invariant c.at_m
 pub shut-requires-clause-free : goal.shut-requires-clause-free
 shut-requires-clause-free g c =
     let slot =
-    of_some_and _ (λ (e : EndOfCall). e.sent.total ≡ 0 → holds_lead e ≡ false) c.at_mut-call.result.now
-    c.at_mut-call.ensures.call (rw (← c.self.view_is) at c.requires.slot) in
+    slot_of _ c.args.key c.at_mut-call.result.now c.self.invariant c.at_mut-call.ensures.call
+    c.beside-before.ensures.lead (rw (← c.self.view_is) at c.requires.unshut)
+    (rw (← c.self.view_is) at c.requires.slot) in
     shut_free c.self.inside.pool c.at_mut-call.result.now (c.self.inside.shared - c.self.inside.common)
     (spare_of _ c.args.key _ c.self.invariant c.at_mut-call.ensures.call) slot
 
@@ -23,8 +22,9 @@ overflow_add-self g c =
     let was = c.self.invariant.looks c.args.key in
     let st = c.self.invariant.stands c.args.key call c.at_mut-call.ensures.call in
     let slot =
-    of_some_and _ (λ (e : EndOfCall). e.sent.total ≡ 0 → holds_lead e ≡ false) c.at_mut-call.result.now
-    c.at_mut-call.ensures.call (rw (← c.self.view_is) at c.requires.slot) in
+    slot_of _ c.args.key c.at_mut-call.result.now c.self.invariant c.at_mut-call.ensures.call
+    c.beside-before.ensures.lead (rw (← c.self.view_is) at c.requires.unshut)
+    (rw (← c.self.view_is) at c.requires.slot) in
     let most = shut_most c.self.inside.pool call was st slot in
     let fits =
     counted_fits _ c.args.key c.at_mut-call.result.now c.shut.new.self c.shut.new.pool c.beside-before.result
@@ -40,8 +40,9 @@ invariant_of-self g c =
     let was = c.self.invariant.looks c.args.key in
     let st = c.self.invariant.stands c.args.key call c.at_mut-call.ensures.call in
     let slot =
-    of_some_and _ (λ (e : EndOfCall). e.sent.total ≡ 0 → holds_lead e ≡ false) c.at_mut-call.result.now
-    c.at_mut-call.ensures.call (rw (← c.self.view_is) at c.requires.slot) in
+    slot_of _ c.args.key c.at_mut-call.result.now c.self.invariant c.at_mut-call.ensures.call
+    c.beside-before.ensures.lead (rw (← c.self.view_is) at c.requires.unshut)
+    (rw (← c.self.view_is) at c.requires.slot) in
     let most = shut_most c.self.inside.pool call was st slot in
     counted_keeps _ c.args.key c.at_mut-call.result.now c.shut.new.self c.shut.new.pool c.beside-before.result
     c.beside.result c.self.invariant

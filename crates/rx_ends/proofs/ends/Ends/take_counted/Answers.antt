@@ -53,7 +53,8 @@ invariant_of-self g c =
 pub returns-clause-steps : goal.returns-clause-steps
 returns-clause-steps g c =
     rw (← c.self.view_is)
-    (counted_steps _ c.args.key c.at_mut-call.result.now c.take-took.new.self c.take-took.new.pool c.beside-before.result
+    (counted_steps _ c.args.key c.at_mut-call.result.now c.take-took.new.self c.take-took.new.pool
+    c.beside-before.result
     c.beside.result c.self.invariant
     c.at_mut-call.ensures.call c.take-took.ensures.keeps c.take-took.ensures.same c.beside-before.ensures.value
     c.beside.ensures.value c.beside-before.ensures.answered c.beside.ensures.answered

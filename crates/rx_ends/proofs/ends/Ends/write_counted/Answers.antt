@@ -61,7 +61,8 @@ invariant_of-self g c =
 pub returns-clause-steps : goal.returns-clause-steps
 returns-clause-steps g c =
     rw (← c.self.view_is)
-    (counted_steps _ c.args.key c.at_mut-call.result.now c.write-count.new.self c.write-count.new.pool c.beside-before.result
+    (counted_steps _ c.args.key c.at_mut-call.result.now c.write-count.new.self c.write-count.new.pool
+    c.beside-before.result
     c.beside.result c.self.invariant
     c.at_mut-call.ensures.call c.write-count.ensures.keeps c.write-count.ensures.same c.beside-before.ensures.value
     c.beside.ensures.value c.beside-before.ensures.answered c.beside.ensures.answered

@@ -12,7 +12,8 @@ pub invariant_of-self : goal.invariant_of-self
 invariant_of-self g c =
     let i = c.self.invariant in
     let seat = c.seat_mut.result.now in
-    let like = alike_with_seat c.self.inside.table c.args.key seat (record seat { owed_challenge = true }) c.seat_mut.ensures.value refl in
+    let like = alike_with_seat c.self.inside.table c.args.key seat (record seat { owed_challenge = true })
+    c.seat_mut.ensures.value refl in
     (still_set_up g.C.Class.class_of _ _ like i.0, still_seated g.C.Class.class_of _ _ like i.1, i.2, i.3)
 
 pub returns-then-challenges-clause-steps : goal.returns-then-challenges-clause-steps
@@ -27,7 +28,8 @@ returns-then-challenges-clause-steps g c = λ l d m at.
 pub returns-then-challenges-clause-same : goal.returns-then-challenges-clause-same
 returns-then-challenges-clause-same g c =
     let seat = c.seat_mut.result.now in
-    let like = alike_with_seat c.self.inside.table c.args.key seat (record seat { owed_challenge = true }) c.seat_mut.ensures.value refl in
+    let like = alike_with_seat c.self.inside.table c.args.key seat (record seat { owed_challenge = true })
+    c.seat_mut.ensures.value refl in
     rw (← c.self.view_is) (still_node g.C.Class.class_of _ _ like)
 
 pub returns-else-challenges-clause-steps : goal.returns-else-challenges-clause-steps

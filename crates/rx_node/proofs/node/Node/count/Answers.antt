@@ -8,7 +8,8 @@ use Rattle.rx_node.proofs.node.Node.count.Goals as goal
 
 pub serial-requires : goal.serial-requires
 serial-requires g c =
-    let count = changed-length c.self.inside.table.conns c.args.place (λ r. record r { last_use = c.self.inside.moment }) in
+    let count = changed-length c.self.inside.table.conns c.args.place
+    (λ r. record r { last_use = c.self.inside.moment }) in
     let here : c.args.place < length c.self.inside.table.conns =
     subst (λ (n : NodeState). c.args.place < length n.table.conns) (sym c.self.view_is) c.requires in
     let same : length c.touch.new.self.conns ≡ length c.self.inside.table.conns =
@@ -20,7 +21,8 @@ invariant_of-self g c =
     let i = c.self.invariant in
     let now = c.self.inside.moment in
     let like = more_alike c.self.inside.table c.args.place now in
-    rw (counted_table c.self.inside.table c.touch.new.self c.serial.new.self c.args.place now c.touch.ensures c.serial.ensures.updates)
+    rw (counted_table c.self.inside.table c.touch.new.self c.serial.new.self c.args.place now c.touch.ensures
+    c.serial.ensures.updates)
     (still_set_up g.C.Class.class_of _ _ like i.0, still_seated g.C.Class.class_of _ _ like i.1, i.2, i.3)
 
 pub returns-clause-serial : goal.returns-clause-serial
@@ -34,7 +36,8 @@ returns-clause-steps g c =
     let now = c.self.inside.moment in
     rw (
       ← c.self.view_is,
-      counted_table c.self.inside.table c.touch.new.self c.serial.new.self c.args.place now c.touch.ensures c.serial.ensures.updates,
+      counted_table c.self.inside.table c.touch.new.self c.serial.new.self c.args.place now c.touch.ensures
+          c.serial.ensures.updates,
     )
     (λ l x m there. mirrors_counted g.C.Class.class_of _ l m c.args.place x there)
 
@@ -43,7 +46,8 @@ returns-clause-active g c =
     let now = c.self.inside.moment in
     rw (
       ← c.self.view_is,
-      counted_table c.self.inside.table c.touch.new.self c.serial.new.self c.args.place now c.touch.ensures c.serial.ensures.updates,
+      counted_table c.self.inside.table c.touch.new.self c.serial.new.self c.args.place now c.touch.ensures
+          c.serial.ensures.updates,
     )
     (λ key end active. more_active _ c.args.place now key end active)
 
@@ -53,6 +57,7 @@ returns-clause-same g c =
     let like = more_alike c.self.inside.table c.args.place now in
     rw (
       ← c.self.view_is,
-      counted_table c.self.inside.table c.touch.new.self c.serial.new.self c.args.place now c.touch.ensures c.serial.ensures.updates,
+      counted_table c.self.inside.table c.touch.new.self c.serial.new.self c.args.place now c.touch.ensures
+          c.serial.ensures.updates,
     )
     (still_node g.C.Class.class_of _ _ like)

@@ -22,7 +22,8 @@ returns g c = λ l m.
     let latest = c.number_on-number.ensures l ch m at in
     let life = c.life_on-life.ensures l ch m at in
     let starts = c.can_start.ensures
-    ∙ ap (λ (n : NodeState). is_data (body_of c.args.body.now) && (nat_le 1 seq && nat_le seq n.limits.window)) c.self.view_is in
+    ∙ ap (λ (n : NodeState). is_data (body_of c.args.body.now) && (nat_le 1 seq && nat_le seq n.limits.window))
+    c.self.view_is in
     let lives : c.is_some_and.result ≡ holds is_live (option_map life_of c.life_on-life.result) = search rules in
     let acts : c.is_some_and-2.result ≡ holds is_active (option_map life_of c.life_on-life.result) = search rules in
     let works : c.is_some_and-3.result ≡ holds is_handled (option_map life_of c.life_on-life.result) = search rules in

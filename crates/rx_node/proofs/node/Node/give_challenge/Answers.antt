@@ -14,7 +14,8 @@ pub invariant_of-self : goal.invariant_of-self
 invariant_of-self g c =
     let i = c.self.invariant in
     let seat = c.seat_mut.result.now in
-    let like = alike_with_seat c.self.inside.table c.args.key seat (record seat { owed_challenge = false }) c.seat_mut.ensures.value refl in
+    let like = alike_with_seat c.self.inside.table c.args.key seat (record seat { owed_challenge = false })
+    c.seat_mut.ensures.value refl in
     (still_set_up g.C.Class.class_of _ _ like i.0, still_seated g.C.Class.class_of _ _ like i.1, i.2, i.3)
 
 pub returns-clause-steps : goal.returns-clause-steps
@@ -27,7 +28,8 @@ returns-clause-steps g c =
 pub returns-clause-same : goal.returns-clause-same
 returns-clause-same g c =
     let seat = c.seat_mut.result.now in
-    let like = alike_with_seat c.self.inside.table c.args.key seat (record seat { owed_challenge = false }) c.seat_mut.ensures.value refl in
+    let like = alike_with_seat c.self.inside.table c.args.key seat (record seat { owed_challenge = false })
+    c.seat_mut.ensures.value refl in
     rw (← c.self.view_is) (still_node g.C.Class.class_of _ _ like)
 
 pub returns-clause-written : goal.returns-clause-written
@@ -37,5 +39,6 @@ returns-clause-written g c =
     ∙ ap (λ (body : Body). made (message_with_head c.args.head.now body))
     (challenge_written g.C.Class.class_of _ l m c.args.key ch at c.latest.result c.nonce-nonce.result _
     c.challenge-count.new.to c.challenge-count.result
-    (c.latest.ensures l ch (subst (λ (n : NodeState). Mirrors g.C.Class.class_of n l) c.self.view_is m) at) c.nonce-nonce.ensures
+    (c.latest.ensures l ch (subst (λ (n : NodeState). Mirrors g.C.Class.class_of n l) c.self.view_is m) at)
+    c.nonce-nonce.ensures
     c.challenge-count.ensures.written))

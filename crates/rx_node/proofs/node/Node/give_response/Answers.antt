@@ -12,7 +12,8 @@ pub invariant_of-self : goal.invariant_of-self
 invariant_of-self g c =
     let i = c.self.invariant in
     let seat = c.seat_mut.result.now in
-    let like = alike_with_seat c.self.inside.table c.args.key seat (record seat { owed_response = None }) c.seat_mut.ensures.value refl in
+    let like = alike_with_seat c.self.inside.table c.args.key seat (record seat { owed_response = None })
+    c.seat_mut.ensures.value refl in
     rw c.take.ensures.after
     (still_set_up g.C.Class.class_of _ _ like i.0, still_seated g.C.Class.class_of _ _ like i.1, i.2, i.3)
 
@@ -26,7 +27,8 @@ returns-clause-steps g c =
 pub returns-clause-same : goal.returns-clause-same
 returns-clause-same g c =
     let seat = c.seat_mut.result.now in
-    let like = alike_with_seat c.self.inside.table c.args.key seat (record seat { owed_response = None }) c.seat_mut.ensures.value refl in
+    let like = alike_with_seat c.self.inside.table c.args.key seat (record seat { owed_response = None })
+    c.seat_mut.ensures.value refl in
     rw (← c.self.view_is, c.take.ensures.after) (still_node g.C.Class.class_of _ _ like)
 
 pub returns-clause-written : goal.returns-clause-written

@@ -11,16 +11,20 @@ use Rattle.rx_node.specs.Kinds.{kind_of}
 use Rattle.rx_node.specs.Mirrors.{IsActiveAt}
 use Rattle.rx_node.specs.Node.{NodeState}
 use Rattle.rx_node.proofs.SeatedSteps.{end_seated, end_set_up}
-use Rattle.rx_node.proofs.GivenSending.{given_pieces, given_received, or_flag, or_flags, piece_whole, sent_ack, sent_leaves, sent_piece, sent_some, sent_stands}
+use Rattle.rx_node.proofs.GivenSending.{given_pieces, given_received, or_flag, or_flags, piece_whole, sent_ack}
+use Rattle.rx_node.proofs.GivenSending.{sent_leaves, sent_piece, sent_some, sent_stands}
 use Rattle.rx_node.proofs.node.Node.give_sending.Goals as goal
 use Rattle.rx_node.proofs.node.Node.give_sending.Goals.{in-Some-Piece, in-Some-Ack, in-None}
 
 pub invariant_of-self : goal.invariant_of-self
 invariant_of-self g c =
     let i = c.self.invariant in
-    let active = subst (λ (n : NodeState). IsActiveAt n c.args.key c.args.end) (sym c.self.view_is) c.requires.active in (
-      end_set_up g.C.Class.class_of _ c.args.key c.args.end active c.poll.new.self _ c.poll.ensures.given c.poll.ensures.live i.0,
-      end_seated g.C.Class.class_of _ c.args.key c.args.end active c.poll.new.self _ c.poll.ensures.given c.poll.ensures.live i.1,
+    let active = subst (λ (n : NodeState). IsActiveAt n c.args.key c.args.end) (sym c.self.view_is)
+    c.requires.active in (
+      end_set_up g.C.Class.class_of _ c.args.key c.args.end active c.poll.new.self _ c.poll.ensures.given
+          c.poll.ensures.live i.0,
+      end_seated g.C.Class.class_of _ c.args.key c.args.end active c.poll.new.self _ c.poll.ensures.given
+          c.poll.ensures.live i.1,
       i.2,
       i.3,
     )
@@ -33,7 +37,8 @@ returns-clause-gives g c =
     let head = c.args.head.now in
     let kind : Kind = kind_of c.self.inside.kind in
     let active = subst (λ (n : NodeState). IsActiveAt n key end) (sym c.self.view_is) c.requires.active in
-    let flagged : head.flags ≡ side_flag kind = c.requires.flags ∙ ap (λ (n : NodeState). side_flag n.kind) (sym c.self.view_is) in
+    let flagged : head.flags ≡ side_flag kind = c.requires.flags ∙ ap (λ (n : NodeState). side_flag n.kind)
+    (sym c.self.view_is) in
     rw (← c.self.view_is)
     (λ l ch i m at sends due numbered seqless. (
     let looks = sends.call.looks in
@@ -48,9 +53,11 @@ returns-clause-gives g c =
             let piece = w.in-Some-Piece in
             (λ t. take (w.result-is t) (w.to-is t)) ∙ w.write_msg.ensures.written
             ∙ ap (λ (msg : Message). made msg)
-            (sent_piece g.C.Class.class_of _ l m key end ch at active i sends due inv.0.client head piece.seq _ piece.asks
+            (sent_piece g.C.Class.class_of _ l m key end ch at active i sends due inv.0.client head
+            piece.seq _ piece.asks
             piece.last _ (sym (piece.is ∙ ap (λ (x : Giving). Some x) piece.field-0-is) ∙ answered)
-            (or_flags kind piece.asks piece.last head.flags w.flag_where.result w.flag_where-in-Some-Piece.result flagged
+            (or_flags kind piece.asks piece.last head.flags w.flag_where.result
+            w.flag_where-in-Some-Piece.result flagged
             w.flag_where.ensures w.flag_where-in-Some-Piece.ensures)
             (piece_whole looks piece.seq w.payload-payload.result.now w.min.result
             (w.payload-payload.ensures.payload _ after ∙ given_pieces now next looks piece.seq) w.min.ensures)
@@ -61,7 +68,8 @@ returns-clause-gives g c =
             let received = given_received now next looks in
             (λ t. take (w.result-is t) (w.to-is t)) ∙ w.write_msg-in-Some-Ack.ensures.written
             ∙ ap (λ (msg : Message). made msg)
-            (sent_ack g.C.Class.class_of _ l m key end ch at active i sends due inv.0.client head ack.reason ack.serial _
+            (sent_ack g.C.Class.class_of _ l m key end ch at active i sends due inv.0.client head
+            ack.reason ack.serial _
             _ (sym (ack.is ∙ ap (λ (x : Giving). Some x) ack.field-0-is) ∙ answered)
             (or_flag kind (ack.reason == ACK_PING) head.flags w.flag_where-in-Some-Ack.result flagged
             w.flag_where-in-Some-Ack.ensures)

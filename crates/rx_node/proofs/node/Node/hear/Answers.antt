@@ -15,8 +15,10 @@ pub invariant_of-self : goal.invariant_of-self
 invariant_of-self g c =
     let i = c.self.invariant in
     let active = rw (← c.self.view_is) at c.requires.active in (
-      end_set_up g.C.Class.class_of _ c.args.key c.args.end active c.take.new.self _ c.take.ensures.steps c.take.ensures.live i.0,
-      end_seated g.C.Class.class_of _ c.args.key c.args.end active c.take.new.self _ c.take.ensures.steps c.take.ensures.live i.1,
+      end_set_up g.C.Class.class_of _ c.args.key c.args.end active c.take.new.self _ c.take.ensures.steps
+          c.take.ensures.live i.0,
+      end_seated g.C.Class.class_of _ c.args.key c.args.end active c.take.new.self _ c.take.ensures.steps
+          c.take.ensures.live i.1,
       i.2,
       i.3,
     )

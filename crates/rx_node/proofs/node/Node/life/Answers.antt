@@ -28,7 +28,8 @@ returns-in-Some-clause-value g c =
     let low = subst (λ (n : NodeState). key / 4 < length n.table.conns) (sym c.self.view_is) c.requires in
     let its : slice_get c.args.self.now.lives key ≡ Some code =
     ap (λ (n : NodeState). slice_get n.lives key) (sym c.self.view_is)
-    ∙ indexed c.self.inside.lives.items key code (key_low g.C.Class.class_of _ key c.self.invariant.0 low) c.index.ensures in
+    ∙ indexed c.self.inside.lives.items key code (key_low g.C.Class.class_of _ key c.self.invariant.0 low)
+    c.index.ensures in
     life_named_at c.args.self.now key c.in-Some._end code seat there c.in-Some.is its
 
 pub returns-in-Some-clause-kind : goal.returns-in-Some-clause-kind
@@ -51,7 +52,8 @@ returns-in-Some-clause-answered g c =
     let low = subst (λ (n : NodeState). key / 4 < length n.table.conns) (sym c.self.view_is) c.requires in
     let its : slice_get c.args.self.now.lives key ≡ Some code =
     ap (λ (n : NodeState). slice_get n.lives key) (sym c.self.view_is)
-    ∙ indexed c.self.inside.lives.items key code (key_low g.C.Class.class_of _ key c.self.invariant.0 low) c.index.ensures in
+    ∙ indexed c.self.inside.lives.items key code (key_low g.C.Class.class_of _ key c.self.invariant.0 low)
+    c.index.ensures in
     λ l ch m at. life_named_at c.args.self.now key c.in-Some._end code seat there c.in-Some.is its
     ∙ life_latest g.C.Class.class_of c.args.self.now l m key ch at seat there
 

@@ -57,7 +57,8 @@ returns-clause-steps g c =
       };
     } in
     λ l ch m at. (
-    let between = mirrors_owing class _ l (subst (λ (n : NodeState). Mirrors class n l) (sym c.self.view_is) m) key ch at
+    let between = mirrors_owing class _ l (subst (λ (n : NodeState). Mirrors class n l) (sym c.self.view_is) m)
+    key ch at
     old after c.seat_mut.ensures.value (owing_ackall true) owing in
     end_calling class c.args.self.now l ch m c.turn.new.self key (life_of c.in-Some.life) at
     (sym c.if-not-is_calling.ensures) (c.in-Some.ensures.answered l ch m at)

@@ -13,7 +13,8 @@ pub invariant_of-self : goal.invariant_of-self
 invariant_of-self g c =
     let i = c.self.invariant in
     let seat = c.seat_mut.result.now in
-    let like = alike_with_seat c.self.inside.table c.args.key seat (record seat { owed_abort = _ }) c.seat_mut.ensures.value refl in
+    let like = alike_with_seat c.self.inside.table c.args.key seat (record seat { owed_abort = _ })
+    c.seat_mut.ensures.value refl in
     (still_set_up g.C.Class.class_of _ _ like i.0, still_seated g.C.Class.class_of _ _ like i.1, i.2, i.3)
 
 pub returns-in-Some-clause-steps : goal.returns-in-Some-clause-steps
@@ -28,10 +29,12 @@ returns-in-Some-clause-steps g c =
 pub returns-in-Some-clause-same : goal.returns-in-Some-clause-same
 returns-in-Some-clause-same g c =
     let seat = c.seat_mut.result.now in
-    let like = alike_with_seat c.self.inside.table c.args.key seat (record seat { owed_abort = _ }) c.seat_mut.ensures.value refl in
+    let like = alike_with_seat c.self.inside.table c.args.key seat (record seat { owed_abort = _ })
+    c.seat_mut.ensures.value refl in
     rw (← c.self.view_is) (still_node g.C.Class.class_of _ _ like)
 
 pub returns-in_default-clause-steps : goal.returns-in_default-clause-steps
 returns-in_default-clause-steps g c =
     rw c.in_default.is
-    (λ l ch m at. subst (Mirrors g.C.Class.class_of c.args.self.now) (sym (channel_same ch (owing_abort None) l (λ q. refl))) m)
+    (λ l ch m at. subst (Mirrors g.C.Class.class_of c.args.self.now)
+    (sym (channel_same ch (owing_abort None) l (λ q. refl))) m)

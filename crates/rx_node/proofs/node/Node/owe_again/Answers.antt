@@ -28,7 +28,8 @@ returns-clause-steps g c = λ l ch m at.
     by_looks g.C.Class.class_of _ _ _
     (ap (λ (o : Option ℤ). on_channel ch (owing_ackall c.acks_again.result) (on_channel ch (owing_abort o) l))
     c.code_again.ensures
-    ∙ ap (λ (b : Bool). on_channel ch (owing_ackall b) (on_channel ch (owing_abort (code_again body life)) l)) c.acks_again.ensures
+    ∙ ap (λ (b : Bool). on_channel ch (owing_ackall b) (on_channel ch (owing_abort (code_again body life)) l))
+    c.acks_again.ensures
     ∙ again_both ch body life l
     ∙ sym (over_is (latest_name l ch) body (latest l ch) l life
     (sym (ap (option_map life_of) c.in-Some.is) ∙ c.life.ensures.answered l ch m at))) two)

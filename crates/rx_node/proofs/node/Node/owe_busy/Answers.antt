@@ -9,7 +9,8 @@ pub invariant_of-self : goal.invariant_of-self
 invariant_of-self g c =
     let i = c.self.invariant in
     let seat = c.seat_mut.result.now in
-    let like = alike_with_seat c.self.inside.table c.args.key seat (record seat { owed_busy = _ }) c.seat_mut.ensures.value refl in
+    let like = alike_with_seat c.self.inside.table c.args.key seat (record seat { owed_busy = _ })
+    c.seat_mut.ensures.value refl in
     (still_set_up g.C.Class.class_of _ _ like i.0, still_seated g.C.Class.class_of _ _ like i.1, i.2, i.3)
 
 pub returns-clause-steps : goal.returns-clause-steps
@@ -22,5 +23,6 @@ returns-clause-steps g c =
 pub returns-clause-same : goal.returns-clause-same
 returns-clause-same g c =
     let seat = c.seat_mut.result.now in
-    let like = alike_with_seat c.self.inside.table c.args.key seat (record seat { owed_busy = _ }) c.seat_mut.ensures.value refl in
+    let like = alike_with_seat c.self.inside.table c.args.key seat (record seat { owed_busy = _ })
+    c.seat_mut.ensures.value refl in
     rw (← c.self.view_is) (still_node g.C.Class.class_of _ _ like)

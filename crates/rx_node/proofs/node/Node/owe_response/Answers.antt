@@ -20,7 +20,8 @@ returns-clause-steps g c =
     let empty : c.new-response.result.items ≡ [] = c.new-response.ensures in
     let none : length c.new-response.result.items ≡ 0 = ap (λ (xs : List ℕ). length xs) empty in
     let fits : length c.new-response.result.items + length bytes ≤ 64 = (let size = c.requires.size in omega arith) in
-    let is = ok_says c.try_extend_from_slice-fits.result _ (said.variant.1 fits) said.ok ∙ ap (λ (xs : List ℕ). xs ++ bytes) empty in
+    let is = ok_says c.try_extend_from_slice-fits.result _ (said.variant.1 fits) said.ok
+    ∙ ap (λ (xs : List ℕ). xs ++ bytes) empty in
     rw (← c.self.view_is)
     (λ l ch m at. mirrors_owing g.C.Class.class_of _ l m c.args.key ch at seat _ c.seat_mut.ensures.value
     (λ q. record q { owed_response = Some bytes })

@@ -9,7 +9,8 @@ use Rattle.rx_node.proofs.node.Node.prove.Goals as goal
 pub invariant_of-self : goal.invariant_of-self
 invariant_of-self g c =
     let i = c.self.invariant in
-    let like = alike_on_place c.self.inside.table (c.args.key / 4) (λ r. record r { proved = true }) (λ r. refl) (λ r. refl) in
+    let like = alike_on_place c.self.inside.table (c.args.key / 4) (λ r. record r { proved = true })
+    (λ r. refl) (λ r. refl) in
     rw c.prove.ensures
     (still_set_up g.C.Class.class_of _ _ like i.0, still_seated g.C.Class.class_of _ _ like i.1, i.2, i.3)
 
@@ -17,10 +18,12 @@ pub returns-clause-steps : goal.returns-clause-steps
 returns-clause-steps g c =
     rw (← c.self.view_is, c.prove.ensures)
     (λ l ch m at. by_looks g.C.Class.class_of _ _ _
-    (ap (λ (x : Connection). on_conn x (λ r. record r { proved = true }) l) (sym (ap (λ (d : Channel). d.connection) at.is)))
+    (ap (λ (x : Connection). on_conn x (λ r. record r { proved = true }) l)
+    (sym (ap (λ (d : Channel). d.connection) at.is)))
     (mirrors_proved g.C.Class.class_of _ l m (c.args.key / 4) at.conn at.there))
 
 pub returns-clause-same : goal.returns-clause-same
 returns-clause-same g c =
-    let like = alike_on_place c.self.inside.table (c.args.key / 4) (λ r. record r { proved = true }) (λ r. refl) (λ r. refl) in
+    let like = alike_on_place c.self.inside.table (c.args.key / 4) (λ r. record r { proved = true })
+    (λ r. refl) (λ r. refl) in
     rw (← c.self.view_is, c.prove.ensures) (still_node g.C.Class.class_of _ _ like)

@@ -15,7 +15,8 @@ loop-chan-init g c =
     let code = to_z w32 (of_z w32 c.args.code) in
     record {
       stopped = λ l x m there. among_first g.C.Class.class_of c.args.self.now l m
-          (λ k. record k { life = after_code code k.life }) (code_of_live code) (4 * place) (4 * place + 0) (omega arith);
+          (λ k. record k { life = after_code code k.life }) (code_of_live code) (4 * place)
+          (4 * place + 0) (omega arith);
       same = record { kind = refl; limits = refl; secret = refl; moment = refl; names = refl };
     }
 
@@ -39,7 +40,8 @@ loop-chan-preserved g c =
     let code = to_z w32 (of_z w32 c.args.code) in
     let chan = c.loop-chan.chan in
     let before = λ (l : Looks) (m : Mirrors g.C.Class.class_of c.args.self.now l).
-    among_changed g.C.Class.class_of c.args.self.now l m (λ k. record k { life = after_code code k.life }) (code_of_live code)
+    among_changed g.C.Class.class_of c.args.self.now l m (λ k. record k { life = after_code code k.life })
+    (code_of_live code)
     (4 * place) (4 * place + chan) in
     let old = c.loop-chan.invariant.same in
     let new = c.reach.ensures.same in

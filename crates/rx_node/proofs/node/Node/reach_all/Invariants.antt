@@ -10,8 +10,10 @@ use Rattle.rx_node.proofs.node.Node.reach_all.Given as goal
 abbrev pub invariant-loop-chan : goal.invariant-loop-chan
 invariant-loop-chan g l =
     record {
-      stopped : (m : Looks) (x : ConnLooks) → Mirrors g.C.Class.class_of l.fn.self m → slice_get m.conns l.place ≡ Some x
+      stopped : (m : Looks) (x : ConnLooks) → Mirrors g.C.Class.class_of l.fn.self m
+          → slice_get m.conns l.place ≡ Some x
           → Mirrors g.C.Class.class_of l.self
-          (on_calls (change_among (4 * l.place) (4 * l.place + l.chan) (λ k. record k { life = after_code l.code k.life }) m) m);
+          (on_calls (change_among (4 * l.place) (4 * l.place + l.chan)
+          (λ k. record k { life = after_code l.code k.life }) m) m);
       same : KeepsNode l.fn.self l.self;
     }

@@ -8,7 +8,8 @@ use Rattle.rx_table.specs.Records.{seat_at}
 use Rattle.rx_node.specs.Lives.{is_of, life_of}
 use Rattle.rx_node.specs.Node.{NodeState}
 use Rattle.rx_node.proofs.ActiveSteps.{free_dead, indexed, key_low, named_live}
-use Rattle.rx_node.proofs.LifeChanges.{cleared_seated, cleared_set_up, lived_seated, lived_set_up, mirrors_cleared, mirrors_lived, mirrors_over}
+use Rattle.rx_node.proofs.LifeChanges.{cleared_seated, cleared_set_up, lived_seated, lived_set_up, mirrors_cleared}
+use Rattle.rx_node.proofs.LifeChanges.{mirrors_lived, mirrors_over}
 use Rattle.rx_node.proofs.LifeChanges.{over_kept, over_seated, over_set_up}
 use Rattle.rx_node.proofs.SeatedSteps.{one_seat}
 use Rattle.rx_node.proofs.node.Node.set_life.Goals as goal
@@ -19,7 +20,8 @@ returns-in_default-clause-steps g c =
     let seat = c.seat.result.now in
     let there : seat_at c.args.self.now.table key ≡ Some seat =
     ap (λ (n : NodeState). seat_at n.table key) (sym c.self.view_is) ∙ c.seat.ensures in
-    λ l ch k m at is live falls. absurd (false≢true (sym (free_dead g.C.Class.class_of c.args.self.now l m key ch at seat
+    λ l ch k m at is live falls. absurd
+    (false≢true (sym (free_dead g.C.Class.class_of c.args.self.now l m key ch at seat
     there c.in_default.is) ∙ ap (is_call (λ j. is_live j.life)) is ∙ live))
 
 pub invariant_of-self : goal.invariant_of-self

@@ -10,7 +10,8 @@ overflow_mul-key-end g c = omega (arith, c.conns-key-end.ensures.few)
 pub loop-key-init : goal.loop-key-init
 loop-key-init g c =
     record {
-      silenced = λ l m. among_first g.C.Class.class_of c.args.self.now l m (unless_silent l.now) (silence_of_live l.now) 0 0 refl;
+      silenced = λ l m. among_first g.C.Class.class_of c.args.self.now l m (unless_silent l.now)
+          (silence_of_live l.now) 0 0 refl;
       same = record { kind = refl; limits = refl; secret = refl; moment = refl; names = refl };
     }
 
@@ -21,7 +22,8 @@ loop-key-preserved g c =
     let new = c.silence_on.ensures.same in
     record {
       silenced = λ l m. among_more g.C.Class.class_of c.args.self.now l m (unless_silent l.now) (silence_of_live l.now)
-          c.silence_on.new.self 0 key (key + 1) (omega arith) (omega (arith, c.loop-key-test.true, c.conns-key-end.ensures.count))
+          c.silence_on.new.self 0 key (key + 1) (omega arith)
+          (omega (arith, c.loop-key-test.true, c.conns-key-end.ensures.count))
           refl
           (λ ch at. c.silence_on.ensures.silenced _ ch (c.loop-key.invariant.silenced l m) at);
       same = record {
@@ -35,6 +37,7 @@ loop-key-preserved g c =
 
 pub returns-clause-silenced : goal.returns-clause-silenced
 returns-clause-silenced g c =
-    λ l m. among_all g.C.Class.class_of c.args.self.now l m (unless_silent l.now) (silence_of_live l.now) c.loop-key.self
+    λ l m. among_all g.C.Class.class_of c.args.self.now l m (unless_silent l.now) (silence_of_live l.now)
+    c.loop-key.self
     c.loop-key.key (omega (arith, c.loop-key-test.false, c.loop-key.auto.key-end, c.conns-key-end.ensures.count))
     (c.loop-key.invariant.silenced l m)

@@ -10,7 +10,8 @@ use Rattle.rx_node.proofs.node.Node.silence_on.Goals as goal
 
 pub returns-in_default-clause-silenced : goal.returns-in_default-clause-silenced
 returns-in_default-clause-silenced g c =
-    λ l ch m at. unless_inactive g.C.Class.class_of c.args.self.now l ch m (sym (c.in_default.ensures.answered l ch m at))
+    λ l ch m at. unless_inactive g.C.Class.class_of c.args.self.now l ch m
+    (sym (c.in_default.ensures.answered l ch m at))
 
 pub returns-then-dies-self-clause-silenced : goal.returns-then-dies-self-clause-silenced
 returns-then-dies-self-clause-silenced g c =

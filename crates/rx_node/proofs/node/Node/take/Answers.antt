@@ -44,13 +44,15 @@ returns-in-Abort-clause-steps g c = λ l k own.
 pub returns-in-Challenge-clause-steps : goal.returns-in-Challenge-clause-steps
 returns-in-Challenge-clause-steps g c = λ l k own.
     by_looks g.C.Class.class_of _ _ _
-    (ap (λ (b : PacketBody). taken_with (setup_of g.C.Class.class_of c.args.self.now) c.take_challenge.result c.args.c.now
+    (ap (λ (b : PacketBody). taken_with (setup_of g.C.Class.class_of c.args.self.now)
+    c.take_challenge.result c.args.c.now
     (message_of c.args.head.now b) l) (sym c.in-Challenge.is)) (c.take_challenge.ensures.steps l k own)
 
 pub returns-in-Response-clause-steps : goal.returns-in-Response-clause-steps
 returns-in-Response-clause-steps g c = λ l k own.
     by_looks g.C.Class.class_of _ _ _
-    (ap (λ (b : PacketBody). taken_with (setup_of g.C.Class.class_of c.args.self.now) c.take_response.result c.args.c.now
+    (ap (λ (b : PacketBody). taken_with (setup_of g.C.Class.class_of c.args.self.now)
+    c.take_response.result c.args.c.now
     (message_of c.args.head.now b) l) (sym c.in-Response.is)) (c.take_response.ensures.steps l k own)
 
 pub returns-in-Ack-clause-answered : goal.returns-in-Ack-clause-answered

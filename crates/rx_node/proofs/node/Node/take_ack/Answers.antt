@@ -44,7 +44,8 @@ returns-in-Ack-clause-steps g c = λ l d k own.
     let m = message_of c.args.head.now c.args.body.now in
     let heard : is_heard c.hear-took.result ≡ true = sym c.is_heard.ensures ∙ c.if-not-is_heard.false in
     let after : Looks = on_call d settled (taken_at s tooks.Heard d m l) in
-    let two = settled_mirrors class old c.hear-took.new.self c.settle.new.self l c.args.key d k c.hear-took.result m own heard
+    let two = settled_mirrors class old c.hear-took.new.self c.settle.new.self l c.args.key d k
+    c.hear-took.result m own heard
     (c.hear-took.ensures.steps l d k own) (λ n is at. c.settle.ensures.steps n (channel_of d) is at) in
     by_looks class _ _ _
     (ap (λ (t : Setup). challenged t d after) (kept_setup class old c.settle.new.self
@@ -70,7 +71,8 @@ returns-in_default-clause-steps g c = λ l d k own.
     let s : Setup = setup_of class old in
     let m = message_of c.args.head.now c.args.body.now in
     let heard : is_heard c.hear-took.result ≡ true = sym c.is_heard.ensures ∙ c.if-not-is_heard.false in
-    let two = settled_mirrors class old c.hear-took.new.self c.settle.new.self l c.args.key d k c.hear-took.result m own heard
+    let two = settled_mirrors class old c.hear-took.new.self c.settle.new.self l c.args.key d k
+    c.hear-took.result m own heard
     (c.hear-took.ensures.steps l d k own) (λ n is at. c.settle.ensures.steps n (channel_of d) is at) in
     by_looks class _ _ _
     (sym (taken_ackall s d c.args.body.now (taken_at s tooks.Heard d m l) c.requires.acks c.in_default.not-Ack)

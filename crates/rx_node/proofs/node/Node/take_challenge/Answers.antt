@@ -23,7 +23,8 @@ returns-in_default-clause-answered g c = λ l k own.
 
 pub owe_response-requires-clause-key : goal.owe_response-requires-clause-key
 owe_response-requires-clause-key g c =
-    kept_key _ _ c.args.key c.hear-took.ensures.same (seat_key c.args.self.now c.args.key c.requires.seat c.requires.there)
+    kept_key _ _ c.args.key c.hear-took.ensures.same
+    (seat_key c.args.self.now c.args.key c.requires.seat c.requires.there)
 
 pub returns-clause-answered : goal.returns-clause-answered
 returns-clause-answered g c = λ l k own.
@@ -31,7 +32,8 @@ returns-clause-answered g c = λ l k own.
     let some : (g.C.Class.class_of c.args.self.now.secret).respond c.args.c.now asked
     ≡ Some (take c.in-Some.count c.respond.new.to) =
     rw (← c.self.view_is)
-    (responds_some _ c.respond.result c.in-Some.count _ c.respond.new.to c.respond.ensures.written c.respond.ensures.none
+    (responds_some _ c.respond.result c.in-Some.count _ c.respond.new.to c.respond.ensures.written
+    c.respond.ensures.none
     c.in-Some.is) in
     c.hear-took.ensures.answered l c.args.c.now k own
     ∙ challenge_is (setup_of g.C.Class.class_of c.args.self.now) l c.args.c.now k
@@ -45,7 +47,8 @@ returns-clause-steps g c = λ l k own.
     let m = message_with_head c.args.head.now (bodies.Challenge asked) in
     let some : (class c.args.self.now.secret).respond d asked ≡ Some (take c.in-Some.count c.respond.new.to) =
     rw (← c.self.view_is)
-    (responds_some _ c.respond.result c.in-Some.count _ c.respond.new.to c.respond.ensures.written c.respond.ensures.none
+    (responds_some _ c.respond.result c.in-Some.count _ c.respond.new.to c.respond.ensures.written
+    c.respond.ensures.none
     c.in-Some.is) in
     let heard : c.hear-took.result ≡ tooks.Heard = c.hear-took.ensures.answered l d k own in
     by_looks class _ _ _ (ap (λ (t : Took). taken_with (setup_of class c.args.self.now) t d m l) (sym heard))

@@ -20,7 +20,8 @@ is_right-requires g c = seat_key c.args.self.now c.args.key c.requires.seat c.re
 
 pub prove-requires : goal.prove-requires
 prove-requires g c =
-    kept_key _ _ c.args.key c.hear-took.ensures.same (seat_key c.args.self.now c.args.key c.requires.seat c.requires.there)
+    kept_key _ _ c.args.key c.hear-took.ensures.same
+    (seat_key c.args.self.now c.args.key c.requires.seat c.requires.there)
 
 pub is_proved-requires : goal.is_proved-requires
 is_proved-requires g c = seat_key c.args.self.now c.args.key c.requires.seat c.requires.there
@@ -48,7 +49,8 @@ returns-then-is_right-clause-steps g c = λ l k own.
     let d = c.args.c.now in
     let heard : c.hear-took.result ≡ tooks.Heard = c.hear-took.ensures.answered l d k own in
     by_looks class _ _ _ (ap (λ (t : Took). taken_with s t d m l) (sym heard))
-    (right_mirrors class c.args.self.now c.hear-took.new.self c.prove.new.self l c.args.key d k c.hear-took.result m own heard
+    (right_mirrors class c.args.self.now c.hear-took.new.self c.prove.new.self l c.args.key d k
+    c.hear-took.result m own heard
     (c.hear-took.ensures.steps l d k own) (λ n is at. c.prove.ensures.steps n (channel_of d) is at)))
 
 pub returns-then-is_right-clause-same : goal.returns-then-is_right-clause-same
@@ -78,7 +80,8 @@ returns-clause-steps g c = λ l k own.
     let reached : Mirrors class c.reach.new.self after =
     subst (λ (x : CallName). Mirrors class c.reach.new.self (on_life x (after_code RX_PROTOCOL_ERROR) l)) own.latest
     (c.reach.ensures.steps l (channel_of d) own.mirrors own.channel) in
-    c.owe_abort.ensures.steps after (channel_of d) reached (same_key l after c.args.key (channel_of d) refl own.channel))
+    c.owe_abort.ensures.steps after (channel_of d) reached
+    (same_key l after c.args.key (channel_of d) refl own.channel))
 
 pub returns-clause-same : goal.returns-clause-same
 returns-clause-same g c = kept_both _ _ _ c.reach.ensures.same c.owe_abort.ensures.same

@@ -21,4 +21,11 @@ returns-clause-answered c =
 pub returns-clause-most : goal.returns-clause-most
 returns-clause-most c =
     let fewer = count_most c.self.inside.places.items in
-    omega (arith, fewer, c.self.invariant.0, c.self.inside.places.ok.0, c.self.invariant.2.count, c.self.invariant.2.most)
+    omega (
+      arith,
+      fewer,
+      c.self.invariant.0,
+      c.self.inside.places.ok.0,
+      c.self.invariant.2.count,
+      c.self.invariant.2.most,
+    )

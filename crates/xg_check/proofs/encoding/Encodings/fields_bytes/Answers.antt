@@ -8,14 +8,16 @@ use Rattle.xg_check.proofs.encoding.Encodings.fields_bytes.Goals as goal
 pub loop-field-init : goal.loop-field-init
 loop-field-init c = record {
   small = omega arith;
-  sum_is = λ held cap. plus_first (decls_bytes (word_bytes held c.args.types.now) c.args.constants.now) c.args.fields.now;
+  sum_is = λ held cap. plus_first (decls_bytes (word_bytes held c.args.types.now) c.args.constants.now)
+      c.args.fields.now;
 }
 
 pub returns-in_err-bytes : goal.returns-in_err-bytes
 returns-in_err-bytes c = λ held cap.
     let none : c.from_residual.result ≡ None = cc in
     none ∙ none_here (λ (d : Decl). form_bytes (word_bytes held c.args.types.now) c.args.constants.now d.form)
-    (decls_bytes (word_bytes held c.args.types.now) c.args.constants.now) (λ m n. m + n) (λ d ds. refl) c.args.fields.now
+    (decls_bytes (word_bytes held c.args.types.now) c.args.constants.now) (λ m n. m + n) (λ d ds. refl)
+    c.args.fields.now
     c.loop-field.field-index c.field-item.result c.loop-field.sum c.loop-field-test.true c.field-item.is _
     (c.in_err-bytes.ensures held cap) (c.loop-field.invariant.sum_is held cap)
 

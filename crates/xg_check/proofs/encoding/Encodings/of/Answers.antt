@@ -1,4 +1,5 @@
-use Rattle.std.proofs.Common.{◌≡◌, ℕ, Bool, false, List, Option, None, length, replicate, get_or, ap, sym, subst, ◌∙◌, arith}
+use Rattle.std.proofs.Common.{◌≡◌, ℕ, Bool, false, List, Option, None, length, replicate, get_or, ap, sym, subst, ◌∙◌}
+use Rattle.std.proofs.Common.{arith}
 use Rattle.std.proofs.lemmas.Option.{slice_get-get_or}
 use Rattle.xg_check.specs.Held.{AreMeasured}
 use Rattle.xg_check.specs.declared.types.Ways.TheVariants as ways
@@ -67,6 +68,7 @@ returns c =
     let items = c.deref-place-items.result.now in
     let ended = c.args.order.now.ended.items in
     all_measured ts c.args.constants.now items ended
-    (along (type_ways ts ways.Held) c.args.order.now.nodes.items items ended c.requires c.deref-place-items.ensures.value)
+    (along (type_ways ts ways.Held) c.args.order.now.nodes.items items ended c.requires
+    c.deref-place-items.ensures.value)
     c.loop-place.place-index c.loop-place.found.hollow.items c.loop-place.found.least.items c.loop-place.invariant
     c.loop-place-test.false (same_size ts)

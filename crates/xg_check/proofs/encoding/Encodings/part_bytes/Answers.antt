@@ -22,8 +22,10 @@ pub returns-after-otherwise : goal.returns-after-otherwise
 returns-after-otherwise c = λ held cap.
     let cs = c.args.constants.now in
     let arms = c.in_ok-most-in-Union.ensures held cap
-    ∙ ap (λ (xs : List ArmItem). option_map capped (arms_bytes (word_bytes held c.args.types.now) cs xs)) c.as_slice.ensures in
-    let last : Some c.match-otherwise.last ≡ option_map capped (default_bytes (word_bytes held c.args.types.now) cs c.in-Union.otherwise) =
+    ∙ ap (λ (xs : List ArmItem). option_map capped (arms_bytes (word_bytes held c.args.types.now) cs xs))
+    c.as_slice.ensures in
+    let last : Some c.match-otherwise.last ≡ option_map capped
+    (default_bytes (word_bytes held c.args.types.now) cs c.in-Union.otherwise) =
     elim c.match-otherwise.branch [
       | in-None v ↦ ap Some v.last-is
           ∙ ap (λ (o : Option ArmItem). option_map capped (default_bytes (word_bytes held c.args.types.now) cs o))

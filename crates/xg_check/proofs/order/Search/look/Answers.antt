@@ -1,4 +1,5 @@
-use Rattle.std.proofs.Common.{◌≡◌, ◌<◌, ℕ, List, false, Vec, map, length, get_or, slice_get, Some, refl, sym, ap, subst, ◌∙◌, arith}
+use Rattle.std.proofs.Common.{◌≡◌, ◌<◌, ℕ, List, false, Vec, map, length, get_or, slice_get, Some, refl, sym, ap, subst}
+use Rattle.std.proofs.Common.{◌∙◌, arith}
 use Rattle.std.specs.declared.alloc.Global.{Global}
 use Rattle.std.proofs.lemmas.Option.{slice_get_read, get_or_from_slice_get}
 use Rattle.xg_check.proofs.OrderLaws.{ends_now, waits_now, item_at, below}
@@ -11,11 +12,17 @@ returns-in_ok-end-in-None c =
     let o = c.requires.is in
     let lt : c.args.node < length s.ended.items = omega (arith, o.ended_size, c.requires.there) in
     let small : c.args.node < length s.looked.items = omega (arith, o.looked_size, c.requires.there) in
-    let fresh = slice_get_read s.ended.items (length s.ended.items) c.args.node c.index.result.now refl lt c.index.ensures
+    let fresh = slice_get_read s.ended.items (length s.ended.items) c.args.node c.index.result.now refl
+    lt c.index.ensures
     ∙ ap Some c.if-index.false in
     let looked = slice_get_read s.looked.items (length s.looked.items) c.args.node c.index-2.result.now refl small
     c.index-2.ensures in
-    rw (c.in_ok-end-in-None.ensures.ended, c.in_ok-end-in-None.ensures.nodes, c.in_ok-end-in-None.ensures.waiting, c.in_ok-end-in-None.ensures.looked)
+    rw (
+      c.in_ok-end-in-None.ensures.ended,
+      c.in_ok-end-in-None.ensures.nodes,
+      c.in_ok-end-in-None.ensures.waiting,
+      c.in_ok-end-in-None.ensures.looked,
+    )
     (ends_now c.args.graph.now c.args.node s.ended.items s.nodes.items (map items s.waiting.items) s.looked.items
     c.next-next.result.now c.index-2.result.now o c.next-next.ensures.next looked fresh c.in-None.ensures)
 
@@ -27,7 +34,8 @@ returns-in_ok-wait-in-Some c =
     let next = c.next-next.result.now in
     let lt : c.args.node < length s.ended.items = omega (arith, o.ended_size, c.requires.there) in
     let small : c.args.node < length s.looked.items = omega (arith, o.looked_size, c.requires.there) in
-    let fresh = slice_get_read s.ended.items (length s.ended.items) c.args.node c.index.result.now refl lt c.index.ensures
+    let fresh = slice_get_read s.ended.items (length s.ended.items) c.args.node c.index.result.now refl
+    lt c.index.ensures
     ∙ ap Some c.if-index.false in
     let looked = slice_get_read s.looked.items (length s.looked.items) c.args.node c.index-2.result.now refl small
     c.index-2.ensures in

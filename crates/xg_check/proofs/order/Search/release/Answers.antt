@@ -1,4 +1,5 @@
-use Rattle.std.proofs.Common.{◌≡◌, ◌<◌, ◌+◌, ◌∷◌, ℕ, List, Vec, map, length, slice_get, get_or, drop, Some, true, refl, sym, ap, ◌∙◌, arith}
+use Rattle.std.proofs.Common.{◌≡◌, ◌<◌, ◌+◌, ◌∷◌, ℕ, List, Vec, map, length, slice_get, get_or, drop, Some, true, refl}
+use Rattle.std.proofs.Common.{sym, ap, ◌∙◌, arith}
 use Rattle.std.specs.declared.alloc.Global.{Global}
 use Rattle.std.proofs.Common.{drop-cons, add-one}
 use Rattle.std.proofs.lemmas.List.{length-map, drop_all}
@@ -15,7 +16,8 @@ take_list-waiting-requires c =
     let s = c.args.self.now in
     let items : Vec ℕ Global → List ℕ = λ v. v.items in
     let is = c.requires.is.is in
-    let ended : slice_get s.ended.items c.args.node ≡ Some true = is.listed.there c.args.at c.args.node c.requires.stands in
+    let ended : slice_get s.ended.items c.args.node ≡ Some true =
+    is.listed.there c.args.at c.args.node c.requires.stands in
     omega (
       arith,
       slice_get_within s.ended.items c.args.node true ended,

@@ -12,7 +12,8 @@ returns-then-is_free c =
     let p = c.in-Some.place in
     let e = c.in-Some.ensures in
     let lt = name_inside ts c.args.name.now p (sym e) in
-    let free = (free_is ts c.args.self.now.without_end.items p can.without_end lt).0 (c.is_free.ensures.0 c.if-is_free.true) in
+    let free = (free_is ts c.args.self.now.without_end.items p can.without_end lt).0
+    (c.is_free.ensures.0 c.if-is_free.true) in
     let count = count_is ts cs _ c.args.self.now.encodings.least.items can.encodings p lt free in
     free_type ts cs c.args.name.now p c.passes_most.result e free
     (c.passes_most.ensures (bytes_at ts cs p) (c.bytes.ensures ∙ count))

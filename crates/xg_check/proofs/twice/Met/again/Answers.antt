@@ -35,7 +35,8 @@ pub returns-in-Type : goal.returns-in-Type
 returns-in-Type c =
     let e : c.args.mark ≡ marks.Type c.in-Type.field-0 = cc in
     rw e (λ front is. (
-      meets_other c.args.constants.now front c.args.self.now is (uses_type c.in-Type.field-0.now) (λ s q. refl) (λ i z. refl),
+      meets_other c.args.constants.now front c.args.self.now is (uses_type c.in-Type.field-0.now)
+          (λ s q. refl) (λ i z. refl),
       other_met c.args.constants.now front (uses_type c.in-Type.field-0.now) (λ o. refl),
     ))
 
@@ -43,7 +44,8 @@ pub returns-in-Number : goal.returns-in-Number
 returns-in-Number c =
     let e : c.args.mark ≡ marks.Number c.in-Number.field-0 = cc in
     rw e (λ front is. (
-      meets_other c.args.constants.now front c.args.self.now is (uses_constant c.in-Number.field-0.now) (λ s q. refl) (λ i z. refl),
+      meets_other c.args.constants.now front c.args.self.now is (uses_constant c.in-Number.field-0.now)
+          (λ s q. refl) (λ i z. refl),
       other_met c.args.constants.now front (uses_constant c.in-Number.field-0.now) (λ o. refl),
     ))
 
@@ -51,7 +53,8 @@ pub returns-in-Constant : goal.returns-in-Constant
 returns-in-Constant c =
     let e : c.args.mark ≡ marks.Constant c.in-Constant.name c.in-Constant.is_member = cc in
     rw e (λ front is. (
-      meets_other c.args.constants.now front c.args.self.now is (valued c.in-Constant.name.now c.in-Constant.is_member) (λ s q. refl) (λ i z. refl),
+      meets_other c.args.constants.now front c.args.self.now is (valued c.in-Constant.name.now c.in-Constant.is_member)
+          (λ s q. refl) (λ i z. refl),
       other_met c.args.constants.now front (valued c.in-Constant.name.now c.in-Constant.is_member) (λ o. refl),
     ))
 
@@ -59,7 +62,8 @@ pub returns-in-Sized : goal.returns-in-Sized
 returns-in-Sized c =
     let e : c.args.mark ≡ marks.Sized c.in-Sized.field-0 = cc in
     rw e (λ front is. (
-      meets_other c.args.constants.now front c.args.self.now is (sized c.in-Sized.field-0.now) (λ s q. refl) (λ i z. refl),
+      meets_other c.args.constants.now front c.args.self.now is (sized c.in-Sized.field-0.now)
+          (λ s q. refl) (λ i z. refl),
       other_met c.args.constants.now front (sized c.in-Sized.field-0.now) (λ o. refl),
     ))
 
@@ -67,7 +71,8 @@ pub returns-in-Enum : goal.returns-in-Enum
 returns-in-Enum c =
     let e : c.args.mark ≡ marks.Enum c.in-Enum.name c.in-Enum.members = cc in
     rw e (λ front is. (
-      meets_other c.args.constants.now front c.args.self.now is (enum_type c.in-Enum.name.now c.in-Enum.members.now) (λ s q. refl) (λ i z. refl),
+      meets_other c.args.constants.now front c.args.self.now is (enum_type c.in-Enum.name.now c.in-Enum.members.now)
+          (λ s q. refl) (λ i z. refl),
       other_met c.args.constants.now front (enum_type c.in-Enum.name.now c.in-Enum.members.now) (λ o. refl),
     ))
 
@@ -75,7 +80,8 @@ pub returns-in-Struct : goal.returns-in-Struct
 returns-in-Struct c =
     let e : c.args.mark ≡ marks.Struct c.in-Struct.field-0 = cc in
     rw e (λ front is. (
-      meets_other c.args.constants.now front c.args.self.now is (struct_type c.in-Struct.field-0.now) (λ s q. refl) (λ i z. refl),
+      meets_other c.args.constants.now front c.args.self.now is (struct_type c.in-Struct.field-0.now)
+          (λ s q. refl) (λ i z. refl),
       other_met c.args.constants.now front (struct_type c.in-Struct.field-0.now) (λ o. refl),
     ))
 
@@ -83,6 +89,9 @@ pub returns-in-Union : goal.returns-in-Union
 returns-in-Union c =
     let e : c.args.mark ≡ marks.Union c.in-Union.name c.in-Union.tag c.in-Union.arms c.in-Union.has_default = cc in
     rw e (λ front is. (
-      meets_other c.args.constants.now front c.args.self.now is (union_type c.in-Union.name.now c.in-Union.tag.now c.in-Union.arms.now c.in-Union.has_default) (λ s q. refl) (λ i z. refl),
-      other_met c.args.constants.now front (union_type c.in-Union.name.now c.in-Union.tag.now c.in-Union.arms.now c.in-Union.has_default) (λ o. refl),
+      meets_other c.args.constants.now front c.args.self.now is
+          (union_type c.in-Union.name.now c.in-Union.tag.now c.in-Union.arms.now c.in-Union.has_default)
+          (λ s q. refl) (λ i z. refl),
+      other_met c.args.constants.now front
+          (union_type c.in-Union.name.now c.in-Union.tag.now c.in-Union.arms.now c.in-Union.has_default) (λ o. refl),
     ))

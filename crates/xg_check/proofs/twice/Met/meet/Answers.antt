@@ -15,7 +15,8 @@ pub returns-in_ok-insert-in-Constant : goal.returns-in_ok-insert-in-Constant
 returns-in_ok-insert-in-Constant c =
     let e : c.args.space ≡ spaces.Constant = cc in
     rw e (λ cs front is. (
-      meets_constant cs front c.args.self.now is c.args.name.now _ (λ q. c.in_ok-insert-in-Constant.ensures.updates.0 q),
+      meets_constant cs front c.args.self.now is c.args.name.now _
+          (λ q. c.in_ok-insert-in-Constant.ensures.updates.0 q),
       was_in _ _ _ c.in_ok-insert-in-Constant.ensures.added (is.constants c.args.name),
     ))
 
@@ -23,7 +24,8 @@ pub returns-in_ok-insert-in-Procedure : goal.returns-in_ok-insert-in-Procedure
 returns-in_ok-insert-in-Procedure c =
     let e : c.args.space ≡ spaces.Procedure = cc in
     rw e (λ cs front is. (
-      meets_procedure cs front c.args.self.now is c.args.name.now _ (λ q. c.in_ok-insert-in-Procedure.ensures.updates.0 q),
+      meets_procedure cs front c.args.self.now is c.args.name.now _
+          (λ q. c.in_ok-insert-in-Procedure.ensures.updates.0 q),
       was_in _ _ _ c.in_ok-insert-in-Procedure.ensures.added (is.procedures c.args.name),
     ))
 

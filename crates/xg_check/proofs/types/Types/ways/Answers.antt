@@ -21,7 +21,8 @@ pub loop-part-preserved : goal.loop-part-preserved
 loop-part-preserved c =
     let items : Vec ℕ Global → List ℕ = λ v. v.items in
     let one : c.add_part.new.next.items ≡ part_places c.args.self.now c.args.ways c.part-item.result.now =
-    c.in_ok-add_part.ensures ∙ ap (λ (xs : List ℕ). xs ++ part_places c.args.self.now c.args.ways c.part-item.result.now)
+    c.in_ok-add_part.ensures
+    ∙ ap (λ (xs : List ℕ). xs ++ part_places c.args.self.now c.args.ways c.part-item.result.now)
     c.new-one.ensures.items in
     image-more items (part_places c.args.self.now c.args.ways) (λ p. p.now) c.loop-part.next.items c.push.new.self.items
     c.deref-part-items.result.now c.loop-part.part-index c.add_part.new.next c.part-item.result c.loop-part.invariant

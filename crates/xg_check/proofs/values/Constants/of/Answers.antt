@@ -12,7 +12,8 @@ pub invariant_of-result : goal.invariant_of-result
 invariant_of-result c =
     let cs = constants_of c.in_ok-list.list.items in
     let ways : c.in_ok-ways.ways ≡ constant_ways cs =
-    c.in_ok-ways.ensures ∙ ap (λ (xs : List CodeConstant). constant_ways (constants_of xs)) c.as_slice-2.ensures.value in
+    c.in_ok-ways.ensures ∙ ap (λ (xs : List CodeConstant). constant_ways (constants_of xs))
+    c.as_slice-2.ensures.value in
     let nodes = c.in_ok-order.order.nodes.items in
     let ended = c.in_ok-order.order.ended.items in
     let ordered = subst (λ (g : List (List ℕ)). AreOrdered g nodes ended) ways c.in_ok-order.ensures in
