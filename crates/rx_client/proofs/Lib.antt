@@ -1,0 +1,9 @@
+pub mod Answering
+pub mod SaidCalls
+pub mod ReadCalls
+pub mod ClientEvents
+pub mod OpenChannels
+pub mod StartedCalls
+pub mod ShutSlots
+pub mod NextNumbers
+pub mod TakenMessages

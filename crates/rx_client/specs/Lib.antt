@@ -1,0 +1,3 @@
+pub mod Client
+pub mod Calling
+pub mod Taking

@@ -1,0 +1,4 @@
+pub mod Server
+pub mod Taking
+pub mod Handling
+pub mod Turned
