@@ -1,0 +1,68 @@
+use Rattle.std.proofs.Common.{OnErr, Result, Ok, Err, sym, subst}
+use Rattle.rx_wire.specs.Journal.{HasNoted}
+use Rattle.rx_wire.specs.Turns.{noted}
+use Rattle.rx_caller.specs.View.{CallerState}
+use Rattle.rx_caller.proofs.Turning.{Going, cut_off, going_first, going_on, leaves_less, made_some}
+use Rattle.rx_caller.proofs.caller.Caller.turn_within.Goals as goal
+
+on-err : {A E : Type 0} (r : Result A E) (P : Type 0) → P → OnErr r P
+on-err (Ok x) P holds = tt
+on-err (Err e) P holds = holds
+
+pub loop-event-init : goal.loop-event-init
+loop-event-init g c =
+    subst (λ (w : CallerState). Going g.C.Class.class_of c.args.limit
+    (record { old = c.args.self.now; new = w; client_old = c.args.client.now; client_new = c.args.client.now })
+    (g.J.Journal.told c.args.book.now) (g.J.Journal.told c.args.book.now)) (sym c.begin.ensures)
+    (going_first g.C.Class.class_of c.args.limit c.args.self.now c.args.client.now (g.J.Journal.told c.args.book.now))
+
+pub loop-event-smaller : goal.loop-event-smaller
+loop-event-smaller g c =
+    let class = g.C.Class.class_of in
+    let told = g.J.Journal.told in
+    leaves_less class c.args.limit c.args.self.now c.loop-event.self c.step_within.new.self c.args.client.now
+    c.loop-event.client c.step_within.new.client (told c.args.book.now) (told c.loop-event.book)
+    (told c.note.new.book) c.loop-event.invariant c.in-Some.event
+    (made_some class c.args.limit
+    (record {
+      old = c.loop-event.self;
+      new = c.step_within.new.self;
+      client_old = c.loop-event.client;
+      client_new = c.step_within.new.client;
+    }) c.in_ok-event.field-0 c.in-Some.event c.in-Some.is c.in_ok-event.ensures.made)
+    c.step_within.ensures.setup
+
+pub loop-event-preserved : goal.loop-event-preserved
+loop-event-preserved g c =
+    let class = g.C.Class.class_of in
+    let told = g.J.Journal.told in
+    going_on class c.args.limit c.args.self.now c.loop-event.self c.step_within.new.self c.args.client.now
+    c.loop-event.client c.step_within.new.client (told c.args.book.now) (told c.loop-event.book)
+    (told c.note.new.book) c.loop-event.invariant c.in-Some.event
+    (made_some class c.args.limit
+    (record {
+      old = c.loop-event.self;
+      new = c.step_within.new.self;
+      client_old = c.loop-event.client;
+      client_new = c.step_within.new.client;
+    }) c.in_ok-event.field-0 c.in-Some.event c.in-Some.is c.in_ok-event.ensures.made)
+    c.step_within.ensures.setup
+    (subst (λ (v : CallerState). HasNoted (told c.loop-event.book) (told c.note.new.book)
+    (noted v.node c.in-Some.event)) c.self.view_is c.in_ok-note.ensures.ok)
+
+pub returns-in_err-note-clause-wanting : goal.returns-in_err-note-clause-wanting
+returns-in_err-note-clause-wanting g c =
+    let class = g.C.Class.class_of in
+    let told = g.J.Journal.told in
+    on-err c.from_residual-in_err-note.result _
+    (cut_off class c.args.limit c.args.self.now c.loop-event.self c.step_within.new.self c.args.client.now
+    c.loop-event.client c.step_within.new.client (told c.args.book.now) (told c.loop-event.book)
+    (told c.note.new.book) c.loop-event.invariant c.in-Some.event
+    (made_some class c.args.limit
+    (record {
+      old = c.loop-event.self;
+      new = c.step_within.new.self;
+      client_old = c.loop-event.client;
+      client_new = c.step_within.new.client;
+    }) c.in_ok-event.field-0 c.in-Some.event c.in-Some.is c.in_ok-event.ensures.made)
+    c.step_within.ensures.setup c.in_err-note.ensures.err)

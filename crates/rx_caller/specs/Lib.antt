@@ -1,0 +1,4 @@
+pub mod View
+pub mod Asks
+pub mod Turn
+pub mod History

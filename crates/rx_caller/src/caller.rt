@@ -1,0 +1,272 @@
+ghost use Rattle.std.specs.Prelude.{◌≡◌, IfOk, OnErr, OnOk, is_some};
+ghost use Rattle.rx_node.specs.Node.{setup_of};
+ghost use Rattle.rx_node.specs.Steps.{StandsNode};
+ghost use Rattle.rx_wire.specs.Advances.{Turned};
+ghost use Rattle.rx_caller.specs.declared.ask.Ask.TheVariants as asks;
+ghost use Rattle.rx_caller.specs.Asks.{asking, begun, calling, next_ask, next_offering};
+ghost use Rattle.rx_caller.specs.Turn.{Does, MakesNext, Stays, StopsAt};
+ghost use Rattle.rx_caller.specs.View.{caller_for};
+
+use crate::ask::{Ask, Phase};
+use crate::calls::{append, end_after, next_block, note, phase_after, phase_offered, read, write};
+use rx_class::Class;
+use rx_client::Client;
+use rx_model::{Bytes, CallName, End, Event, ReadGot, WroteGot};
+use rx_wire::Journal;
+use std::alloc::{AllocError, Global};
+use std::marker::Model;
+
+/// Bytes that a call of a caller offers or reads at most.
+pub const BLOCK_BYTES: usize = 4096;
+
+/// Bytes of a reply at most: a counted stream and 65,536 more.
+pub const REPLY_BYTES: usize = 16_842_756;
+
+/// The code of a call whose reply is too long (`rxgen_consts.h`, `RXGEN_CC_UNMARSHAL`).
+pub const CC_UNMARSHAL: i32 = -451;
+
+/// What says the request of one call of a client and reads its reply.
+#[derive(Debug, Drop)]
+pub struct Caller {
+    alloc: Global,
+    node: u32,
+    call: CallName,
+    request: Vec<u8>,
+    accepted: usize,
+    shut: bool,
+    reply: Vec<u8>,
+    end: Option<End>,
+    phase: Phase,
+}
+
+impl Model for Caller {
+    ghost use Rattle.std.specs.Prelude.{◌≤◌, drop, vec_len};
+    ghost use Rattle.rx_caller.specs.View.{CallerState};
+
+    ghost Value = { CallerState };
+
+    ghost view = { λ s. record {
+      node = s.node;
+      call = s.call;
+      offering = drop s.accepted s.request.items;
+      shut = s.shut;
+      reply = s.reply.items;
+      end = s.end;
+      phase = s.phase;
+    } };
+
+    ghost invariant = { λ s. s.accepted ≤ vec_len s.request };
+}
+
+impl Caller {
+    /// A caller for a call of a client, which has said and read nothing. Its events are noted for this node.
+    pub fn make(alloc: Global, node: u32, call: CallName, request: Vec<u8>) -> Caller
+        ensures { result ≡ caller_for node call request.items }
+    {
+        Caller {
+            alloc,
+            node,
+            call,
+            request,
+            accepted: 0,
+            shut: false,
+            reply: Vec::new(alloc),
+            end: None,
+            phase: Phase::Resting,
+        }
+    }
+
+    /// The bytes read so far.
+    pub fn reply(&self) -> &[u8]
+        ensures { result.now ≡ self.now.reply }
+    {
+        self.reply.as_slice()
+    }
+
+    /// The end of its call, once it is finished.
+    pub fn ended(&self) -> Option<End>
+        ensures { result ≡ self.now.end }
+    {
+        self.end
+    }
+
+    /// Makes a turn, notes its events, and answers whether it is finished. It offers 4,096 bytes at a time until less
+    /// is accepted, and shuts once all is; then it reads 4,096 at a time until a read gives none, or the call's end. A
+    /// reply that grows too long is given up. One that is finished makes no call.
+    pub fn turn<C: Class, J: Journal>(
+        &mut self,
+        client: &mut Client<C>,
+        book: &mut J,
+    ) -> Result<bool, AllocError>
+        ensures turned { OnOk result (Turned (calling REPLY_BYTES) self.old.node (begun self.old) self.new
+            (StandsNode C.class_of client.old) (StandsNode C.class_of client.new) (J.told book.old) (J.told book.new)) }
+        ensures finished { IfOk result (λ done. done ≡ is_some self.new.end) }
+        ensures wanting { OnErr result (StopsAt (calling REPLY_BYTES) self.old.node (begun self.old) self.new
+            (StandsNode C.class_of client.old) (StandsNode C.class_of client.new) (J.told book.old) (J.told book.new)) }
+        ensures setup { setup_of C.class_of client.new ≡ setup_of C.class_of client.old }
+    {
+        self.turn_within(REPLY_BYTES, client, book)
+    }
+
+    /// The same with a limit on the reply.
+    pub(crate) fn turn_within<C: Class, J: Journal>(
+        &mut self,
+        limit: usize,
+        client: &mut Client<C>,
+        book: &mut J,
+    ) -> Result<bool, AllocError>
+        ensures turned { OnOk result (Turned (calling limit) self.old.node (begun self.old) self.new
+            (StandsNode C.class_of client.old) (StandsNode C.class_of client.new) (J.told book.old) (J.told book.new)) }
+        ensures finished { IfOk result (λ done. done ≡ is_some self.new.end) }
+        ensures wanting { OnErr result (StopsAt (calling limit) self.old.node (begun self.old) self.new
+            (StandsNode C.class_of client.old) (StandsNode C.class_of client.new) (J.told book.old) (J.told book.new)) }
+        ensures setup { setup_of C.class_of client.new ≡ setup_of C.class_of client.old }
+    {
+        self.begin();
+        while let Some(event) = self.step_within(limit, client)? {
+            note(book, self.node, event)?;
+        }
+        Ok(self.end.is_some())
+    }
+
+    /// A turn begins.
+    pub fn begin(&mut self)
+        ensures { self.new ≡ begun self.old }
+    {
+        self.phase = Phase::Offering;
+    }
+
+    /// Makes the next call of its turn, and answers the event; none where the turn is over. Where memory is wanted, it
+    /// made no call.
+    pub fn step<C: Class>(&mut self, client: &mut Client<C>) -> Result<Option<Event>, AllocError>
+        ensures made { IfOk result (MakesNext C.class_of REPLY_BYTES
+            (record { old = self.old; new = self.new; client_old = client.old; client_new = client.new })) }
+        ensures wanting { OnErr result (Stays
+            (record { old = self.old; new = self.new; client_old = client.old; client_new = client.new })) }
+        ensures setup { setup_of C.class_of client.new ≡ setup_of C.class_of client.old }
+    {
+        self.step_within(REPLY_BYTES, client)
+    }
+
+    /// The same with a limit on the reply.
+    fn step_within<C: Class>(
+        &mut self,
+        limit: usize,
+        client: &mut Client<C>,
+    ) -> Result<Option<Event>, AllocError>
+        ensures made { IfOk result (MakesNext C.class_of limit
+            (record { old = self.old; new = self.new; client_old = client.old; client_new = client.new })) }
+        ensures wanting { OnErr result (Stays
+            (record { old = self.old; new = self.new; client_old = client.old; client_new = client.new })) }
+        ensures setup { setup_of C.class_of client.new ≡ setup_of C.class_of client.old }
+    {
+        match self.next(limit) {
+            Some(Ask::Offer) => Ok(Some(self.offer(client)?)),
+            Some(Ask::Shut) => Ok(Some(self.shut(client))),
+            Some(Ask::Read) => Ok(Some(self.read(client)?)),
+            Some(Ask::Cancel) => Ok(Some(self.cancel(client))),
+            None => Ok(None),
+        }
+    }
+
+    /// Its next call, where its turn isn't over.
+    fn next(&self, limit: usize) -> Option<Ask>
+        ensures { result ≡ next_ask limit self.now }
+    {
+        if self.end.is_some() {
+            return None;
+        }
+        if self.reply.len() > limit {
+            return Some(Ask::Cancel);
+        }
+        match self.phase {
+            Phase::Offering => Some(self.next_offering()),
+            Phase::Reading => Some(Ask::Read),
+            Phase::Resting => None,
+        }
+    }
+
+    /// The same while all was accepted.
+    fn next_offering(&self) -> Ask
+        ensures { result ≡ next_offering self.now.shut self.now.offering }
+    {
+        if self.shut {
+            return Ask::Read;
+        }
+        if self.accepted == self.request.len() {
+            return Ask::Shut;
+        }
+        Ask::Offer
+    }
+
+    /// Offers the next bytes of its request.
+    fn offer<C: Class>(&mut self, client: &mut Client<C>) -> Result<Event, AllocError>
+        ensures done { IfOk result (Does C.class_of (asking self.old asks.Offer)
+            (record { old = self.old; new = self.new; client_old = client.old; client_new = client.new })) }
+        ensures wanting { OnErr result (Stays
+            (record { old = self.old; new = self.new; client_old = client.old; client_new = client.new })) }
+        ensures setup { setup_of C.class_of client.new ≡ setup_of C.class_of client.old }
+    {
+        let block = next_block(self.request.as_slice(), self.accepted);
+        let offered = block.len();
+        let (got, bytes) = write(self.alloc, client, &self.call, block)?;
+        self.accepted += bytes.len();
+        self.phase = phase_offered(bytes.len(), offered, self.phase);
+        Ok(Event::Wrote {
+            call: self.call,
+            offered,
+            got: WroteGot::Client(got),
+            bytes: Bytes::of(bytes),
+        })
+    }
+
+    /// Ends its request.
+    fn shut<C: Class>(&mut self, client: &mut Client<C>) -> Event
+        ensures done { Does C.class_of (asking self.old asks.Shut)
+            (record { old = self.old; new = self.new; client_old = client.old; client_new = client.new }) result }
+        ensures setup { setup_of C.class_of client.new ≡ setup_of C.class_of client.old }
+    {
+        let got = client.shut(&self.call);
+        self.shut = true;
+        Event::Shut {
+            call: self.call,
+            got,
+        }
+    }
+
+    /// Reads the next bytes of its reply.
+    fn read<C: Class>(&mut self, client: &mut Client<C>) -> Result<Event, AllocError>
+        ensures done { IfOk result (Does C.class_of (asking self.old asks.Read)
+            (record { old = self.old; new = self.new; client_old = client.old; client_new = client.new })) }
+        ensures wanting { OnErr result (Stays
+            (record { old = self.old; new = self.new; client_old = client.old; client_new = client.new })) }
+        ensures setup { setup_of C.class_of client.new ≡ setup_of C.class_of client.old }
+    {
+        self.reply.reserve(BLOCK_BYTES)?;
+        let (got, bytes) = read(self.alloc, client, &self.call)?;
+        append(&mut self.reply, bytes.as_slice());
+        self.end = end_after(got, self.end);
+        self.phase = phase_after(got, bytes.as_slice());
+        Ok(Event::HasRead {
+            call: self.call,
+            max: BLOCK_BYTES,
+            got: ReadGot::Client(got),
+            bytes: Bytes::of(bytes),
+        })
+    }
+
+    /// Gives its call up.
+    fn cancel<C: Class>(&mut self, client: &mut Client<C>) -> Event
+        ensures done { Does C.class_of (asking self.old asks.Cancel)
+            (record { old = self.old; new = self.new; client_old = client.old; client_new = client.new }) result }
+        ensures setup { setup_of C.class_of client.new ≡ setup_of C.class_of client.old }
+    {
+        let got = client.cancel(&self.call, CC_UNMARSHAL);
+        self.end = Some(End::Cancelled(CC_UNMARSHAL));
+        Event::Cancelled {
+            call: self.call,
+            code: CC_UNMARSHAL,
+            got,
+        }
+    }
+}

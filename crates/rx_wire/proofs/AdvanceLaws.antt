@@ -1,0 +1,129 @@
+-- Parts of turns joined. For this crate and its callers.
+use Rattle.std.proofs.Common.{◌≡◌, inl, ℕ, List, [], ◌∷◌, ◌++◌, Option, Some, None, sym, subst}
+use Rattle.rx_model.specs.declared.event.Event.{Event}
+use Rattle.rx_model.specs.declared.event.Noted.{Noted}
+use Rattle.rx_wire.specs.Journal.{HasNoted}
+use Rattle.rx_wire.specs.Turns.{after_all, noted, Program, Runs, stays, goes}
+use Rattle.rx_wire.specs.Advances.{Advances, Turned, Stops, IsWithin}
+use Rattle.rx_wire.proofs.TurnLaws.{after_all-append, Runs-append, HasNotedAll-none, HasNotedAll-one}
+use Rattle.rx_wire.proofs.TurnLaws.{HasNotedAll-append, HasNotedMost-append, HasNotedMost-refused}
+
+-- nothing was done
+pub Advances-none : {View Ask : Type 0} (p : Program View Ask) (node : ℕ) (v : View) (stood : List Event → Type 0)
+    (before : Option (List Noted)) → Advances p node v v stood stood before before
+Advances-none p node v stood before = record {
+  events = [];
+  runs = stays v;
+  standing = λ h is. is;
+  noting = HasNotedAll-none before node;
+}
+
+-- a part and then another
+pub Advances-append : {View Ask : Type 0} (p : Program View Ask) (node : ℕ) (v w u : View)
+    (stood mid stands : List Event → Type 0) (before between after : Option (List Noted))
+    → Advances p node v w stood mid before between → Advances p node w u mid stands between after
+    → Advances p node v u stood stands before after
+Advances-append p node v w u stood mid stands before between after x y = record {
+  events = x.events ++ y.events;
+  runs = Runs-append p v w u x.events y.events x.runs y.runs;
+  standing = λ h is. subst stands (sym (after_all-append x.events y.events h))
+      (y.standing (after_all x.events h) (x.standing h is));
+  noting = HasNotedAll-append before between after node x.events y.events x.noting y.noting;
+}
+
+-- a part and then one that ends too early
+pub Stops-append : {View Ask : Type 0} (p : Program View Ask) (node : ℕ) (v w : View)
+    (stood mid stands : List Event → Type 0) (before between after : Option (List Noted))
+    → Advances p node v w stood mid before between → Stops p node w mid stands between after
+    → Stops p node v stood stands before after
+Stops-append p node v w stood mid stands before between after x y = record {
+  events = x.events ++ y.events;
+  view = y.view;
+  runs = Runs-append p v w y.view x.events y.events x.runs y.runs;
+  standing = λ h is. subst stands (sym (after_all-append x.events y.events h))
+      (y.standing (after_all x.events h) (x.standing h is));
+  noting = HasNotedMost-append before between after node x.events y.events x.noting y.noting;
+}
+
+-- one event
+pub Advances-one : {View Ask : Type 0} (p : Program View Ask) (node : ℕ) (v w : View) (a : Ask) (e : Event)
+    (stood stands : List Event → Type 0) (before after : Option (List Noted))
+    → p.asks v ≡ Some a → p.is a e → p.heard v e ≡ w → ((h : List Event) → stood h → stands (e ∷ h))
+    → HasNoted before after (noted node e) → Advances p node v w stood stands before after
+Advances-one p node v w a e stood stands before after asked is heard standing noting = record {
+  events = e ∷ [];
+  runs = subst (Runs p v (e ∷ [])) heard (goes v a e [] (p.heard v e) asked is (stays (p.heard v e)));
+  standing = standing;
+  noting = HasNotedAll-one before after node e noting;
+}
+
+-- one event whose note was refused
+pub Stops-refused : {View Ask : Type 0} (p : Program View Ask) (node : ℕ) (v : View) (a : Ask) (e : Event)
+    (stood stands : List Event → Type 0) (before after : Option (List Noted))
+    → p.asks v ≡ Some a → p.is a e → ((h : List Event) → stood h → stands (e ∷ h))
+    → after ≡ before → Stops p node v stood stands before after
+Stops-refused p node v a e stood stands before after asked is standing same = record {
+  events = e ∷ [];
+  view = p.heard v e;
+  runs = goes v a e [] (p.heard v e) asked is (stays (p.heard v e));
+  standing = standing;
+  noting = HasNotedMost-refused before after node e same;
+}
+
+-- a part behind which a turn ends too early
+pub Stops-after : {View Ask : Type 0} (p : Program View Ask) (node : ℕ) (v w : View)
+    (stood stands : List Event → Type 0) (before after : Option (List Noted))
+    → Advances p node v w stood stands before after → Stops p node v stood stands before after
+Stops-after p node v w stood stands before after x = record {
+  events = x.events;
+  view = w;
+  runs = x.runs;
+  standing = x.standing;
+  noting = inl x.noting;
+}
+
+-- a part behind which the program asks nothing is a whole turn
+pub Turned-of : {View Ask : Type 0} (p : Program View Ask) (node : ℕ) (v w : View)
+    (stood stands : List Event → Type 0) (before after : Option (List Noted))
+    → Advances p node v w stood stands before after → p.asks w ≡ None
+    → Turned p node v w stood stands before after
+Turned-of p node v w stood stands before after x over = record {
+  events = x.events;
+  turns = record { runs = x.runs; over = over };
+  standing = x.standing;
+  noting = x.noting;
+}
+
+-- ---- a program within another
+
+-- its events are events of the other
+pub Runs-within : {View Wide Ask : Type 0} (p : Program View Ask) (q : Program Wide Ask) (f : View → Wide)
+    → IsWithin p q f → (v w : View) (es : List Event) → Runs p v es w → Runs q (f v) es (f w)
+Runs-within p q f within v w es (stays at) = stays (f at)
+Runs-within p q f within v w es (goes at a e rest to asked is more) =
+    goes (f at) a e rest (f to) (within.asks at a asked) (within.is a e is)
+    (subst (λ u. Runs q u rest (f to)) (sym (within.heard at a e asked))
+    (Runs-within p q f within (p.heard at e) to rest more))
+
+-- and so are those of a part of a turn
+pub Advances-within : {View Wide Ask : Type 0} (p : Program View Ask) (q : Program Wide Ask) (f : View → Wide)
+    → IsWithin p q f → (node : ℕ) (v w : View) (stood stands : List Event → Type 0) (before after : Option (List Noted))
+    → Advances p node v w stood stands before after → Advances q node (f v) (f w) stood stands before after
+Advances-within p q f within node v w stood stands before after x = record {
+  events = x.events;
+  runs = Runs-within p q f within v w x.events x.runs;
+  standing = x.standing;
+  noting = x.noting;
+}
+
+-- and those of a turn that ends too early
+pub Stops-within : {View Wide Ask : Type 0} (p : Program View Ask) (q : Program Wide Ask) (f : View → Wide)
+    → IsWithin p q f → (node : ℕ) (v : View) (stood stands : List Event → Type 0) (before after : Option (List Noted))
+    → Stops p node v stood stands before after → Stops q node (f v) stood stands before after
+Stops-within p q f within node v stood stands before after x = record {
+  events = x.events;
+  view = f x.view;
+  runs = Runs-within p q f within v x.view x.events x.runs;
+  standing = x.standing;
+  noting = x.noting;
+}

@@ -1,0 +1,76 @@
+-- Turns joined. For this crate and its callers.
+use Rattle.std.proofs.Common.{◌≡◌, inl, inr, ℕ, List, [], ◌∷◌, ◌++◌, map, Option, Some, None, refl, sym, ap, ◌∙◌}
+use Rattle.std.proofs.Common.{subst, append_assoc}
+use Rattle.std.proofs.lemmas.List.{append-nil, map-append}
+use Rattle.rx_model.specs.declared.event.Event.{Event}
+use Rattle.rx_model.specs.declared.event.Noted.{Noted}
+use Rattle.rx_wire.specs.Journal.{HasNoted}
+use Rattle.rx_wire.specs.Turns.{after_all, noted, HasNotedAll, HasNotedMost, Program, Runs, stays, goes}
+
+-- a history behind two lists of events is that behind the second, where the first is behind it already
+pub after_all-append : (xs ys h : List Event) → after_all (xs ++ ys) h ≡ after_all ys (after_all xs h)
+after_all-append [] ys h = refl
+after_all-append (x ∷ xs) ys h = after_all-append xs ys (x ∷ h)
+
+-- what goes from one view to a second and then to a third goes from the first to the third
+pub Runs-append : {View Ask : Type 0} (p : Program View Ask) (v w u : View) (xs ys : List Event)
+    → Runs p v xs w → Runs p w ys u → Runs p v (xs ++ ys) u
+Runs-append p v w u xs ys (stays at) second = second
+Runs-append p v w u xs ys (goes at a e es to asked is first) second =
+    goes at a e (es ++ ys) u asked is (Runs-append p (p.heard at e) to u es ys first second)
+
+-- one event
+pub Runs-one : {View Ask : Type 0} (p : Program View Ask) (v : View) (a : Ask) (e : Event)
+    → p.asks v ≡ Some a → p.is a e → Runs p v (e ∷ []) (p.heard v e)
+Runs-one p v a e asked is = goes v a e [] (p.heard v e) asked is (stays (p.heard v e))
+
+-- one event and then more
+pub Runs-after : {View Ask : Type 0} (p : Program View Ask) (v w : View) (a : Ask) (e : Event) (es : List Event)
+    → p.asks v ≡ Some a → p.is a e → Runs p (p.heard v e) es w → Runs p v (e ∷ es) w
+Runs-after p v w a e es asked is then = goes v a e es w asked is then
+
+-- ---- journals
+
+-- nothing was noted
+pub HasNotedAll-none : (old : Option (List Noted)) (node : ℕ) → HasNotedAll old old node []
+HasNotedAll-none None node = refl
+HasNotedAll-none (Some old) node = sym (ap Some (append-nil old))
+
+-- one event was noted
+pub HasNotedAll-one : (old new : Option (List Noted)) (node : ℕ) (e : Event)
+    → HasNoted old new (noted node e) → HasNotedAll old new node (e ∷ [])
+HasNotedAll-one None new node e is = is
+HasNotedAll-one (Some old) new node e is = is
+
+-- some were noted, and then others
+pub HasNotedAll-append : (old mid new : Option (List Noted)) (node : ℕ) (xs ys : List Event)
+    → HasNotedAll old mid node xs → HasNotedAll mid new node ys → HasNotedAll old new node (xs ++ ys)
+HasNotedAll-append None mid new node xs ys first second =
+    subst (λ (m : Option (List Noted)). HasNotedAll m new node ys) first second
+HasNotedAll-append (Some old) mid new node xs ys first second =
+    let second' : HasNotedAll (Some (old ++ map (noted node) xs)) new node ys =
+    subst (λ (m : Option (List Noted)). HasNotedAll m new node ys) first second in
+    second' ∙ ap Some (append_assoc old (map (noted node) xs) (map (noted node) ys)
+    ∙ ap (λ (zs : List Noted). old ++ zs) (sym (map-append (noted node) xs ys)))
+
+-- some were noted, and then others but maybe their last one
+pub HasNotedMost-append : (old mid new : Option (List Noted)) (node : ℕ) (xs ys : List Event)
+    → HasNotedAll old mid node xs → HasNotedMost mid new node ys → HasNotedMost old new node (xs ++ ys)
+HasNotedMost-append old mid new node xs ys first (inl second) =
+    inl (HasNotedAll-append old mid new node xs ys first second)
+HasNotedMost-append old mid new node xs ys first (inr second) = inr (record {
+  front = xs ++ second.front;
+  last = second.last;
+  are = ap (λ (zs : List Event). xs ++ zs) second.are ∙ sym (append_assoc xs second.front (second.last ∷ []));
+  noted_front = HasNotedAll-append old mid new node xs second.front first second.noted_front;
+})
+
+-- an event whose note was refused
+pub HasNotedMost-refused : (old new : Option (List Noted)) (node : ℕ) (e : Event)
+    → new ≡ old → HasNotedMost old new node (e ∷ [])
+HasNotedMost-refused old new node e same = inr (record {
+  front = [];
+  last = e;
+  are = refl;
+  noted_front = subst (λ (n : Option (List Noted)). HasNotedAll old n node []) (sym same) (HasNotedAll-none old node);
+})
