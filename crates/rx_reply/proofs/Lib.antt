@@ -1,0 +1,4 @@
+pub mod Fronts
+pub mod Streams
+pub mod Spoken
+pub mod Arrays

@@ -1,0 +1,4 @@
+pub mod MemWire
+pub mod UdpWire
+pub mod Wire
+pub mod WireLog
