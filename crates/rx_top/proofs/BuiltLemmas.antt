@@ -1,5 +1,7 @@
 -- What holds of a line that isn't refused after the lines before it, for the run of a plan.
-use Rattle.std.proofs.Common.{◌≡◌, ℕ, ℤ, pos, negsuc, ◌+◌, ◌<◌, ◌≤◌, ◌++◌, ◌&&◌, ◌||◌, not, true, false, List, [], ◌∷◌, length, Option, Some, None, take, ap, refl, cond, zero, suc, zero-add, append_assoc, nat_le, arith}
+use Rattle.std.proofs.Common.{◌≡◌, ℕ, ℤ, pos, negsuc, ◌+◌, ◌<◌, ◌≤◌, ◌++◌, ◌&&◌, ◌||◌, not, true, false, List, [], ◌∷◌}
+use Rattle.std.proofs.Common.{length, Option, Some, None, take, ap, refl, cond, zero, suc, zero-add, append_assoc}
+use Rattle.std.proofs.Common.{nat_le, arith}
 use Rattle.std.proofs.lemmas.Bool.{eqb-true, false≢true, leb-false, ltb-false, not-false, or_parts}
 use Rattle.std.proofs.lemmas.List.{append-nil}
 use Rattle.std.proofs.lemmas.List.Sums.{sum_by-append}
@@ -11,7 +13,8 @@ use Rattle.rx_first_rules.specs.Rules.{is_request, is_taken, passes_front}
 use Rattle.rx_top.specs.declared.plan.Numbered.{Numbered}
 use Rattle.rx_top.specs.declared.plan.PlanLine.TheVariants as lines
 use Rattle.rx_top.specs.declared.plan.TheConstants.{MAX_FORGES}
-use Rattle.rx_top.specs.Plans.{first_service, forge_passes, forges_behind, forges_in, is_later, is_zero, offered_by, offered_to, service_in, service_of}
+use Rattle.rx_top.specs.Plans.{first_service, forge_passes, forges_behind, forges_in, is_later, is_zero, offered_by}
+use Rattle.rx_top.specs.Plans.{offered_to, service_in, service_of}
 
 -- ---- a line of a plan
 

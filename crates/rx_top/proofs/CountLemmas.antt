@@ -1,5 +1,6 @@
 -- What is counted of the lines so far, with one line more.
-use Rattle.std.proofs.Common.{◌≡◌, ℕ, zero, suc, ◌+◌, ◌≤◌, ◌==◌, ◌++◌, cond, false, ◌⊎◌, List, [], ◌∷◌, take, Option, Some, refl, ap, inl, inr, arith, slice_get}
+use Rattle.std.proofs.Common.{◌≡◌, ℕ, zero, suc, ◌+◌, ◌≤◌, ◌==◌, ◌++◌, cond, false, ◌⊎◌, List, [], ◌∷◌, take, Option}
+use Rattle.std.proofs.Common.{Some, refl, ap, inl, inr, arith, slice_get}
 use Rattle.std.proofs.lemmas.Bool.{cases_Bool, eqb-true}
 use Rattle.rx_model.specs.declared.wire.TheConstants.{PIECE_BYTES}
 use Rattle.rx_top.proofs.BuiltLemmas.{first_service-push, forge_is_few, forges_in-push, offered_to-push, write_fits}
@@ -9,7 +10,8 @@ use Rattle.rx_top.specs.declared.plan.Numbered.{Numbered}
 use Rattle.rx_top.specs.declared.plan.PlanLine.{PlanLine}
 use Rattle.rx_top.specs.declared.plan.PlanLine.TheVariants as lines
 use Rattle.rx_top.specs.declared.plan.TheConstants.{MAX_FORGES}
-use Rattle.rx_top.specs.Plans.{IsBuilt, forge_passes, forges_in, is_later, offered_by, offered_to, service_in, service_of}
+use Rattle.rx_top.specs.Plans.{IsBuilt, forge_passes, forges_in, is_later, offered_by, offered_to, service_in}
+use Rattle.rx_top.specs.Plans.{service_of}
 
 -- a place of a list with one element more: one of the list, or the last
 places_push : {X : Type 0} (xs : List X) (x y : X) (i : ℕ) → slice_get (xs ++ x ∷ []) i ≡ Some y

@@ -1,5 +1,6 @@
 -- Numbers in decimal.
-use Rattle.std.proofs.Common.{◌≡◌, ℕ, ◌<◌, ◌≤◌, ◌^◌, ◌-◌, ◌≢◌, ◌==◌, not, true, false, List, [], ◌∷◌, length, None, Result, Ok, Err, pos, refl, ap, inl, inr, arith, rules, nat_le}
+use Rattle.std.proofs.Common.{◌≡◌, ℕ, ◌<◌, ◌≤◌, ◌^◌, ◌-◌, ◌≢◌, ◌==◌, not, true, false, List, [], ◌∷◌, length, None}
+use Rattle.std.proofs.Common.{Result, Ok, Err, pos, refl, ap, inl, inr, arith, rules, nat_le}
 use Rattle.std.proofs.lemmas.Bool.{and_parts, and_right, lt-leb, cases_lt, eqb-false, ne_eqb, not-true}
 use Rattle.std.proofs.lemmas.Str.Parse.{IsNumeralModel, numerals_by_value, parse_digits}
 use Rattle.std.specs.Char.{is_ascii_digit}

@@ -1,5 +1,6 @@
 -- What was written to a call is no longer than what the lines offered to it.
-use Rattle.std.proofs.Common.{◌≡◌, ◌⊎◌, inl, inr, ◌+◌, ◌++◌, ◌==◌, ◌≤◌, cond, true, false, List, [], ◌∷◌, length, slice_get, Some, None, Result, refl, ap, subst, ℕ, zero, suc, arith, length-append}
+use Rattle.std.proofs.Common.{◌≡◌, ◌⊎◌, inl, inr, ◌+◌, ◌++◌, ◌==◌, ◌≤◌, cond, true, false, List, [], ◌∷◌, length}
+use Rattle.std.proofs.Common.{slice_get, Some, None, Result, refl, ap, subst, ℕ, zero, suc, arith, length-append}
 use Rattle.std.proofs.lemmas.List.{length-take}
 use Rattle.rx_model.specs.declared.answers.ServeRefused.{ServeRefused}
 use Rattle.rx_model.specs.declared.answers.WroteGot.TheVariants as writers

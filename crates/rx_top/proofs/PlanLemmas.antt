@@ -1,5 +1,6 @@
 -- A plan read line by line is the plan of the text.
-use Rattle.std.proofs.Common.{◌≡◌, ℕ, suc, ◌+◌, ◌≤◌, add-one, ◌++◌, List, [], ◌∷◌, length, reverse, Ok, Err, refl, ap, sym, ◌∙◌, append_assoc, lit≤}
+use Rattle.std.proofs.Common.{◌≡◌, ℕ, suc, ◌+◌, ◌≤◌, add-one, ◌++◌, List, [], ◌∷◌, length, reverse, Ok, Err, refl, ap}
+use Rattle.std.proofs.Common.{sym, ◌∙◌, append_assoc, lit≤}
 use Rattle.std.proofs.lemmas.Bool.{false_from_ne_true}
 use Rattle.std.proofs.lemmas.List.{append-nil, reverse-append}
 use Rattle.std.proofs.lemmas.Str.{IsUtf8-from_is_utf8, is_utf8-from_IsUtf8}

@@ -1,5 +1,6 @@
 -- How the run of a plan ends.
-use Rattle.std.proofs.Common.{◌≡◌, ◌+◌, ◌≤◌, false, List, [], ◌∷◌, length, reverse, slice_get, take, Option, Some, None, Err, refl, subst, ◌∙◌, ℕ, arith, take_all}
+use Rattle.std.proofs.Common.{◌≡◌, ◌+◌, ◌≤◌, false, List, [], ◌∷◌, length, reverse, slice_get, take, Option, Some, None}
+use Rattle.std.proofs.Common.{Err, refl, subst, ◌∙◌, ℕ, arith, take_all}
 use Rattle.rx_base.proofs.SinkLemmas.{gained_none, gained_all, gained_some_more}
 use Rattle.rx_model.specs.declared.event.Event.{Event}
 use Rattle.rx_model.specs.declared.names.CallName.{CallName}

@@ -1,5 +1,7 @@
 -- The run of a plan, line by line.
-use Rattle.std.proofs.Common.{◌≡◌, ◌+◌, ◌++◌, ◌<◌, ◌≤◌, cond, not, true, false, List, [], ◌∷◌, length, reverse, slice_get, take, Option, Some, None, refl, ap, sym, subst, ◌∙◌, ℕ, zero, suc, arith, get_or, map, unwrap_or}
+use Rattle.std.proofs.Common.{◌≡◌, ◌+◌, ◌++◌, ◌<◌, ◌≤◌, cond, not, true, false, List, [], ◌∷◌, length, reverse}
+use Rattle.std.proofs.Common.{slice_get, take, Option, Some, None, refl, ap, sym, subst, ◌∙◌, ℕ, zero, suc, arith}
+use Rattle.std.proofs.Common.{get_or, map, unwrap_or}
 use Rattle.std.proofs.lemmas.List.{reverse-append, take_more}
 use Rattle.std.proofs.lemmas.Option.{get_or_from_slice_get, slice_get-get_or, slice_get_within}
 use Rattle.std.specs.List.{find}
@@ -24,11 +26,13 @@ use Rattle.rx_top.specs.declared.plan.Numbered.{Numbered}
 use Rattle.rx_top.specs.declared.plan.PlanLine.{PlanLine}
 use Rattle.rx_top.specs.declared.plan.PlanLine.TheVariants as lines
 use Rattle.rx_top.specs.declared.plan.TheConstants.{DEFAULT_SERVICE}
-use Rattle.rx_top.specs.Follows.{Follows, FollowsBack, IsOf, call_refusal, has_server, is_server, name_at, refusal_of, server_refusal}
+use Rattle.rx_top.specs.Follows.{Follows, FollowsBack, IsOf, call_refusal, has_server, is_server, name_at, refusal_of}
+use Rattle.rx_top.specs.Follows.{server_refusal}
 use Rattle.rx_top.specs.Plans.{first_service, is_later, offered_to, service_of}
 use Rattle.rx_top.specs.Runs.{IsServed, plan_setup, trace_of}
 use Rattle.rx_top.specs.Steps.{IsReady, IsWell, Made, event_trace, line_refusal}
-use Rattle.rx_top.proofs.BuiltLemmas.{finish_is_zero, first_service-push, first_service-take, forge_is_taken, write_fits}
+use Rattle.rx_top.proofs.BuiltLemmas.{finish_is_zero, first_service-push, first_service-take, forge_is_taken}
+use Rattle.rx_top.proofs.BuiltLemmas.{write_fits}
 use Rattle.rx_top.proofs.OfferedLaw.{Offered, offered_more}
 
 -- the server and the names behind these lines, the first of which is the server's

@@ -1,5 +1,7 @@
 -- What every line that is read keeps to: a read asks for a byte.
-use Rattle.std.proofs.Common.{◌≡◌, ◌<◌, ◌≤◌, ◌++◌, ◌&&◌, cond, nat_le, nat_lt, true, false, List, [], ◌∷◌, length, reverse, slice_get, Option, Some, None, Result, Ok, Err, refl, subst, ℕ, zero, suc, arith, unwrap_or}
+use Rattle.std.proofs.Common.{◌≡◌, ◌<◌, ◌≤◌, ◌++◌, ◌&&◌, cond, nat_le, nat_lt, true, false, List, [], ◌∷◌, length}
+use Rattle.std.proofs.Common.{reverse, slice_get, Option, Some, None, Result, Ok, Err, refl, subst, ℕ, zero, suc, arith}
+use Rattle.std.proofs.Common.{unwrap_or}
 use Rattle.std.proofs.lemmas.Bool.{leb-true}
 use Rattle.std.specs.Option.{ok_or}
 use Rattle.std.specs.Str.{bytes_eq, is_utf8}

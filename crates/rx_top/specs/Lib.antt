@@ -9,4 +9,7 @@ pub mod Causes
 pub mod Follows
 pub mod Steps
 pub mod Runs
+pub mod Endings
+pub mod Commands
 pub mod Tops
+pub mod Compiles

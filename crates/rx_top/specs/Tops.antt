@@ -1,41 +1,20 @@
--- What the program leaves, by how it ended. Public clauses cite this module.
-use Rattle.std.specs.Prelude.{◌≡◌, ◌⊎◌, ◌++◌, ◌==◌, ◌&&◌, not, Bool, true, if◌then◌else◌, ℕ, List, [], ◌∷◌}
-use Rattle.std.specs.Prelude.{codes, decimal, Option, Some, None, Ok, Err}
-use Rattle.std.specs.Str.{bytes_eq}
+-- What `sim PLAN` leaves, by how it ended. Public clauses cite this module.
+use Rattle.std.specs.Prelude.{◌≡◌, ◌⊎◌, ℕ, List, [], Ok, Err}
 use Rattle.rx_base.specs.Files.{HasFile, IsNoted}
 use Rattle.rx_model.specs.declared.event.Event.{Event}
-use Rattle.rx_top.specs.declared.marks.TheConstants.{MINUS}
 use Rattle.rx_top.specs.declared.plan.LineFault.TheVariants.{BadLine}
 use Rattle.rx_top.specs.declared.plan.LineWhy.{LineWhy}
 use Rattle.rx_top.specs.declared.plan.Numbered.{Numbered}
 use Rattle.rx_top.specs.declared.outcome.PlanWhy.{PlanWhy}
 use Rattle.rx_top.specs.declared.top.SimOutcome.{SimOutcome}
 use Rattle.rx_top.specs.declared.top.SimOutcome.TheVariants as outcomes
-use Rattle.rx_top.specs.declared.top.Status.{Status}
-use Rattle.rx_top.specs.declared.top.Status.TheVariants as statuses
+use Rattle.rx_top.specs.declared.status.Status.{Status}
+use Rattle.rx_top.specs.declared.status.Status.TheVariants as statuses
 use Rattle.rx_top.specs.Causes.{plan_why_text}
+use Rattle.rx_top.specs.Endings.{Seen, memory_text, refused_text, unread_text, unwritten_text}
 use Rattle.rx_top.specs.Plans.{plan_of}
 use Rattle.rx_top.specs.Runs.{Ran, RanSome, RanTo}
 use Rattle.rx_top.specs.Words.{why_text}
-
--- the exit status of the program, by how it ended
-abbrev pub number_of : Status → ℕ
-number_of statuses.Ok = 0
-number_of statuses.Usage = 1
-number_of statuses.Refused = 2
-number_of statuses.Memory = 5
-number_of statuses.FileFault = 6
-number_of statuses.SinkFault = 7
-
--- a word that doesn't begin with `-`
-abbrev pub is_plain : List ℕ → Bool
-is_plain [] = true
-is_plain (b ∷ bs) = not (b == MINUS)
-
--- the file that the words `sim PLAN` name
-abbrev pub plan_name : List (List ℕ) → Option (List ℕ)
-plan_name (command ∷ name ∷ []) = if bytes_eq command (codes "sim") && is_plain name then Some name else None
-plan_name _ = None
 
 -- how the program ends, by how `sim` ended
 abbrev pub status_of : SimOutcome → Status
@@ -46,45 +25,14 @@ status_of outcomes.FileFault = statuses.FileFault
 status_of outcomes.SinkFault = statuses.SinkFault
 status_of outcomes.OutOfMemory = statuses.Memory
 
--- what is said where the words are no command
-abbrev pub usage_text : List ℕ
-usage_text = codes "rx: usage\n"
-
--- what is said where memory is wanted
-abbrev pub memory_text : List ℕ
-memory_text = codes "rx: out of memory\n"
-
--- where in which file, and why
-abbrev pub refused_text : List ℕ → ℕ → List ℕ → List ℕ
-refused_text name line why = codes "rx: " ++ name ++ codes ":" ++ decimal line ++ codes ": " ++ why ++ codes "\n"
-
 -- what `sim` of this file says of how it ended
 abbrev pub said_of : SimOutcome → List ℕ → List ℕ
 said_of outcomes.Ran name = []
 said_of (outcomes.BadLine line why) name = refused_text name line (why_text why)
 said_of (outcomes.Refused line why) name = refused_text name line (plan_why_text why)
-said_of outcomes.FileFault name = codes "rx: cannot read " ++ name ++ codes "\n"
-said_of outcomes.SinkFault name = codes "rx: cannot write\n"
+said_of outcomes.FileFault name = unread_text name
+said_of outcomes.SinkFault name = unwritten_text
 said_of outcomes.OutOfMemory name = memory_text
-
--- what the files tell, the name whose read failed last, and what the sink tells, the latter two before and after
-pub record Seen : Type 0 where
-  pub contents : Option (List (List ℕ × List ℕ))
-  pub failed_before : Option (Option (List ℕ))
-  pub failed : Option (Option (List ℕ))
-  pub out_before : Option (List ℕ)
-  pub out : Option (List ℕ)
-
--- that of these files and this sink, by what such files and sinks tell
-abbrev pub seen_by : {F O : Type 0} → (F → Option (List (List ℕ × List ℕ))) → (F → Option (Option (List ℕ)))
-    → (O → Option (List ℕ)) → F → F → O → O → Seen
-seen_by contents failed_last told files_before files out_before out = record {
-  contents = contents files_before;
-  failed_before = failed_last files_before;
-  failed = failed_last files;
-  out_before = told out_before;
-  out = told out;
-}
 
 -- the file has a text that gives these lines
 pub record HasPlan (name : List ℕ) (seen : Seen) (ls : List Numbered) : Type 0 where

@@ -1,6 +1,7 @@
 //! A plan while it is read.
 
-ghost use Rattle.std.specs.Prelude.{◌≡◌, ◌+◌, ◌++◌, ◌∷◌, ◌≤◌, ◌<◌, ◌^◌, ◌||◌, ◌&&◌, not, nat_le, ℕ, [], false, length, if◌then◌else◌, IfOk, OnOk};
+ghost use Rattle.std.specs.Prelude.{◌≡◌, ◌+◌, ◌++◌, ◌∷◌, ◌≤◌, ◌<◌, ◌^◌, ◌||◌, ◌&&◌, not, nat_le, ℕ, [], false, length};
+ghost use Rattle.std.specs.Prelude.{if◌then◌else◌, IfOk, OnOk};
 ghost use Rattle.rx_model.specs.declared.wire.TheConstants.{PIECE_BYTES};
 ghost use Rattle.rx_first_rules.specs.Rules.{is_request, passes_front};
 ghost use Rattle.rx_top.specs.Plans.{forge_passes, forges_in, is_later, offered_by, service_in, service_of, IsBuilt};

@@ -1,8 +1,10 @@
 //! The seven lines of a plan, word by word.
 
 ghost use Rattle.std.specs.Prelude.{◌≡◌, ◌<◌, ◌∷◌, None, drop, length, IfOk, IfErr};
-ghost use Rattle.rx_top.specs.Words.{first_as, call_word, node_word, host_word, max_word, code_word, bytes_word, service_word, no_more};
-ghost use Rattle.rx_top.specs.Lines.{server_line, server_options, with_option, forge_line, accept_line, read_line, write_line, finish_line, poll_line, plan_line};
+ghost use Rattle.rx_top.specs.Words.{first_as, call_word, node_word, host_word, max_word, code_word, bytes_word};
+ghost use Rattle.rx_top.specs.Words.{service_word, no_more};
+ghost use Rattle.rx_top.specs.Lines.{server_line, server_options, with_option, forge_line, accept_line, read_line};
+ghost use Rattle.rx_top.specs.Lines.{write_line, finish_line, poll_line, plan_line};
 ghost use Rattle.rx_top.specs.Reading.{IsAnswer, IsUnfilled};
 
 use crate::bytes_word::bytes_in;

@@ -2,55 +2,25 @@
 
 ghost use Rattle.std.specs.Prelude.{◌≡◌, ◌≢◌, map, List, ℕ, Some, None, IfSome, IfNone};
 ghost use Rattle.std.specs.IoError.{error_kind};
-ghost use Rattle.std.specs.List.{flat_map};
 ghost use Rattle.std.specs.String.{string_bytes};
 ghost use Rattle.rx_base.specs.Sink.{HasRisen, IsPut};
-ghost use Rattle.rx_top.specs.Tops.{SimIs, SimLeaves, is_plain, memory_text, number_of, plan_name, refused_text};
-ghost use Rattle.rx_top.specs.Tops.{said_of, seen_by, status_of, usage_text};
+ghost use Rattle.rx_top.specs.Commands.{file_named, is_plain, plan_name, xg_name};
+ghost use Rattle.rx_top.specs.Compiles.{CompileLeaves};
+ghost use Rattle.rx_top.specs.Endings.{memory_text, seen_by, usage_text};
+ghost use Rattle.rx_top.specs.Tops.{SimIs, SimLeaves, said_of, status_of};
 
+use crate::compile::{compile_file, say_compiled};
 use crate::marks::MINUS;
 use crate::outcome::{Outcome, PlanWhy};
 use crate::plan::{LineFault, LineWhy};
 use crate::reader::read_plan;
+use crate::saying::{say, say_refused};
+use crate::status::Status;
 use crate::world::run;
-use itoa::Buffer;
 use rx_base::{Files, ReadFault, Sink};
 use std::alloc::Global;
 use std::io;
 use std::io::ErrorKind;
-
-/// How the program ended.
-#[derive(Clone, Copy, Debug, PartialEq, Eq)]
-pub enum Status {
-    /// The command was done whole.
-    Ok,
-    /// The words aren't a command.
-    Usage,
-    /// A line of a file is refused; its place and cause were said on `err`.
-    Refused,
-    /// There is no memory for the command.
-    Memory,
-    /// A file can't be read; its name was said on `err`.
-    FileFault,
-    /// `out` takes no more bytes.
-    SinkFault,
-}
-
-impl Status {
-    /// The exit status of the program.
-    pub fn number(self) -> u8
-        ensures { result ≡ number_of self }
-    {
-        match self {
-            Status::Ok => 0,
-            Status::Usage => 1,
-            Status::Refused => 2,
-            Status::Memory => 5,
-            Status::FileFault => 6,
-            Status::SinkFault => 7,
-        }
-    }
-}
 
 /// How `sim PLAN` ended.
 #[derive(Clone, Copy, Debug, PartialEq, Eq)]
@@ -83,7 +53,8 @@ impl SimOutcome {
     }
 }
 
-/// Does the command that the words name: `sim PLAN` runs a plan of one server and puts its trace on `out`.
+/// Does the command that the words name: `sim PLAN` runs a plan of one server and puts its trace on `out`, `compile XG`
+/// puts the table of an interface file.
 /// What isn't done whole says its line on `err`, as far as that takes it.
 pub fn rx_main<F: Files, O: Sink, E: Sink>(
     alloc: Global,
@@ -94,7 +65,9 @@ pub fn rx_main<F: Files, O: Sink, E: Sink>(
 ) -> Status
     // Words that are no command.
     ensures usage { result ≡ Status.Usage → plan_name (map string_bytes words.now) ≡ None }
-    ensures no_sim { plan_name (map string_bytes words.now) ≡ None → result ≡ Status.Usage }
+    ensures usage_xg { result ≡ Status.Usage → xg_name (map string_bytes words.now) ≡ None }
+    ensures no_command { plan_name (map string_bytes words.now) ≡ None
+        → xg_name (map string_bytes words.now) ≡ None → result ≡ Status.Usage }
     ensures usage_out { result ≡ Status.Usage → O.told out.new ≡ O.told out.old }
     ensures usage_said { result ≡ Status.Usage
         → IsPut (E.told err.old) (E.told err.new) (E.faults err.old) (E.faults err.new) usage_text }
@@ -103,6 +76,13 @@ pub fn rx_main<F: Files, O: Sink, E: Sink>(
     ensures sim { (name : List ℕ) → plan_name (map string_bytes words.now) ≡ Some name
         → SimLeaves result name (seen_by F.contents F.failed_last O.told files.old files.new out.old out.new)
         (IsPut (E.told err.old) (E.told err.new) (E.faults err.old) (E.faults err.new)) }
+
+    // What `compile XG` does, and what it says of that.
+    ensures compile { (name : List ℕ) → xg_name (map string_bytes words.now) ≡ Some name
+        → CompileLeaves result name (seen_by F.contents F.failed_last O.told files.old files.new out.old out.new)
+        (IsPut (E.told err.old) (E.told err.new) (E.faults err.old) (E.faults err.new)) }
+
+    // A command that is done whole says nothing.
     ensures quiet_told { result ≡ Status.Ok → E.told err.new ≡ E.told err.old }
     ensures quiet_faults { result ≡ Status.Ok → E.faults err.new ≡ E.faults err.old }
 
@@ -114,13 +94,18 @@ pub fn rx_main<F: Files, O: Sink, E: Sink>(
     ensures same_contents { F.contents files.new ≡ F.contents files.old }
     ensures same_failed_last { result ≢ Status.FileFault → F.failed_last files.new ≡ F.failed_last files.old }
 {
-    let Some(name) = plan_name(words) else {
-        say(err, &["rx: usage\n"]);
-        return Status::Usage;
-    };
-    let outcome = sim(alloc, name, files, out);
-    say_outcome(err, name, outcome);
-    outcome.status()
+    if let Some(name) = file_named("sim", words) {
+        let outcome = sim(alloc, name, files, out);
+        say_outcome(err, name, outcome);
+        return outcome.status();
+    }
+    if let Some(name) = file_named("compile", words) {
+        let ended = compile_file(alloc, name, files, out);
+        say_compiled(err, name, &ended);
+        return ended.status();
+    }
+    say(err, &["rx: usage\n"]);
+    Status::Usage
 }
 
 /// Ends the program where the system doesn't give its words: for want of memory, or because they aren't text, and so
@@ -142,15 +127,15 @@ pub fn end_without_words<E: Sink>(error: io::Error, err: &mut E) -> Status
     }
 }
 
-/// The file that the words `sim PLAN` name.
-fn plan_name(words: &[String]) -> Option<&str>
-    ensures some { IfSome result (λ name. plan_name (map string_bytes words.now) ≡ Some name.now) }
-    ensures none { IfNone result (plan_name (map string_bytes words.now) ≡ None) }
+/// The file that words of this command and a file name.
+fn file_named<'a>(command: &str, words: &'a [String]) -> Option<&'a str>
+    ensures some { IfSome result (λ name. file_named command.now (map string_bytes words.now) ≡ Some name.now) }
+    ensures none { IfNone result (file_named command.now (map string_bytes words.now) ≡ None) }
 {
-    let [command, name] = words else {
+    let [first, name] = words else {
         return None;
     };
-    if command.as_str() == "sim" && is_plain(name.as_str()) {
+    if first.as_str() == command && is_plain(name.as_str()) {
         Some(name.as_str())
     } else {
         None
@@ -208,30 +193,6 @@ fn say_outcome<E: Sink>(err: &mut E, name: &str, outcome: SimOutcome)
         SimOutcome::FileFault => say(err, &["rx: cannot read ", name, "\n"]),
         SimOutcome::SinkFault => say(err, &["rx: cannot write\n"]),
         SimOutcome::OutOfMemory => say(err, &["rx: out of memory\n"]),
-    }
-}
-
-/// Says which line is refused, and why.
-fn say_refused<E: Sink>(err: &mut E, name: &str, line: u32, why: &str)
-    ensures { IsPut (E.told err.old) (E.told err.new) (E.faults err.old) (E.faults err.new)
-        (refused_text name.now line why.now) }
-{
-    let mut digits = Buffer::new();
-    say(
-        err,
-        &["rx: ", name, ":", digits.format(line), ": ", why, "\n"],
-    );
-}
-
-/// Puts the parts of a line in order, up to the first whose put fails: a fault of `err` changes no answer.
-fn say<E: Sink>(err: &mut E, parts: &[&str])
-    ensures { IsPut (E.told err.old) (E.told err.new) (E.faults err.old) (E.faults err.new)
-        (flat_map (λ part. part.now) parts.now) }
-{
-    for part in parts {
-        if err.put(part.as_bytes()).is_err() {
-            return;
-        }
     }
 }
 

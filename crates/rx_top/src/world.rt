@@ -48,8 +48,8 @@ pub fn run<O: Sink>(alloc: Global, plan: &Plan, out: &mut O) -> Outcome
     Outcome::Ran
 }
 
-/// Makes the event of a line behind the server's, keeps the name that it answers and puts its trace; or says how the run
-/// ends there.
+/// Makes the event of a line behind the server's, keeps the name that it answers and puts its trace; or says how the
+/// run ends there.
 fn run_line<O: Sink>(
     alloc: Global,
     server: &mut Server,

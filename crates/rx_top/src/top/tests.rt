@@ -215,7 +215,7 @@ static REFUSED: [Row<'static>; 8] = [
 ];
 
 /// Room for all that a plan here puts.
-const ROOM: usize = 16_384;
+pub const ROOM: usize = 16_384;
 
 /// Runs `sim p` where the file `p` has these bytes.
 fn sim(
@@ -233,7 +233,7 @@ fn sim(
     Ok(rx_main(alloc, &words, &mut files, out, err))
 }
 
-fn words_of(alloc: Global, texts: &[&str]) -> Result<Vec<String>, AllocError> {
+pub fn words_of(alloc: Global, texts: &[&str]) -> Result<Vec<String>, AllocError> {
     let mut words = Vec::new(alloc);
     for text in texts {
         words.push(String::from_str(alloc, text)?)?;
@@ -340,7 +340,7 @@ fn what_is_no_text_is_refused_at_line_0(rt: HostRuntime) -> Result<(), Fail> {
 #[test]
 fn other_words_are_no_command(rt: HostRuntime) -> Result<(), Fail> {
     let alloc = rt.alloc();
-    let lists: [&[&str]; 8] = [
+    let lists: [&[&str]; 12] = [
         &[],
         &["sim"],
         &["run", "p"],
@@ -349,6 +349,10 @@ fn other_words_are_no_command(rt: HostRuntime) -> Result<(), Fail> {
         &["sim", "-p"],
         &["sim", "-"],
         &["sim", "--", "p"],
+        &["compile"],
+        &["compile", "p", "q"],
+        &["compile", "-p"],
+        &["Compile", "p"],
     ];
     for texts in lists {
         let words = words_of(alloc, texts)?;

@@ -1,7 +1,7 @@
 use Rattle.std.proofs.Common.{◌≡◌, take}
 use Rattle.std.specs.List.{flat_map}
 use Rattle.rx_base.specs.Sink.{Gained}
-use Rattle.rx_top.proofs.top.say.Given as goal
+use Rattle.rx_top.proofs.saying.say.Given as goal
 
 -- the parts so far were put, and no fault was counted
 abbrev pub invariant-loop-part : goal.invariant-loop-part

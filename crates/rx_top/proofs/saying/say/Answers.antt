@@ -1,7 +1,7 @@
 use Rattle.std.proofs.Common.{◌≡◌, ◌∙◌, false, true, is_err, refl, sym}
 use Rattle.rx_base.proofs.SinkLemmas.{gained_none}
 use Rattle.rx_top.proofs.TopLemmas.{all_put, gained_part, not_err, on_err, some_put}
-use Rattle.rx_top.proofs.top.say.Goals as goal
+use Rattle.rx_top.proofs.saying.say.Goals as goal
 
 pub loop-part-init : goal.loop-part-init
 loop-part-init g c = record { told = gained_none (g.E.Sink.told c.args.err.now); faults = refl }

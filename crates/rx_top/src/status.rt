@@ -1,0 +1,37 @@
+//! How the program ends.
+
+ghost use Rattle.std.specs.Prelude.{◌≡◌};
+ghost use Rattle.rx_top.specs.Endings.{number_of};
+
+/// How the program ended.
+#[derive(Clone, Copy, Debug, PartialEq, Eq)]
+pub enum Status {
+    /// The command was done whole.
+    Ok,
+    /// The words aren't a command.
+    Usage,
+    /// A line of a file is refused; its place and cause were said on `err`.
+    Refused,
+    /// There is no memory for the command.
+    Memory,
+    /// A file can't be read; its name was said on `err`.
+    FileFault,
+    /// `out` takes no more bytes.
+    SinkFault,
+}
+
+impl Status {
+    /// The exit status of the program.
+    pub fn number(self) -> u8
+        ensures { result ≡ number_of self }
+    {
+        match self {
+            Status::Ok => 0,
+            Status::Usage => 1,
+            Status::Refused => 2,
+            Status::Memory => 5,
+            Status::FileFault => 6,
+            Status::SinkFault => 7,
+        }
+    }
+}
