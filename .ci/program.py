@@ -77,7 +77,8 @@ def examples():
 def usage():
     """Words that are no command, and words that are no text."""
     write("plan", "")
-    for words in ([], [""], ["sim"], ["sim", "plan", "plan"], ["sim", "-plan"], ["Sim", "plan"], ["plan", "sim"]):
+    lists = [], [""], ["sim"], ["sim", "plan", "plan"], ["sim", "-plan"], ["Sim", "plan"], ["plan", "sim"]
+    for words in (*lists, ["compile"], ["compile", "plan", "plan"], ["compile", "-plan"], ["compile", "--", "plan"]):
         expect(f"the words {words}", run(*words), "Usage")
     for words in ([b"\xff"], [b"sim", b"\xff"], [b"sim", b"plan", b"\xed\xa0\x80"]):
         expect(f"the words {words}", run(*words), "Usage")
@@ -107,6 +108,46 @@ def plans():
     expect("a long line", run("sim", long), "Ok", b"s take 10.0.0.2:7001 " + b"5a" * 1_000_000 + b" -> bad kind 90\n")
     many = write("many", server + "accept\n" * 20_000)
     expect("many lines", run("sim", many), "Ok", b"s accept -> none\n" * 20_000)
+
+
+def interfaces():
+    """Interface files: each of examples/afs/ has its table; each kind of refusal has its line, and nothing is printed."""
+    for source in sorted((top / "examples" / "afs").glob("*.xg")):
+        table = source.with_suffix(".table").read_bytes()
+        expect(f"examples/afs/{source.name}", run("compile", source), "Ok", table)
+    counted = "startingopcode 5 P(int a, OUT int b); Q(c_t x); typedef int c_t;"
+    table = b"interface - -\ntype c_t int\nproc 5 P plain in:a:int out:b:int\nproc 6 Q plain in:x:c_t\n"
+    expect("counted opcodes", run("compile", write("x.xg", counted)), "Ok", table)
+    expect("no items", run("compile", write("x.xg", "")), "Ok", b"interface - -\n")
+    rows = [
+        ("const A = 08;", "1", "badnumber"),
+        ("const A = 1;\n#define A 1", "2", "badline"),
+        ("/*\n*/\nconst A = 1 @", "3", "badchar"),
+        ("const A 3;", "1", "unexpected ="),
+        ("struct S {", "1", "unexpected NAME"),
+        ("\ntypedef float F;", "2", "outbyname float"),
+        ("const A = 1; const A = 2;", "0", "twice A"),
+        ("P(IN T *t) = 1;", "0", "unknown T"),
+        ("typedef int T[-1];", "0", "size T"),
+        ("struct S { S s; };", "0", "endless S"),
+        ("P(int a);", "0", "opcode P"),
+        ("P(int a) = 1; Q(int a) = 1;", "0", "opcodetwice 1"),
+        (b"const A = 1;\n\xff", "0", "word"),
+        # a fault of the tokens comes first, then one of the grammar, wherever each stands
+        ("P(T t);\nconst 3;\nconst A = 08;", "3", "badnumber"),
+        ("P(T t);\nconst 3;", "2", "unexpected NAME"),
+    ]
+    for text, line, why in rows:
+        got = run("compile", write("x.xg", text))
+        expect(f"the interface file {text}", got, "Refused", FILE="x.xg", LINE=line, WHY=why)
+    # a table of 0.1 MB through a pipe that takes 64 KB at a time
+    many = "".join(f"const A{n} = {n};\ntypedef opaque T{n}<A{n}>;\n" for n in range(1, 5_001))
+    table = "interface - -\n" + "".join(f"type T{n} opaque<{n}>\n" for n in range(1, 5_001))
+    expect("many types", run("compile", write("x.xg", many)), "Ok", table.encode())
+    expect("no such file", run("compile", "no.xg"), "FileFault", NAME="no.xg")
+    for place in ("/dev/full", "&-"):
+        through = ["sh", "-c", f'exec "$@" >{place}', "sh"]
+        expect(f"a table to {place}", run("compile", write("x.xg", ""), through=through), "SinkFault")
 
 
 def files():
@@ -208,7 +249,7 @@ def script():
 
 with tempfile.TemporaryDirectory() as folder:
     os.chdir(folder)
-    for part in (examples, usage, plans, files, streams, memory, script):
+    for part in (examples, usage, plans, interfaces, files, streams, memory, script):
         part()
     os.chdir(top)
 print(f"the program: {len(failed)} runs failed" if failed else "the program: each run ended and printed as it is to")
