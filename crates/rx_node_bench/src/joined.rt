@@ -1,0 +1,103 @@
+ghost use Rattle.std.specs.Prelude.{◌≤◌};
+
+use rx_class::Null;
+use rx_client::Client;
+use rx_due::Steps;
+use rx_model::wire::{DATAGRAM_BYTES, DEFAULT_CALLS, DEFAULT_SLOTS, DEFAULT_WINDOW};
+use rx_model::{Host, Limits};
+use rx_server::Server;
+use std::alloc::{AllocError, Global};
+use std::sync::ledger::Ledger;
+
+/// The host of the server.
+pub const SERVER: Host = Host {
+    addr: 0x0a00_0001,
+    port: 7000,
+};
+
+/// The host of the client.
+pub const CLIENT: Host = Host {
+    addr: 0x0a00_0002,
+    port: 7001,
+};
+
+/// The service of the server.
+pub const SERVICE: u16 = 1;
+
+/// The most idle connections.
+pub const MAX_IDLE: u32 = 65_535;
+
+/// The most datagrams that a node gives at a time.
+const MOST_GIVEN: u32 = 4096;
+
+/// The end of moments.
+const END: u64 = 1 << 62;
+
+/// A client and a server that are joined in memory.
+#[derive(Drop)]
+pub struct Joined {
+    pub client: Client<Null>,
+    pub server: Server<Null>,
+    /// The datagram that is on its way.
+    room: [u8; DATAGRAM_BYTES],
+    /// How many datagrams were given and taken.
+    pub datagrams: u64,
+}
+
+impl Joined {
+    /// Nodes with room for so many idle connections and one more.
+    pub fn make(alloc: Global, idle: u32) -> Result<Joined, AllocError>
+        requires { idle ≤ 65535 }
+    {
+        let limits = Limits {
+            conns: idle + 1,
+            calls: DEFAULT_CALLS,
+            slots: DEFAULT_SLOTS,
+            window: DEFAULT_WINDOW,
+        };
+        Ok(Joined {
+            client: Client::make(alloc, &limits, CLIENT, 1, Null)?,
+            server: Server::make(alloc, &limits, SERVICE, Null, 0)?,
+            room: [0; DATAGRAM_BYTES],
+            datagrams: 0,
+        })
+    }
+
+    /// Both moments move on by so many milliseconds.
+    pub fn wait(&mut self, time: u64) {
+        let now = self.client.moment().saturating_add(time);
+        if now >= END {
+            return;
+        }
+        if self.client.moment() <= now {
+            self.client.clock(now);
+        }
+        if self.server.moment() <= now {
+            self.server.clock(now);
+        }
+    }
+
+    /// The client gives all that is due, and the server takes it.
+    pub fn client_gives<L: Ledger>(&mut self, steps: &mut Steps<L>) {
+        for _ in 0..MOST_GIVEN {
+            let Some((_to, count)) = self.client.poll(&mut self.room, steps) else {
+                return;
+            };
+            let (datagram, _rest) = self.room.split_at(count.min(DATAGRAM_BYTES));
+            let _took = self.server.take(CLIENT, datagram);
+            self.datagrams = self.datagrams.wrapping_add(1);
+        }
+    }
+
+    /// The server gives all that is due, and the client takes it.
+    pub fn server_gives<L: Ledger>(&mut self, steps: &mut Steps<L>) {
+        for _ in 0..MOST_GIVEN {
+            let Some((_to, count)) = self.server.poll(&mut self.room, steps) else {
+                return;
+            };
+            let (datagram, _rest) = self.room.split_at(count.min(DATAGRAM_BYTES));
+            let _took = self.client.take(SERVER, datagram);
+            self.datagrams = self.datagrams.wrapping_add(1);
+        }
+    }
+}
