@@ -27,7 +27,7 @@ const WIDE: Limits = Limits {
     ..LIMITS
 };
 
-static STORIES: [Story; 9] = [
+static STORIES: [Story; 10] = [
     Story {
         name: "channels, fifth-call",
         setup: USUAL,
@@ -114,6 +114,28 @@ static STORIES: [Story; 9] = [
                 Deliver(4, Took::Heard),
                 Idle(S),
                 Live(S, 1),
+            ],
+        ],
+    },
+    Story {
+        name: "server-limits, a handler at work",
+        setup: Setup {
+            server: ONE_CALL,
+            ..USUAL
+        },
+        parts: &[
+            SENT,
+            &[
+                Accept(Some(N)),
+                Forge(
+                    S,
+                    CLIENT,
+                    "#4 00000002 00000001 00000002 0107000000000001",
+                    Took::Busy,
+                ),
+                HandlerRead(N, 16, ServeRead::Gone(-1), ""),
+                Poll(S, "#4 00000002 00000000 00000001 0300000000000001"),
+                Idle(S),
             ],
         ],
     },

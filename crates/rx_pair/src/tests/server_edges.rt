@@ -43,6 +43,7 @@ static STORIES: [Story; 5] = [
                 Took::Bad(BadMsg::AbortShort),
             ),
             Forge(S, CLIENT, "P 0106000000000001", Took::Foreign),
+            Forge(S, CLIENT, "P 0106000000000002", Took::Foreign),
             Forge(S, CLIENT, "P 0301000000000002", Took::Strange),
             Forge(S, CLIENT, "P 0601000000000001", Took::Strange),
             Forge(S, CLIENT, "P 0701000000000001", Took::Strange),
