@@ -38,6 +38,7 @@ pub fn is_data_datagram(bytes: &[u8]) -> bool
     bytes.len() >= HEADER_BYTES && bytes[20] == DATA
 }
 
+/// Whether a datagram is DATA that says of its first packet that another follows in it (`rx.h`, `RX_JUMBO_PACKET`).
 pub fn is_jumbo(bytes: &[u8]) -> bool
     ensures { result ≡ is_jumbo bytes.now }
 {

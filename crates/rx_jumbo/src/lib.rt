@@ -15,6 +15,7 @@ mod tests;
 mod text;
 mod write;
 
+pub use fields::is_jumbo;
 pub use joiner::Joiner;
 pub use laws::{numbers_of_jumbo, splits_where_it_can};
 pub use sizes::{JUMBO_BYTES, JUMBO_PARTS, LINK_BYTES, PART_BYTES};
