@@ -1,0 +1,4 @@
+pub mod Nodes
+pub mod Events
+pub mod Waits
+pub mod Lending
