@@ -120,26 +120,30 @@ def interfaces():
     expect("counted opcodes", run("compile", write("x.xg", counted)), "Ok", table)
     expect("no items", run("compile", write("x.xg", "")), "Ok", b"interface - -\n")
     rows = [
-        ("const A = 08;", "1", "badnumber"),
-        ("const A = 1;\n#define A 1", "2", "badline"),
-        ("/*\n*/\nconst A = 1 @", "3", "badchar"),
-        ("const A 3;", "1", "unexpected ="),
-        ("struct S {", "1", "unexpected NAME"),
-        ("\ntypedef float F;", "2", "outbyname float"),
-        ("const A = 1; const A = 2;", "0", "twice A"),
-        ("P(IN T *t) = 1;", "0", "unknown T"),
-        ("typedef int T[-1];", "0", "size T"),
-        ("struct S { S s; };", "0", "endless S"),
-        ("P(int a);", "0", "opcode P"),
-        ("P(int a) = 1; Q(int a) = 1;", "0", "opcodetwice 1"),
-        (b"const A = 1;\n\xff", "0", "word"),
-        # a fault of the tokens comes first, then one of the grammar, wherever each stands
-        ("P(T t);\nconst 3;\nconst A = 08;", "3", "badnumber"),
-        ("P(T t);\nconst 3;", "2", "unexpected NAME"),
+        # the worked examples, by their names
+        ("wrong-digit", "const A = 08;", "1", "badnumber"),
+        ("missing-equals", "const A 3;", "1", "unexpected ="),
+        ("float-by-name", "typedef float F;", "1", "outbyname float"),
+        ("preprocessor-line", "#define A 1", "1", "badline"),
+        ("endless-struct", "struct S { S s; };", "0", "endless S"),
+        ("unknown-type", "P(IN T *t) = 1;", "0", "unknown T"),
+        ("no-opcode", "P(int a);", "0", "opcode P"),
+        ("opcode-twice", "P(int a) = 1; Q(int a) = 1;", "0", "opcodetwice 1"),
+        # and the other kinds, each on its line
+        ("a line that isn't skipped", "const A = 1;\n#define A 1", "2", "badline"),
+        ("a character behind a comment of two lines", "/*\n*/\nconst A = 1 @", "3", "badchar"),
+        ("the end", "struct S {", "1", "unexpected NAME"),
+        ("a word that is out by name", "\ntypedef float F;", "2", "outbyname float"),
+        ("two constants", "const A = 1; const A = 2;", "0", "twice A"),
+        ("a size below 0", "typedef int T[-1];", "0", "size T"),
+        ("no UTF-8", b"const A = 1;\n\xff", "0", "word"),
+        # a fault of the tokens comes first, then one of the grammar, then one of the meaning, wherever each stands
+        ("three kinds of faults", "P(T t);\nconst 3;\nconst A = 08;", "3", "badnumber"),
+        ("two kinds of faults", "P(T t);\nconst 3;", "2", "unexpected NAME"),
     ]
-    for text, line, why in rows:
+    for what, text, line, why in rows:
         got = run("compile", write("x.xg", text))
-        expect(f"the interface file {text}", got, "Refused", FILE="x.xg", LINE=line, WHY=why)
+        expect(f"the interface file with {what}", got, "Refused", FILE="x.xg", LINE=line, WHY=why)
     # a table of 0.1 MB through a pipe that takes 64 KB at a time
     many = "".join(f"const A{n} = {n};\ntypedef opaque T{n}<A{n}>;\n" for n in range(1, 5_001))
     table = "interface - -\n" + "".join(f"type T{n} opaque<{n}>\n" for n in range(1, 5_001))
