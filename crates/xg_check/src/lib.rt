@@ -27,6 +27,3 @@ mod values;
 pub use checker::check;
 pub use fault::CheckFault;
 pub use laws::{meaning_is_sound, no_type_is_endless, procedures_differ, types_differ};
-
-#[cfg(test)]
-mod tests;

@@ -14,3 +14,6 @@ mod printing;
 pub use compiler::compile;
 pub use fault::CompileFault;
 pub use printing::table;
+
+#[cfg(test)]
+mod tests;

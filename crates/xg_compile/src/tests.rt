@@ -1,31 +1,16 @@
-mod printed;
-
-use crate::check;
-use printed::table;
+use crate::{compile, table};
 use std::alloc::{AllocError, Global};
 use std::process::Abort;
 use std::test::*;
-use xg_lex::{Tokens, lex};
-use xg_parse::{Tree, parse};
 
-fn checked(alloc: Global, tree: &Tree) -> Result<String, AllocError> {
-    match check(alloc, tree) {
-        Ok(iface) => table(alloc, &iface),
-        Err(fault) => format!(in alloc; "{fault}"),
-    }
-}
-
-fn parsed(alloc: Global, tokens: &Tokens) -> Result<String, AllocError> {
-    match parse(alloc, tokens) {
-        Ok(tree) => checked(alloc, &tree),
-        Err(fault) => format!(in alloc; "{fault}"),
-    }
-}
-
+/// The table of the text, or its first fault behind its line.
 fn answer(alloc: Global, text: &str) -> Result<String, AllocError> {
-    match lex(alloc, text) {
-        Ok(tokens) => parsed(alloc, &tokens),
-        Err(fault) => format!(in alloc; "{fault}"),
+    match compile(alloc, text) {
+        Ok(iface) => table(alloc, &iface),
+        Err(fault) => {
+            let line = fault.line();
+            format!(in alloc; "{line}: {fault}")
+        }
     }
 }
 
@@ -86,20 +71,25 @@ fn texts_have_their_tables(rt: HostRuntime) -> Result<(), AllocError> {
             "interface - -\ntype A hyper\ntype B hyper\ntype C uhyper\ntype D uhyper\ntype E bool\n",
         ),
         (
-            "typedef short A; typedef u_short B; typedef unsigned short C; typedef char D; typedef u_char E; typedef unsigned char F;",
+            "typedef short A; typedef u_short B; typedef unsigned short C; typedef char D; typedef u_char E; \
+            typedef unsigned char F;",
             "interface - -\ntype A short\ntype B ushort\ntype C ushort\ntype D char\ntype E uchar\ntype F uchar\n",
         ),
         (
-            "typedef string A<>; typedef opaque B<>; typedef int C<>; typedef opaque D[3]; typedef int E[N]; const N = 0x10;",
-            "interface - -\ntype A string<4294967295>\ntype B opaque<4294967295>\ntype C int<4294967295>\ntype D opaque[3]\ntype E int[16]\n",
+            "typedef string A<>; typedef opaque B<>; typedef int C<>; typedef opaque D[3]; typedef int E[N]; \
+            const N = 0x10;",
+            "interface - -\ntype A string<4294967295>\ntype B opaque<4294967295>\ntype C int<4294967295>\n\
+            type D opaque[3]\ntype E int[16]\n",
         ),
         (
             "enum E { A, B = 7, C, D = -3, F }; const G = C; typedef int H[G];",
             "interface - -\nenum E A=0 B=7 C=8 D=-3 F=-2\ntype H int[8]\n",
         ),
         (
-            "union U switch (E t) { case A: case B: int a; case C: void; default: T *b; }; enum E { A, B, C, D }; typedef int T;",
-            "interface - -\nunion U E case 0:a:int case 1:a:int case 2:void default:b:T*\nenum E A=0 B=1 C=2 D=3\ntype T int\n",
+            "union U switch (E t) { case A: case B: int a; case C: void; default: T *b; }; \
+            enum E { A, B, C, D }; typedef int T;",
+            "interface - -\nunion U E case 0:a:int case 1:a:int case 2:void default:b:T*\n\
+            enum E A=0 B=1 C=2 D=3\ntype T int\n",
         ),
         (
             "union U switch (B t) { case 0: int a; case 1: int a; }; typedef bool B;",
@@ -115,11 +105,13 @@ fn texts_have_their_tables(rt: HostRuntime) -> Result<(), AllocError> {
         ),
         (
             "startingopcode 7 Q() = 20; R(); S(); T() = 3; V() multi; startingopcode 1; W();",
-            "interface - -\nproc 20 Q plain\nproc 7 R plain\nproc 8 S plain\nproc 3 T plain\nproc 4 V multi\nproc 1 W plain\n",
+            "interface - -\nproc 20 Q plain\nproc 7 R plain\nproc 8 S plain\nproc 3 T plain\nproc 4 V multi\n\
+            proc 1 W plain\n",
         ),
         (
             "P(OUT int a, int b, INOUT int *c, int d<2>, IN opaque e[4], string f<>) = 1;",
-            "interface - -\nproc 1 P plain out:a:int out:b:int inout:c:int inout:d:int<2> in:e:opaque[4] in:f:string<4294967295>\n",
+            "interface - -\nproc 1 P plain out:a:int out:b:int inout:c:int inout:d:int<2> in:e:opaque[4] \
+            in:f:string<4294967295>\n",
         ),
         (
             "const A = 1; typedef int A; A(int A) = A; struct S { int A; };",
@@ -146,48 +138,48 @@ fn what_stands_twice_is_named(rt: HostRuntime) -> Result<(), AllocError> {
     let rows = [
         (
             "const A = 1; const B = 1; const B = 2; const A = 2;",
-            "twice B",
+            "0: twice B",
         ),
-        ("typedef int A; struct A { };", "twice A"),
+        ("typedef int A; struct A { };", "0: twice A"),
         (
             "enum A { B }; union A switch (int t) { default: void; };",
-            "twice A",
+            "0: twice A",
         ),
-        ("const A = 1; enum E { B, A };", "twice A"),
-        ("enum E { A, A };", "twice A"),
-        ("P() = 1; P() = 2;", "twice P"),
-        ("struct S { int a; int b; int b; int a; };", "twice b"),
-        ("P(int a, int a) = 1;", "twice a"),
+        ("const A = 1; enum E { B, A };", "0: twice A"),
+        ("enum E { A, A };", "0: twice A"),
+        ("P() = 1; P() = 2;", "0: twice P"),
+        ("struct S { int a; int b; int b; int a; };", "0: twice b"),
+        ("P(int a, int a) = 1;", "0: twice a"),
         (
             "union U switch (int t) { case 1: case 2: int a; case 1: int b; };",
-            "twice U",
+            "0: twice U",
         ),
         (
             "union U switch (int t) { case A: int a; case 1: int b; }; const A = B; const B = 1;",
-            "twice U",
+            "0: twice U",
         ),
         (
             "union U switch (int t) { case 36893488147419103232: void; };",
-            "badnumber",
+            "1: badnumber",
         ),
         (
             "union U switch (int t) { case 18446744073709551615: case 18446744073709551615: void; };",
-            "twice U",
+            "0: twice U",
         ),
         // A case without a value equals none.
         (
             "union U switch (int t) { case A: case A: int a; };",
-            "unknown A",
+            "0: unknown A",
         ),
         (
             "union U switch (int t) { case A: case A: int a; }; const A = A;",
-            "size A",
+            "0: size A",
         ),
         // Twice comes before the other faults.
-        ("P(T t); P(int a);", "twice P"),
+        ("P(T t); P(int a);", "0: twice P"),
         (
             "typedef T A; typedef opaque B[-1]; typedef int A;",
-            "twice A",
+            "0: twice A",
         ),
     ];
     expect(&rt, rt.alloc(), &rows)
@@ -197,28 +189,28 @@ fn what_stands_twice_is_named(rt: HostRuntime) -> Result<(), AllocError> {
 fn what_is_unknown_is_named(rt: HostRuntime) -> Result<(), AllocError> {
     let rows = [
         // unknown-type
-        ("P(IN T *t) = 1;", "unknown T"),
-        ("typedef A B; typedef C D;", "unknown A"),
-        ("typedef A B[C];", "unknown A"),
-        ("typedef int B[C];", "unknown C"),
-        ("typedef int B<C>;", "unknown C"),
-        ("typedef opaque B[C];", "unknown C"),
-        ("typedef string B<C>;", "unknown C"),
-        ("const A = B;", "unknown B"),
-        ("enum E { A = B };", "unknown B"),
-        ("union U switch (T t) { case A: void; };", "unknown T"),
-        ("union U switch (int t) { case A: void; };", "unknown A"),
-        ("union U switch (int t) { case 1: T a; };", "unknown T"),
-        ("union U switch (int t) { default: T a; };", "unknown T"),
-        ("statindex A", "unknown A"),
-        ("startingopcode A", "unknown A"),
-        ("P() = A;", "unknown A"),
-        ("struct S { struct T *a; };", "unknown T"),
+        ("P(IN T *t) = 1;", "0: unknown T"),
+        ("typedef A B; typedef C D;", "0: unknown A"),
+        ("typedef A B[C];", "0: unknown A"),
+        ("typedef int B[C];", "0: unknown C"),
+        ("typedef int B<C>;", "0: unknown C"),
+        ("typedef opaque B[C];", "0: unknown C"),
+        ("typedef string B<C>;", "0: unknown C"),
+        ("const A = B;", "0: unknown B"),
+        ("enum E { A = B };", "0: unknown B"),
+        ("union U switch (T t) { case A: void; };", "0: unknown T"),
+        ("union U switch (int t) { case A: void; };", "0: unknown A"),
+        ("union U switch (int t) { case 1: T a; };", "0: unknown T"),
+        ("union U switch (int t) { default: T a; };", "0: unknown T"),
+        ("statindex A", "0: unknown A"),
+        ("startingopcode A", "0: unknown A"),
+        ("P() = A;", "0: unknown A"),
+        ("struct S { struct T *a; };", "0: unknown T"),
         // A type is no constant, and a constant no type.
-        ("typedef int T; const A = T;", "unknown T"),
-        ("const A = 1; typedef A T;", "unknown A"),
+        ("typedef int T; const A = T;", "0: unknown T"),
+        ("const A = 1; typedef A T;", "0: unknown A"),
         // Unknown comes before the faults behind it.
-        ("typedef opaque B[-1]; P(T t);", "unknown T"),
+        ("typedef opaque B[-1]; P(T t);", "0: unknown T"),
     ];
     expect(&rt, rt.alloc(), &rows)
 }
@@ -226,87 +218,96 @@ fn what_is_unknown_is_named(rt: HostRuntime) -> Result<(), AllocError> {
 #[test]
 fn sizes_out_of_range_are_named(rt: HostRuntime) -> Result<(), AllocError> {
     let rows = [
-        ("typedef opaque A[-1];", "size A"),
-        ("typedef int A<4294967296>;", "size A"),
-        ("struct S { int a; string b<-1>; };", "size b"),
-        ("P(int a, opaque b<-1>) = 1;", "size b"),
-        ("union U switch (int t) { };", "size U"),
-        ("union U switch (hyper t) { case 1: void; };", "size U"),
+        ("typedef opaque A[-1];", "0: size A"),
+        ("typedef int A<4294967296>;", "0: size A"),
+        ("struct S { int a; string b<-1>; };", "0: size b"),
+        ("P(int a, opaque b<-1>) = 1;", "0: size b"),
+        ("union U switch (int t) { };", "0: size U"),
+        ("union U switch (hyper t) { case 1: void; };", "0: size U"),
         (
             "struct S { }; union U switch (S t) { default: void; };",
-            "size U",
+            "0: size U",
         ),
         (
             "union U switch (B t) { default: void; }; typedef int B[1];",
-            "size U",
+            "0: size U",
         ),
         (
             "union U switch (A t) { default: void; }; typedef A B; typedef B A;",
-            "size U",
+            "0: size U",
         ),
-        ("enum E { A = 2147483647, B };", "size B"),
-        ("enum E { A = -2147483649 };", "size A"),
+        ("enum E { A = 2147483647, B };", "0: size B"),
+        ("enum E { A = -2147483649 };", "0: size A"),
         (
             "union U switch (int t) { case 2147483648: void; };",
-            "size U",
+            "0: size U",
         ),
-        ("union U switch (unsigned t) { case -1: void; };", "size U"),
-        ("union U switch (bool t) { case 2: void; };", "size U"),
+        (
+            "union U switch (unsigned t) { case -1: void; };",
+            "0: size U",
+        ),
+        ("union U switch (bool t) { case 2: void; };", "0: size U"),
         (
             "enum E { A = 1, B = 3 }; union U switch (E t) { case 2: void; };",
-            "size U",
+            "0: size U",
         ),
         (
             "enum E { A = 1, B = 3 }; typedef E F; union U switch (F t) { case 3: void; case 0: void; };",
-            "size U",
+            "0: size U",
         ),
-        ("const A = B; const B = C; const C = B;", "size B"),
-        ("const A = A;", "size A"),
-        ("enum E { A = B, B };", "size A"),
-        ("typedef int T[A]; const A = B; const B = B;", "size B"),
-        ("struct Z { }; typedef Z A[3];", "size A"),
+        ("const A = B; const B = C; const C = B;", "0: size B"),
+        ("const A = A;", "0: size A"),
+        ("enum E { A = B, B };", "0: size A"),
+        ("typedef int T[A]; const A = B; const B = B;", "0: size B"),
+        ("struct Z { }; typedef Z A[3];", "0: size A"),
         (
             "typedef opaque Z[0]; struct S { Z a; int b; Z c<2>; };",
-            "size c",
+            "0: size c",
         ),
-        ("typedef opaque Z[0]; P(Z a<>) = 1;", "size a"),
-        ("struct S { opaque a[65537]; int b; };", "size S"),
-        ("struct S { opaque a[65536]; opaque b[0]; };", "size S"),
-        ("typedef opaque A[65537];", "size A"),
-        ("typedef int A[16385];", "size A"),
+        ("typedef opaque Z[0]; P(Z a<>) = 1;", "0: size a"),
+        ("struct S { opaque a[65537]; int b; };", "0: size S"),
+        ("struct S { opaque a[65536]; opaque b[0]; };", "0: size S"),
+        ("typedef opaque A[65537];", "0: size A"),
+        ("typedef int A[16385];", "0: size A"),
         (
             "struct A { int a[100]; }; struct B { A a[100]; }; struct C { B b[2]; };",
-            "size C",
+            "0: size C",
         ),
-        ("P(int a[16385]) = 1;", "size a"),
+        ("P(int a[16385]) = 1;", "0: size a"),
         (
             "union U switch (int t) { case 1: opaque a[65532]; case 2: opaque b[65533]; };",
-            "size U",
+            "0: size U",
         ),
         // A size that is refused isn't judged by what holds it.
-        ("struct S { opaque a[70000]; opaque b[-1]; };", "size a"),
+        ("struct S { opaque a[70000]; opaque b[-1]; };", "0: size a"),
         (
             "struct S { T t; opaque a[70000]; }; struct T { opaque b[-1]; };",
-            "size a",
+            "0: size a",
         ),
         // What holds an endless type isn't judged by its encoding.
         (
             "struct S { int a[16385]; S *next; T t; }; struct T { T t; };",
-            "size a",
+            "0: size a",
         ),
         (
             "struct S { T *t; A a; }; typedef int A[16385]; struct T { T t; };",
-            "size A",
+            "0: size A",
         ),
         (
             "typedef T A[0]; typedef A B[3]; struct T { T t; };",
-            "endless T",
+            "0: endless T",
         ),
-        ("struct S { opaque a[65537]; S *next; };", "size S"),
+        ("struct S { opaque a[65537]; S *next; };", "0: size S"),
         // The first place counts.
-        ("typedef int A[-1]; enum E { B = -2147483649 };", "size A"),
-        ("enum E { B = -2147483649 }; typedef int A[-1];", "size B"),
-        ("struct S { S s; }; P(int a[-1]);", "size a"),
+        (
+            "typedef int A[-1]; enum E { B = -2147483649 };",
+            "0: size A",
+        ),
+        (
+            "enum E { B = -2147483649 }; typedef int A[-1];",
+            "0: size B",
+        ),
+        ("struct S { S s; }; P(int a[-1]);", "0: size a"),
     ];
     expect(&rt, rt.alloc(), &rows)
 }
@@ -315,28 +316,28 @@ fn sizes_out_of_range_are_named(rt: HostRuntime) -> Result<(), AllocError> {
 fn endless_types_are_named(rt: HostRuntime) -> Result<(), AllocError> {
     let rows = [
         // endless-struct
-        ("struct S { S s; };", "endless S"),
-        ("typedef T S; struct T { int a; S s; };", "endless S"),
+        ("struct S { S s; };", "0: endless S"),
+        ("typedef T S; struct T { int a; S s; };", "0: endless S"),
         (
             "struct A { B b; }; struct B { C c; }; struct C { B b; };",
-            "endless B",
+            "0: endless B",
         ),
-        ("typedef A B; typedef B A;", "endless B"),
-        ("struct S { S s[2]; };", "endless S"),
-        ("struct S { S s[0]; };", "endless S"),
+        ("typedef A B; typedef B A;", "0: endless B"),
+        ("struct S { S s[2]; };", "0: endless S"),
+        ("struct S { S s[0]; };", "0: endless S"),
         (
             "union U switch (int t) { case 1: U u; default: void; };",
-            "endless U",
+            "0: endless U",
         ),
         (
             "union U switch (int t) { default: A a; }; struct A { U u; };",
-            "endless U",
+            "0: endless U",
         ),
         (
             "struct A { B b; }; typedef C B; typedef A C[1];",
-            "endless A",
+            "0: endless A",
         ),
-        ("P(); struct S { S s; };", "endless S"),
+        ("P(); struct S { S s; };", "0: endless S"),
     ];
     expect(&rt, rt.alloc(), &rows)
 }
@@ -345,19 +346,19 @@ fn endless_types_are_named(rt: HostRuntime) -> Result<(), AllocError> {
 fn opcodes_are_asked_for(rt: HostRuntime) -> Result<(), AllocError> {
     let rows = [
         // no-opcode
-        ("P(int a);", "opcode P"),
-        ("P() = 1; Q();", "opcode Q"),
-        ("Q(); startingopcode 1", "opcode Q"),
-        ("P() = -1;", "opcode P"),
-        ("P() = 4294967296;", "opcode P"),
-        ("startingopcode 4294967295 P(); Q();", "opcode Q"),
-        ("startingopcode -1 P(); Q();", "opcode P"),
+        ("P(int a);", "0: opcode P"),
+        ("P() = 1; Q();", "0: opcode Q"),
+        ("Q(); startingopcode 1", "0: opcode Q"),
+        ("P() = -1;", "0: opcode P"),
+        ("P() = 4294967296;", "0: opcode P"),
+        ("startingopcode 4294967295 P(); Q();", "0: opcode Q"),
+        ("startingopcode -1 P(); Q();", "0: opcode P"),
         // opcode-twice
-        ("P(int a) = 1; Q(int a) = 1;", "opcodetwice 1"),
-        ("startingopcode 5 P(); Q() = 5;", "opcodetwice 5"),
-        ("startingopcode 5 P() = 6; Q(); R();", "opcodetwice 6"),
-        ("P() = 3; Q() = 3; R();", "opcode R"),
-        ("P() = 1; Q() = 2; R() = 2; S() = 1;", "opcodetwice 2"),
+        ("P(int a) = 1; Q(int a) = 1;", "0: opcodetwice 1"),
+        ("startingopcode 5 P(); Q() = 5;", "0: opcodetwice 5"),
+        ("startingopcode 5 P() = 6; Q(); R();", "0: opcodetwice 6"),
+        ("P() = 3; Q() = 3; R();", "0: opcode R"),
+        ("P() = 1; Q() = 2; R() = 2; S() = 1;", "0: opcodetwice 2"),
     ];
     expect(&rt, rt.alloc(), &rows)
 }
@@ -376,13 +377,13 @@ fn each_twice(alloc: Global, count: u32, mark: &str) -> Result<String, AllocErro
 
 #[test]
 fn many_ways_down_take_no_time(rt: HostRuntime) -> Result<(), AllocError> {
-    let text = each_twice(rt.alloc(), 200, "*")?;
+    let text = each_twice(rt.alloc(), 2000, "*")?;
     let table = answer(rt.alloc(), text.as_str())?;
     assert!(rt;
         table
             .as_str()
             .starts_with("interface - -\nstruct S0 a:int\n")
     );
-    let text = each_twice(rt.alloc(), 200, "")?;
-    expect(&rt, rt.alloc(), &[(text.as_str(), "size S15")])
+    let text = each_twice(rt.alloc(), 2000, "")?;
+    expect(&rt, rt.alloc(), &[(text.as_str(), "0: size S15")])
 }
