@@ -11,6 +11,7 @@ pub mod EndlessLaws
 pub mod TwiceLaws
 pub mod MetLaws
 pub mod BackLaws
+pub mod RinglessLaws
 pub mod RingLaws
 pub mod TagLaws
 pub mod ProcLaws

@@ -45,6 +45,11 @@ pub record AreOrdered (g : List (List ℕ)) (nodes : List ℕ) (ended : List Boo
   pub behind : (k i j : ℕ) → slice_get nodes k ≡ Some i → Step g i j → (m : ℕ) × (m < k) × (slice_get nodes m ≡ Some j)
   pub stuck : (i : ℕ) → slice_get ended i ≡ Some false → (j : ℕ) × Step g i j × (slice_get ended j ≡ Some false)
 
+-- the marks are of nodes that don't lead to themselves
+pub record AreRingless (g : List (List ℕ)) (marks : List Bool) : Type 0 where
+  pub size : length marks ≡ length g
+  pub no_ring : (i : ℕ) → slice_get marks i ≡ Some true → Leads g i i → ⊥
+
 -- the second has the ways of the first the other way round
 pub record AreReversed (g back : List (List ℕ)) : Type 0 where
   pub size : length back ≡ length g

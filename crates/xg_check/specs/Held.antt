@@ -44,13 +44,13 @@ pub record AreFound (cs : List ConstantDef) (nodes : List ℕ) (front : ℕ) (va
 
 -- what is kept of constants: their names, their values, where they lead, and of which it is known that no way returns
 pub record AreKept (cs : List ConstantDef) (names : List (List ℕ)) (values : List (Option ℤ)) (g : List (List ℕ))
-    (ended : List Bool) : Type 0 where
+    (ringless : List Bool) : Type 0 where
   pub names_are : names ≡ constant_names cs
   pub values_are : AreValues cs values
   pub bounded : AreBounded values
   pub ways_are : g ≡ constant_ways cs
-  pub size : length ended ≡ length cs
-  pub no_ring : (i : ℕ) → slice_get ended i ≡ Some true → Leads (constant_ways cs) i i → ⊥
+  pub size : length ringless ≡ length cs
+  pub no_ring : (i : ℕ) → slice_get ringless i ≡ Some true → Leads (constant_ways cs) i i → ⊥
 
 -- all ways of the type to those that it holds end
 abbrev pub TypeEnds : List Part → ℕ → Type 0

@@ -1,7 +1,7 @@
 //! Types that hold themselves.
 
 ghost use Rattle.std.specs.Prelude.{◌≡◌, ◌<◌, ◌↔◌, length, IfOk, IsTrue};
-ghost use Rattle.xg_check.specs.Graphs.{AreOrdered};
+ghost use Rattle.xg_check.specs.Graphs.{AreOrdered, AreRingless};
 ghost use Rattle.xg_check.specs.Typed.{type_names, type_ways};
 ghost use Rattle.xg_check.specs.Judged.{IsEndless};
 ghost use Rattle.xg_check.specs.Answers.{IsFirstOf};
@@ -9,6 +9,7 @@ ghost use Rattle.xg_check.specs.Answers.{IsFirstOf};
 use crate::graph::Graph;
 use crate::order::Order;
 use crate::reach::returns;
+use crate::ringless::ringless;
 use crate::types::{Types, Ways, type_name};
 use std::alloc::{AllocError, Global};
 
@@ -17,15 +18,15 @@ fn is_endless(
     alloc: Global,
     types: &Types<'_>,
     held: &Graph,
-    order: &Order,
+    ringless: &[bool],
     place: usize,
 ) -> Result<bool, AllocError>
     requires there { place < length types.now }
     requires ways { held.now ≡ type_ways types.now Ways.Held }
-    requires order { AreOrdered held.now order.now.nodes.items order.now.ended.items }
+    requires ringless { AreRingless held.now ringless.now }
     ensures { IfOk result (λ b. IsTrue b ↔ IsEndless types.now place) }
 {
-    if order.ended[place] {
+    if ringless[place] {
         return Ok(false);
     }
     returns(alloc, held, place)
@@ -43,8 +44,9 @@ pub fn endless<'a>(
     requires order { AreOrdered held.now order.now.nodes.items order.now.ended.items }
     ensures { IfOk result (λ r. IsFirstOf (IsEndless types.now) (type_names types.now) r) }
 {
+    let ringless = ringless(alloc, held, order)?;
     for place in 0..held.len() {
-        if is_endless(alloc, types, held, order, place)? {
+        if is_endless(alloc, types, held, ringless.as_slice(), place)? {
             return Ok(Some(type_name(types.part(place)).unwrap_or("")));
         }
     }

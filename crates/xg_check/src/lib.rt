@@ -17,6 +17,7 @@ mod opcodes;
 mod order;
 mod procs;
 mod reach;
+mod ringless;
 mod sizes;
 mod tags;
 mod twice;

@@ -17,6 +17,7 @@ use crate::lists::repeated;
 use crate::names::Names;
 use crate::order::{Order, ordered};
 use crate::reach::returns;
+use crate::ringless::ringless;
 use std::alloc::{AllocError, Global};
 use std::marker::Model;
 use xg_parse::{ConstWord, Tree};
@@ -29,7 +30,7 @@ pub struct Constants<'a> {
     names: Names<'a>,
     values: Vec<Option<i128>>,
     ways: Graph,
-    ended: Vec<bool>,
+    ringless: Vec<bool>,
 }
 
 impl<'a> Model for Constants<'a> {
@@ -42,7 +43,7 @@ impl<'a> Model for Constants<'a> {
 
     ghost view = { λ c. constants_of c.list.items };
 
-    ghost invariant = { λ c. AreKept (constants_of c.list.items) c.names c.values.items c.ways c.ended.items };
+    ghost invariant = { λ c. AreKept (constants_of c.list.items) c.names c.values.items c.ways c.ringless.items };
 }
 
 // The constant from whose value that of this one comes.
@@ -170,12 +171,13 @@ impl<'a> Constants<'a> {
         let ways = ways(alloc, list.as_slice(), &names)?;
         let order = ordered(alloc, &ways)?;
         let values = values(alloc, list.as_slice(), &names, &order)?;
+        let ringless = ringless(alloc, &ways, &order)?;
         Ok(Constants {
             list,
             names,
             values,
             ways,
-            ended: order.ended,
+            ringless,
         })
     }
 
@@ -216,7 +218,7 @@ impl<'a> Constants<'a> {
         requires { place < length self.now }
         ensures { IfOk result (λ b. IsTrue b ↔ Leads (constant_ways self.now) place place) }
     {
-        if self.ended[place] {
+        if self.ringless[place] {
             return Ok(false);
         }
         returns(alloc, &self.ways, place)

@@ -1,11 +1,10 @@
 use Rattle.std.proofs.Common.{◌≡◌, ℕ, List, ap, subst, ◌∙◌}
 use Rattle.xg_check.specs.declared.constants.Constant.{Constant as CodeConstant}
 use Rattle.xg_check.specs.Constants.{constant_names, constant_ways}
-use Rattle.xg_check.specs.Graphs.{AreOrdered}
+use Rattle.xg_check.specs.Graphs.{AreRingless}
 use Rattle.xg_check.specs.Held.{AreValues}
 use Rattle.xg_check.specs.Views.{constants_of}
 use Rattle.xg_check.proofs.RingLaws.{length_ways}
-use Rattle.xg_check.proofs.GraphLaws.{marked_end, no_ring}
 use Rattle.xg_check.proofs.values.Constants.of.Goals as goal
 
 pub invariant_of-result : goal.invariant_of-result
@@ -14,9 +13,8 @@ invariant_of-result c =
     let ways : c.in_ok-ways.ways ≡ constant_ways cs =
     c.in_ok-ways.ensures ∙ ap (λ (xs : List CodeConstant). constant_ways (constants_of xs))
     c.as_slice-2.ensures.value in
-    let nodes = c.in_ok-order.order.nodes.items in
-    let ended = c.in_ok-order.order.ended.items in
-    let ordered = subst (λ (g : List (List ℕ)). AreOrdered g nodes ended) ways c.in_ok-order.ensures in
+    let marks = c.in_ok-ringless.ringless.items in
+    let r = subst (λ (g : List (List ℕ)). AreRingless g marks) ways c.in_ok-ringless.ensures in
     record {
       names_are = c.in_ok-names.ensures
           ∙ ap (λ (xs : List CodeConstant). constant_names (constants_of xs)) c.as_slice.ensures.value;
@@ -24,6 +22,6 @@ invariant_of-result c =
           c.as_slice-3.ensures.value c.in_ok-values.ensures.values;
       bounded = c.in_ok-values.ensures.bounded;
       ways_are = ways;
-      size = ordered.size ∙ length_ways cs 0 cs;
-      no_ring = λ i e. no_ring (constant_ways cs) i (marked_end (constant_ways cs) nodes ended ordered i e);
+      size = r.size ∙ length_ways cs 0 cs;
+      no_ring = r.no_ring;
     }
