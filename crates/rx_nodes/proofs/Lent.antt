@@ -1,6 +1,6 @@
 -- A client among the nodes, as the code finds and lends it.
-use Rattle.std.proofs.Common.{◌≡◌, ◌<◌, ◌≤◌, ◌-◌, ℕ, zero, suc, List, [], ◌∷◌, length, get_or, set}
-use Rattle.std.proofs.Common.{Option, Some, None, option_map, refl, ◌∙◌, ap, sym, subst, arith}
+use Rattle.std.proofs.Common.{◌≡◌, ◌<◌, ◌-◌, ℕ, zero, suc, List, [], ◌∷◌, length, get_or, set}
+use Rattle.std.proofs.Common.{Some, option_map, refl, ap, sym, subst, arith}
 use Rattle.std.specs.Prelude.{slice_get}
 use Rattle.rx_model.specs.declared.names.Host.{Host}
 use Rattle.rx_table.specs.Records.{changed_at}

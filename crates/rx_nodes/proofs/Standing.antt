@@ -1,7 +1,7 @@
 -- Nodes stand for a joint history with one more event, where its node does for its side.
-use Rattle.std.proofs.Common.{◌≡◌, ◌==◌, ◌<◌, ◌≤◌, ◌-◌, ℕ, zero, suc, Bool, true, false, List, [], ◌∷◌, length, map}
-use Rattle.std.proofs.Common.{Option, Some, None, option_map, if◌then◌else◌, refl, ◌∙◌, ap, sym, subst, arith}
-use Rattle.std.specs.Prelude.{slice_get, unwrap_or, IfSome, IsSomeAnd}
+use Rattle.std.proofs.Common.{◌≡◌, ◌==◌, ◌≤◌, ◌-◌, ℕ, zero, suc, false, List, [], ◌∷◌, map}
+use Rattle.std.proofs.Common.{Option, Some, None, option_map, refl, ◌∙◌, ap, sym, subst, arith}
+use Rattle.std.specs.Prelude.{slice_get, IfSome, IsSomeAnd}
 use Rattle.std.proofs.lemmas.Bool.Decides.{nat_tests}
 use Rattle.std.proofs.lemmas.Option.{slice_get-map}
 use Rattle.rx_model.specs.declared.event.Event.{Event}
@@ -16,8 +16,8 @@ use Rattle.rx_node.specs.Steps.{AnswersNode, StandsNode}
 use Rattle.rx_node.proofs.TableSteps.{changed-length, changed-other, changed-own, decided}
 use Rattle.rx_server.specs.Server.{Answered, ServerState, Stands}
 use Rattle.rx_token.specs.Chosen.{chosen}
-use Rattle.rx_nodes.specs.Nodes.{ClientsStand, IsAllowedAt, Makes, NodesState, Standing, client_node, client_of}
-use Rattle.rx_nodes.specs.Nodes.{moment_of, nodes_of, with_client, with_server}
+use Rattle.rx_nodes.specs.Nodes.{ClientsStand, Makes, NodesState, Standing, client_node, client_of}
+use Rattle.rx_nodes.specs.Nodes.{with_client, with_server}
 use Rattle.rx_nodes.specs.declared.nodes.ClientAt.{ClientAt}
 
 -- ---- sides

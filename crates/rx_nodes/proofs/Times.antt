@@ -1,18 +1,14 @@
 -- Moments of nodes as a joint history has them, and how long it is until something is due.
-use Rattle.std.proofs.Common.{◌≡◌, ◌<◌, ◌≤◌, ◌-◌, ◌+◌, ◌||◌, ℕ, zero, suc, Bool, true, false, List, [], ◌∷◌, length, get_or}
-use Rattle.std.proofs.Common.{drop, map, min, max, Option, Some, None, option_map, refl, ◌∙◌, ap, sym, subst, arith, add-one}
-use Rattle.std.specs.Prelude.{slice_get, unwrap_or, nat_lt, nat_le, if◌then◌else◌, IfSome}
-use Rattle.std.specs.List.{list_any}
-use Rattle.std.proofs.Math.Seq.{drop-cons}
+use Rattle.std.proofs.Common.{◌≡◌, ◌<◌, ◌≤◌, ◌-◌, ◌+◌, ℕ, zero, suc, List, [], ◌∷◌, length, get_or}
+use Rattle.std.proofs.Common.{drop, map, min, Option, Some, None, option_map, refl, ◌∙◌, ap, sym, subst, arith, add-one}
+use Rattle.std.specs.Prelude.{slice_get, unwrap_or, nat_le, if◌then◌else◌, IfSome}
 use Rattle.std.proofs.lemmas.List.{drop_all}
 use Rattle.std.proofs.lemmas.Bool.Decides.{nat_tests}
 use Rattle.rx_model.specs.declared.event.Event.{Event}
 use Rattle.rx_model.specs.declared.event.Noted.{Noted}
 use Rattle.rx_rules.specs.After.{looks}
 use Rattle.rx_rules.specs.Items.{due}
-use Rattle.rx_rules.specs.Least.{least_by, lesser_by}
-use Rattle.rx_rules.specs.Setup.{Setup}
-use Rattle.rx_rules.specs.Slots.{live}
+use Rattle.rx_rules.specs.Least.{lesser_by}
 use Rattle.rx_law.specs.Sides.{Node, moment, side}
 use Rattle.rx_law.proofs.Moments.{now-side}
 use Rattle.rx_model.specs.declared.names.Host.{Host}

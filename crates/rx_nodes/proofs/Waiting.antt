@@ -1,7 +1,7 @@
 -- Loops over clients, each of which stands for its side: whether a call lives, and how late it is.
 use Rattle.std.proofs.Common.{◌≡◌, ◌<◌, ◌≤◌, ◌-◌, ◌+◌, ◌||◌, ℕ, zero, suc, Bool, true, false, List, [], ◌∷◌, length, get_or}
-use Rattle.std.proofs.Common.{drop, map, min, max, Option, Some, None, option_map, refl, ◌∙◌, ap, sym, subst, arith, add-one}
-use Rattle.std.specs.Prelude.{slice_get, nat_lt, nat_le, if◌then◌else◌, IfSome}
+use Rattle.std.proofs.Common.{drop, map, max, Option, Some, None, option_map, refl, ◌∙◌, ap, sym, subst, arith, add-one}
+use Rattle.std.specs.Prelude.{slice_get, nat_lt, IfSome}
 use Rattle.std.specs.List.{list_any}
 use Rattle.std.proofs.Math.Seq.{drop-cons}
 use Rattle.std.proofs.lemmas.List.{drop_all}
@@ -9,18 +9,14 @@ use Rattle.std.proofs.lemmas.Bool.Decides.{nat_tests}
 use Rattle.rx_model.specs.declared.event.Event.{Event}
 use Rattle.rx_model.specs.declared.event.Noted.{Noted}
 use Rattle.rx_rules.specs.After.{looks}
-use Rattle.rx_rules.specs.Items.{due}
-use Rattle.rx_rules.specs.Least.{least_by, lesser_by}
-use Rattle.rx_rules.specs.Setup.{Setup}
 use Rattle.rx_rules.specs.Slots.{live}
-use Rattle.rx_law.specs.Sides.{Node, moment, side}
-use Rattle.rx_law.proofs.Moments.{now-side}
+use Rattle.rx_law.specs.Sides.{Node, side}
 use Rattle.rx_model.specs.declared.names.Host.{Host}
 use Rattle.rx_node.specs.Node.{NodeState, setup_of}
 use Rattle.rx_server.specs.Server.{ServerState, Stands}
 use Rattle.rx_node.specs.Steps.{StandsNode}
 use Rattle.rx_token.specs.Chosen.{chosen}
-use Rattle.rx_nodes.specs.Nodes.{ClientsStand, NodesState, Standing, client_node, client_of, moment_of, nodes_of}
+use Rattle.rx_nodes.specs.Nodes.{ClientsStand, NodesState, Standing, client_node, client_of, nodes_of}
 use Rattle.rx_nodes.specs.Waits.{any_lives, is_later, latest, lives_at, over_nodes}
 use Rattle.rx_nodes.specs.declared.nodes.ClientAt.{ClientAt}
 use Rattle.rx_nodes.proofs.Lent.{read_some, server_node, with_fields}
