@@ -1,0 +1,10 @@
+pub mod Errors
+pub mod StepLaws
+pub mod CallLaws
+pub mod RoundLaws
+pub mod NoteLaws
+pub mod RequestStays
+pub mod EarlyLaws
+pub mod LifeKeeps
+pub mod LifeLaws
+pub mod Driving

@@ -1,0 +1,6 @@
+use Rattle.rx_dispatch.specs.Handlers.{served_for}
+use Rattle.rx_dispatch.proofs.deciding.serve.Goals as goal
+
+pub returns : goal.returns
+unfolding served_for
+returns c = c.serve.ensures.exact

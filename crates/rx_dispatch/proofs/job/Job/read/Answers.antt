@@ -1,0 +1,33 @@
+use Rattle.std.proofs.Common.{◌∙◌, ◌++◌, List, ℕ, ap, drop, subst}
+use Rattle.hex.specs.Hex.{IsBytes}
+use Rattle.rx_dispatch.specs.Calls.{Called}
+use Rattle.rx_dispatch.specs.Jobs.{JobState}
+use Rattle.rx_dispatch.specs.declared.job.Want.TheVariants as wants
+use Rattle.rx_model.specs.declared.answers.ReadGot.TheVariants as readers
+use Rattle.rx_model.specs.declared.event.Event.TheVariants as events
+use Rattle.rx_dispatch.proofs.CallLaws.{read_called}
+use Rattle.rx_dispatch.proofs.job.Job.read.Goals as goal
+
+pub returns-clause-called : goal.returns-clause-called
+returns-clause-called g c =
+    let class = g.C.Class.class_of in
+    let i = c.self.inside in
+    let j : JobState = record {
+      call = i.call;
+      request = i.request.items;
+      ended = i.ended;
+      steps = i.steps;
+      code = i.code;
+      reply = drop i.said i.reply.items;
+    } in
+    subst (λ (x : JobState). Called class x wants.Read
+    (record j { request = c.append.new.to.items; ended = c.ended_after-self-inside.result }) c.next_after.result
+    c.args.server.now c.read.new.server
+    (events.HasRead i.call 4096 (readers.Server c.in_ok-got.got) c.of.result)) c.self.view_is
+    (read_called class j c.args.server.now c.read.new.server c.in_ok-got.got c.in_ok-got.bytes.items c.of.result
+    c.append.new.to.items c.ended_after-self-inside.result c.next_after.result c.in_ok-got.ensures.none
+    (subst IsBytes c.as_slice.ensures.value c.append.ensures.fits)
+    c.in_ok-got.ensures.answered c.of.ensures
+    (c.append.ensures.items ∙ ap (λ (q : List ℕ). q ++ c.as_slice.result.now) c.in_ok-reserve.ensures.items
+    ∙ ap (λ (b : List ℕ). i.request.items ++ b) c.as_slice.ensures.value)
+    c.ended_after-self-inside.ensures c.next_after.ensures)

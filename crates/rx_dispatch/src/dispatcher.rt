@@ -1,0 +1,147 @@
+//! The dispatcher and its turns.
+
+ghost use Rattle.std.specs.Prelude.{◌≡◌, [], length, IfOk, OnOk, OnErr};
+ghost use Rattle.rx_node.specs.Node.{setup_of};
+ghost use Rattle.rx_script.specs.Saying.{blocks_of};
+ghost use Rattle.rx_server.specs.Server.{Stands};
+ghost use Rattle.rx_wire.specs.Advances.{Stops, Turned};
+ghost use Rattle.rx_dispatch.specs.Dispatching.{accepts, begun_turn, dispatching, over, resting, turning_of};
+ghost use Rattle.rx_dispatch.specs.Making.{Kept, NextCall, NotesCall, Remembers};
+ghost use Rattle.rx_dispatch.specs.States.{state_of};
+ghost use Rattle.rx_dispatch.specs.Handlers.{handlers_of};
+
+use crate::desk::Desk;
+use crate::round::Round;
+use rx_class::Class;
+use rx_model::Event;
+use rx_script::Script;
+use rx_server::Server;
+use rx_wire::Journal;
+use std::alloc::{AllocError, Global};
+use xdr_value::Interface;
+
+/// The handlers of a server: a job for each call that they accepted and that isn't finished.
+#[derive(Drop)]
+pub struct Dispatcher {
+    alloc: Global,
+    node: u32,
+    script: Script,
+    round: Round,
+}
+
+impl Dispatcher {
+    /// Handlers that serve what a script says and have no job. Their events are noted for this node.
+    pub fn make(alloc: Global, node: u32, script: Script) -> Dispatcher
+        ensures { state_of result
+            ≡ record { node = node; script = blocks_of script.blocks.items; round = resting [] } }
+    {
+        Dispatcher {
+            alloc,
+            node,
+            script,
+            round: Round::make(alloc),
+        }
+    }
+
+    /// How many jobs it has.
+    pub fn jobs(&self) -> usize
+        ensures { result ≡ length (state_of self.now).round.jobs }
+    {
+        self.round.jobs()
+    }
+
+    /// One turn: accepts until no call waits, and then gives each job, in the order of acceptance, one step. Each call
+    /// is noted. Where memory is wanted, the calls made so far are those of the turn's beginning.
+    pub fn turn<C: Class, J: Journal>(
+        &mut self,
+        iface: &Interface,
+        server: &mut Server<C>,
+        book: &mut J,
+    ) -> Result<(), AllocError>
+        ensures turned { OnOk result (Turned (dispatching (handlers_of iface.now (state_of self.old).script))
+            (state_of self.old).node (accepts (state_of self.old).round.jobs) (over (state_of self.new).round.jobs)
+            (Stands C.class_of server.old) (Stands C.class_of server.new) (J.told book.old) (J.told book.new)) }
+        ensures wanting { OnErr result (Stops (dispatching (handlers_of iface.now (state_of self.old).script))
+            (state_of self.old).node (accepts (state_of self.old).round.jobs)
+            (Stands C.class_of server.old) (Stands C.class_of server.new) (J.told book.old) (J.told book.new)) }
+        ensures node { (state_of self.new).node ≡ (state_of self.old).node }
+        ensures script { (state_of self.new).script ≡ (state_of self.old).script }
+        ensures setup { setup_of C.class_of server.new.node ≡ setup_of C.class_of server.old.node }
+    {
+        self.begin();
+        'calls: for _ in 0..u64::MAX {
+            if !self.note_step(iface, server, book)? {
+                return Ok(());
+            }
+        }
+        Err(AllocError)
+    }
+
+    /// Makes the next call of its turn and notes it. Whether there was one.
+    fn note_step<C: Class, J: Journal>(
+        &mut self,
+        iface: &Interface,
+        server: &mut Server<C>,
+        book: &mut J,
+    ) -> Result<bool, AllocError>
+        requires { Remembers (handlers_of iface.now (state_of self.old).script) (state_of self.old).round }
+        ensures noted { IfOk result (NotesCall (handlers_of iface.now (state_of self.old).script)
+            (state_of self.old).node
+            (turning_of (handlers_of iface.now (state_of self.old).script) (state_of self.old).round)
+            (turning_of (handlers_of iface.now (state_of self.old).script) (state_of self.new).round)
+            (state_of self.new).round.jobs
+            (Stands C.class_of server.old) (Stands C.class_of server.new) (J.told book.old) (J.told book.new)) }
+        ensures wanting { OnErr result (Stops (dispatching (handlers_of iface.now (state_of self.old).script))
+            (state_of self.old).node
+            (turning_of (handlers_of iface.now (state_of self.old).script) (state_of self.old).round)
+            (Stands C.class_of server.old) (Stands C.class_of server.new) (J.told book.old) (J.told book.new)) }
+        ensures remembered { Remembers (handlers_of iface.now (state_of self.new).script) (state_of self.new).round }
+        ensures node { (state_of self.new).node ≡ (state_of self.old).node }
+        ensures script { (state_of self.new).script ≡ (state_of self.old).script }
+        ensures setup { setup_of C.class_of server.new.node ≡ setup_of C.class_of server.old.node }
+    {
+        match self.step(iface, server)? {
+            None => Ok(false),
+            Some(event) => {
+                book.note(self.node, &event)?;
+                Ok(true)
+            }
+        }
+    }
+
+    /// A turn begins.
+    pub fn begin(&mut self)
+        ensures { state_of self.new ≡ record (state_of self.old) { round = begun_turn (state_of self.old).round } }
+    {
+        self.round.begin();
+    }
+
+    /// Makes the next call of its turn, and answers the event; none where the turn is over. The interface is that of
+    /// the turn's earlier calls. Where memory is wanted, it made no call.
+    pub fn step<C: Class>(
+        &mut self,
+        iface: &Interface,
+        server: &mut Server<C>,
+    ) -> Result<Option<Event>, AllocError>
+        requires { Remembers (handlers_of iface.now (state_of self.old).script) (state_of self.old).round }
+        ensures made { IfOk result (NextCall C.class_of (handlers_of iface.now (state_of self.old).script)
+            (turning_of (handlers_of iface.now (state_of self.old).script) (state_of self.old).round)
+            (turning_of (handlers_of iface.now (state_of self.old).script) (state_of self.new).round)
+            (state_of self.new).round.jobs server.old server.new) }
+        ensures wanting { OnErr result (Kept
+            (turning_of (handlers_of iface.now (state_of self.old).script) (state_of self.old).round)
+            (turning_of (handlers_of iface.now (state_of self.old).script) (state_of self.new).round)
+            server.old server.new) }
+        ensures remembered { Remembers (handlers_of iface.now (state_of self.new).script) (state_of self.new).round }
+        ensures node { (state_of self.new).node ≡ (state_of self.old).node }
+        ensures script { (state_of self.new).script ≡ (state_of self.old).script }
+        ensures setup { setup_of C.class_of server.new.node ≡ setup_of C.class_of server.old.node }
+    {
+        let desk = Desk {
+            alloc: self.alloc,
+            iface,
+            script: &self.script,
+        };
+        self.round.step(&desk, server)
+    }
+}

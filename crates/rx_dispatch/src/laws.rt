@@ -1,0 +1,40 @@
+//! Laws over what the handlers' contracts cite, and the numbers of this crate.
+
+ghost use Rattle.std.specs.Prelude.{◌≡◌, ◌++◌, false, true, ℕ, ℤ, List, Some};
+ghost use Rattle.hex.specs.Hex.{IsBytes};
+ghost use Rattle.rx_model.specs.declared.event.Event.{Event};
+ghost use Rattle.rx_model.specs.declared.names.CallName.{CallName as Name};
+ghost use Rattle.rx_script.specs.Served.{refusal};
+ghost use Rattle.rx_dispatch.specs.Dispatching.{Turning};
+ghost use Rattle.rx_dispatch.specs.Handlers.{Handlers, early_code, served_for};
+ghost use Rattle.rx_dispatch.specs.History.{Drives, IsExactTurn};
+ghost use Rattle.rx_dispatch.specs.Jobs.{Moving};
+ghost use Rattle.rx_dispatch.specs.Lives.{IsExact, Lives};
+ghost use Rattle.rx_dispatch.specs.declared.job.TheConstants.{OFFER_BYTES};
+
+/// At most so many bytes are read or offered at a time.
+pub fn numbers()
+    ensures { OFFER_BYTES ≡ 4096 }
+{}
+
+/// A code that is decided while a request is read is the one that is served for each request that begins so, and one
+/// that is decided behind its end that of the request.
+pub fn early_codes_are_served()
+    ensures begun { (g : Handlers) (request more : List ℕ) (code : ℤ) → IsBytes more
+        → early_code g request false ≡ Some code
+        → served_for g (request ++ more) ≡ refusal code }
+    ensures ended { (g : Handlers) (request : List ℕ) (code : ℤ) → early_code g request true ≡ Some code
+        → served_for g request ≡ refusal code }
+{}
+
+/// Whatever a server answers a job, what the job writes begins the reply of its request, and it finishes with that
+/// request's code, with 0 behind all of the reply, or with 0 where it was told that its call broke.
+pub fn lives_are_exact()
+    ensures { (g : Handlers) (c : Name) (h : List Event) (m : Moving) → Lives g c h m → IsExact g c h m }
+{}
+
+/// In each history of a server that a dispatcher drives, so are the lives of the calls of all its jobs, told by the
+/// events of these calls: a job that is in its step, and one that waits for its next.
+pub fn turns_are_exact()
+    ensures { (g : Handlers) (t : Turning) (h : List Event) → Drives g t h → IsExactTurn g h t }
+{}

@@ -1,0 +1,19 @@
+//! The handlers of a server, which make its calls from a script.
+//!
+//! A `Dispatcher` has a job for each call that it accepted and that isn't finished: it reads the request, answers what
+//! the script serves for it, and finishes the call. A turn accepts what waits and gives each job one step.
+#![tactic(auto)]
+
+mod calls;
+mod deciding;
+mod desk;
+mod dispatcher;
+mod job;
+mod laws;
+mod round;
+
+pub use dispatcher::Dispatcher;
+pub use laws::{early_codes_are_served, lives_are_exact, numbers, turns_are_exact};
+
+#[cfg(test)]
+mod tests;

@@ -1,0 +1,4 @@
+//! A dispatcher beside a server and a client.
+
+mod cases;
+mod scene;
