@@ -9,13 +9,12 @@ use Rattle.rx_model.specs.declared.answers.ServeRead.TheVariants as reads
 use Rattle.rx_model.specs.declared.answers.ServeRefused.{ServeRefused}
 use Rattle.rx_model.specs.declared.answers.ServeRefused.TheVariants as refusals
 use Rattle.rx_model.specs.declared.answers.WroteGot.TheVariants as writers
-use Rattle.rx_model.specs.declared.event.Event.{Event}
 use Rattle.rx_model.specs.declared.event.Event.TheVariants as events
 use Rattle.rx_node.specs.Steps.{written_count}
 use Rattle.rx_rules.specs.Classes.{Class}
 use Rattle.rx_server.specs.Server.{Answered, ServerState, handler_count}
 use Rattle.rx_dispatch.specs.Handlers.{Handlers}
-use Rattle.rx_dispatch.specs.Jobs.{JobState, Moving, accepted, heard, heard_read, heard_write, resolved, settled}
+use Rattle.rx_dispatch.specs.Jobs.{JobState, Moving, accepted, heard_read, heard_write, resolved, settled}
 use Rattle.rx_dispatch.specs.Calls.{Called, ended_after, next_after}
 use Rattle.rx_dispatch.specs.declared.job.Next.{Next}
 use Rattle.rx_dispatch.specs.declared.job.Next.TheVariants as nexts

@@ -6,7 +6,7 @@ use Rattle.rx_model.specs.declared.event.Event.{Event}
 use Rattle.rx_model.specs.declared.event.Event.TheVariants as events
 use Rattle.rx_model.specs.declared.names.CallName.{CallName}
 use Rattle.rx_model.specs.Names.{same_name}
-use Rattle.rx_model.proofs.NameLaws.{name_is, name_itself, name_sym}
+use Rattle.rx_model.proofs.NameLaws.{name_itself, name_sym}
 use Rattle.rx_rules.proofs.EveryLaws.{Every, every-append}
 use Rattle.rx_dispatch.specs.declared.job.Want.{Want}
 use Rattle.rx_dispatch.specs.declared.job.Want.TheVariants as wants

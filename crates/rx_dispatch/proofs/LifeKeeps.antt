@@ -15,7 +15,6 @@ use Rattle.rx_model.specs.declared.event.Event.TheVariants as events
 use Rattle.rx_model.specs.declared.names.CallName.{CallName}
 use Rattle.rx_rules.specs.After.{is_zero}
 use Rattle.rx_script.specs.Served.{Served, refusal, bytes}
-use Rattle.rx_wire.specs.Turns.{stays}
 use Rattle.rx_dispatch.specs.declared.job.Phase.{Phase}
 use Rattle.rx_dispatch.specs.declared.job.Phase.TheVariants as phases
 use Rattle.rx_dispatch.specs.declared.job.Want.{Want}

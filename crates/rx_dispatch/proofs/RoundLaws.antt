@@ -14,7 +14,7 @@ use Rattle.rx_dispatch.specs.declared.job.Want.{Want}
 use Rattle.rx_dispatch.specs.declared.round.Stage.{Stage}
 use Rattle.rx_dispatch.specs.declared.round.Stage.TheVariants as stages
 use Rattle.rx_dispatch.specs.Handlers.{Handlers, IsRemembered}
-use Rattle.rx_dispatch.specs.Jobs.{JobState, Moving, ask_of, heard, is_staying, resolved, serving, want_in}
+use Rattle.rx_dispatch.specs.Jobs.{JobState, Moving, ask_of, heard, is_staying, resolved, serving}
 use Rattle.rx_dispatch.specs.Dispatching.{RoundState, dispatching, kept, over, proceed, serves, serving_at, settle}
 use Rattle.rx_dispatch.specs.Dispatching.{Passes, turning_at, turning_of}
 use Rattle.rx_dispatch.specs.Calls.{Called, Grows}

@@ -1,7 +1,7 @@
 use Rattle.std.proofs.Common.{ℕ, subst}
 use Rattle.rx_wire.specs.Journal.{HasNoted}
 use Rattle.rx_wire.specs.Turns.{noted}
-use Rattle.rx_dispatch.specs.Dispatching.{Turning, turning_of}
+use Rattle.rx_dispatch.specs.Dispatching.{turning_of}
 use Rattle.rx_dispatch.specs.Handlers.{Handlers, handlers_of}
 use Rattle.rx_dispatch.specs.States.{state_of}
 use Rattle.rx_dispatch.proofs.Errors.{on_err}
