@@ -2,6 +2,7 @@ use Rattle.std.proofs.Common.{◌∙◌, ◌++◌, List, ℕ, ap, drop, subst}
 use Rattle.hex.specs.Hex.{IsBytes}
 use Rattle.rx_dispatch.specs.Calls.{Called}
 use Rattle.rx_dispatch.specs.Jobs.{JobState}
+use Rattle.rx_dispatch.specs.declared.job.TheConstants.{OFFER_BYTES}
 use Rattle.rx_dispatch.specs.declared.job.Want.TheVariants as wants
 use Rattle.rx_model.specs.declared.answers.ReadGot.TheVariants as readers
 use Rattle.rx_model.specs.declared.event.Event.TheVariants as events
@@ -23,7 +24,7 @@ returns-clause-called g c =
     subst (λ (x : JobState). Called class x wants.Read
     (record j { request = c.append.new.to.items; ended = c.ended_after-self-inside.result }) c.next_after.result
     c.args.server.now c.read.new.server
-    (events.HasRead i.call 4096 (readers.Server c.in_ok-got.got) c.of.result)) c.self.view_is
+    (events.HasRead i.call OFFER_BYTES (readers.Server c.in_ok-got.got) c.of.result)) c.self.view_is
     (read_called class j c.args.server.now c.read.new.server c.in_ok-got.got c.in_ok-got.bytes.items c.of.result
     c.append.new.to.items c.ended_after-self-inside.result c.next_after.result c.in_ok-got.ensures.none
     (subst IsBytes c.as_slice.ensures.value c.append.ensures.fits)
