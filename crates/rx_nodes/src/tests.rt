@@ -84,6 +84,7 @@ fn a_call_goes_to_the_server_and_its_reply_comes_back(rt: HostRuntime) -> Result
     assert!(&rt; carry(&mut nodes, alloc, 1, SERVER)?);
     let named = accepted(nodes.accept()).expect(&rt, "an accepted call");
     assert_eq!(&rt; count(&nodes.handler_read(alloc, &named, 10)?), 3);
+    assert_eq!(&rt; count(&nodes.handler_read(alloc, &named, 10)?), 0);
     let _ = nodes.handler_write(alloc, &named, &[4, 5])?;
     let _ = nodes.finish(&named, 0);
     assert!(&rt; carry(&mut nodes, alloc, SERVER, 1)?);
