@@ -5,6 +5,7 @@
 mod answers;
 mod bytes;
 mod event;
+mod fits;
 mod line;
 mod names;
 mod spelling_laws;
