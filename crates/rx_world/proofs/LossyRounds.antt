@@ -1,0 +1,275 @@
+-- Lossy rounds, from what a run keeps, with a generator and what is held, to what it keeps.
+use Rattle.std.proofs.Common.{◌≡◌, ◌∙◌, ◌<◌, ◌≤◌, ◌+◌, ◌-◌, ◌==◌, ◌&&◌, ℕ, suc, zero, List, [], ◌++◌, Bool, true}
+use Rattle.std.proofs.Common.{false, Option, Some, None, Result, sym, subst, ap, arith, length}
+use Rattle.std.specs.Prelude.{IsErr, IsErrAnd}
+use Rattle.rand_pcg.specs.Lcg.{Lcg, increment_of, started}
+use Rattle.rand_pcg.specs.Pcg.{multiplier_64}
+use Rattle.rx_model.specs.declared.event.Noted.{Noted}
+use Rattle.rx_law.specs.Worlds.{Datagram}
+use Rattle.rx_dispatch.specs.Handlers.{Handlers}
+use Rattle.rx_script.specs.Saying.{Answering}
+use Rattle.rx_nodes.specs.Nodes.{Standing, nodes_of}
+use Rattle.rx_nodes.specs.Waits.{any_lives}
+use Rattle.rx_world.specs.declared.stop.Stop.{Stop}
+use Rattle.rx_world.specs.Lossy.{Lossy, PlaysLossy, ShowsLossy, comes, drawn, fated, gathered, lossy, lossy_round}
+use Rattle.rx_world.specs.Lossy.{lossy_rounds, stays}
+use Rattle.rx_world.specs.Network.{delivers}
+use Rattle.rx_world.specs.Parts.{Part, Ran, Then, To, by_test, each, ends, stop_of}
+use Rattle.rx_world.specs.Rounds.{PlaysGiven, ShowsGiven, clients_first, polls, polls_out, settles, turns}
+use Rattle.rx_world.specs.Stages.{Plays, Shows, Stage, WorldState}
+use Rattle.rx_world.specs.Tells.{Told}
+use Rattle.rx_world.proofs.Delivering.{delivers_cut}
+use Rattle.rx_world.proofs.Fated.{both_play, front_stops}
+use Rattle.rx_world.proofs.Following.{PlaysOn, ran_as}
+use Rattle.rx_world.proofs.Making.{stop_is}
+use Rattle.rx_world.proofs.RoundsMade.{less_one, lives_shown}
+use Rattle.rx_world.proofs.Running.{ran_stops, ran_then, ran_to}
+
+-- ---- one part and another
+
+-- both were made
+on_then : {A B C : Type 0} (first : A → Part B) (next : B → Part C) (old : A → Type 0) (mid : B → Type 0)
+    (new : C → Type 0) (stop : Option Stop) (a b c : Told) → PlaysOn first old mid None a b
+    → PlaysOn next mid new stop b c → PlaysOn (λ x. Then (first x) next) old new stop a c
+on_then first next old mid new stop a b c f g x was = ran_then (first x) next mid new stop a b c (f x was) g
+
+-- the first ended the run
+on_ended : {A B C : Type 0} (first : A → Part B) (next : B → Part C) (old : A → Type 0) (mid : B → Type 0)
+    (new : C → Type 0) (stop : Stop) (a b : Told) → PlaysOn first old mid (Some stop) a b
+    → PlaysOn (λ x. Then (first x) next) old new (Some stop) a b
+on_ended first next old mid new stop a b f x was = ran_stops (first x) next mid new stop a b (f x was)
+
+-- ---- a round
+
+-- what the network is behind a round
+abbrev pub left_of : Lcg → List Datagram → Stage → Lossy
+left_of words given s =
+    record { stage = s; words = drawn words given; held = gathered stays (fated words given) }
+
+-- the end of a round
+abbrev pub lossy_end : Lcg → List Datagram → List Datagram → Stage → Part Lossy
+lossy_end words held given s =
+    Then (settles ((length given == 0) && (length held == 0)) s) (λ t. ends (To (left_of words given t)))
+
+-- its turns and its end
+abbrev pub lossy_turns : Handlers → Lcg → List Datagram → List Datagram → Stage → Part Lossy
+lossy_turns g words held given s = Then (turns g s) (lossy_end words held given)
+
+-- a round behind its polls
+abbrev pub lossy_behind : Handlers → Lcg → List Datagram → List Datagram → Stage → Part Lossy
+lossy_behind g words held given s =
+    Then (each delivers (gathered comes (fated words given) ++ held) s) (lossy_turns g words held given)
+
+-- its polls were made
+lossy_polled : (g : Handlers) (w m : WorldState) (words : Lcg) (held first given : List Datagram) (new : Lossy → Type 0)
+    (stop : Option Stop) (a b c : Told) → first ≡ []
+    → PlaysGiven (λ p. each polls_out (clients_first p.stage) p) w first m given None a b
+    → PlaysOn (lossy_behind g words held given) (Shows m) new stop b c
+    → PlaysOn (lossy_round g) (ShowsLossy w words held) new stop a c
+lossy_polled g w m words held first given new stop a b c none polled rest l shown =
+    ran_then (polls l.stage) (λ p. lossy_behind g l.words l.held p.given p.stage) (ShowsGiven m given) new stop a b c
+    (polled (record { stage = l.stage; given = [] }) (shown.0, sym none))
+    (λ p known.
+    subst (λ ds. Ran (lossy_behind g l.words l.held ds p.stage) new stop b c) (sym known.1)
+    (subst (λ ws. Ran (lossy_behind g ws l.held given p.stage) new stop b c) (sym shown.1)
+    (subst (λ hs. Ran (lossy_behind g words hs given p.stage) new stop b c) (sym shown.2) (rest p.stage known.0))))
+
+-- the run ended in its polls
+pub lossy_polls : (g : Handlers) (w m new : WorldState) (words last : Lcg) (held kept first given : List Datagram)
+    (r : Result (Unit {0}) Stop) (stop : Stop) (a b : Told) → first ≡ []
+    → PlaysGiven (λ p. each polls_out (clients_first p.stage) p) w first m given (Some stop) a b
+    → IsErr r × IsErrAnd r (λ why. why ≡ stop)
+    → PlaysLossy (lossy_round g) w words held new last kept (stop_of r) a b
+lossy_polls g w m new words last held kept first given r stop a b none polled err l shown =
+    subst (λ o. Ran (lossy_round g l) (ShowsLossy new last kept) o a b) (sym (stop_is r stop err))
+    (ran_stops (polls l.stage) (λ p. lossy_behind g l.words l.held p.given p.stage) (ShowsGiven m given)
+    (ShowsLossy new last kept) stop a b (polled (record { stage = l.stage; given = [] }) (shown.0, sym none)))
+
+-- as what was given met its fates
+pub lossy_fates : (g : Handlers) (w m n new : WorldState) (words last : Lcg) (held kept first given : List Datagram)
+    (r : Result (Unit {0}) Stop) (stop : Stop) (a b c : Told) → first ≡ []
+    → PlaysGiven (λ p. each polls_out (clients_first p.stage) p) w first m given None a b
+    → Plays (each delivers (gathered comes (fated words given))) m n (Some stop) b c
+    → IsErr r × IsErrAnd r (λ why. why ≡ stop)
+    → PlaysLossy (lossy_round g) w words held new last kept (stop_of r) a c
+lossy_fates g w m n new words last held kept first given r stop a b c none polled came err =
+    subst (λ o. PlaysLossy (lossy_round g) w words held new last kept o a c) (sym (stop_is r stop err))
+    (lossy_polled g w m words held first given (ShowsLossy new last kept) (Some stop) a b c none polled
+    (on_ended (each delivers (gathered comes (fated words given) ++ held)) (lossy_turns g words held given) (Shows m)
+    (Shows n) (ShowsLossy new last kept) stop b c
+    (front_stops delivers delivers_cut (gathered comes (fated words given)) held m n stop b c came)))
+
+-- as what was held came
+pub lossy_delivers : (g : Handlers) (w m n o new : WorldState) (words last : Lcg)
+    (held kept first given : List Datagram) (r : Result (Unit {0}) Stop) (stop : Stop) (a b c d : Told) → first ≡ []
+    → PlaysGiven (λ p. each polls_out (clients_first p.stage) p) w first m given None a b
+    → Plays (each delivers (gathered comes (fated words given))) m n None b c
+    → Plays (each delivers held) n o (Some stop) c d → IsErr r × IsErrAnd r (λ why. why ≡ stop)
+    → PlaysLossy (lossy_round g) w words held new last kept (stop_of r) a d
+lossy_delivers g w m n o new words last held kept first given r stop a b c d none polled came delivered err =
+    subst (λ x. PlaysLossy (lossy_round g) w words held new last kept x a d) (sym (stop_is r stop err))
+    (lossy_polled g w m words held first given (ShowsLossy new last kept) (Some stop) a b d none polled
+    (on_ended (each delivers (gathered comes (fated words given) ++ held)) (lossy_turns g words held given) (Shows m)
+    (Shows o) (ShowsLossy new last kept) stop b d
+    (both_play delivers (gathered comes (fated words given)) held m n o (Some stop) b c d came delivered)))
+
+-- all came, and this followed
+lossy_came : (g : Handlers) (w m n o : WorldState) (words : Lcg) (held first given : List Datagram)
+    (new : Lossy → Type 0) (stop : Option Stop) (a b c d e : Told) → first ≡ []
+    → PlaysGiven (λ p. each polls_out (clients_first p.stage) p) w first m given None a b
+    → Plays (each delivers (gathered comes (fated words given))) m n None b c → Plays (each delivers held) n o None c d
+    → PlaysOn (lossy_turns g words held given) (Shows o) new stop d e
+    → PlaysOn (lossy_round g) (ShowsLossy w words held) new stop a e
+lossy_came g w m n o words held first given new stop a b c d e none polled came delivered rest =
+    lossy_polled g w m words held first given new stop a b e none polled
+    (on_then (each delivers (gathered comes (fated words given) ++ held)) (lossy_turns g words held given) (Shows m)
+    (Shows o) new stop b d e
+    (both_play delivers (gathered comes (fated words given)) held m n o None b c d came delivered) rest)
+
+-- the run ended in its turns
+pub lossy_turned : (g : Handlers) (w m n o p new : WorldState) (words last : Lcg)
+    (held kept first given : List Datagram) (r : Result (Unit {0}) Stop) (stop : Stop) (a b c d e : Told) → first ≡ []
+    → PlaysGiven (λ q. each polls_out (clients_first q.stage) q) w first m given None a b
+    → Plays (each delivers (gathered comes (fated words given))) m n None b c → Plays (each delivers held) n o None c d
+    → Plays (turns g) o p (Some stop) d e → IsErr r × IsErrAnd r (λ why. why ≡ stop)
+    → PlaysLossy (lossy_round g) w words held new last kept (stop_of r) a e
+lossy_turned g w m n o p new words last held kept first given r stop a b c d e none polled came delivered turned err =
+    subst (λ x. PlaysLossy (lossy_round g) w words held new last kept x a e) (sym (stop_is r stop err))
+    (lossy_came g w m n o words held first given (ShowsLossy new last kept) (Some stop) a b c d e none polled came
+    delivered
+    (on_ended (turns g) (lossy_end words held given) (Shows o) (Shows p) (ShowsLossy new last kept) stop d e turned))
+
+-- it came to its end
+pub lossy_settles : (g : Handlers) (w m n o p new : WorldState) (words last : Lcg)
+    (held kept first given : List Datagram) (quiet : Bool) (stop : Option Stop) (a b c d e f : Told) → first ≡ []
+    → quiet ≡ ((length given == 0) && (length held == 0)) → last ≡ drawn words given
+    → kept ≡ gathered stays (fated words given)
+    → PlaysGiven (λ q. each polls_out (clients_first q.stage) q) w first m given None a b
+    → Plays (each delivers (gathered comes (fated words given))) m n None b c → Plays (each delivers held) n o None c d
+    → Plays (turns g) o p None d e → Plays (settles quiet) p new stop e f
+    → PlaysLossy (lossy_round g) w words held new last kept stop a f
+lossy_settles g w m n o p new words last held kept first given quiet stop a b c d e f none is at stay polled came
+    delivered turned settled =
+    lossy_came g w m n o words held first given (ShowsLossy new last kept) stop a b c d f none polled came delivered
+    (on_then (turns g) (lossy_end words held given) (Shows o) (Shows p) (ShowsLossy new last kept) stop d e f turned
+    (λ s shown.
+    ran_as (settles ((length given == 0) && (length held == 0)) s) (left_of words given) (Shows new)
+    (ShowsLossy new last kept) stop e f (subst (λ q. Ran (settles q s) (Shows new) stop e f) is (settled s shown))
+    (λ t there. (there, sym at, sym stay))))
+
+-- what is held, behind none
+pub held_behind : (words : Lcg) (given first kept : List Datagram) → first ≡ []
+    → kept ≡ first ++ gathered stays (fated words given) → kept ≡ gathered stays (fated words given)
+held_behind words given first kept none is = is ∙ ap (λ xs. xs ++ gathered stays (fated words given)) none
+
+-- by the handlers of the same script
+pub lossy_by : (hs : List Answering → Handlers) (now old : List Answering) (w new : WorldState) (words last : Lcg)
+    (held kept : List Datagram) (stop : Option Stop) (a b : Told) → now ≡ old
+    → PlaysLossy (lossy_round (hs now)) w words held new last kept stop a b
+    → PlaysLossy (lossy_round (hs old)) w words held new last kept stop a b
+lossy_by hs now old w new words last held kept stop a b same plays =
+    subst (λ s. PlaysLossy (lossy_round (hs s)) w words held new last kept stop a b) same plays
+
+-- ---- rounds
+
+-- what follows one network is what follows a stage
+abbrev pub OnwardLossy : (Stage → Part Stage) → (Lossy → Part Stage) → WorldState → WorldState → Lcg → List Datagram
+    → Told → Told → Type 0
+OnwardLossy whole rest w m words held a b =
+    (new : WorldState) (stop : Option Stop) (c : Told) → PlaysOn rest (ShowsLossy m words held) (Shows new) stop b c
+    → Plays whole w new stop a c
+
+-- no round was made yet
+pub onward_first : (g : Handlers) (number count : ℕ) (w : WorldState) (words : Lcg) (held : List Datagram) (t : Told)
+    → words ≡ started 64 multiplier_64 number (increment_of 64 1) → held ≡ []
+    → OnwardLossy (lossy g number count) (lossy_rounds g (count - 0)) w w words held t t
+onward_first g number count w words held t new_words none new stop c rest s shown =
+    (let l : Lossy = record { stage = s; words = started 64 multiplier_64 number (increment_of 64 1); held = [] } in
+    subst (λ n. Ran (lossy_rounds g n l) (Shows new) stop t c) (let all : count - 0 ≡ count = omega arith in all)
+    (rest l (shown, sym new_words, sym none)))
+
+-- whether a call lives, as the code finds it
+lossy_lives : (i w : WorldState) (l : Lossy) (words : Lcg) (held : List Datagram) (lives answer : Bool) → i ≡ w
+    → ((h : List Noted) → Standing i.nodes h → lives ≡ any_lives (nodes_of i.nodes) h) → lives ≡ answer
+    → ShowsLossy w words held l → any_lives l.stage.nodes l.stage.history ≡ answer
+lossy_lives i w l words held lives answer is exact yet shown =
+    lives_shown i l.stage lives (subst (λ (u : WorldState). Shows u l.stage) (sym is) shown.0) exact ∙ yet
+
+-- what a round or its end comes to, where a call lives or none does
+abbrev lossy_choice : Handlers → ℕ → Lossy → Bool → Part Stage
+lossy_choice g n l lives = by_test lives (Then (lossy_round g l) (lossy_rounds g n)) (ends (To l.stage))
+
+-- the rounds that are left, one of which was made
+lossy_more : (g : Handlers) (n : ℕ) (i w m new : WorldState) (words last : Lcg) (held kept : List Datagram)
+    (lives : Bool) (stop : Option Stop) (a b c : Told) → i ≡ w
+    → ((h : List Noted) → Standing i.nodes h → lives ≡ any_lives (nodes_of i.nodes) h) → lives ≡ true
+    → PlaysLossy (lossy_round g) w words held m last kept None a b
+    → PlaysOn (lossy_rounds g n) (ShowsLossy m last kept) (Shows new) stop b c
+    → PlaysOn (lossy_rounds g (suc n)) (ShowsLossy w words held) (Shows new) stop a c
+lossy_more g n i w m new words last held kept lives stop a b c is exact yet made rest l shown =
+    subst (λ v. Ran (lossy_choice g n l v) (Shows new) stop a c)
+    (sym (lossy_lives i w l words held lives true is exact yet shown))
+    (ran_then (lossy_round g l) (lossy_rounds g n) (ShowsLossy m last kept) (Shows new) stop a b c (made l shown) rest)
+
+-- the run ended in one
+lossy_stop : (g : Handlers) (n : ℕ) (i w m new : WorldState) (words last : Lcg) (held kept : List Datagram)
+    (lives : Bool) (stop : Stop) (a b : Told) → i ≡ w
+    → ((h : List Noted) → Standing i.nodes h → lives ≡ any_lives (nodes_of i.nodes) h) → lives ≡ true
+    → PlaysLossy (lossy_round g) w words held m last kept (Some stop) a b
+    → PlaysOn (lossy_rounds g (suc n)) (ShowsLossy w words held) (Shows new) (Some stop) a b
+lossy_stop g n i w m new words last held kept lives stop a b is exact yet made l shown =
+    subst (λ v. Ran (lossy_choice g n l v) (Shows new) (Some stop) a b)
+    (sym (lossy_lives i w l words held lives true is exact yet shown))
+    (ran_stops (lossy_round g l) (lossy_rounds g n) (ShowsLossy m last kept) (Shows new) stop a b (made l shown))
+
+-- none lives
+lossy_over : (g : Handlers) (n : ℕ) (i w : WorldState) (words : Lcg) (held : List Datagram) (lives : Bool) (t : Told)
+    → i ≡ w → ((h : List Noted) → Standing i.nodes h → lives ≡ any_lives (nodes_of i.nodes) h) → lives ≡ false
+    → PlaysOn (lossy_rounds g n) (ShowsLossy w words held) (Shows w) None t t
+lossy_over g zero i w words held lives t is exact over l shown = ran_to (Shows w) l.stage t shown.0
+lossy_over g (suc n) i w words held lives t is exact over l shown =
+    subst (λ v. Ran (lossy_choice g n l v) (Shows w) None t t)
+    (sym (lossy_lives i w l words held lives false is exact over shown)) (ran_to (Shows w) l.stage t shown.0)
+
+-- one round more
+pub lossy_onward : (g : Handlers) (whole : Stage → Part Stage) (count k : ℕ) (i w0 w m : WorldState) (words last : Lcg)
+    (held kept : List Datagram) (lives : Bool) (a b c : Told) → k < count → i ≡ w
+    → ((h : List Noted) → Standing i.nodes h → lives ≡ any_lives (nodes_of i.nodes) h) → lives ≡ true
+    → PlaysLossy (lossy_round g) w words held m last kept None b c
+    → OnwardLossy whole (lossy_rounds g (count - k)) w0 w words held a b
+    → OnwardLossy whole (lossy_rounds g (count - (k + 1))) w0 m last kept a c
+lossy_onward g whole count k i w0 w m words last held kept lives a b c low is exact yet made onward new stop e rest =
+    onward new stop e
+    (subst (λ n. PlaysOn (lossy_rounds g n) (ShowsLossy w words held) (Shows new) stop b e) (sym (less_one count k low))
+    (lossy_more g (count - (k + 1)) i w m new words last held kept lives stop b c e is exact yet made rest))
+
+-- the run ended in a round
+pub lossy_stops : (g : Handlers) (whole : Stage → Part Stage) (count k : ℕ) (i w0 w m new : WorldState)
+    (words last : Lcg) (held kept : List Datagram) (lives : Bool) (r : Result (Unit {0}) Stop) (stop : Stop)
+    (a b c : Told) → k < count → i ≡ w
+    → ((h : List Noted) → Standing i.nodes h → lives ≡ any_lives (nodes_of i.nodes) h) → lives ≡ true
+    → PlaysLossy (lossy_round g) w words held m last kept (Some stop) b c → IsErr r × IsErrAnd r (λ why. why ≡ stop)
+    → OnwardLossy whole (lossy_rounds g (count - k)) w0 w words held a b → Plays whole w0 new (stop_of r) a c
+lossy_stops g whole count k i w0 w m new words last held kept lives r stop a b c low is exact yet made err onward =
+    subst (λ o. Plays whole w0 new o a c) (sym (stop_is r stop err))
+    (onward new (Some stop) c
+    (subst (λ n. PlaysOn (lossy_rounds g n) (ShowsLossy w words held) (Shows new) (Some stop) b c)
+    (sym (less_one count k low))
+    (lossy_stop g (count - (k + 1)) i w m new words last held kept lives stop b c is exact yet made)))
+
+-- none lives any more
+pub lossy_ended : (g : Handlers) (whole : Stage → Part Stage) (count k : ℕ) (i w0 w : WorldState) (words : Lcg)
+    (held : List Datagram) (lives : Bool) (a b : Told) → i ≡ w
+    → ((h : List Noted) → Standing i.nodes h → lives ≡ any_lives (nodes_of i.nodes) h) → lives ≡ false
+    → OnwardLossy whole (lossy_rounds g (count - k)) w0 w words held a b → Plays whole w0 w None a b
+lossy_ended g whole count k i w0 w words held lives a b is exact over onward =
+    onward w None b (lossy_over g (count - k) i w words held lives b is exact over)
+
+-- all were made
+pub lossy_all : (g : Handlers) (whole : Stage → Part Stage) (count k : ℕ) (w0 w : WorldState) (words : Lcg)
+    (held : List Datagram) (a b : Told) → count ≤ k
+    → OnwardLossy whole (lossy_rounds g (count - k)) w0 w words held a b → Plays whole w0 w None a b
+lossy_all g whole count k w0 w words held a b high onward =
+    onward w None b
+    (subst (λ n. PlaysOn (lossy_rounds g n) (ShowsLossy w words held) (Shows w) None b b)
+    (let none : 0 ≡ count - k = omega arith in none) (λ l shown. ran_to (Shows w) l.stage b shown.0))

@@ -1,0 +1,47 @@
+use Rattle.std.proofs.Common.{◌≡◌, ◌≤◌, ◌∙◌, refl, sym, subst, true, false, length, rules, arith}
+use Rattle.rx_caller.specs.Asks.{begun, calling}
+use Rattle.rx_caller.specs.declared.caller.TheConstants.{REPLY_BYTES}
+use Rattle.rx_caller.specs.View.{CallerState}
+use Rattle.rx_world.specs.Tells.{Told, told}
+use Rattle.rx_world.specs.Turned.{RestsAnyhow}
+use Rattle.rx_world.proofs.Going.{Going, goes_ended, goes_more, goes_over, going_here, turn_wants}
+use Rattle.rx_world.proofs.turns.call_on.Goals as goal
+
+pub calls-init : goal.calls-init
+calls-init g c =
+    let t : Told = told (g.J.Journal.told c.args.book.now) (g.O.Sink.told c.args.out.now) (g.O.Sink.faults
+    c.args.out.now) in
+    record {
+      going = subst (λ (v : CallerState). Going (calling REPLY_BYTES) c.args.node (begun c.args.caller.now) v
+          c.args.nodes.now c.args.nodes.now t t) (sym c.begin.ensures)
+          (going_here (calling REPLY_BYTES) c.args.node (begun c.args.caller.now) c.args.nodes.now t);
+      clients = refl;
+    }
+
+pub returns-in_err-call : goal.returns-in_err-call
+returns-in_err-call g c =
+    let there : c.args.node ≤ length c.calls.nodes.clients = omega (arith, c.calls.invariant.clients, c.requires.1) in
+    goes_ended (calling REPLY_BYTES) c.args.node _ c.calls.caller _ _ c.calls.nodes c.call.new.nodes _
+    c.from_residual.result
+    c.in_err-call.field-0.0 _ _ _ c.calls.invariant.going there c.from_residual.ensures.1 c.in_err-call.ensures.goes
+
+pub returns-then-not-branch : goal.returns-then-not-branch
+returns-then-not-branch g c =
+    let off : c.in_ok-call.field-0 ≡ false = search rules in
+    goes_over (calling REPLY_BYTES) c.args.node RestsAnyhow _ c.calls.caller _ _ c.calls.nodes _ c.in_ok-call.field-0
+    _ _ _
+    c.calls.invariant.going c.in_ok-call.ensures.goes off
+
+pub calls-preserved : goal.calls-preserved
+calls-preserved g c =
+    let there : c.args.node ≤ length c.calls.nodes.clients = omega (arith, c.calls.invariant.clients, c.requires.1) in
+    let on : c.in_ok-call.field-0 ≡ true = search rules in
+    record {
+      going = goes_more (calling REPLY_BYTES) c.args.node RestsAnyhow _ c.calls.caller _ _ c.calls.nodes _
+          c.in_ok-call.field-0 _ _ _ c.calls.invariant.going c.in_ok-call.ensures.goes on there;
+      clients = c.call.ensures.clients ∙ c.calls.invariant.clients;
+    }
+
+pub returns : goal.returns
+returns g c = turn_wants (calling REPLY_BYTES) c.args.node _ c.calls.caller _ _ c.calls.nodes _ _ _
+    c.calls.invariant.going

@@ -1,0 +1,18 @@
+use Rattle.std.proofs.Common.{◌≡◌, ◌++◌, None}
+use Rattle.rx_world.specs.Lossy.{comes, drawn, fated, gathered, stays}
+use Rattle.rx_world.specs.Network.{delivers}
+use Rattle.rx_world.specs.Parts.{each}
+use Rattle.rx_world.specs.Stages.{Plays, script_of}
+use Rattle.rx_world.specs.Tells.{told}
+use Rattle.rx_world.proofs.world.World.carry_all.Given as goal
+
+-- what was yielded has met its fates
+abbrev pub invariant-loop-datagram : goal.invariant-loop-datagram
+invariant-loop-datagram g l = record {
+  plays : Plays (each delivers (gathered comes (fated l.fn.words l.yielded))) l.fn.self l.self None
+      (told (g.J.Journal.told l.fn.book) (g.O.Sink.told l.fn.out) (g.O.Sink.faults l.fn.out))
+      (told (g.J.Journal.told l.book) (g.O.Sink.told l.out) (g.O.Sink.faults l.out));
+  held : l.held.items ≡ l.fn.held.items ++ gathered stays (fated l.fn.words l.yielded);
+  words : l.words ≡ drawn l.fn.words l.yielded;
+  script : script_of l.self ≡ script_of l.fn.self;
+}

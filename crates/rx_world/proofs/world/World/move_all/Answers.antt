@@ -1,0 +1,63 @@
+use Rattle.std.proofs.Common.{◌≡◌, ◌+◌, ◌∙◌, inl, inr, refl, ap, length, arith}
+use Rattle.rx_world.specs.Rounds.{clients_first, moves_on}
+use Rattle.rx_world.specs.Stages.{Shows, WorldState}
+use Rattle.rx_world.proofs.Following.{on_none}
+use Rattle.rx_world.proofs.Numbers.{clients_listed}
+use Rattle.rx_world.proofs.RoundsMade.{client_ended, client_more, clients_want, early_left, moves_cut, server_last}
+use Rattle.rx_world.proofs.world.World.move_all.Goals as goal
+
+pub returns-in_err-node-end-clause-plays : goal.returns-in_err-node-end-clause-plays
+returns-in_err-node-end-clause-plays g c =
+    clients_want (moves_on c.args.time) clients_first (Shows c.args.self.now) (Shows c.args.self.now) _
+    c.in_err-node-end.field-0.0 _ (moves_cut c.args.time) c.from_residual.ensures c.in_err-node-end.ensures.wanting
+
+pub loop-node-init : goal.loop-node-init
+loop-node-init g c = record {
+  plays = on_none (moves_on c.args.time) (Shows c.args.self.now) _;
+  script = refl;
+  clients = refl;
+  early = λ k others. c.requires k;
+}
+
+pub move_on-requires : goal.move_on-requires
+move_on-requires g c =
+    let long : c.in_ok-node-end.node-end ≡ length c.args.self.now.nodes.clients + 1 =
+    c.in_ok-node-end.ensures.count ∙ ap (λ (w : WorldState). length w.nodes.clients + 1) c.self.view_is in
+    record {
+      there = omega (arith, long, c.loop-node-test.true, c.loop-node.invariant.clients);
+      early = c.loop-node.invariant.early c.loop-node.node (inr (omega arith));
+    }
+
+pub returns-in_err-move_on-clause-plays : goal.returns-in_err-move_on-clause-plays
+returns-in_err-move_on-clause-plays g c =
+    let long : c.in_ok-node-end.node-end ≡ length c.args.self.now.nodes.clients + 1 =
+    c.in_ok-node-end.ensures.count ∙ ap (λ (w : WorldState). length w.nodes.clients + 1) c.self.view_is in
+    client_ended (moves_on c.args.time) clients_first c.loop-node.node c.in_ok-node-end.node-end
+    (Shows c.args.self.now) (Shows c.loop-node.self) (Shows c.move_on.new.self) c.from_residual-in_err-move_on.result
+    c.in_err-move_on.field-0.0 _ _ _ c.loop-node.auto.node c.loop-node-test.true
+    (λ s shown. clients_listed c.args.self.now s c.in_ok-node-end.node-end shown long)
+    c.loop-node.invariant.plays c.in_err-move_on.ensures.plays c.from_residual-in_err-move_on.ensures
+
+pub loop-node-preserved : goal.loop-node-preserved
+loop-node-preserved g c = record {
+  plays = client_more (moves_on c.args.time) c.loop-node.node (Shows c.args.self.now) (Shows c.loop-node.self)
+      (Shows c.move_on.new.self) _ _ _ c.loop-node.auto.node c.loop-node.invariant.plays c.in_ok-move_on.ensures.plays;
+  script = c.move_on.ensures.script ∙ c.loop-node.invariant.script;
+  clients = c.move_on.ensures.clients ∙ c.loop-node.invariant.clients;
+  early = early_left c.loop-node.self.nodes c.move_on.new.self.nodes c.loop-node.node c.args.time c.loop-node.auto.node
+      c.move_on.ensures.others c.loop-node.invariant.early;
+}
+
+pub move_on-requires-2 : goal.move_on-requires-2
+move_on-requires-2 g c = record { there = omega arith; early = c.loop-node.invariant.early 0 (inl refl) }
+
+pub returns-clause-plays : goal.returns-clause-plays
+returns-clause-plays g c =
+    let long : c.in_ok-node-end.node-end ≡ length c.args.self.now.nodes.clients + 1 =
+    c.in_ok-node-end.ensures.count ∙ ap (λ (w : WorldState). length w.nodes.clients + 1) c.self.view_is in
+    let all : c.loop-node.node ≡ c.in_ok-node-end.node-end =
+    omega (arith, long, c.loop-node-test.false, c.loop-node.auto.node-end) in
+    server_last (moves_on c.args.time) clients_first c.loop-node.node c.in_ok-node-end.node-end
+    (Shows c.args.self.now) (Shows c.loop-node.self) (Shows c.move_on-2.new.self) _ _ _ _ all
+    (λ s shown. clients_listed c.args.self.now s c.in_ok-node-end.node-end shown long)
+    c.loop-node.invariant.plays c.move_on-2.ensures.plays

@@ -1,0 +1,253 @@
+//! Turns of the dispatcher and of callers.
+ghost use Rattle.std.specs.Prelude.{◌≡◌, ◌≤◌, ◌<◌, IfOk, OnOk, length, true};
+ghost use Rattle.rx_caller.specs.Asks.{begun as caller_begun, calling};
+ghost use Rattle.rx_caller.specs.declared.caller.TheConstants.{REPLY_BYTES};
+ghost use Rattle.rx_dispatch.specs.Dispatching.{accepts, dispatching, over, turning_of};
+ghost use Rattle.rx_dispatch.specs.Handlers.{handlers_of};
+ghost use Rattle.rx_dispatch.specs.Making.{Remembers};
+ghost use Rattle.rx_dispatch.specs.States.{state_of};
+ghost use Rattle.rx_nodes.specs.Nodes.{IsClientThere};
+ghost use Rattle.rx_wire.specs.Turns.{noted};
+ghost use Rattle.rx_world.specs.Parts.{stop_of};
+ghost use Rattle.rx_world.specs.Programs.{GoesOn, PlaysTurn};
+ghost use Rattle.rx_world.specs.Stages.{Plays, script_of};
+ghost use Rattle.rx_world.specs.Tells.{IsTold, told};
+ghost use Rattle.rx_world.specs.Turned.{IsOverWith, RestsAnyhow, dispatches, turns_all, turns_at, turns_for, turns_on};
+
+use crate::stop::Stop;
+use crate::trace::Trace;
+use crate::world::World;
+use rx_base::Sink;
+use rx_caller::Caller;
+use rx_dispatch::Dispatcher;
+use rx_model::Event;
+use rx_nodes::{Nodes, SERVER};
+use rx_wire::Journal;
+use xdr_value::Interface;
+
+impl World {
+    /// A turn of the dispatcher.
+    pub fn dispatch<O: Sink, J: Journal>(
+        &mut self,
+        iface: &Interface,
+        out: &mut O,
+        book: &mut J,
+    ) -> Result<(), Stop>
+        ensures plays { Plays (dispatches (handlers_of iface.now (script_of self.old))) self.old self.new
+            (stop_of result)
+            (told (J.told book.old) (O.told out.old) (O.faults out.old))
+            (told (J.told book.new) (O.told out.new) (O.faults out.new)) }
+        ensures script { script_of self.new ≡ script_of self.old }
+    {
+        dispatch_on(
+            iface,
+            &mut self.dispatcher,
+            &mut self.nodes,
+            &mut self.trace,
+            out,
+            book,
+        )
+    }
+
+    /// A turn of each caller of a client, by call number.
+    pub fn turn_of<O: Sink, J: Journal>(
+        &mut self,
+        node: u32,
+        out: &mut O,
+        book: &mut J,
+    ) -> Result<(), Stop>
+        ensures plays { Plays (turns_on node) self.old self.new (stop_of result)
+            (told (J.told book.old) (O.told out.old) (O.faults out.old))
+            (told (J.told book.new) (O.told out.new) (O.faults out.new)) }
+        ensures script { script_of self.new ≡ script_of self.old }
+    {
+        for place in 0..self.callers.len() {
+            self.turn_for(node, place, out, book)?;
+        }
+        Ok(())
+    }
+
+    /// A turn of the caller at a place, where it is this client's.
+    fn turn_for<O: Sink, J: Journal>(
+        &mut self,
+        node: u32,
+        place: usize,
+        out: &mut O,
+        book: &mut J,
+    ) -> Result<(), Stop>
+        requires { place < length self.old.callers }
+        ensures plays { Plays (turns_for node place) self.old self.new (stop_of result)
+            (told (J.told book.old) (O.told out.old) (O.faults out.old))
+            (told (J.told book.new) (O.told out.new) (O.faults out.new)) }
+        ensures script { script_of self.new ≡ script_of self.old }
+        ensures callers { length self.new.callers ≡ length self.old.callers }
+    {
+        if self.callers[place].node != node {
+            return Ok(());
+        }
+        self.turn_at(place, out, book)
+    }
+
+    /// A turn of each caller, by call number.
+    pub fn turn_of_all<O: Sink, J: Journal>(
+        &mut self,
+        out: &mut O,
+        book: &mut J,
+    ) -> Result<(), Stop>
+        ensures plays { Plays turns_all self.old self.new (stop_of result)
+            (told (J.told book.old) (O.told out.old) (O.faults out.old))
+            (told (J.told book.new) (O.told out.new) (O.faults out.new)) }
+        ensures script { script_of self.new ≡ script_of self.old }
+    {
+        for place in 0..self.callers.len() {
+            self.turn_at(place, out, book)?;
+        }
+        Ok(())
+    }
+
+    /// A turn of the caller at a place, where its client is there.
+    fn turn_at<O: Sink, J: Journal>(
+        &mut self,
+        place: usize,
+        out: &mut O,
+        book: &mut J,
+    ) -> Result<(), Stop>
+        requires { place < length self.old.callers }
+        ensures plays { Plays (turns_at place) self.old self.new (stop_of result)
+            (told (J.told book.old) (O.told out.old) (O.faults out.old))
+            (told (J.told book.new) (O.told out.new) (O.faults out.new)) }
+        ensures script { script_of self.new ≡ script_of self.old }
+        ensures callers { length self.new.callers ≡ length self.old.callers }
+    {
+        let node = self.callers[place].node;
+        if node == SERVER || node as usize > self.nodes.clients() {
+            return Ok(());
+        }
+        let invoked = &mut self.callers[place];
+        call_on(
+            node,
+            &mut invoked.caller,
+            &mut self.nodes,
+            &mut self.trace,
+            out,
+            book,
+        )
+    }
+}
+
+/// A turn of a dispatcher on the server.
+fn dispatch_on<O: Sink, J: Journal>(
+    iface: &Interface,
+    dispatcher: &mut Dispatcher,
+    nodes: &mut Nodes,
+    trace: &mut Trace,
+    out: &mut O,
+    book: &mut J,
+) -> Result<(), Stop>
+    ensures plays { PlaysTurn (dispatching (handlers_of iface.now (state_of dispatcher.old).script)) SERVER
+        (accepts (state_of dispatcher.old).round.jobs)
+        (turning_of (handlers_of iface.now (state_of dispatcher.old).script) (state_of dispatcher.new).round)
+        nodes.old nodes.new (stop_of result)
+        (told (J.told book.old) (O.told out.old) (O.faults out.old))
+        (told (J.told book.new) (O.told out.new) (O.faults out.new)) }
+    ensures over { OnOk result (IsOverWith
+        (turning_of (handlers_of iface.now (state_of dispatcher.old).script) (state_of dispatcher.new).round)
+        (state_of dispatcher.new).round.jobs) }
+    ensures script { (state_of dispatcher.new).script ≡ (state_of dispatcher.old).script }
+{
+    dispatcher.begin();
+    'calls: for _ in 0..u64::MAX {
+        if !serve(iface, dispatcher, nodes, trace, out, book)? {
+            return Ok(());
+        }
+    }
+    Err(Stop::OutOfMemory)
+}
+
+/// Makes the next call of a dispatcher's turn and tells it. Whether there was one.
+fn serve<O: Sink, J: Journal>(
+    iface: &Interface,
+    dispatcher: &mut Dispatcher,
+    nodes: &mut Nodes,
+    trace: &mut Trace,
+    out: &mut O,
+    book: &mut J,
+) -> Result<bool, Stop>
+    requires { Remembers (handlers_of iface.now (state_of dispatcher.old).script) (state_of dispatcher.old).round }
+    ensures goes { GoesOn (dispatching (handlers_of iface.now (state_of dispatcher.old).script)) SERVER
+        (λ v. IsOverWith v (state_of dispatcher.new).round.jobs)
+        (turning_of (handlers_of iface.now (state_of dispatcher.old).script) (state_of dispatcher.old).round)
+        (turning_of (handlers_of iface.now (state_of dispatcher.old).script) (state_of dispatcher.new).round)
+        nodes.old nodes.new result
+        (told (J.told book.old) (O.told out.old) (O.faults out.old))
+        (told (J.told book.new) (O.told out.new) (O.faults out.new)) }
+    ensures remembered { Remembers (handlers_of iface.now (state_of dispatcher.new).script)
+        (state_of dispatcher.new).round }
+    ensures script { (state_of dispatcher.new).script ≡ (state_of dispatcher.old).script }
+{
+    match dispatcher.step(iface, nodes.server_mut())? {
+        None => Ok(false),
+        Some(event) => tell_call(SERVER, event, trace, out, book),
+    }
+}
+
+/// A turn of a caller on a client.
+fn call_on<O: Sink, J: Journal>(
+    node: u32,
+    caller: &mut Caller,
+    nodes: &mut Nodes,
+    trace: &mut Trace,
+    out: &mut O,
+    book: &mut J,
+) -> Result<(), Stop>
+    requires { IsClientThere nodes.old node }
+    ensures { PlaysTurn (calling REPLY_BYTES) node (caller_begun caller.old) caller.new
+        nodes.old nodes.new (stop_of result)
+        (told (J.told book.old) (O.told out.old) (O.faults out.old))
+        (told (J.told book.new) (O.told out.new) (O.faults out.new)) }
+{
+    caller.begin();
+    'calls: for _ in 0..u64::MAX {
+        if !call(node, caller, nodes, trace, out, book)? {
+            return Ok(());
+        }
+    }
+    Err(Stop::OutOfMemory)
+}
+
+/// Makes the next call of a caller's turn and tells it. Whether there was one.
+fn call<O: Sink, J: Journal>(
+    node: u32,
+    caller: &mut Caller,
+    nodes: &mut Nodes,
+    trace: &mut Trace,
+    out: &mut O,
+    book: &mut J,
+) -> Result<bool, Stop>
+    requires { IsClientThere nodes.old node }
+    ensures goes { GoesOn (calling REPLY_BYTES) node RestsAnyhow caller.old caller.new nodes.old nodes.new result
+        (told (J.told book.old) (O.told out.old) (O.faults out.old))
+        (told (J.told book.new) (O.told out.new) (O.faults out.new)) }
+    ensures clients { length nodes.new.clients ≡ length nodes.old.clients }
+{
+    match caller.step(nodes.client_mut(node))? {
+        None => Ok(false),
+        Some(event) => tell_call(node, event, trace, out, book),
+    }
+}
+
+/// Tells a call of a turn, which goes on then.
+fn tell_call<O: Sink, J: Journal>(
+    node: u32,
+    event: Event,
+    trace: &mut Trace,
+    out: &mut O,
+    book: &mut J,
+) -> Result<bool, Stop>
+    ensures told { IsTold (stop_of result) (told (J.told book.old) (O.told out.old) (O.faults out.old))
+        (told (J.told book.new) (O.told out.new) (O.faults out.new)) (noted node event) }
+    ensures goes { IfOk result (λ goes. goes ≡ true) }
+{
+    trace.tell(node, &event, out, book)?;
+    Ok(true)
+}
