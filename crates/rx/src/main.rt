@@ -3,6 +3,7 @@
 
 use rx_base::{DiskFiles, StdSink};
 use rx_top::{end_without_words, rx_main};
+use rx_wire::Forgetting;
 use std::process::ExitCode;
 use std::{env, io};
 
@@ -11,8 +12,16 @@ fn main(rt: HostRuntime) -> ExitCode {
     let mut files = DiskFiles::make(&rt);
     let mut out = StdSink::make(&stdout);
     let mut err = StdSink::make(&stderr);
+    let mut book = Forgetting;
     let status = match words(&rt) {
-        Ok(words) => rx_main(rt.alloc(), &words, &mut files, &mut out, &mut err),
+        Ok(words) => rx_main(
+            rt.alloc(),
+            &words,
+            &mut files,
+            &mut out,
+            &mut err,
+            &mut book,
+        ),
         Err(error) => end_without_words(error, &mut err),
     };
     ExitCode::from(status.number())

@@ -1,12 +1,2 @@
-pub mod PieceLemmas
-pub mod NumberLemmas
-pub mod LineLemmas
-pub mod CountLemmas
-pub mod PlanLemmas
-pub mod BuiltLemmas
-pub mod SaidLaw
-pub mod WellLines
-pub mod OfferedLaw
-pub mod RunSteps
-pub mod RunEnds
 pub mod TopLemmas
+pub mod SimLemmas

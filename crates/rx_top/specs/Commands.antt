@@ -1,22 +1,24 @@
--- The commands that words are. Public clauses cite this module.
-use Rattle.std.specs.Prelude.{◌==◌, ◌&&◌, not, Bool, true, if◌then◌else◌, ℕ, List, [], ◌∷◌, codes, Option, Some, None}
-use Rattle.std.specs.Str.{bytes_eq}
-use Rattle.rx_top.specs.declared.marks.TheConstants.{MINUS}
+-- Which commands of `rx_words` the program has. Public clauses cite this module.
+use Rattle.std.specs.Prelude.{Bool, true, false, Option, Some, None}
+use Rattle.rx_words.specs.declared.command.Command.{Command}
+use Rattle.rx_words.specs.declared.command.Command.TheVariants as commands
 
--- a word that doesn't begin with `-`
-abbrev pub is_plain : List ℕ → Bool
-is_plain [] = true
-is_plain (b ∷ bs) = not (b == MINUS)
+-- a command that the program has
+abbrev pub has_command : Command → Bool
+has_command (commands.Sim plan xg script) = true
+has_command (commands.Serve xg script at service span turns limits key nonce jumbo) = false
+has_command (commands.Call xg proc args to epoch from service turns up down window key jumbo) = false
+has_command (commands.Compile xg) = true
+has_command (commands.Load number calls) = false
+has_command (commands.Peers xg script plan) = false
 
--- the file that words of this command and a file name
-abbrev pub file_named : List ℕ → List (List ℕ) → Option (List ℕ)
-file_named command (first ∷ name ∷ []) = if bytes_eq first command && is_plain name then Some name else None
-file_named command _ = None
+-- the words are a command that the program has
+abbrev pub is_command : Option Command → Bool
+is_command None = false
+is_command (Some c) = has_command c
 
--- the file that the words `sim PLAN` name
-abbrev pub plan_name : List (List ℕ) → Option (List ℕ)
-plan_name words = file_named (codes "sim") words
-
--- the file that the words `compile XG` name
-abbrev pub xg_name : List (List ℕ) → Option (List ℕ)
-xg_name words = file_named (codes "compile") words
+-- the words are `sim`
+abbrev pub is_sim : Option Command → Bool
+is_sim None = false
+is_sim (Some (commands.Sim plan xg script)) = true
+is_sim (Some _) = false

@@ -1,30 +1,18 @@
-//! The commands of the program: plans of one server as text, and interface files.
+//! The commands of the program: `sim` runs a plan, `compile` prints the table of an interface file.
 #![tactic(auto)]
 
-mod bytes_word;
+mod cause;
 mod compile;
-mod draft;
-#[cfg(test)]
-mod forge_tests;
-mod line;
-mod marks;
-mod number;
+mod inputs;
 mod outcome;
-mod pieces;
-mod plan;
-mod reader;
 mod saying;
+mod sim;
 mod status;
-mod step;
-#[cfg(test)]
-mod tests;
 mod top;
-mod world;
 
+pub use cause::Cause;
 pub use compile::CompileOutcome;
-pub use outcome::{Outcome, PlanWhy};
-pub use plan::{LineFault, LineWhy, Numbered, Plan, PlanLine};
-pub use reader::read_plan;
+pub use outcome::SimOutcome;
+pub use sim::SimFiles;
 pub use status::Status;
-pub use top::{SimOutcome, end_without_words, rx_main};
-pub use world::run;
+pub use top::{end_without_words, rx_main};

@@ -1,52 +1,62 @@
-//! How the run of a plan ends.
+//! How the run of a plan's file ended, and what is said of it.
 
 ghost use Rattle.std.specs.Prelude.{◌≡◌};
-ghost use Rattle.rx_top.specs.Causes.{plan_why_text};
+ghost use Rattle.rx_base.specs.Sink.{IsPut};
+ghost use Rattle.rx_top.specs.Inputs.{said_of, status_of};
 
-use std::fmt;
+use crate::cause::Cause;
+use crate::saying::{say, say_refused};
+use crate::status::Status;
+use rx_base::Sink;
 
-/// Why a line of a plan is refused as it runs.
-#[derive(Clone, Copy, Debug, PartialEq, Eq)]
-pub enum PlanWhy {
-    /// The node of the line isn't there.
-    NoNode,
-    /// Fewer than K names of that kind were answered.
-    NoCall,
-    /// A server line after another line.
-    Late,
+/// How `sim` ended.
+#[derive(Debug, Drop)]
+pub enum SimOutcome<'a> {
+    /// Every line of the plan was made, and its trace put.
+    Ran,
+    /// The file is refused, at this line of its text or, at 0, as a whole. Of a plan that ran, the lines before it were
+    /// made, and their trace put.
+    Refused {
+        file: &'a str,
+        line: u32,
+        cause: Cause,
+    },
+    /// The file can't be read.
+    FileFault {
+        file: &'a str,
+    },
+    /// `out` takes no more bytes.
+    SinkFault,
+    OutOfMemory,
 }
 
-impl PlanWhy {
-    /// Its word as it is printed.
-    pub fn as_str(self) -> &'static str
-        ensures { result.now ≡ plan_why_text self }
+impl<'a> SimOutcome<'a> {
+    /// How the program ends then.
+    pub fn status(&self) -> Status
+        ensures { result ≡ status_of self.now }
     {
         match self {
-            PlanWhy::NoNode => "nonode",
-            PlanWhy::NoCall => "nocall",
-            PlanWhy::Late => "late",
+            SimOutcome::Ran => Status::Ok,
+            SimOutcome::Refused { .. } => Status::Refused,
+            SimOutcome::FileFault { .. } => Status::FileFault,
+            SimOutcome::SinkFault => Status::SinkFault,
+            SimOutcome::OutOfMemory => Status::Memory,
         }
     }
 }
 
-impl fmt::Display for PlanWhy {
-    ghost use Rattle.std.specs.Prelude.{Some};
-
-    ghost output = { λ why. Some (plan_why_text why) };
-
-    fn fmt<W: fmt::Write>(&self, f: &mut fmt::Formatter<W>) -> fmt::Result {
-        f.write_str(self.as_str())
+/// Says the line of an outcome.
+pub fn say_outcome<E: Sink>(err: &mut E, outcome: &SimOutcome<'_>)
+    ensures said { IsPut (E.told err.old) (E.told err.new) (E.faults err.old) (E.faults err.new)
+        (said_of outcome.now) }
+    ensures quiet_told { outcome.now ≡ SimOutcome.Ran → E.told err.new ≡ E.told err.old }
+    ensures quiet_faults { outcome.now ≡ SimOutcome.Ran → E.faults err.new ≡ E.faults err.old }
+{
+    match outcome {
+        SimOutcome::Ran => {}
+        SimOutcome::Refused { file, line, cause } => say_refused(err, file, *line, cause.as_str()),
+        SimOutcome::FileFault { file } => say(err, &["rx: cannot read ", *file, "\n"]),
+        SimOutcome::SinkFault => say(err, &["rx: cannot write\n"]),
+        SimOutcome::OutOfMemory => say(err, &["rx: out of memory\n"]),
     }
-}
-
-/// How the run of a plan ended.
-#[derive(Clone, Copy, Debug, PartialEq, Eq)]
-pub enum Outcome {
-    /// Every line was made, and its trace put.
-    Ran,
-    /// The line with this number in the text was refused; those before it happened and were put.
-    Refused { line: u32, why: PlanWhy },
-    /// The sink failed.
-    SinkFault,
-    OutOfMemory,
 }

@@ -1,0 +1,38 @@
+use Rattle.std.proofs.Common.{refl}
+use Rattle.rx_script.specs.Saying.{blocks_of}
+use Rattle.xg_check.specs.Meaning.{interface_of}
+use Rattle.rx_top.specs.Sims.{handlers_with}
+use Rattle.rx_top.proofs.SimLemmas.{run_faults, run_plays}
+use Rattle.rx_top.proofs.sim.play.Goals as goal
+
+pub run-requires : goal.run-requires
+run-requires g c =
+    c.plans_are_well.ensures (handlers_with (interface_of c.args.iface.now) (blocks_of c.args.script.blocks.items))
+    c.requires.0 c.args.plan.now.lines.items c.requires.1
+
+pub returns-in-Ran-clause-played : goal.returns-in-Ran-clause-played
+returns-in-Ran-clause-played g c = run_plays _ _ _ _ _ c.in-Ran.ensures.run c.in-Ran.ensures.headline
+
+pub returns-in-Ran-clause-no_sink_fault : goal.returns-in-Ran-clause-no_sink_fault
+returns-in-Ran-clause-no_sink_fault g c is = run_faults _ _ _ _ _ c.in-Ran.ensures.run
+
+pub returns-in-Refused-clause-played : goal.returns-in-Refused-clause-played
+returns-in-Refused-clause-played g c =
+    (refl, run_plays _ _ _ _ _ c.in-Refused.ensures.run c.in-Refused.ensures.headline)
+
+pub returns-in-Refused-clause-no_sink_fault : goal.returns-in-Refused-clause-no_sink_fault
+returns-in-Refused-clause-no_sink_fault g c is = run_faults _ _ _ _ _ c.in-Refused.ensures.run
+
+pub returns-in-SinkFault-clause-played : goal.returns-in-SinkFault-clause-played
+returns-in-SinkFault-clause-played g c =
+    run_plays _ _ _ _ _ c.in-SinkFault.ensures.run c.in-SinkFault.ensures.headline
+
+pub returns-in-SinkFault-clause-sink_fault : goal.returns-in-SinkFault-clause-sink_fault
+returns-in-SinkFault-clause-sink_fault g c is = run_faults _ _ _ _ _ c.in-SinkFault.ensures.run
+
+pub returns-in-OutOfMemory-clause-played : goal.returns-in-OutOfMemory-clause-played
+returns-in-OutOfMemory-clause-played g c =
+    run_plays _ _ _ _ _ c.in-OutOfMemory.ensures.run c.in-OutOfMemory.ensures.headline
+
+pub returns-in-OutOfMemory-clause-no_sink_fault : goal.returns-in-OutOfMemory-clause-no_sink_fault
+returns-in-OutOfMemory-clause-no_sink_fault g c is = run_faults _ _ _ _ _ c.in-OutOfMemory.ensures.run

@@ -1,0 +1,76 @@
+-- What `sim` makes and leaves, by how it ended. Public clauses cite this module.
+use Rattle.std.specs.Prelude.{◌≡◌, ◌⊎◌, ℕ, List, All, Ok, IsSomeAnd}
+use Rattle.rx_dispatch.specs.Handlers.{Handlers}
+use Rattle.rx_model.specs.Telling.{IsToldNoted}
+use Rattle.rx_script.specs.declared.outcome.Outcome.{Outcome}
+use Rattle.rx_script.specs.declared.outcome.Outcome.TheVariants as runs
+use Rattle.rx_script.specs.declared.plan.Numbered.{Numbered}
+use Rattle.rx_script.specs.Saying.{Answering, plan_rows}
+use Rattle.rx_world.specs.Promises.{Promises}
+use Rattle.rx_world.specs.Runs.{RunIs}
+use Rattle.rx_world.specs.Tells.{Told}
+use Rattle.xg_check.specs.Meaning.{Meant}
+use Rattle.rx_top.specs.declared.cause.Cause.TheVariants as causes
+use Rattle.rx_top.specs.declared.outcome.SimOutcome.{SimOutcome}
+use Rattle.rx_top.specs.declared.outcome.SimOutcome.TheVariants as outcomes
+use Rattle.rx_top.specs.declared.sim.SimFiles.{SimFiles}
+use Rattle.rx_top.specs.declared.status.Status.{Status}
+use Rattle.rx_top.specs.Inputs.{BadPlan, BadScript, BadXg, EndsAt, IsInterface, IsPlan, IsScript, Reads, plan_given}
+use Rattle.rx_top.specs.Inputs.{said_of, status_of}
+
+-- what serves the calls of a plan: an interface and a script
+abbrev pub handlers_with : Meant → List Answering → Handlers
+handlers_with m s = record { types = m.types; procs = m.procs; script = s }
+
+-- these are the lines of a plan that a text gives
+abbrev pub IsRead : Meant → List Numbered → Type 0
+IsRead m lines = (text : List ℕ) × (plan_given m text ≡ Ok (plan_rows lines))
+
+-- the lines of a plan were run, and the events of that keep the promises of a plan; each is one that its line tells, so
+-- no other events have their text
+pub record Played (g : Handlers) (lines : List Numbered) (ran : Outcome) (before after : Told) : Type 0 where
+  pub run : RunIs g lines ran before after
+  pub promises : Promises lines run.events
+  pub told : All IsToldNoted run.events
+
+-- `sim` ended as the run of the plan of this file did
+abbrev pub EndsAs : SimOutcome → List ℕ → (Outcome → Type 0) → Type 0
+EndsAs outcomes.Ran name Ran = Ran runs.Ran
+EndsAs (outcomes.Refused file line (causes.Run why)) name Ran = (file.now ≡ name) × Ran (runs.Refused line why)
+EndsAs (outcomes.Refused file line causes.NoText) name Ran = ⊥
+EndsAs (outcomes.Refused file line (causes.Xg why)) name Ran = ⊥
+EndsAs (outcomes.Refused file line (causes.Line why)) name Ran = ⊥
+EndsAs (outcomes.FileFault file) name Ran = ⊥
+EndsAs outcomes.SinkFault name Ran = Ran runs.SinkFault
+EndsAs outcomes.OutOfMemory name Ran = Ran runs.OutOfMemory
+
+-- over an interface and a script, `sim` ends at the plan's file, and nothing was told; or the plan was run
+abbrev pub PlanIs : Meant → List Answering → List ℕ → SimOutcome → Reads → Told → Told → Type 0
+PlanIs m s name outcome r before after =
+    (EndsAt outcome name (BadPlan m) r × (after ≡ before))
+    ⊎ ((lines : List Numbered) × IsPlan r.contents m name lines
+    × EndsAs outcome name (λ ran. Played (handlers_with m s) lines ran before after))
+
+-- over an interface, it ends at the script's file, and nothing was told; or it went on with the script
+abbrev pub ScriptIs : Meant → SimFiles → SimOutcome → Reads → Told → Told → Type 0
+ScriptIs m names outcome r before after =
+    (IsSomeAnd names.script (λ name. EndsAt outcome name (BadScript m) r) × (after ≡ before))
+    ⊎ ((s : List Answering) × IsScript r.contents m names.script s × PlanIs m s names.plan outcome r before after)
+
+-- it ends at the interface's file, and nothing was told; or it went on with the interface
+abbrev pub InterfaceIs : SimFiles → SimOutcome → Reads → Told → Told → Type 0
+InterfaceIs names outcome r before after =
+    (IsSomeAnd names.xg (λ name. EndsAt outcome name BadXg r) × (after ≡ before))
+    ⊎ ((m : Meant) × IsInterface r.contents names.xg m × ScriptIs m names outcome r before after)
+
+-- what `sim` of these files does: the files are read in the order interface, script, plan, each checked before the
+-- next; or memory was wanted before
+abbrev pub SimIs : SimOutcome → SimFiles → Reads → Told → Told → Type 0
+SimIs outcome names r before after =
+    ((outcome ≡ outcomes.OutOfMemory) × (after ≡ before)) ⊎ InterfaceIs names outcome r before after
+
+-- what the program leaves of it: the status of how it ended, and the line of that said
+abbrev pub SimLeaves : Status → SimFiles → Reads → Told → Told → (List ℕ → Type 0) → Type 0
+SimLeaves status names r before after IsSaid =
+    (outcome : SimOutcome) × (status ≡ status_of outcome) × SimIs outcome names r before after
+    × IsSaid (said_of outcome)
