@@ -2,7 +2,7 @@
 """Runs the program as its callers do: .ci/program.py [PROGRAM]
 
 Compares the exit status and the bytes that arrive from standard output and standard error with the table of
-docs/FORMATS.md and with examples/*.trace, and the statuses of the script ./rx with what is said there. PROGRAM is the
+docs/FORMATS.md and with examples/afs/*.table, and the statuses of the script ./rx with what is said there. PROGRAM is the
 one that the gate built, or else the one that ./rx builds."""
 import contextlib
 import os
@@ -63,22 +63,17 @@ def write(name, text):
     return name
 
 
-def examples():
-    """Each plan of examples/ prints its trace, in a pipe and in a file."""
-    for plan in sorted((top / "examples").glob("*.plan")):
-        trace = plan.with_suffix(".trace").read_bytes()
-        expect(f"examples/{plan.name}", run("sim", plan), "Ok", trace)
-        with open("out", "wb") as out, open("err", "wb") as err:
-            status, _, _ = run("sim", plan, stdout=out, stderr=err)
-        got = status, pathlib.Path("out").read_bytes(), pathlib.Path("err").read_bytes()
-        expect(f"examples/{plan.name} to files", got, "Ok", trace)
-
-
 def usage():
     """Words that are no command, and words that are no text."""
     write("plan", "")
     lists = [], [""], ["sim"], ["sim", "plan", "plan"], ["sim", "-plan"], ["Sim", "plan"], ["plan", "sim"]
-    for words in (*lists, ["compile"], ["compile", "plan", "plan"], ["compile", "-plan"], ["compile", "--", "plan"]):
+    lists = *lists, ["sim", "plan", "--script", "plan"], ["sim", "plan", "--xg"], ["sim", "plan", "--xg=x", "--xg=x"]
+    for words in (*lists, ["compile"], ["compile", "plan", "plan"], ["compile", "-plan"]):
+        expect(f"the words {words}", run(*words), "Usage")
+    # commands that the program doesn't have yet
+    serve = ["serve", "x.xg", "script", "--at", "127.0.0.1:7000"]
+    call = ["call", "x.xg", "P", "[]", "--to", "127.0.0.1:7000", "--epoch", "1"]
+    for words in (serve, call, ["load", "1", "40"], ["peers", "x.xg", "script", "plan"]):
         expect(f"the words {words}", run(*words), "Usage")
     for words in ([b"\xff"], [b"sim", b"\xff"], [b"sim", b"plan", b"\xed\xa0\x80"]):
         expect(f"the words {words}", run(*words), "Usage")
@@ -103,6 +98,22 @@ def plans():
         expect(what, run("sim", write("plan", text)), ending, out.encode(), FILE="plan", **words)
     for name in ("a b", "p:1", "\u00e9\u4e16", "line\nfeed"):
         expect(f"the name {name!r}", run("sim", write(name, "bogus")), "Refused", FILE=name, LINE="1", WHY="word")
+    # the files of a plan, each looked at before the next
+    write("x.xg", "P(IN int a, OUT int b) = 1;")
+    write("s", "on P\ncopy b a\n")
+    write("plan", server + "accept\n")
+    expect("an interface and a script", run("sim", "--script=s", "--xg", "x.xg", "--", "plan"), "Ok", b"s accept -> none\n")
+    rows = [
+        ("const A = 08;", "bogus", "bogus", "x.xg", "1", "badnumber"),
+        ("P(IN int a, OUT int b) = 1;", "on Q\n", "bogus", "s", "1", "proc"),
+        ("P(IN int a, OUT int b) = 1;", b"\xff", "bogus", "s", "0", "word"),
+        ("P(IN int a, OUT int b) = 1;", "on P\n", "bogus", "plan", "1", "word"),
+    ]
+    for xg, script, plan, name, line, why in rows:
+        write("x.xg", xg), write("s", script), write("plan", plan)
+        got = run("sim", "plan", "--xg", "x.xg", "--script", "s")
+        expect(f"{name} among three files", got, "Refused", FILE=name, LINE=line, WHY=why)
+    expect("no script", run("sim", "plan", "--xg", "x.xg", "--script", "none"), "FileFault", NAME="none")
     # a line of the trace of 2 MB, and many lines, through a pipe that takes 64 KB at a time
     long = write("long", server + "forge s 10.0.0.2:7001 1000000*5a\n")
     expect("a long line", run("sim", long), "Ok", b"s take 10.0.0.2:7001 " + b"5a" * 1_000_000 + b" -> bad kind 90\n")
@@ -253,7 +264,7 @@ def script():
 
 with tempfile.TemporaryDirectory() as folder:
     os.chdir(folder)
-    for part in (examples, usage, plans, interfaces, files, streams, memory, script):
+    for part in (usage, plans, interfaces, files, streams, memory, script):
         part()
     os.chdir(top)
 print(f"the program: {len(failed)} runs failed" if failed else "the program: each run ended and printed as it is to")
