@@ -1,6 +1,6 @@
 -- The answer lines of a driven plan say what the script answers, and its handlers end as it says.
-use Rattle.std.proofs.Common.{◌≡◌, ◌⊎◌, is_some, ℕ}
-use Rattle.std.proofs.Common.{Bool, true, List, reverse, Option, Some, None, option_map, Ok}
+use Rattle.std.proofs.Common.{◌≡◌, ◌⊎◌, is_some, ℕ, ℤ}
+use Rattle.std.proofs.Common.{Bool, true, List, reverse, Option, Some, None, option_map}
 use Rattle.std.proofs.Common.{refl, inl, inr, ◌∙◌, ap, sym, subst, slice_get, string_bytes, All}
 use Rattle.std.proofs.Common.{IfSome, IsSomeAnd}
 use Rattle.std.specs.Option.{option_and_then}
@@ -27,7 +27,6 @@ use Rattle.rx_law.proofs.ClientHistory.{client-calls}
 use Rattle.rx_law.proofs.Data.{OwnName}
 use Rattle.rx_law.proofs.Joint.{Fed}
 use Rattle.rx_law.proofs.Law.{law-of}
-use Rattle.rx_law.proofs.OnceLaw.{served}
 use Rattle.rx_law.proofs.World.{if-some}
 use Rattle.rx_law.proofs.WorldLaw.{world-law}
 use Rattle.rx_caller.proofs.Driving.{tells_driven}
@@ -41,7 +40,7 @@ use Rattle.rx_script.specs.Served.{served_answer}
 use Rattle.rx_script.specs.declared.plan.Numbered.{Numbered}
 use Rattle.rx_script.specs.declared.plan.PlanLine.{PlanLine}
 use Rattle.rx_script.specs.declared.plan.PlanLine.TheVariants as lines
-use Rattle.rx_world.specs.Answering.{EndedByLaw, EndsByLaw}
+use Rattle.rx_world.specs.Answering.{AbortedAsServed, AbortsAs, EndedByLaw, EndsByLaw}
 use Rattle.rx_world.specs.Answering.{EndedAsServed, EndsAsServed, FinishesAsServed, AgreesOnStreams, AreDriven}
 use Rattle.rx_world.specs.Answering.{AreServable, Invoked, IsDriven, OkAsAnswered, SaysAnswer}
 use Rattle.rx_world.specs.Answering.{answer_for, invoked_at, invoked_by, request_for}
@@ -50,6 +49,7 @@ use Rattle.rx_world.specs.Follows.{Whole, plan_goes}
 use Rattle.rx_world.specs.Lines.{IsWell}
 use Rattle.rx_world.specs.Promises.{AreDistinct, AreInRange, AreUnforged, IsUnforged, line_kind, plan_nodes}
 use Rattle.rx_world.specs.Stages.{InvokedState, Stage}
+use Rattle.rx_world.proofs.Aborted.{aborted_as}
 use Rattle.rx_world.proofs.DrivenPlan.{plan_follows}
 use Rattle.rx_world.proofs.Exchanged.{Serving, ends_as_served, exchanged_by, fed_in}
 use Rattle.rx_world.proofs.Driven.{seen}
@@ -212,6 +212,30 @@ module _ (g : Handlers) (ls : List Numbered) (nodes : List Node) (h : List Noted
       (ends_as_served g h t (connection_of c) k.node i.node.client n.server c n.fed refl code later before is k.caller
       (request_for g i.invoke) refl n.tells fits (world-law nodes h w premise).once serves)
 
+  -- where it ended with a code, it is one that the server told so
+  caller_aborted : (k : InvokedState) → (i : IsCaller g ls nodes h k) → IsBytes (request_for g i.invoke) → (code : ℤ)
+      → k.caller.end ≡ Some (ends.Abort code)
+      → IsSomeAnd (slice_get nodes 0)
+      (λ server. AbortsAs g server (side 0 h) k.caller.call (request_for g i.invoke) code)
+  caller_aborted k i fits code ended =
+      let c : CallName = k.caller.call in
+      let n : Connected k i = connected k i in
+      let x : TwoEnds = ends_in (connection_of c) k.node i.node.client n.server in
+      let at_end : streams.end_at (looks i.node.client.setup (side k.node h)) c ≡ Some (ends.Abort code) =
+      by_end (n.tells.ended (ends.Abort code) ended) in
+      subst (λ (o : Option Node). IsSomeAnd o (λ server. AbortsAs g server (side 0 h) c (request_for g i.invoke) code))
+      (sym n.there)
+      (aborted_as g h c k.node i.node.client n.server (request_for g i.invoke) code n.fed
+      (λ later before with is.
+      ends_as_served g h t (connection_of c) k.node i.node.client n.server c n.fed refl with later before is k.caller
+      (request_for g i.invoke) refl n.tells fits (world-law nodes h w premise).once serves)
+      ((law-of x h c n.fed refl).ends (ends.Abort code) at_end))
+    where
+      by_end : {at : Option End} → (ends.Abort code ≡ ends.Cancelled CC_UNMARSHAL) ⊎ (at ≡ Some (ends.Abort code))
+          → at ≡ Some (ends.Abort code)
+      by_end (inl never) = absurd cc
+      by_end (inr is) = is
+
   -- its line says the answer
   caller_says : AreServable g → (k : InvokedState) → (i : IsCaller g ls nodes h k) → AgreesOnStreams g i.invoke
       → k.caller.end ≡ Some ends.Ok → SaysAnswer g ls k i.invoke
@@ -322,3 +346,11 @@ module _ (g : Handlers) (ls : List Numbered) (es : List Noted) (s : Stage) (well
       of_each (λ k i. IsBytes (request_for g i)
       → FinishesAsServed g (plan_nodes ls) (reverse es) k.caller.call (request_for g i))
       (caller_ended g ls (plan_nodes ls) (reverse es) world premise (over s.jobs) serves_all)
+
+  -- each invoke's call that ended with a code had it from the server so
+  pub plan_aborts : AbortedAsServed g ls (plan_nodes ls) (reverse es) s
+  plan_aborts =
+      of_each (λ k i. IsBytes (request_for g i) → (code : ℤ) → k.caller.end ≡ Some (ends.Abort code)
+      → IsSomeAnd (slice_get (plan_nodes ls) 0)
+      (λ server. AbortsAs g server (side 0 (reverse es)) k.caller.call (request_for g i) code))
+      (caller_aborted g ls (plan_nodes ls) (reverse es) world premise (over s.jobs) serves_all)

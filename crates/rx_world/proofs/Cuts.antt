@@ -1,5 +1,5 @@
 -- Histories cut at an event.
-use Rattle.std.proofs.Common.{◌≡◌, ◌==◌, ◌+◌, cond, ℕ, ℤ, suc}
+use Rattle.std.proofs.Common.{◌≡◌, ◌==◌, cond, ℕ, ℤ, suc}
 use Rattle.std.proofs.Common.{Bool, true, false, List, [], ◌∷◌, ◌++◌, Ok}
 use Rattle.std.proofs.Common.{Err, refl, ap, sym}
 use Rattle.rx_model.specs.declared.event.Event.{Event}

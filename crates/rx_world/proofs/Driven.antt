@@ -1,5 +1,5 @@
 -- Lines of a driven plan as single events: what holds behind each event holds behind each line.
-use Rattle.std.proofs.Common.{◌≡◌, ◌==◌, ◌-◌, ◌&&◌, not, nat_le, nat_lt, ℕ, zero, suc, Bool, true, false, List, []}
+use Rattle.std.proofs.Common.{◌≡◌, ◌==◌, ◌&&◌, not, nat_le, nat_lt, ℕ, zero, suc, Bool, true, false, List, []}
 use Rattle.std.proofs.Common.{◌∷◌, ◌++◌, length, set, Option, Some, None, Ok, Err, refl, subst, ap}
 use Rattle.std.proofs.Common.{◌+◌, ℤ, if◌then◌else◌, slice_get, string_bytes}
 use Rattle.rx_model.specs.declared.event.Event.{Event}
@@ -12,7 +12,6 @@ use Rattle.rx_caller.specs.Asks.{Asking, IsAsked as IsAskedOf, begun as caller_b
 use Rattle.rx_caller.specs.View.{CallerState, caller_for}
 use Rattle.rx_caller.specs.declared.caller.TheConstants.{REPLY_BYTES}
 use Rattle.rx_dispatch.specs.Dispatching.{Turning, accepts, dispatching, over}
-use Rattle.rx_dispatch.specs.Dispatching.{serves}
 use Rattle.rx_dispatch.specs.Handlers.{Handlers}
 use Rattle.rx_dispatch.specs.Jobs.{Ask, IsCall, JobState}
 use Rattle.rx_law.specs.Sides.{Node, moment}
@@ -35,7 +34,7 @@ use Rattle.rx_world.specs.Lines.{jumbo_line, line_part, packets_in, polls_line, 
 use Rattle.rx_world.specs.Lines.{with_called, with_caller, with_packet}
 use Rattle.rx_world.specs.Lossy.{Lossy, comes, fated, gathered, lossy_round, lossy_rounds}
 use Rattle.rx_world.specs.Network.{all_nodes, below, comes_to, delivers, is_for}
-use Rattle.rx_world.specs.Parts.{Came, To, Refused, One, Part, each, ends, makes}
+use Rattle.rx_world.specs.Parts.{Came, To, Refused, One, Part, each, ends}
 use Rattle.rx_world.specs.Programs.{Turn}
 use Rattle.rx_world.specs.Rounds.{Polled, clients_first, may_move, moves_by, moves_on, polling}
 use Rattle.rx_world.specs.Rounds.{polls, polls_at, polls_out, round, rounds, settles, turns}

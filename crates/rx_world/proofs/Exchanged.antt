@@ -1,5 +1,5 @@
 -- What a handler ends with is served for the request that the caller said.
-use Rattle.std.proofs.Common.{◌≡◌, ◌⊎◌, ◌+◌, ℕ, ℤ, pos}
+use Rattle.std.proofs.Common.{◌≡◌, ◌⊎◌, ℕ, ℤ, pos}
 use Rattle.std.proofs.Common.{Bool, true, false, List, [], ◌∷◌, ◌++◌, Option, Some, None, option_map, Result, Ok}
 use Rattle.std.proofs.Common.{refl, inl, inr, ◌∙◌, ap, sym, subst, arith, append-nil, append_assoc, length, slice_get}
 use Rattle.hex.specs.Hex.{IsBytes}
@@ -11,7 +11,7 @@ use Rattle.rx_model.specs.declared.event.Event.TheVariants as events
 use Rattle.rx_model.specs.declared.event.Noted.{Noted}
 use Rattle.rx_model.specs.declared.names.CallName.{CallName}
 use Rattle.rx_model.specs.Names.{Connection, connection_of}
-use Rattle.rx_rules.specs.After.{after, finished, looks}
+use Rattle.rx_rules.specs.After.{after, looks}
 use Rattle.rx_rules.specs.CallLooks.{after_shut}
 use Rattle.rx_rules.specs.Life.{after_finish}
 use Rattle.rx_rules.specs.Looks.{CallRecord, Looks, call_at, on_looks}

@@ -20,7 +20,7 @@ use Rattle.rx_dispatch.specs.Dispatching.{Turning, accepts, serves, over, by_ask
 use Rattle.rx_dispatch.specs.Dispatching.{proceed, settle}
 use Rattle.rx_dispatch.specs.Handlers.{Handlers, early_code, served_for, wait_of}
 use Rattle.rx_dispatch.specs.History.{calls_of, gives, handles, life_of, turn_calls}
-use Rattle.rx_dispatch.specs.Jobs.{Ask, accept, finish, read, write, IsCall, JobState, Moving, ask_of, begun}
+use Rattle.rx_dispatch.specs.Jobs.{Ask, accept, IsCall, JobState, Moving, ask_of, begun}
 use Rattle.rx_dispatch.specs.Jobs.{decided, heard, heard_read, heard_write, is_staying, judged, maybe_coded, moving}
 use Rattle.rx_dispatch.specs.Jobs.{serving, settled, settled_by, waits, want_in}
 use Rattle.rx_law.specs.Counts.{accepts as is_accept_of, times_accepted}

@@ -1,6 +1,6 @@
 -- What holds of a server's call holds behind each event that neither reads nor writes it, where it holds through
 -- changes that leave the bytes said and read, through steps of its life, and through its start.
-use Rattle.std.proofs.Common.{◌≡◌, ◌==◌, ◌-◌, cond, if◌then◌else◌, nat_lt, ℕ, ℤ, Bool, true, false}
+use Rattle.std.proofs.Common.{◌≡◌, ◌==◌, cond, if◌then◌else◌, nat_lt, ℕ, ℤ, Bool, true, false}
 use Rattle.std.proofs.Common.{drop, List, Option, Some, None, option_map, Result, Ok, Err, refl, ◌∙◌, ap, sym, subst}
 use Rattle.std.specs.List.{find}
 use Rattle.rx_model.specs.declared.answers.BadMsg.{BadMsg}

@@ -1,23 +1,19 @@
 -- Parts that come to something, and turns of a dispatcher between its calls.
-use Rattle.std.proofs.Common.{◌≡◌, ◌⊎◌, ◌-◌, ℕ, Bool, true, false, List, []}
+use Rattle.std.proofs.Common.{◌≡◌, ◌⊎◌, ℕ, Bool, true, false, List, []}
 use Rattle.std.proofs.Common.{◌∷◌, ◌++◌, Option, Some, None, refl, inl, inr, sym, subst}
-use Rattle.std.proofs.Common.{◌+◌}
 use Rattle.rx_model.specs.declared.event.Event.{Event}
 use Rattle.rx_model.specs.declared.event.Event.TheVariants as events
 use Rattle.rx_model.specs.declared.event.Noted.{Noted}
-use Rattle.rx_caller.specs.Asks.{heard}
 use Rattle.rx_dispatch.specs.Dispatching.{Turning, accepts, by_ask, dispatching, left, over, proceed}
 use Rattle.rx_dispatch.specs.Dispatching.{serves, settle}
 use Rattle.rx_dispatch.specs.Handlers.{Handlers}
 use Rattle.rx_dispatch.specs.Jobs.{Ask, JobState, Moving, moving, serving}
 use Rattle.rx_nodes.specs.Nodes.{IsAllowedAt}
 use Rattle.rx_wire.specs.Turns.{Program}
-use Rattle.rx_world.specs.Lossy.{comes}
 use Rattle.rx_world.specs.Parts.{Came, To, Refused, Cut, One, Part, Then, by_test, cut_behind, each, ends, goes_on}
 use Rattle.rx_world.specs.Parts.{makes}
 use Rattle.rx_world.specs.Parts.{not_made}
 use Rattle.rx_world.specs.Programs.{Turn, cut_there, goes, is_over}
-use Rattle.rx_world.specs.Rounds.{turns}
 use Rattle.rx_world.specs.Stages.{Stage}
 use Rattle.rx_world.specs.Stages.{with_event}
 use Rattle.rx_world.specs.Turned.{jobs_left}

@@ -1,3 +1,6 @@
+pub mod AbortCauses
+pub mod Aborted
+pub mod AbortsGiven
 pub mod Allowed
 pub mod Answered
 pub mod Bags
@@ -31,6 +34,7 @@ pub mod LossyRounds
 pub mod Making
 pub mod Numbers
 pub mod Ordering
+pub mod OwedCodes
 pub mod Passed
 pub mod Passing
 pub mod PlanExample
@@ -43,6 +47,7 @@ pub mod Replying
 pub mod RoundsBy
 pub mod RoundsKept
 pub mod RoundsMade
+pub mod RowsOver
 pub mod Running
 pub mod Serving
 pub mod Sound
@@ -53,6 +58,7 @@ pub mod SoundRounds
 pub mod SoundTurns
 pub mod Stepping
 pub mod Telling
+pub mod ToldCodes
 pub mod ToldEvents
 pub mod Turning
 pub mod TurnsMade

@@ -1,5 +1,5 @@
 -- The bytes that are served for the request of an invoke say what the script answers to it.
-use Rattle.std.proofs.Common.{◌≡◌, ◌≢◌, ◌≤◌, ◌<◌, ◌^◌, leb, ltb, nat_le, is_some, if◌then◌else◌, ℕ, ℤ, pos, suc, zero}
+use Rattle.std.proofs.Common.{◌≡◌, ◌≢◌, ◌≤◌, ◌<◌, ◌^◌, leb, ltb, nat_le, is_some, if◌then◌else◌, ℕ, ℤ, pos, suc}
 use Rattle.std.proofs.Common.{Bool, true, false, List, [], ◌∷◌, ◌++◌, length, take, drop, Option, Some, None, refl, sym}
 use Rattle.std.proofs.Common.{ap, subst, ◌∙◌, arith, append-nil, bytes_eq, slice_get, All}
 use Rattle.std.specs.Option.{option_or}
@@ -32,7 +32,7 @@ use Rattle.rx_script.specs.Procs.{proc_named}
 use Rattle.rx_script.specs.Same.{same_value}
 use Rattle.rx_script.specs.Saying.{Answering, Saying, when, fail}
 use Rattle.rx_script.specs.ScriptRows.{is_up}
-use Rattle.rx_script.specs.Served.{as_counted, block_has, bytes, counted, counted_at, is_reply}
+use Rattle.rx_script.specs.Served.{as_counted, block_has, bytes, counted_at, is_reply}
 use Rattle.rx_script.specs.Served.{refusal, served_answer, served_by, served_from, served_with, upload_of}
 use Rattle.rx_script.specs.declared.limits.TheConstants.{MAX_BYTES}
 use Rattle.rx_world.specs.Answering.{AgreesOnStreams, AnswersNoZero, AreServable, Invoked, answer_for, request_for}

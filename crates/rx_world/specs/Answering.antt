@@ -8,9 +8,11 @@ use Rattle.xdr_value.specs.Tests.{is_sound}
 use Rattle.xdr_value.specs.View.{values_of}
 use Rattle.rx_model.specs.declared.answers.End.{End}
 use Rattle.rx_model.specs.declared.answers.End.TheVariants as ends
+use Rattle.rx_model.specs.declared.event.Event.{Event}
 use Rattle.rx_model.specs.declared.event.Event.TheVariants as events
 use Rattle.rx_model.specs.declared.event.Noted.{Noted}
 use Rattle.rx_model.specs.declared.names.CallName.{CallName}
+use Rattle.rx_model.specs.declared.wire.TheConstants.{RX_INVALID_OPERATION}
 use Rattle.rx_model.specs.Names.{connection_of}
 use Rattle.rx_rules.specs.After.{looks}
 use Rattle.rx_caller.specs.declared.caller.TheConstants.{CC_UNMARSHAL}
@@ -31,6 +33,7 @@ use Rattle.rx_script.specs.declared.plan.PlanLine.{PlanLine}
 use Rattle.rx_script.specs.declared.plan.PlanLine.TheVariants as lines
 use Rattle.rx_wire.specs.Turns.{noted}
 use Rattle.rx_world.specs.Answers.{answer_line, line_for, ok_text}
+use Rattle.rx_world.specs.Causes.{IsBroken}
 use Rattle.rx_world.specs.Stages.{InvokedState, Stage}
 
 -- ---- driven plans
@@ -170,3 +173,17 @@ EndedByLaw nodes h s =
     (place : ℕ) → IfSome (slice_get s.callers place)
     (λ k. (end : End) → k.caller.end ≡ Some end
     → (end ≡ ends.Cancelled CC_UNMARSHAL) ⊎ EndsByLaw nodes h k.node k.caller.call end)
+
+-- why a server told a client's call an ABORT with this code: it is what is served for the request, the server hasn't the
+-- service, or the call broke with it
+abbrev pub AbortsAs : Handlers → Node → List Event → CallName → List ℕ → ℤ → Type 0
+AbortsAs g server h c request code =
+    (served_for g request ≡ refusal code) ⊎ ((code ≡ RX_INVALID_OPERATION) ⊎ IsBroken server.setup h c code)
+
+-- each caller is that of an invoke, and where it ended with a code it is one that its call's server told so
+abbrev pub AbortedAsServed : Handlers → List Numbered → List Node → List Noted → Stage → Type 0
+AbortedAsServed g ls nodes h s =
+    (place : ℕ) → IfSome (slice_get s.callers place) (λ k. IsSomeAnd (invoked_at g ls k.line)
+    (λ i. IsBytes (request_for g i) → (code : ℤ) → k.caller.end ≡ Some (ends.Abort code)
+    → IsSomeAnd (slice_get nodes 0)
+    (λ server. AbortsAs g server (side 0 h) k.caller.call (request_for g i) code)))

@@ -1,5 +1,6 @@
 pub mod Answering
 pub mod Answers
+pub mod Causes
 pub mod Finds
 pub mod Follows
 pub mod Lines

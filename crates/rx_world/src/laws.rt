@@ -8,7 +8,8 @@ ghost use Rattle.rx_law.specs.Promises.{ServerForgotNone};
 ghost use Rattle.rx_law.specs.Times.{Timely};
 ghost use Rattle.rx_law.specs.Worlds.{Carried, Sides, World};
 ghost use Rattle.rx_script.specs.declared.plan.Numbered.{Numbered};
-ghost use Rattle.rx_world.specs.Answering.{AreDriven, AreServable, EndedAsServed, EndedByLaw, OkAsAnswered};
+ghost use Rattle.rx_world.specs.Answering.{AbortedAsServed, AreDriven, AreServable, EndedAsServed, EndedByLaw};
+ghost use Rattle.rx_world.specs.Answering.{OkAsAnswered};
 ghost use Rattle.rx_world.specs.Follows.{Went, Whole, plan_goes};
 ghost use Rattle.rx_world.specs.Lines.{IsWell};
 ghost use Rattle.rx_world.specs.Promises.{AreDistinct, AreUnforged, AreInRange, Promises, plan_nodes};
@@ -70,6 +71,11 @@ pub fn plans_answer_as_served()
         → plan_goes g lines es (Whole s)
         → ServerForgotNone (plan_nodes lines) (reverse es) ⊎ Timely (plan_nodes lines) (reverse es)
         → EndedByLaw (plan_nodes lines) (reverse es) s }
+    ensures aborted { (g : Handlers) (lines : List Numbered) (es : List Noted) (s : Stage)
+        → All (λ l. IsWell g l.what) lines → AreDriven lines → AreDistinct (plan_nodes lines)
+        → plan_goes g lines es (Whole s)
+        → ServerForgotNone (plan_nodes lines) (reverse es) ⊎ Timely (plan_nodes lines) (reverse es)
+        → AbortedAsServed g lines (plan_nodes lines) (reverse es) s }
 {}
 
 /// A plan has at most 64 clients, its nodes together have at most 262,144 slots, and at most 200,000 datagrams are kept

@@ -1,4 +1,4 @@
-use Rattle.rx_world.proofs.Answered.{plan_answers, plan_causes, plan_ends}
+use Rattle.rx_world.proofs.Answered.{plan_aborts, plan_answers, plan_causes, plan_ends}
 use Rattle.rx_world.proofs.laws.plans_answer_as_served.Goals as goal
 
 pub returns : goal.returns
@@ -8,4 +8,5 @@ returns c =
           plan_answers g ls es s well driven distinct goes premise servable;
       ended = plan_ends;
       caused = plan_causes;
+      aborted = plan_aborts;
     }
