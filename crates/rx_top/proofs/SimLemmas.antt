@@ -1,22 +1,31 @@
 -- Lemmas on the files that `sim` names, on its words, and on how the run of its plan ends.
-use Rattle.std.proofs.Common.{◌≡◌, ◌∙◌, ℕ, List, [], Option, Some, None, true, refl, ap, subst, sym}
+use Rattle.std.proofs.Common.{◌≡◌, ◌∙◌, ◌⊎◌, ℕ, List, [], Option, Some, None, Ok, true, All, refl, reverse, ap}
+use Rattle.std.proofs.Common.{subst, sym}
 use Rattle.rx_base.specs.Sink.{HasRisen}
 use Rattle.rx_dispatch.specs.Handlers.{Handlers}
+use Rattle.rx_law.specs.Promises.{ServerForgotNone}
+use Rattle.rx_law.specs.Times.{Timely}
 use Rattle.rx_model.specs.declared.event.Noted.{Noted}
 use Rattle.rx_script.specs.declared.outcome.Outcome.{Outcome}
 use Rattle.rx_script.specs.declared.outcome.Outcome.TheVariants as runs
 use Rattle.rx_script.specs.declared.plan.Numbered.{Numbered}
+use Rattle.rx_script.specs.Plans.{plan_of}
+use Rattle.rx_script.specs.Saying.{Answering, plan_rows}
 use Rattle.rx_words.specs.declared.command.Command.{Command}
 use Rattle.rx_words.specs.declared.command.Command.TheVariants as commands
-use Rattle.rx_world.specs.Follows.{CutOff, Empty, RefusedAt, Went, Whole}
-use Rattle.rx_world.specs.Promises.{KeepsPromises}
+use Rattle.rx_world.specs.Answering.{AbortedAsServed, AreDriven, AreServable, EndedAsServed, EndedByLaw, OkAsAnswered}
+use Rattle.rx_world.specs.Follows.{CutOff, Empty, RefusedAt, Went, Whole, plan_goes}
+use Rattle.rx_world.specs.Lines.{IsWell}
+use Rattle.rx_world.specs.Promises.{AreDistinct, KeepsPromises, plan_nodes}
 use Rattle.rx_world.specs.Runs.{RunIs, Tells}
+use Rattle.rx_world.specs.Stages.{Stage}
 use Rattle.rx_world.specs.Tells.{Fails, Gains, Told, Wants, fails_last, fails_one, gains_none, gains_one, wants_last}
 use Rattle.rx_world.specs.Tells.{wants_more, wants_one}
 use Rattle.xdr_value.specs.Tests.{differ, is_sound}
+use Rattle.xg_check.specs.Meaning.{Meant}
 use Rattle.rx_top.specs.declared.sim.SimFiles.{SimFiles}
 use Rattle.rx_top.specs.Inputs.{reads_by}
-use Rattle.rx_top.specs.Sims.{Played}
+use Rattle.rx_top.specs.Sims.{IsRead, Played, handlers_with}
 
 -- ---- files
 
@@ -96,8 +105,42 @@ run_faults g ls ran old new run = tells_faults g ls ran run.went old new run.eve
 
 -- ---- a run
 
--- a run keeps the promises of a plan, and so do its events
-pub run_plays : (g : Handlers) (lines : List Numbered) (ran : Outcome) (before after : Told)
-    → RunIs g lines ran before after → KeepsPromises g lines ran before after → Played g lines ran before after
-run_plays g lines ran before after run keeps =
-    record { run = run; promises = (keeps run).0; told = (keeps run).1 }
+-- what is said of the invokes of a driven plan that ran whole
+abbrev pub SaysOfInvokes : (Handlers → List Numbered → List Noted → Stage → Type 0) → Type 0
+SaysOfInvokes Says =
+    (g : Handlers) (lines : List Numbered) (es : List Noted) (s : Stage) → All (λ l. IsWell g l.what) lines
+    → AreDriven lines → AreDistinct (plan_nodes lines) → plan_goes g lines es (Whole s)
+    → ServerForgotNone (plan_nodes lines) (reverse es) ⊎ Timely (plan_nodes lines) (reverse es) → Says g lines es s
+
+-- by the law of plans that were read, and that of invokes
+module _ (are_well : (g : Handlers) (text : List ℕ) (ls : List Numbered) → plan_of g.types g.procs text
+    ≡ Ok (plan_rows ls) → All (λ l. IsWell g l.what) ls)
+    (ok : (g : Handlers) (lines : List Numbered) (es : List Noted) (s : Stage) → AreServable g
+    → All (λ l. IsWell g l.what) lines → AreDriven lines → AreDistinct (plan_nodes lines)
+    → plan_goes g lines es (Whole s)
+    → ServerForgotNone (plan_nodes lines) (reverse es) ⊎ Timely (plan_nodes lines) (reverse es)
+    → OkAsAnswered g lines s)
+    (served : SaysOfInvokes (λ g lines es s. EndedAsServed g lines (plan_nodes lines) (reverse es) s))
+    (ends : SaysOfInvokes (λ g lines es s. EndedByLaw (plan_nodes lines) (reverse es) s))
+    (aborts : SaysOfInvokes (λ g lines es s. AbortedAsServed g lines (plan_nodes lines) (reverse es) s)) where
+  -- the run of a plan that was read keeps its promises, and its invokes are answered
+  pub run_plays : (m : Meant) (s : List Answering) (lines : List Numbered) (ran : Outcome) (before after : Told)
+      → IsRead m lines → RunIs (handlers_with m s) lines ran before after
+      → KeepsPromises (handlers_with m s) lines ran before after
+      → Played (handlers_with m s) lines ran before after
+  run_plays m s lines ran before after read run keeps =
+      let g : Handlers = handlers_with m s in
+      let well : All (λ l. IsWell g l.what) lines = are_well g read.0 lines read.1 in
+      record {
+        run = run;
+        promises = (keeps run).0;
+        told = (keeps run).1;
+        answers = λ t whole driven distinct premise.
+            let goes : plan_goes g lines run.events (Whole t) = subst (plan_goes g lines run.events) whole run.goes in
+            record {
+              ok = λ servable. ok g lines run.events t servable well driven distinct goes premise;
+              served = served g lines run.events t well driven distinct goes premise;
+              ends = ends g lines run.events t well driven distinct goes premise;
+              aborts = aborts g lines run.events t well driven distinct goes premise;
+            };
+      }

@@ -1,13 +1,19 @@
 -- What `sim` makes and leaves, by how it ended. Public clauses cite this module.
-use Rattle.std.specs.Prelude.{◌≡◌, ◌⊎◌, ℕ, List, All, Ok, IsSomeAnd}
+use Rattle.std.specs.Prelude.{◌≡◌, ◌⊎◌, ℕ, List, reverse, All, Ok, IsSomeAnd}
 use Rattle.rx_dispatch.specs.Handlers.{Handlers}
+use Rattle.rx_law.specs.Promises.{ServerForgotNone}
+use Rattle.rx_law.specs.Times.{Timely}
+use Rattle.rx_model.specs.declared.event.Noted.{Noted}
 use Rattle.rx_model.specs.Telling.{IsToldNoted}
 use Rattle.rx_script.specs.declared.outcome.Outcome.{Outcome}
 use Rattle.rx_script.specs.declared.outcome.Outcome.TheVariants as runs
 use Rattle.rx_script.specs.declared.plan.Numbered.{Numbered}
 use Rattle.rx_script.specs.Saying.{Answering, plan_rows}
-use Rattle.rx_world.specs.Promises.{Promises}
+use Rattle.rx_world.specs.Answering.{AbortedAsServed, AreDriven, AreServable, EndedAsServed, EndedByLaw, OkAsAnswered}
+use Rattle.rx_world.specs.Follows.{Went, Whole}
+use Rattle.rx_world.specs.Promises.{AreDistinct, Promises, plan_nodes}
 use Rattle.rx_world.specs.Runs.{RunIs}
+use Rattle.rx_world.specs.Stages.{Stage}
 use Rattle.rx_world.specs.Tells.{Told}
 use Rattle.xg_check.specs.Meaning.{Meant}
 use Rattle.rx_top.specs.declared.cause.Cause.TheVariants as causes
@@ -26,12 +32,29 @@ handlers_with m s = record { types = m.types; procs = m.procs; script = s }
 abbrev pub IsRead : Meant → List Numbered → Type 0
 IsRead m lines = (text : List ℕ) × (plan_given m text ≡ Ok (plan_rows lines))
 
+-- the invokes of a plan: each `ok` line says what the script answers, each handler ended with what is served for its
+-- request, each caller ended as its call did, and with a code for one of the causes of that
+pub record Answered (g : Handlers) (lines : List Numbered) (es : List Noted) (s : Stage) : Type 0 where
+  pub ok : AreServable g → OkAsAnswered g lines s
+  pub served : EndedAsServed g lines (plan_nodes lines) (reverse es) s
+  pub ends : EndedByLaw (plan_nodes lines) (reverse es) s
+  pub aborts : AbortedAsServed g lines (plan_nodes lines) (reverse es) s
+
+-- that is said of a driven plan all lines of which were made, no two of whose clients share host and epoch, where no
+-- record was forgotten or no datagram is old
+abbrev pub AnswersInvokes : Handlers → List Numbered → List Noted → Went → Type 0
+AnswersInvokes g lines es went =
+    (s : Stage) → went ≡ Whole s → AreDriven lines → AreDistinct (plan_nodes lines)
+    → ServerForgotNone (plan_nodes lines) (reverse es) ⊎ Timely (plan_nodes lines) (reverse es)
+    → Answered g lines es s
+
 -- the lines of a plan were run, and the events of that keep the promises of a plan; each is one that its line tells, so
--- no other events have their text
+-- no other events have their text; and its invokes are answered
 pub record Played (g : Handlers) (lines : List Numbered) (ran : Outcome) (before after : Told) : Type 0 where
   pub run : RunIs g lines ran before after
   pub promises : Promises lines run.events
   pub told : All IsToldNoted run.events
+  pub answers : AnswersInvokes g lines run.events run.went
 
 -- `sim` ended as the run of the plan of this file did
 abbrev pub EndsAs : SimOutcome → List ℕ → (Outcome → Type 0) → Type 0

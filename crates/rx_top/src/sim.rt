@@ -15,7 +15,7 @@ use crate::status::Status;
 use rx_base::{Files, Sink};
 use rx_script::{Outcome, Plan, Script};
 use rx_wire::Journal;
-use rx_world::{plans_are_well, run};
+use rx_world::{plans_answer_as_served, plans_are_well, run};
 use std::alloc::Global;
 use xdr_value::Interface;
 use xg_lex::Text;
@@ -129,6 +129,7 @@ fn play<'a, O: Sink, J: Journal>(
     ensures no_file_fault { status_of result ≢ Status.FileFault }
 {
     plans_are_well();
+    plans_answer_as_served();
     match run(alloc, iface, script, plan, out, book) {
         Outcome::Ran => SimOutcome::Ran,
         Outcome::Refused { line, why } => SimOutcome::Refused {

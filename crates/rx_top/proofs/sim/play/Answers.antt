@@ -11,28 +11,43 @@ run-requires g c =
     c.requires.0 c.args.plan.now.lines.items c.requires.1
 
 pub returns-in-Ran-clause-played : goal.returns-in-Ran-clause-played
-returns-in-Ran-clause-played g c = run_plays _ _ _ _ _ c.in-Ran.ensures.run c.in-Ran.ensures.headline
+returns-in-Ran-clause-played g c =
+    let law = c.plans_answer_as_served.ensures in
+    run_plays c.plans_are_well.ensures law.ok law.ended law.caused law.aborted (interface_of c.args.iface.now)
+    (blocks_of c.args.script.blocks.items) _ _ _ _ c.requires c.in-Ran.ensures.run
+    c.in-Ran.ensures.headline
 
 pub returns-in-Ran-clause-no_sink_fault : goal.returns-in-Ran-clause-no_sink_fault
 returns-in-Ran-clause-no_sink_fault g c is = run_faults _ _ _ _ _ c.in-Ran.ensures.run
 
 pub returns-in-Refused-clause-played : goal.returns-in-Refused-clause-played
 returns-in-Refused-clause-played g c =
-    (refl, run_plays _ _ _ _ _ c.in-Refused.ensures.run c.in-Refused.ensures.headline)
+    let law = c.plans_answer_as_served.ensures in (
+      refl,
+      run_plays c.plans_are_well.ensures law.ok law.ended law.caused law.aborted (interface_of c.args.iface.now)
+          (blocks_of c.args.script.blocks.items) _ _ _ _ c.requires c.in-Refused.ensures.run
+          c.in-Refused.ensures.headline,
+    )
 
 pub returns-in-Refused-clause-no_sink_fault : goal.returns-in-Refused-clause-no_sink_fault
 returns-in-Refused-clause-no_sink_fault g c is = run_faults _ _ _ _ _ c.in-Refused.ensures.run
 
 pub returns-in-SinkFault-clause-played : goal.returns-in-SinkFault-clause-played
 returns-in-SinkFault-clause-played g c =
-    run_plays _ _ _ _ _ c.in-SinkFault.ensures.run c.in-SinkFault.ensures.headline
+    let law = c.plans_answer_as_served.ensures in
+    run_plays c.plans_are_well.ensures law.ok law.ended law.caused law.aborted (interface_of c.args.iface.now)
+    (blocks_of c.args.script.blocks.items) _ _ _ _ c.requires c.in-SinkFault.ensures.run
+    c.in-SinkFault.ensures.headline
 
 pub returns-in-SinkFault-clause-sink_fault : goal.returns-in-SinkFault-clause-sink_fault
 returns-in-SinkFault-clause-sink_fault g c is = run_faults _ _ _ _ _ c.in-SinkFault.ensures.run
 
 pub returns-in-OutOfMemory-clause-played : goal.returns-in-OutOfMemory-clause-played
 returns-in-OutOfMemory-clause-played g c =
-    run_plays _ _ _ _ _ c.in-OutOfMemory.ensures.run c.in-OutOfMemory.ensures.headline
+    let law = c.plans_answer_as_served.ensures in
+    run_plays c.plans_are_well.ensures law.ok law.ended law.caused law.aborted (interface_of c.args.iface.now)
+    (blocks_of c.args.script.blocks.items) _ _ _ _ c.requires c.in-OutOfMemory.ensures.run
+    c.in-OutOfMemory.ensures.headline
 
 pub returns-in-OutOfMemory-clause-no_sink_fault : goal.returns-in-OutOfMemory-clause-no_sink_fault
 returns-in-OutOfMemory-clause-no_sink_fault g c is = run_faults _ _ _ _ _ c.in-OutOfMemory.ensures.run
