@@ -3,7 +3,7 @@ ghost use Rattle.rx_node.specs.Node.{setup_of};
 ghost use Rattle.rx_node.specs.Steps.{StandsNode};
 ghost use Rattle.rx_wire.specs.Advances.{Turned};
 ghost use Rattle.rx_caller.specs.declared.ask.Ask.TheVariants as asks;
-ghost use Rattle.rx_caller.specs.Asks.{asking, begun, calling, next_ask, next_offering};
+ghost use Rattle.rx_caller.specs.Asks.{asking, begun, calling, is_done, next_ask, next_offering};
 ghost use Rattle.rx_caller.specs.Turn.{Does, MakesNext, Stays, StopsAt};
 ghost use Rattle.rx_caller.specs.View.{caller_for};
 
@@ -88,6 +88,16 @@ impl Caller {
         ensures { result ≡ self.now.end }
     {
         self.end
+    }
+
+    /// Whether it is finished and a turn began since: one more would make no call and change nothing.
+    pub fn is_done(&self) -> bool
+        ensures { result ≡ is_done self.now }
+    {
+        match self.phase {
+            Phase::Offering => self.end.is_some(),
+            Phase::Reading | Phase::Resting => false,
+        }
     }
 
     /// Makes a turn, notes its events, and answers whether it is finished. It offers 4,096 bytes at a time until less

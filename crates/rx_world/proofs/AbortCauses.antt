@@ -1,5 +1,5 @@
 -- Each ABORT that a node gives tells a code that an event gave its call.
-use Rattle.std.proofs.Common.{◌≡◌, ◌⊎◌, ◌==◌, ◌||◌, cond, if◌then◌else◌, not, nat_lt, ℕ, ℤ, Bool}
+use Rattle.std.proofs.Common.{◌≡◌, ◌<◌, ◌⊎◌, ◌==◌, ◌||◌, cond, if◌then◌else◌, not, nat_lt, ℕ, ℤ, Bool}
 use Rattle.std.proofs.Common.{true, false, List, [], ◌∷◌, Option, Some, None, Result, Ok, Err}
 use Rattle.std.proofs.Common.{refl, inl, inr, ◌∙◌, ap, sym, subst, arith, IsSomeAnd}
 use Rattle.rx_model.specs.declared.answers.BadMsg.{BadMsg}
@@ -19,7 +19,7 @@ use Rattle.rx_model.specs.Names.{channel_of, connection_of, same_name}
 use Rattle.rx_model.specs.Reading.{reading_of}
 use Rattle.rx_model.proofs.NameLaws.{connection_is, name_is, same_number}
 use Rattle.rx_rules.specs.After.{enters, is_zero, looks, prepared}
-use Rattle.rx_rules.specs.Judging.{else_row, outer_row, took_named, took_of, took_reading}
+use Rattle.rx_rules.specs.Judging.{is_data, else_row, outer_row, took_named, took_of, took_reading}
 use Rattle.rx_rules.specs.Life.{is_live}
 use Rattle.rx_rules.specs.Looks.{CallRecord, ConnLooks, Looks, call_at, channel_at}
 use Rattle.rx_rules.specs.Looks.{is_call, latest_name}
@@ -28,6 +28,7 @@ use Rattle.rx_rules.specs.Rules.{Allowed, AllowedAt, Legal, done_where, served_f
 use Rattle.rx_rules.specs.Setup.{Setup, Kind, Server, Client, named}
 use Rattle.rx_rules.proofs.ConnsLaws.{channel_number}
 use Rattle.rx_rules.proofs.EveryLaws.{Every}
+use Rattle.rx_law.proofs.Client.{StoppedBy}
 use Rattle.rx_law.proofs.Differ.{Differ, by_connection}
 use Rattle.rx_law.proofs.DimsTaken.{used_dims}
 use Rattle.rx_law.proofs.Events.{call-by, calls-prepared}
@@ -36,19 +37,31 @@ use Rattle.rx_law.proofs.Openings.{channel_prepared}
 use Rattle.rx_law.proofs.Orderly.{Orderly, orderly_dims}
 use Rattle.rx_law.proofs.OrderlyHistory.{orderly_history}
 use Rattle.rx_law.proofs.ServerHistory.{running-at}
-use Rattle.rx_world.specs.Causes.{Breaks, IsOfLater, StopsWith, TakenFor, TakenWith}
+use Rattle.rx_world.specs.Causes.{Breaks}
 use Rattle.rx_world.proofs.OwedCodes.{ConnOwes, IsOwnLatest, MayOwe, MayOweBy, MayOweFor, Owed, owed_after}
-use Rattle.rx_world.proofs.RowsOver.{busy_above, latest_number}
+use Rattle.rx_world.proofs.RowsOver.{busy_above, follow_data, latest_number, may_follow}
 use Rattle.rx_world.proofs.ToldCodes.{MayGive, MayStop, MayTake, MayTakeFrom, Told, above_is, told_after, told_of}
 
 -- ---- the events that give a call a code
 
--- its handler finished it, or its application gave it up, with the code, or it broke
+-- data of a later call of its channel came
+pub record LaterBy (s : Setup) (l : Looks) (from : Host) (bytes : List ℕ) (c : CallName) (code : ℤ) : Type 0 where
+  pub message : Message
+  pub payload : List ℕ
+  pub reads : reading_of bytes ≡ Ok message
+  pub front : outer_row s s.kind l from message ≡ None
+  pub chunk : message.body ≡ bodies.Chunk payload
+  pub on : channel_of (named s from message) ≡ channel_of c
+  pub above : c.number < (named s from message).number
+
+-- its handler finished it, or its application gave it up, with the code; an ABORT told it; a later call came; or it
+-- broke
 abbrev pub GivesCode : Setup → Looks → CallName → ℤ → Event → Type 0
 GivesCode s l c code (events.Finished d told (Ok done)) = (d ≡ c) × (told ≡ code) × (is_zero told ≡ false)
 GivesCode s l c code (events.Cancelled d told (Ok done)) = (d ≡ c) × (told ≡ code)
 GivesCode s l c code (events.Polled got) = Breaks s l c code (events.Polled got)
-GivesCode s l c code (events.Taken from bytes got) = TakenFor s from bytes got c code
+GivesCode s l c code (events.Taken from bytes got) =
+    StoppedBy s l from bytes c code ⊎ (LaterBy s l from bytes c code ⊎ Breaks s l c code (events.Taken from bytes got))
 GivesCode s l c code _ = ⊥
 
 -- one of the events gave it
@@ -58,13 +71,13 @@ HasCode s (e ∷ h) c code = GivesCode s (looks s h) c code e ⊎ HasCode s h c 
 
 -- ---- the rules of an event
 
-taken_is : (kind : Kind) (s : Setup) (l : Looks) (from : Host) (bytes : List ℕ) (got : Took)
+pub taken_is : (kind : Kind) (s : Setup) (l : Looks) (from : Host) (bytes : List ℕ) (got : Took)
     → AllowedAt kind s l (events.Taken from bytes got) → got ≡ took_of s l from bytes
 taken_is (Server service nonces) s l from bytes got allowed = allowed.1
 taken_is (Client host epoch) s l from bytes got allowed = allowed.1
 
 -- the row of a message that the rows in front let through
-named_row : (s : Setup) (l : Looks) (from : Host) (bytes : List ℕ) (got : Took) (m : Message)
+pub named_row : (s : Setup) (l : Looks) (from : Host) (bytes : List ℕ) (got : Took) (m : Message)
     → got ≡ took_of s l from bytes → reading_of bytes ≡ Ok m → outer_row s s.kind l from m ≡ None
     → took_named s l (named s from m) m ≡ got
 named_row s l from bytes got m is reads front =
@@ -81,7 +94,7 @@ finished_live (Server service nonces) s l d code done allowed = of (call_at l d)
     of None is = absurd cc
     of (Some k) is = ap is_live (running-at k.life (k.looks.received.ended || not (is_zero code)) done is).0
 
-cancelled_live : (kind : Kind) (s : Setup) (l : Looks) (d : CallName) (code : ℤ) (done : Unit {0})
+pub cancelled_live : (kind : Kind) (s : Setup) (l : Looks) (d : CallName) (code : ℤ) (done : Unit {0})
     → AllowedAt kind s l (events.Cancelled d code (Ok done)) → is_call (λ k. is_live k.life) (call_at l d) ≡ true
 cancelled_live (Server service nonces) s l d code done allowed = absurd allowed
 cancelled_live (Client host epoch) s l d code done allowed =
@@ -97,7 +110,7 @@ cancelled_live (Client host epoch) s l d code done allowed =
     own true is = done-is (is_call (λ k. is_live k.life) (call_at l d)) is
     own false is = absurd cc
 
-live_latest : (K : CallName → ℤ → Type 0) (s : Setup) (l : Looks) (d : CallName) → Orderly s l
+pub live_latest : (K : CallName → ℤ → Type 0) (s : Setup) (l : Looks) (d : CallName) → Orderly s l
     → is_call (λ k. is_live k.life) (call_at l d) ≡ true → IsOwnLatest K l d
 live_latest K s l d o lives = record { differ = o.conns.differ; number = (o.latest d lives).number }
 
@@ -108,11 +121,21 @@ pub record Codes (s : Setup) (h : List Event) : Type 0 where
   pub told : (c : CallName) → Told (HasCode s h c) c (looks s h)
   pub owed : Owed (HasCode s h) (looks s h)
 
-owed_weaker : (K J : CallName → ℤ → Type 0) (rs : List ConnLooks)
+pub owed_weaker : (K J : CallName → ℤ → Type 0) (rs : List ConnLooks)
     → ((c : CallName) (code : ℤ) → K c code → J c code) → Every (ConnOwes K) rs → Every (ConnOwes J) rs
 owed_weaker K J [] more all = tt
 owed_weaker K J (r ∷ rs) more all =
     ((λ n q there code owes. more _ code (all.0 n q there code owes)), owed_weaker K J rs more all.1)
+
+-- its payload
+data_is : (body : Body) → is_data body ≡ true → (payload : List ℕ) × (body ≡ bodies.Chunk payload)
+data_is (bodies.Chunk payload) is = (payload, refl)
+data_is bodies.Busy is = absurd cc
+data_is (bodies.Ack a) is = absurd cc
+data_is (bodies.Abort code) is = absurd cc
+data_is bodies.AckAll is = absurd cc
+data_is (bodies.Challenge bytes) is = absurd cc
+data_is (bodies.Response bytes) is = absurd cc
 
 module _ (s : Setup) (h : List Event) (from : Host) (bytes : List ℕ) (got : Took) (m : Message)
     (is : got ≡ took_of s (looks s h) from bytes) (reads : reading_of bytes ≡ Ok m)
@@ -126,63 +149,85 @@ module _ (s : Setup) (h : List Event) (from : Host) (bytes : List ℕ) (got : To
   abbrev e : Event
   e = events.Taken from bytes got
 
-  gives_taken : (c : CallName) (code : ℤ) → TakenWith got c code d m → HasCode s (e ∷ h) c code
-  gives_taken c code with = inl (record { message = m; reads = reads; with = with })
+  -- a wrong RESPONSE
+  wrong_gives : (c : CallName) (text : List ℕ) → got ≡ tooks.Stopped → m.body ≡ bodies.Response text → d ≡ c
+      → HasCode s (e ∷ h) c RX_PROTOCOL_ERROR
+  wrong_gives c text same at name =
+      inl (inr (inr (
+        refl,
+        record {
+          message = m;
+          response = text;
+          reads = reads;
+          name = name;
+          body = at;
+          stopped = same;
+        },
+      )))
 
   -- a call whose name is the latest of the channel, and a number above
-  later_is : (c : CallName) → same_name c (latest_name ready (channel_of d)) ≡ true
-      → nat_lt (channel_at ready (channel_of d)).number d.number ≡ true → IsOfLater c d
-  later_is c same above =
+  later_gives : (c : CallName) → may_follow got ≡ true → same_name c (latest_name ready (channel_of d)) ≡ true
+      → nat_lt (channel_at ready (channel_of d)).number d.number ≡ true → HasCode s (e ∷ h) c RX_CALL_DEAD
+  later_gives c follows same above =
       let name : c ≡ latest_name ready (channel_of d) = name_is c (latest_name ready (channel_of d)) same in
       let number : c.number ≡ (channel_at ready (channel_of d)).number = ap (λ (n : CallName). n.number) name in
       let low = above_is (channel_at ready (channel_of d)).number d.number above in
-      (sym (ap channel_of name), omega arith)
+      let high : nat_lt (channel_at (looks s h) (channel_of d)).number m.number ≡ true =
+      ap (λ (n : ℕ). nat_lt n d.number) (sym (channel_prepared s got d (looks s h))) ∙ above in
+      let got_data = data_is m.body
+      (follow_data s (looks s h) d m got (named_row s (looks s h) from bytes got m is reads front) follows high) in
+      inl (inr (inl (record {
+        message = m;
+        payload = got_data.0;
+        reads = reads;
+        front = front;
+        chunk = got_data.1;
+        on = sym (ap channel_of name);
+        above = omega arith;
+      })))
 
-  stop_gives : (c : CallName) (body : Body) → ((code : ℤ) → StopsWith c code d body → HasCode s (e ∷ h) c code)
+  -- an ABORT of the call, or of its connection
+  told_code_of : (c : CallName) (code : ℤ) → m.body ≡ bodies.Abort code
+      → (d ≡ c) ⊎ ((m.number ≡ 0) × (connection_of d ≡ connection_of c)) → HasCode s (e ∷ h) c code
+  told_code_of c code at name =
+      inl (inl (record { message = m; reads = reads; front = front; body = at; name = name }))
+
+  stop_gives : (c : CallName) → got ≡ tooks.Stopped → (body : Body) → m.body ≡ body
       → MayStop (HasCode s (e ∷ h) c) c d body
-  stop_gives c (bodies.Abort code) gives = (
-    λ none same. gives code (
-      refl,
-      inr (
-        same_number d.number 0 none,
-        sym (connection_is (connection_of c) (connection_of d) same),
-      ),
-    ),
-    λ some same. gives code (refl, inl (sym (name_is c d same))),
+  stop_gives c same (bodies.Abort code) at = (
+    λ none own. told_code_of c code at (inr (
+      same_number d.number 0 none,
+      sym (connection_is (connection_of c) (connection_of d) own),
+    )),
+    λ some own. told_code_of c code at (inl (sym (name_is c d own))),
   )
-  stop_gives c (bodies.Response bytes) gives = λ same. gives RX_PROTOCOL_ERROR (refl, sym (name_is c d same))
-  stop_gives c (bodies.Chunk payload) gives = tt
-  stop_gives c (bodies.Ack a) gives = tt
-  stop_gives c bodies.AckAll gives = tt
-  stop_gives c bodies.Busy gives = tt
-  stop_gives c (bodies.Challenge bytes) gives = tt
+  stop_gives c same (bodies.Response text) at = λ own.
+      wrong_gives c text same at (sym (name_is c d own))
+  stop_gives c same (bodies.Chunk payload) at = tt
+  stop_gives c same (bodies.Ack a) at = tt
+  stop_gives c same bodies.AckAll at = tt
+  stop_gives c same bodies.Busy at = tt
+  stop_gives c same (bodies.Challenge text) at = tt
 
   take_gives : (c : CallName) (g : Took) → got ≡ g → MayTake (HasCode s (e ∷ h) c) c g d m.body ready
-  take_gives c tooks.Kept same = λ own above.
-      gives_taken c RX_CALL_DEAD (subst (λ (t : Took). TakenWith t c RX_CALL_DEAD d m) (sym same)
-      (refl, later_is c own above))
-  take_gives c tooks.NoSlot same = λ own above.
-      gives_taken c RX_CALL_DEAD (subst (λ (t : Took). TakenWith t c RX_CALL_DEAD d m) (sym same)
-      (refl, later_is c own above))
-  take_gives c tooks.Busy same = λ own. (
-      let row : took_named s (looks s h) d m ≡ tooks.Busy = named_row s (looks s h) from bytes got m is reads front ∙ same in
-      let above : nat_lt (channel_at ready (channel_of d)).number d.number ≡ true =
-      ap (λ (n : ℕ). nat_lt n d.number) (channel_prepared s got d (looks s h)) ∙ busy_above s (looks s h) d m row in
-      gives_taken c RX_CALL_DEAD (subst (λ (t : Took). TakenWith t c RX_CALL_DEAD d m) (sym same)
-      (refl, later_is c own above)))
-  take_gives c tooks.Stopped same =
-      stop_gives c m.body
-      (λ code with. gives_taken c code (subst (λ (t : Took). TakenWith t c code d m) (sym same) with))
+  take_gives c tooks.Kept same = later_gives c (ap may_follow same)
+  take_gives c tooks.NoSlot same = later_gives c (ap may_follow same)
+  take_gives c tooks.Busy same = λ own.
+      later_gives c (ap may_follow same) own
+      (ap (λ (n : ℕ). nat_lt n d.number) (channel_prepared s got d (looks s h))
+      ∙ busy_above s (looks s h) d m (named_row s (looks s h) from bytes got m is reads front ∙ same))
+  take_gives c tooks.Stopped same = stop_gives c same m.body refl
   take_gives c _ same = tt
 
   -- a message that makes a channel owe a code is of its latest call
-  ready_latest : Legal s h → may_abort got m.body ≡ true → enters got ≡ false
+  pub ready_latest : Legal s h → may_abort got m.body ≡ true → enters got ≡ false
       → IsOwnLatest (HasCode s (e ∷ h)) ready d
   ready_latest legal may out =
       let l : Looks = looks s h in
       record {
         differ = subst
-            (λ (b : Bool). Differ by_connection (used (connection_of d) (cond b (entered s (connection_of d) l) l)).conns)
+            (λ (b : Bool). Differ by_connection
+            (used (connection_of d) (cond b (entered s (connection_of d) l) l)).conns)
             (sym out)
             (orderly_dims s l (used (connection_of d) l) (used_dims (connection_of d) l)
             (orderly_history s h legal)).conns.differ;
@@ -195,9 +240,7 @@ module _ (s : Setup) (h : List Event) (from : Host) (bytes : List ℕ) (got : To
   owe_stopped legal same (bodies.Response text) at = (
     ready_latest legal (ap (λ (g : Took). may_abort g m.body) same ∙ ap (may_abort tooks.Stopped) at)
         (ap enters same),
-    gives_taken d RX_PROTOCOL_ERROR
-        (subst (λ (t : Took). TakenWith t d RX_PROTOCOL_ERROR d m) (sym same)
-        (subst (StopsWith d RX_PROTOCOL_ERROR d) (sym at) (refl, refl))),
+    wrong_gives d text same at refl,
   )
   owe_stopped legal same _ at = tt
 
@@ -263,7 +306,8 @@ event_owes s h (events.Cancelled d code (Ok done)) allowed legal old = (
 )
 event_owes s h (events.Cancelled d code (Err closed)) allowed legal old = tt
 event_owes s h (events.Taken from bytes got) allowed legal old =
-    taken_owes s h from bytes got (reading_of bytes) (taken_is s.kind s (looks s h) from bytes got allowed) refl legal old
+    taken_owes s h from bytes got (reading_of bytes) (taken_is s.kind s (looks s h) from bytes got allowed) refl legal
+    old
 event_owes s h (events.Polled got) allowed legal old = tt
 event_owes s h (events.Linked to service first got) allowed legal old = tt
 event_owes s h (events.Called cid got) allowed legal old = tt

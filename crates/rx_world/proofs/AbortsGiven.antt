@@ -30,9 +30,10 @@ use Rattle.rx_rules.proofs.LeastLaws.{least-keeps}
 use Rattle.rx_law.specs.Givings.{GivesItem, GivesStray}
 use Rattle.rx_law.specs.Sides.{GivesTo}
 use Rattle.rx_law.specs.Worlds.{Gave}
+use Rattle.rx_law.proofs.Data.{OwnName}
 use Rattle.rx_law.proofs.Differ.{every_found}
 use Rattle.rx_law.proofs.GivingItems.{item_apart, item_name}
-use Rattle.rx_law.proofs.Givings.{poll_gives}
+use Rattle.rx_law.proofs.Givings.{next_is, poll_gives}
 use Rattle.rx_law.proofs.Joint.{gives-at, polled-is}
 use Rattle.rx_world.proofs.AbortCauses.{HasCode, codes_history}
 use Rattle.rx_world.proofs.OwedCodes.{ConnOwes, Owed}
@@ -105,7 +106,8 @@ module _ (K : CallName → ℤ → Type 0) where
       → Every TellsItem (class_items s l c q living)
   class_tells s l c q true =
       every-append TellsItem (owed_item c (challenge_body s l c q.owed_challenge))
-      (owed_item c (option_map bodies.Response q.owed_response)) (challenge_tells c _ _) (response_tells c q.owed_response)
+      (owed_item c (option_map bodies.Response q.owed_response)) (challenge_tells c _ _)
+      (response_tells c q.owed_response)
   class_tells s l c q false = tt
 
   item_tells : (s : Setup) (k : CallRecord) (i : CallItem) → TellsItem (item_of s k i)
@@ -158,51 +160,62 @@ module _ (K : CallName → ℤ → Type 0) where
 pub record IsStray (m : Message) (code : ℤ) : Type 0 where
   pub code_is : code ≡ RX_INVALID_OPERATION
   pub none : m.number ≡ 0
+  pub flags : m.flags ≡ 0
 
-pub record IsOfCall (s : Setup) (h : List Event) (to : Host) (m : Message) (code : ℤ) : Type 0 where
+pub record IsOfCall (K : CallName → ℤ → Type 0) (s : Setup) (to : Host) (m : Message) (code : ℤ) : Type 0 where
   pub some : is_stray m m.body ≡ false
-  pub has : HasCode s h (named s to m) code
+  pub own : OwnName s.kind (named s to m)
+  pub has : K (named s to m) code
 
 -- that a poll gives
-poll_tells : (s : Setup) (h : List Event) (to : Host) (bytes : List ℕ) (m : Message) (code : ℤ) → FitsSetup s
-    → Legal s h → poll_answer s (looks s h) ≡ Some (to, bytes) → reading_of bytes ≡ Ok m → m.body ≡ bodies.Abort code
-    → IsStray m code ⊎ IsOfCall s h to m code
-poll_tells s h to bytes m code fits legal answer reads aborts =
+pub poll_tells : (K : CallName → ℤ → Type 0) (s : Setup) (h : List Event) (to : Host) (bytes : List ℕ) (m : Message)
+    (code : ℤ) → FitsSetup s → Legal s h → Owed K (looks s h) → poll_answer s (looks s h) ≡ Some (to, bytes)
+    → reading_of bytes ≡ Ok m → m.body ≡ bodies.Abort code → IsStray m code ⊎ IsOfCall K s to m code
+poll_tells K s h to bytes m code fits legal owed answer reads aborts =
     let g = poll_gives s h fits legal to bytes answer in
     let same : g.message ≡ m = (let one : Ok g.message ≡ Ok m = sym g.read ∙ reads in cc) in
     of (subst (λ (n : Message). GivesStray (looks s h) to n ⊎ GivesItem s (looks s h) to n) same g.owed)
   where
-    of : GivesStray (looks s h) to m ⊎ GivesItem s (looks s h) to m → IsStray m code ⊎ IsOfCall s h to m code
+    of : GivesStray (looks s h) to m ⊎ GivesItem s (looks s h) to m → IsStray m code ⊎ IsOfCall K s to m code
     of (inl g) =
         (let body : bodies.Abort code ≡ bodies.Abort RX_INVALID_OPERATION =
         sym aborts ∙ ap (λ (n : Message). n.body) g.is in
-        inl (record { code_is = cc; none = ap (λ (n : Message). n.number) g.is }))
+        inl (record {
+          code_is = cc;
+          none = ap (λ (n : Message). n.number) g.is;
+          flags = ap (λ (n : Message). n.flags) g.is;
+        }))
     of (inr g) =
         inr (record {
           some = item_apart s h fits legal to m g;
+          own =
+              subst (OwnName s.kind) (sym (item_name s h fits legal to m g))
+              (next_is s h fits legal g.item g.next).name.own;
           has =
-              subst (λ (c : CallName). HasCode s h c code) (sym (item_name s h fits legal to m g))
-              (next_tells (HasCode s h) s (silenced (looks s h)) g.item (codes_history s h legal).owed g.next code
+              subst (λ (c : CallName). K c code) (sym (item_name s h fits legal to m g))
+              (next_tells K s (silenced (looks s h)) g.item owed g.next code
               (sym (ap (λ (n : Message). n.body) g.is) ∙ aborts));
         })
 
 -- that one of its events gave
 pub aborts_given : (s : Setup) (h : List Event) (to : Host) (bytes : List ℕ) (m : Message) (code : ℤ) → FitsSetup s
     → Legal s h → reading_of bytes ≡ Ok m → m.body ≡ bodies.Abort code → Gave to bytes h
-    → IsStray m code ⊎ IsOfCall s h to m code
+    → IsStray m code ⊎ IsOfCall (HasCode s h) s to m code
 aborts_given s [] to bytes m code fits legal reads aborts gave = absurd gave
 aborts_given s (e ∷ h) to bytes m code fits legal reads aborts gave =
     by gave (λ before. aborts_given s h to bytes m code fits legal.1 reads aborts before)
   where
-    more : IsStray m code ⊎ IsOfCall s h to m code → IsStray m code ⊎ IsOfCall s (e ∷ h) to m code
+    more : IsStray m code ⊎ IsOfCall (HasCode s h) s to m code
+        → IsStray m code ⊎ IsOfCall (HasCode s (e ∷ h)) s to m code
     more (inl stray) = inl stray
-    more (inr told) = inr (record { some = told.some; has = inr told.has })
+    more (inr told) = inr (record { some = told.some; own = told.own; has = inr told.has })
 
-    by : GivesTo to bytes e ⊎ Gave to bytes h → (Gave to bytes h → IsStray m code ⊎ IsOfCall s h to m code)
-        → IsStray m code ⊎ IsOfCall s (e ∷ h) to m code
+    by : GivesTo to bytes e ⊎ Gave to bytes h → (Gave to bytes h → IsStray m code ⊎ IsOfCall (HasCode s h) s to m code)
+        → IsStray m code ⊎ IsOfCall (HasCode s (e ∷ h)) s to m code
     by (inl gives) earlier =
         (let g = gives-at to bytes e gives in
         let answer = polled-is s.kind s (looks s h) g.0
         (subst (λ (x : Event). AllowedAt s.kind s (looks s h) x) g.1 legal.0) in
-        more (poll_tells s h to bytes m code fits legal.1 (sym answer ∙ g.2) reads aborts))
+        more (poll_tells (HasCode s h) s h to bytes m code fits legal.1 (codes_history s h legal.1).owed
+        (sym answer ∙ g.2) reads aborts))
     by (inr gave) earlier = more (earlier gave)

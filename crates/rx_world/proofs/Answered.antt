@@ -225,11 +225,11 @@ module _ (g : Handlers) (ls : List Numbered) (nodes : List Node) (h : List Noted
       by_end (n.tells.ended (ends.Abort code) ended) in
       subst (λ (o : Option Node). IsSomeAnd o (λ server. AbortsAs g server (side 0 h) c (request_for g i.invoke) code))
       (sym n.there)
-      (aborted_as g h c k.node i.node.client n.server (request_for g i.invoke) code n.fed
+      (aborted_as g nodes h w c k.node i.node.client n.server i.node.there n.fed.client_kind n.there
+      (request_for g i.invoke) code n.fed
       (λ later before with is.
       ends_as_served g h t (connection_of c) k.node i.node.client n.server c n.fed refl with later before is k.caller
-      (request_for g i.invoke) refl n.tells fits (world-law nodes h w premise).once serves)
-      ((law-of x h c n.fed refl).ends (ends.Abort code) at_end))
+      (request_for g i.invoke) refl n.tells fits (world-law nodes h w premise).once serves) at_end)
     where
       by_end : {at : Option End} → (ends.Abort code ≡ ends.Cancelled CC_UNMARSHAL) ⊎ (at ≡ Some (ends.Abort code))
           → at ≡ Some (ends.Abort code)

@@ -1,4 +1,5 @@
 pub mod AbortCauses
+pub mod AbortComes
 pub mod Aborted
 pub mod AbortsGiven
 pub mod Allowed
@@ -6,9 +7,13 @@ pub mod Answered
 pub mod Bags
 pub mod Beginning
 pub mod Callers
+pub mod ClientAborts
+pub mod ClientEnds
+pub mod CallersMade
 pub mod Clocking
 pub mod Cuts
 pub mod Delivering
+pub mod Done
 pub mod Driven
 pub mod DrivenPlan
 pub mod Each
@@ -17,6 +22,7 @@ pub mod Exchanged
 pub mod Fated
 pub mod Finding
 pub mod Finishing
+pub mod FirstEnd
 pub mod Followed
 pub mod Following
 pub mod Given
@@ -26,6 +32,7 @@ pub mod Handling
 pub mod Holding
 pub mod Joining
 pub mod Keeping
+pub mod LaterComes
 pub mod Leading
 pub mod LinesGone
 pub mod Lining

@@ -1,13 +1,22 @@
 -- The code that a channel owes is one that an event gave its latest call.
-use Rattle.std.proofs.Common.{Bool, Err, List, None, Ok, Option, Result, Some, [], ap, cond, drop, false, if◌then◌else◌, inl, inr, is_some, map, nat_lt, not, refl, slice_get, subst, suc, sym, true, unwrap_or, zero, ℕ, ℤ, ◌&&◌, ◌==◌, ◌∙◌, ◌∷◌, ◌≡◌, ◌⊎◌}
+use Rattle.std.proofs.Common.{Bool, Err, List, None, Ok, Option, Result, Some, [], ap, cond, drop, false}
+use Rattle.std.proofs.Common.{if◌then◌else◌, inl, inr, is_some, map, nat_lt, not, refl, slice_get, subst, suc, sym}
+use Rattle.std.proofs.Common.{true, unwrap_or, zero, ℕ, ℤ, ◌&&◌, ◌==◌, ◌∙◌, ◌∷◌, ◌≡◌, ◌⊎◌}
 use Rattle.rx_model.specs.declared.answers.Took.{Took}
 use Rattle.rx_model.specs.declared.names.CallName.{CallName}
 use Rattle.rx_model.specs.declared.names.Host.{Host}
 use Rattle.rx_model.specs.Names.{Channel, Connection, channel_of, connection_of, same_connection}
-use Rattle.rx_rules.specs.After.{after, challenged, counted, enters, finished, given_body, given_by, given_message, is_end, is_ok_end, is_zero, linked, owing_abort, owing_ackall, owing_again, owing_busy, prepared, served_code, settled, stopped_all, taken_at, taken_behind, taken_data, taken_heard, taken_message, taken_over, taken_stopped, taken_unserved, taken_with, told_code, turned_away, with_first}
+use Rattle.rx_rules.specs.After.{after, challenged, counted, enters, finished, given_body, given_by, given_message}
+use Rattle.rx_rules.specs.After.{is_end, is_ok_end, is_zero, linked, owing_abort, owing_ackall, owing_again}
+use Rattle.rx_rules.specs.After.{owing_busy, prepared, served_code, settled, stopped_all, taken_at, taken_behind}
+use Rattle.rx_rules.specs.After.{taken_data, taken_heard, taken_message, taken_over, taken_stopped, taken_unserved}
+use Rattle.rx_rules.specs.After.{taken_with, told_code, turned_away, with_first}
 use Rattle.rx_rules.specs.Life.{Life, after_cancel, after_code, after_later, is_calling}
-use Rattle.rx_rules.specs.Looks.{CallRecord, ChannelLooks, ConnLooks, Looks, call_at, call_named, changed_at, channel_at, conn_at, fresh_channel, is_call, is_proved, latest_name, on_call, on_channel, on_conn, on_life, on_looks}
-use Rattle.rx_rules.specs.Records.{entered, fresh_conn, idle_conn, is_full, placed, silenced, started, started_later, with_conn}
+use Rattle.rx_rules.specs.Looks.{CallRecord, ChannelLooks, ConnLooks, Looks, call_at, call_named, changed_at}
+use Rattle.rx_rules.specs.Looks.{channel_at, conn_at, fresh_channel, is_call, is_proved, latest_name, on_call}
+use Rattle.rx_rules.specs.Looks.{on_channel, on_conn, on_life, on_looks}
+use Rattle.rx_rules.specs.Records.{entered, fresh_conn, idle_conn, is_full, placed, silenced, started, started_later}
+use Rattle.rx_rules.specs.Records.{with_conn}
 use Rattle.rx_rules.specs.Setup.{named}
 use Rattle.rx_rules.specs.Setup.{Client, Kind, Server, Setup, is_client}
 use Rattle.rx_rules.proofs.EveryLaws.{Every, every-append}

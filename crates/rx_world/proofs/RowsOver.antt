@@ -10,6 +10,7 @@ use Rattle.rx_model.specs.Body as bodies
 use Rattle.rx_model.specs.Message.{Message}
 use Rattle.rx_model.specs.Names.{channel_of, connection_of}
 use Rattle.rx_rules.specs.CallLooks.{CallLooks, NodeView, call_row, fresh_call}
+use Rattle.rx_rules.specs.Judging.{is_data}
 use Rattle.rx_rules.specs.Judging.{Facts, facts_of, is_right, live_row, opened, own_row, row_at, side_row, took_named}
 use Rattle.rx_rules.specs.Life.{after_later}
 use Rattle.rx_rules.specs.Life as lives
@@ -261,3 +262,46 @@ pub busy_above : (s : Setup) (l : Looks) (c : CallName) (m : Message) → took_n
     → nat_lt (channel_at l (channel_of c)).number m.number ≡ true
 busy_above s l c m is =
     side-busy s.kind (facts_of s l c m) (own_row s (opened s c l) c m) (own-busy s (opened s c l) c m) is
+
+-- ---- a row of a call that starts
+
+-- the answers with which a later call takes its channel, or breaks the one before it
+abbrev pub may_follow : Took → Bool
+may_follow tooks.Kept = true
+may_follow tooks.NoSlot = true
+may_follow tooks.Busy = true
+may_follow _ = false
+
+above-can : (above can : Bool) → above ≡ true → (above && not can) ≡ false → can ≡ true
+above-can true true high is = refl
+above-can true false high is = absurd cc
+above-can false can high is = absurd cc
+
+both-left : (a b : Bool) → (a && b) ≡ true → a ≡ true
+both-left true b is = refl
+both-left false b is = absurd cc
+
+side-follow : (kind : Kind) (f : Facts) (call got : Took) → may_follow got ≡ true → side_row kind f call ≡ got
+    → f.is_above ≡ true → f.can_start ≡ true
+side-follow (Server service nonces) f call got follows is above =
+    let a = passed may_follow
+    (not f.is_known && not (f.can_start && f.has_number)) tooks.Strange _ got follows refl is in
+    let b = passed may_follow (not f.is_known && not f.has_place) tooks.Full _ got follows refl a.1 in
+    let d = passed may_follow f.stops_all tooks.Stopped _ got follows refl b.1 in
+    let e = passed may_follow (not f.has_number) tooks.Strange _ got follows refl d.1 in
+    let g = passed may_follow f.is_below tooks.Old _ got follows refl e.1 in
+    let h = passed may_follow (f.is_above && not f.can_start) tooks.Strange _ got follows refl g.1 in
+    above-can f.is_above f.can_start above h.0
+side-follow (Client host epoch) f call got follows is above =
+    let a = passed may_follow f.stops_all tooks.Stopped _ got follows refl is in
+    let b = passed may_follow (not f.has_number) tooks.Strange _ got follows refl a.1 in
+    let d = passed may_follow f.is_below tooks.Old _ got follows refl b.1 in
+    let e = passed may_follow f.is_above tooks.Strange _ got follows refl d.1 in
+    absurd (let never : true ≡ false = sym above ∙ e.0 in cc)
+
+-- where its number is above its channel's, it is data
+pub follow_data : (s : Setup) (l : Looks) (c : CallName) (m : Message) (got : Took) → took_named s l c m ≡ got
+    → may_follow got ≡ true → nat_lt (channel_at l (channel_of c)).number m.number ≡ true → is_data m.body ≡ true
+follow_data s l c m got is follows above =
+    both-left (is_data m.body) _
+    (side-follow s.kind (facts_of s l c m) (own_row s (opened s c l) c m) got follows is above)

@@ -23,7 +23,8 @@ use Rattle.rx_model.specs.Strays.{is_stray}
 use Rattle.rx_model.proofs.NameLaws.{name_is}
 use Rattle.rx_rules.specs.After.{acknowledged, after, challenged, counted, finish_done, finished, given_body}
 use Rattle.rx_rules.specs.After.{given_by, given_message, is_end, is_zero, linked, owing_abort, prepared, settled}
-use Rattle.rx_rules.specs.After.{stopped_all, taken_at, taken_behind, taken_data, taken_heard, taken_message, taken_over}
+use Rattle.rx_rules.specs.After.{stopped_all, taken_at, taken_behind, taken_data, taken_heard, taken_message}
+use Rattle.rx_rules.specs.After.{taken_over}
 use Rattle.rx_rules.specs.After.{taken_stopped, taken_with, told_code, turned_away, with_first}
 use Rattle.rx_rules.specs.CallLooks.{CallLooks, after_ack_given, after_piece, after_read, after_shut, after_taken}
 use Rattle.rx_rules.specs.CallLooks.{after_write, fresh_call}
@@ -109,7 +110,8 @@ module _ (K : ℤ → Type 0) (c : CallName) where
   tells_accept (lives.Broken before) t code is = t code is
   tells_accept (lives.Over before) t code is = t code is
 
-  tells_finish : (fine : Bool) (told : ℤ) → (fine ≡ false → K told) → (x : Life) → Tells x → Tells (after_finish fine told x)
+  tells_finish : (fine : Bool) (told : ℤ) → (fine ≡ false → K told) → (x : Life) → Tells x
+      → Tells (after_finish fine told x)
   tells_finish true told k lives.Accepted t code is = absurd cc
   tells_finish false told k lives.Accepted t code is = same_code told code is (k refl)
   tells_finish true told k lives.Waiting t code is = t code is
@@ -284,7 +286,8 @@ module _ (K : ℤ → Type 0) (c : CallName) where
       (λ k. coded-name (same_connection (connection_of k.name) x) code k)
       (λ k is here.
       coded-tells (same_connection (connection_of k.name) x) code k
-      (λ same. why (subst (λ (n : CallName). same_connection (connection_of n) x ≡ true) (own_name l k is) same)) here) t
+      (λ same. why (subst (λ (n : CallName). same_connection (connection_of n) x ≡ true) (own_name l k is) same)) here)
+      t
 
   told-stopped : (d : CallName) (body : Body) (l : Looks) → MayStop d body → Told l → Told (taken_stopped d body l)
   told-stopped d (bodies.Abort code) l may t = of (d.number == 0) refl
@@ -323,7 +326,8 @@ module _ (K : ℤ → Type 0) (c : CallName) where
       (told-looks d (after_taken (node_view s l) tooks.Heard m) l t)
   told-with s tooks.Stopped d m l may t = told-stopped d m.body l may t
   told-with s tooks.Busy d m l may t =
-      told-life (latest_name l (channel_of d)) (after_code RX_CALL_DEAD) l (λ same. tells_code RX_CALL_DEAD (may same)) t
+      told-life (latest_name l (channel_of d)) (after_code RX_CALL_DEAD) l
+      (λ same. tells_code RX_CALL_DEAD (may same)) t
   told-with s tooks.NoRoom d m l may t = t
   told-with s tooks.Over d m l may t = told-over d m.body (call_at l d) l t
   told-with s tooks.Full d m l may t = t
@@ -417,7 +421,8 @@ module _ (K : ℤ → Type 0) (c : CallName) where
   told-read : (d : CallName) (end : Bool) (bytes : List ℕ) (l : Looks) → Told l
       → Told (on_life d (after_end end) (on_looks d (after_read l.now end bytes) (acknowledged end d l)))
   told-read d end bytes l t =
-      told-life d (after_end end) (on_looks d (after_read l.now end bytes) (acknowledged end d l)) (λ same. tells_end end)
+      told-life d (after_end end) (on_looks d (after_read l.now end bytes) (acknowledged end d l))
+      (λ same. tells_end end)
       (told-looks d (after_read l.now end bytes) (acknowledged end d l) t)
 
   told-linked : (kind : Kind) (to : Host) (service first cid : ℕ) (l : Looks) → Told l

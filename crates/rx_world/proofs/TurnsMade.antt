@@ -3,7 +3,7 @@ use Rattle.std.proofs.Common.{◌≡◌, ◌≢◌, ◌∙◌, ◌<◌, ◌≤�
 use Rattle.std.proofs.Common.{true, false}
 use Rattle.std.proofs.Common.{Option, Some, None, Result, Ok, Err, OnOk, refl, inl, inr, sym, subst, ap, length, set}
 use Rattle.std.proofs.Common.{get_or, arith}
-use Rattle.std.specs.Prelude.{IsErrAnd, nat_lt, slice_get}
+use Rattle.std.specs.Prelude.{nat_lt, slice_get}
 use Rattle.std.proofs.lemmas.Bool.Decides.{nat_tests}
 use Rattle.rx_caller.specs.Asks.{begun as caller_begun, calling}
 use Rattle.rx_caller.specs.declared.caller.TheConstants.{REPLY_BYTES}
@@ -17,16 +17,15 @@ use Rattle.rx_nodes.specs.Nodes.{IsClientThere, NodesState}
 use Rattle.rx_nodes.proofs.Lent.{read_some}
 use Rattle.rx_script.specs.Saying.{Answering}
 use Rattle.rx_world.specs.declared.stop.Stop.{Stop}
-use Rattle.rx_world.specs.Network.{below}
-use Rattle.rx_world.specs.Parts.{Part, Ran, To, by_test, each, ends, stop_of}
+use Rattle.rx_world.specs.Parts.{Ran, To, by_test, ends, stop_of}
 use Rattle.rx_world.specs.Programs.{Knows, PlaysTurn, Turn}
 use Rattle.rx_world.specs.Stages.{InvokedState, Plays, Shows, Stage, WorldState, jobs_of, script_of}
 use Rattle.rx_world.specs.Stages.{stage_of}
 use Rattle.rx_world.specs.Tells.{Told}
 use Rattle.rx_world.specs.Turned.{IsOverWith, dispatches, is_of, jobs_left, turns_at, turns_for, turns_of}
 use Rattle.rx_world.specs.Turned.{turns_where}
-use Rattle.rx_world.proofs.Following.{on_listed, on_one, on_stops, ran_as}
-use Rattle.rx_world.proofs.Numbers.{At, below_at, below_more, length_shown}
+use Rattle.rx_world.proofs.Following.{ran_as}
+use Rattle.rx_world.proofs.Numbers.{length_shown}
 use Rattle.rx_world.proofs.Running.{ran_stops, ran_to}
 
 -- ---- what is shown
@@ -238,32 +237,3 @@ other_unmade node place w old i read t is low sees reads other =
     (subst (λ (u : WorldState). slice_get u.callers place ≡ Some read) is
     (seen_at w.callers place i read (subst (λ (u : WorldState). place < length u.callers) (sym is) low) sees reads))
     other
-
--- one for each place
-pub places_play : (part : ℕ → Stage → Part Stage) (w new : WorldState) (n : ℕ) (stop : Option Stop) (a b : Told)
-    → n ≡ length w.callers → Plays (each part (below n)) w new stop a b
-    → Plays (λ s. each part (below (length s.callers)) s) w new stop a b
-places_play part w new n stop a b long =
-    on_listed part (λ s. below (length s.callers)) (below n) (Shows w) (Shows new) stop a b
-    (λ s shown. ap (λ cs. below (length cs)) (callers_shown w s shown) ∙ ap below (sym long))
-
--- one place more
-pub place_more : (part : ℕ → Stage → Part Stage) (k : ℕ) (w m new : WorldState) (a b c : Told)
-    → Plays (each part (below k)) w m None a b → Plays (part k) m new None b c
-    → Plays (each part (below (k + 1))) w new None a c
-place_more part k w m new a b c before next =
-    subst (λ xs. Plays (each part xs) w new None a c) (sym (below_more k))
-    (on_one part (below k) k (Shows w) (Shows m) (Shows new) None a b c before next)
-
--- the run ended at a place
-pub place_ended : (part : ℕ → Stage → Part Stage) (k n : ℕ) (x w m new : WorldState) (r : Result (Unit {0}) Stop)
-    (stop : Stop) (a b c : Told) → k < n → n ≡ length x.callers → x ≡ w → Plays (each part (below k)) w m None a b
-    → Plays (part k) m new (Some stop) b c → IsErrAnd r (λ why. why ≡ stop)
-    → Plays (λ s. each part (below (length s.callers)) s) w new (stop_of r) a c
-place_ended part k n x w m new (Ok y) stop a b c low long is before next err = absurd err
-place_ended part k n x w m new (Err why) stop a b c low long is before next err =
-    (let here : At (below n) (below k) k = below_at k n low in
-    places_play part w new n (Some why) a c (long ∙ ap (λ (u : WorldState). length u.callers) is)
-    (subst (λ xs. Plays (each part xs) w new (Some why) a c) (sym here.are)
-    (on_stops part (below k) here.more k (Shows w) (Shows m) (Shows new) why a b c before
-    (subst (λ y. Plays (part k) m new (Some y) b c) (sym err) next))))

@@ -174,8 +174,8 @@ EndedByLaw nodes h s =
     (λ k. (end : End) → k.caller.end ≡ Some end
     → (end ≡ ends.Cancelled CC_UNMARSHAL) ⊎ EndsByLaw nodes h k.node k.caller.call end)
 
--- why a server told a client's call an ABORT with this code: it is what is served for the request, the server hasn't the
--- service, or the call broke with it
+-- why a server told a client's call an ABORT with this code: it is what is served for the request, the server hasn't
+-- the service or the class, or the call broke with it
 abbrev pub AbortsAs : Handlers → Node → List Event → CallName → List ℕ → ℤ → Type 0
 AbortsAs g server h c request code =
     (served_for g request ≡ refusal code) ⊎ ((code ≡ RX_INVALID_OPERATION) ⊎ IsBroken server.setup h c code)

@@ -1,6 +1,7 @@
 pub mod Answering
 pub mod Answers
 pub mod Causes
+pub mod Done
 pub mod Finds
 pub mod Follows
 pub mod Lines

@@ -9,7 +9,8 @@ ghost use Rattle.rx_world.specs.Answers.{said};
 ghost use Rattle.rx_world.specs.Showing.{PutsBy};
 ghost use Rattle.rx_world.specs.Tells.{told};
 
-use crate::world::{Invoked, World};
+use crate::invokes::Invoked;
+use crate::world::World;
 use rx_base::Sink;
 use rx_model::End;
 use rx_reply::{proc_named, reply_text};
@@ -29,7 +30,7 @@ impl World {
             (told noted (O.told out.new) (O.faults out.new))
             (answer_lines (types_of iface.now.types.items) (procs_of iface.now.procs.items) plan.now self.now.callers) }
     {
-        for invoked in &self.callers {
+        for invoked in self.callers.as_slice() {
             put_answer(self.alloc, iface, plan, invoked, out)?;
         }
         Ok(())

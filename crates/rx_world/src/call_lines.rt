@@ -11,8 +11,9 @@ ghost use Rattle.rx_world.specs.Parts.{stop_of};
 ghost use Rattle.rx_world.specs.Stages.{Plays, name_called, with_some, script_of};
 ghost use Rattle.rx_world.specs.Tells.{told};
 
-use crate::stop::{Stop, keep};
-use crate::world::{ClientCall, Invoked, World};
+use crate::invokes::Invoked;
+use crate::stop::Stop;
+use crate::world::{ClientCall, World};
 use rx_base::Sink;
 use rx_caller::Caller;
 use rx_model::{Bytes, CallName, Event};
@@ -82,15 +83,12 @@ impl World {
         };
         let caller = Caller::make(self.alloc, node, name, bytes);
         let call = self.calls.len();
-        keep(
-            &mut self.callers,
-            Invoked {
-                call,
-                node,
-                line,
-                caller,
-            },
-        )?;
+        self.callers.push(Invoked {
+            call,
+            node,
+            line,
+            caller,
+        })?;
         Ok(())
     }
 }

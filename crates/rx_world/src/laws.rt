@@ -49,12 +49,15 @@ pub fn plans_keep_promises()
 {}
 
 /// Of a driven plan, which makes no call of a client or of a handler by hand, no two of whose clients share host and
-/// epoch, and where no record was forgotten or no datagram is old. Each caller is that of an invoke. Where the invoke and the
-/// script agree on the streams that are there, its `ok` line has the values that the script answers for its arguments
-/// and upload, and the script's download where one was asked for. Whether they agree or not, a handler of its call ends
-/// with what is served for its request: the code, or 0 behind all of the reply. An end other than ok is that of its
-/// call: the server gave an ABORT with the code, nothing was heard for so long, or it was cancelled; or the caller gave
-/// up a reply that passed its limit.
+/// epoch, and where no record was forgotten or no datagram is old. Each caller is that of an invoke. Where the invoke
+/// and the script agree on the streams that are there, its `ok` line has the values that the script answers for its
+/// arguments and upload, and the script's download where one was asked for. Whether they agree or not, a handler of its
+/// call ends with what is served for its request: the code, or 0 behind all of the reply. An end other than ok is that
+/// of its call: the server gave an ABORT with the code, nothing was heard for so long, or it was cancelled; or the
+/// caller gave up a reply that passed its limit. The code of an ABORT that ended it is what is served for its request,
+/// or RX_INVALID_OPERATION, which is told where the server hasn't the service or the class, or the call broke at the
+/// server: with RX_CALL_DEAD, when nothing had been heard of it for so long, or with RX_PROTOCOL_ERROR, by a RESPONSE
+/// that wasn't right.
 pub fn plans_answer_as_served()
     ensures ok { (g : Handlers) (lines : List Numbered) (es : List Noted) (s : Stage)
         → AreServable g → All (λ l. IsWell g l.what) lines → AreDriven lines → AreDistinct (plan_nodes lines)

@@ -2,8 +2,9 @@
 //!
 //! `run` makes the events of the plan's lines, in order (`runs.rt`). Each event is noted, and then its line of the trace is
 //! put (`trace.rt`). `lines.rt` makes those of one line, by its kind in `call_lines.rt`, `client_lines.rt`,
-//! `handler_lines.rt`, `network_lines.rt` and `clock_lines.rt`; `turns.rt` those of a dispatcher or a caller; `rounds.rt`
-//! those of rounds, over a fair network or one that loses (`lossy.rt`); `answers.rt` puts what became of each invoke.
+//! `handler_lines.rt`, `network_lines.rt` and `clock_lines.rt`; `turns.rt` those of a dispatcher and `invokes.rt` those of
+//! callers; `rounds.rt` those of rounds, over a fair network or one that loses (`lossy.rt`); `answers.rt` puts what became
+//! of each invoke.
 //! A contract says which events a part may make and what they come to (`specs/Parts.antt`), at each stage that a run may
 //! have come to (`specs/Stages.antt`). `laws.rt` has what follows for whatever a plan makes.
 #![tactic(auto)]
@@ -13,6 +14,7 @@ mod call_lines;
 mod client_lines;
 mod clock_lines;
 mod handler_lines;
+mod invokes;
 mod laws;
 mod lines;
 mod lossy;

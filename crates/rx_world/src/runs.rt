@@ -19,6 +19,7 @@ ghost use Rattle.rx_world.specs.Runs.{RunIs};
 ghost use Rattle.rx_world.specs.Stages.{jobs_of, script_of};
 ghost use Rattle.rx_world.specs.Tells.{told};
 
+use crate::invokes::Callers;
 use crate::stop::Stop;
 use crate::trace::Trace;
 use crate::world::World;
@@ -165,7 +166,7 @@ fn at_start(alloc: Global, nodes: Nodes, service: u16, script: Script) -> World
         calls: Vec::new(alloc),
         accepted: Vec::new(alloc),
         packets: Vec::new(alloc),
-        callers: Vec::new(alloc),
+        callers: Callers::new(alloc),
         dispatcher: Dispatcher::make(alloc, SERVER, script),
         trace: Trace::make(alloc),
     }

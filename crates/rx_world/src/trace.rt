@@ -1,5 +1,5 @@
 //! Where a run tells its events: a journal, and the sink of its trace.
-ghost use Rattle.std.specs.Prelude.{◌≡◌, ◌∷◌, ◌++◌, [], OnOk};
+ghost use Rattle.std.specs.Prelude.{◌≡◌, ◌∷◌, ◌++◌, [], IfOk, OnOk, true};
 ghost use Rattle.std.specs.String.{string_bytes};
 ghost use Rattle.rx_model.specs.Text.{node_name};
 ghost use Rattle.rx_wire.specs.Turns.{noted};
@@ -58,4 +58,20 @@ impl Trace {
         }
         write!(self.line, "c{node} {event}\n")
     }
+}
+
+/// Tells a call of a turn, which goes on then.
+pub fn tell_call<O: Sink, J: Journal>(
+    node: u32,
+    event: Event,
+    trace: &mut Trace,
+    out: &mut O,
+    book: &mut J,
+) -> Result<bool, Stop>
+    ensures told { IsTold (stop_of result) (told (J.told book.old) (O.told out.old) (O.faults out.old))
+        (told (J.told book.new) (O.told out.new) (O.faults out.new)) (noted node event) }
+    ensures goes { IfOk result (λ goes. goes ≡ true) }
+{
+    trace.tell(node, &event, out, book)?;
+    Ok(true)
 }

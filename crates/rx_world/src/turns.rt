@@ -1,26 +1,20 @@
 //! Turns of the dispatcher and of callers.
-ghost use Rattle.std.specs.Prelude.{◌≡◌, ◌≤◌, ◌<◌, IfOk, OnOk, length, true};
-ghost use Rattle.rx_caller.specs.Asks.{begun as caller_begun, calling};
-ghost use Rattle.rx_caller.specs.declared.caller.TheConstants.{REPLY_BYTES};
+ghost use Rattle.std.specs.Prelude.{◌≡◌, OnOk};
 ghost use Rattle.rx_dispatch.specs.Dispatching.{accepts, dispatching, over, turning_of};
 ghost use Rattle.rx_dispatch.specs.Handlers.{handlers_of};
 ghost use Rattle.rx_dispatch.specs.Making.{Remembers};
 ghost use Rattle.rx_dispatch.specs.States.{state_of};
-ghost use Rattle.rx_nodes.specs.Nodes.{IsClientThere};
-ghost use Rattle.rx_wire.specs.Turns.{noted};
 ghost use Rattle.rx_world.specs.Parts.{stop_of};
 ghost use Rattle.rx_world.specs.Programs.{GoesOn, PlaysTurn};
 ghost use Rattle.rx_world.specs.Stages.{Plays, script_of};
-ghost use Rattle.rx_world.specs.Tells.{IsTold, told};
-ghost use Rattle.rx_world.specs.Turned.{IsOverWith, RestsAnyhow, dispatches, turns_all, turns_at, turns_for, turns_on};
+ghost use Rattle.rx_world.specs.Tells.{told};
+ghost use Rattle.rx_world.specs.Turned.{IsOverWith, dispatches, turns_all, turns_on};
 
 use crate::stop::Stop;
-use crate::trace::Trace;
+use crate::trace::{Trace, tell_call};
 use crate::world::World;
 use rx_base::Sink;
-use rx_caller::Caller;
 use rx_dispatch::Dispatcher;
-use rx_model::Event;
 use rx_nodes::{Nodes, SERVER};
 use rx_wire::Journal;
 use xdr_value::Interface;
@@ -61,31 +55,8 @@ impl World {
             (told (J.told book.new) (O.told out.new) (O.faults out.new)) }
         ensures script { script_of self.new ≡ script_of self.old }
     {
-        for place in 0..self.callers.len() {
-            self.turn_for(node, place, out, book)?;
-        }
-        Ok(())
-    }
-
-    /// A turn of the caller at a place, where it is this client's.
-    fn turn_for<O: Sink, J: Journal>(
-        &mut self,
-        node: u32,
-        place: usize,
-        out: &mut O,
-        book: &mut J,
-    ) -> Result<(), Stop>
-        requires { place < length self.old.callers }
-        ensures plays { Plays (turns_for node place) self.old self.new (stop_of result)
-            (told (J.told book.old) (O.told out.old) (O.faults out.old))
-            (told (J.told book.new) (O.told out.new) (O.faults out.new)) }
-        ensures script { script_of self.new ≡ script_of self.old }
-        ensures callers { length self.new.callers ≡ length self.old.callers }
-    {
-        if self.callers[place].node != node {
-            return Ok(());
-        }
-        self.turn_at(place, out, book)
+        self.callers
+            .turn_of(node, &mut self.nodes, &mut self.trace, out, book)
     }
 
     /// A turn of each caller, by call number.
@@ -99,39 +70,8 @@ impl World {
             (told (J.told book.new) (O.told out.new) (O.faults out.new)) }
         ensures script { script_of self.new ≡ script_of self.old }
     {
-        for place in 0..self.callers.len() {
-            self.turn_at(place, out, book)?;
-        }
-        Ok(())
-    }
-
-    /// A turn of the caller at a place, where its client is there.
-    fn turn_at<O: Sink, J: Journal>(
-        &mut self,
-        place: usize,
-        out: &mut O,
-        book: &mut J,
-    ) -> Result<(), Stop>
-        requires { place < length self.old.callers }
-        ensures plays { Plays (turns_at place) self.old self.new (stop_of result)
-            (told (J.told book.old) (O.told out.old) (O.faults out.old))
-            (told (J.told book.new) (O.told out.new) (O.faults out.new)) }
-        ensures script { script_of self.new ≡ script_of self.old }
-        ensures callers { length self.new.callers ≡ length self.old.callers }
-    {
-        let node = self.callers[place].node;
-        if node == SERVER || node as usize > self.nodes.clients() {
-            return Ok(());
-        }
-        let invoked = &mut self.callers[place];
-        call_on(
-            node,
-            &mut invoked.caller,
-            &mut self.nodes,
-            &mut self.trace,
-            out,
-            book,
-        )
+        self.callers
+            .turn_all(&mut self.nodes, &mut self.trace, out, book)
     }
 }
 
@@ -189,65 +129,4 @@ fn serve<O: Sink, J: Journal>(
         None => Ok(false),
         Some(event) => tell_call(SERVER, event, trace, out, book),
     }
-}
-
-/// A turn of a caller on a client.
-fn call_on<O: Sink, J: Journal>(
-    node: u32,
-    caller: &mut Caller,
-    nodes: &mut Nodes,
-    trace: &mut Trace,
-    out: &mut O,
-    book: &mut J,
-) -> Result<(), Stop>
-    requires { IsClientThere nodes.old node }
-    ensures { PlaysTurn (calling REPLY_BYTES) node (caller_begun caller.old) caller.new
-        nodes.old nodes.new (stop_of result)
-        (told (J.told book.old) (O.told out.old) (O.faults out.old))
-        (told (J.told book.new) (O.told out.new) (O.faults out.new)) }
-{
-    caller.begin();
-    'calls: for _ in 0..u64::MAX {
-        if !call(node, caller, nodes, trace, out, book)? {
-            return Ok(());
-        }
-    }
-    Err(Stop::OutOfMemory)
-}
-
-/// Makes the next call of a caller's turn and tells it. Whether there was one.
-fn call<O: Sink, J: Journal>(
-    node: u32,
-    caller: &mut Caller,
-    nodes: &mut Nodes,
-    trace: &mut Trace,
-    out: &mut O,
-    book: &mut J,
-) -> Result<bool, Stop>
-    requires { IsClientThere nodes.old node }
-    ensures goes { GoesOn (calling REPLY_BYTES) node RestsAnyhow caller.old caller.new nodes.old nodes.new result
-        (told (J.told book.old) (O.told out.old) (O.faults out.old))
-        (told (J.told book.new) (O.told out.new) (O.faults out.new)) }
-    ensures clients { length nodes.new.clients ≡ length nodes.old.clients }
-{
-    match caller.step(nodes.client_mut(node))? {
-        None => Ok(false),
-        Some(event) => tell_call(node, event, trace, out, book),
-    }
-}
-
-/// Tells a call of a turn, which goes on then.
-fn tell_call<O: Sink, J: Journal>(
-    node: u32,
-    event: Event,
-    trace: &mut Trace,
-    out: &mut O,
-    book: &mut J,
-) -> Result<bool, Stop>
-    ensures told { IsTold (stop_of result) (told (J.told book.old) (O.told out.old) (O.faults out.old))
-        (told (J.told book.new) (O.told out.new) (O.faults out.new)) (noted node event) }
-    ensures goes { IfOk result (λ goes. goes ≡ true) }
-{
-    trace.tell(node, &event, out, book)?;
-    Ok(true)
 }

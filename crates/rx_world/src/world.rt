@@ -7,10 +7,10 @@ ghost use Rattle.rx_world.specs.Parts.{stop_of};
 ghost use Rattle.rx_world.specs.Stages.{Shows, Stage};
 ghost use Rattle.rx_world.specs.Tells.{IsTold, told};
 
+use crate::invokes::Callers;
 use crate::stop::Stop;
 use crate::trace::Trace;
 use rx_base::Sink;
-use rx_caller::Caller;
 use rx_dispatch::Dispatcher;
 use rx_model::{Bytes, CallName, Event, Host};
 use rx_nodes::{Nodes, SERVER};
@@ -42,26 +42,6 @@ pub struct ClientCall {
     pub name: CallName,
 }
 
-/// The caller of an `invoke` line.
-#[derive(Drop)]
-pub struct Invoked {
-    /// The K of its call.
-    pub call: usize,
-    /// The number of its client.
-    pub node: u32,
-    /// The line's place in the plan.
-    pub line: usize,
-    pub caller: Caller,
-}
-
-impl Model for Invoked {
-    ghost use Rattle.rx_world.specs.Stages.{InvokedState};
-
-    ghost Value = { InvokedState };
-
-    ghost view = { λ s. record { call = s.call; node = s.node; line = s.line; caller = s.caller } };
-}
-
 /// What a run keeps.
 #[derive(Drop)]
 pub struct World {
@@ -75,7 +55,7 @@ pub struct World {
     pub accepted: Vec<CallName>,
     /// The datagrams that `poll` lines gave: %1 is the first.
     pub packets: Vec<Datagram>,
-    pub callers: Vec<Invoked>,
+    pub callers: Callers,
     pub dispatcher: Dispatcher,
     pub trace: Trace,
 }
@@ -95,7 +75,7 @@ impl Model for World {
       calls = s.calls.items;
       accepted = s.accepted.items;
       packets = s.packets.items;
-      callers = s.callers.items;
+      callers = s.callers;
       dispatcher = s.dispatcher;
     } };
 }

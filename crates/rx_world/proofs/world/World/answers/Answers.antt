@@ -18,10 +18,10 @@ returns-in_err-put_answer g c =
     let ps = procs_of c.args.iface.now.procs.items in
     let ls = c.args.plan.now in
     let k = c.loop-invoked.invoked-index in
-    let here = c.deref-invoked-items.result.now in
+    let here = c.as_slice-invoked-items.result.now in
     let is = c.args.self.now.callers in
     let i = c.invoked-item.result in
-    let same : here ≡ is = c.deref-invoked-items.ensures.value ∙ ap (λ (w : WorldState). w.callers) c.self.view_is in
+    let same : here ≡ is = c.as_slice-invoked-items.ensures ∙ ap (λ (w : WorldState). w.callers) c.self.view_is in
     let there = subst (λ js. k < length js) same c.loop-invoked-test.true in
     let at : i ≡ get_or is k i = subst (λ js. i ≡ get_or js k i) same c.invoked-item.is in
     λ noted.
@@ -40,10 +40,10 @@ loop-invoked-preserved g c =
     let ps = procs_of c.args.iface.now.procs.items in
     let ls = c.args.plan.now in
     let k = c.loop-invoked.invoked-index in
-    let here = c.deref-invoked-items.result.now in
+    let here = c.as_slice-invoked-items.result.now in
     let is = c.args.self.now.callers in
     let i = c.invoked-item.result in
-    let same : here ≡ is = c.deref-invoked-items.ensures.value ∙ ap (λ (w : WorldState). w.callers) c.self.view_is in
+    let same : here ≡ is = c.as_slice-invoked-items.ensures ∙ ap (λ (w : WorldState). w.callers) c.self.view_is in
     let there = subst (λ js. k < length js) same c.loop-invoked-test.true in
     let at : i ≡ get_or is k i = subst (λ js. i ≡ get_or js k i) same c.invoked-item.is in
     λ noted.
@@ -64,7 +64,7 @@ returns g c =
     let ls = c.args.plan.now in
     let k = c.loop-invoked.invoked-index in
     let is = c.args.self.now.callers in
-    let same = c.deref-invoked-items.ensures.value ∙ ap (λ (w : WorldState). w.callers) c.self.view_is in
+    let same = c.as_slice-invoked-items.ensures ∙ ap (λ (w : WorldState). w.callers) c.self.view_is in
     let over = subst (λ (js : List InvokedState). length js ≤ k) same c.loop-invoked-test.false in
     λ noted.
     subst (λ js. PutsAll (told noted (g.O.Sink.told c.args.out.now) (g.O.Sink.faults c.args.out.now))

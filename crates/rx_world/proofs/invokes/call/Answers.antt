@@ -1,6 +1,7 @@
 use Rattle.rx_caller.specs.declared.caller.TheConstants.{REPLY_BYTES}
+use Rattle.rx_world.proofs.Done.{next_done, stays_done}
 use Rattle.rx_world.proofs.Serving.{calls_none, calls_some, clients_left, goes_wants}
-use Rattle.rx_world.proofs.turns.call.Goals as goal
+use Rattle.rx_world.proofs.invokes.call.Goals as goal
 
 pub returns-in_err-step-clause-goes : goal.returns-in_err-step-clause-goes
 returns-in_err-step-clause-goes g c = goes_wants _ _ _ _ _ _ _ _ _ c.from_residual.ensures.1
@@ -33,3 +34,30 @@ returns-in-Some-clause-goes g c =
 
 pub returns-in-Some-clause-clients : goal.returns-in-Some-clause-clients
 returns-in-Some-clause-clients g c = clients_left c.args.nodes.now c.args.node c.step.new.client
+
+pub returns-in_err-step-clause-done : goal.returns-in_err-step-clause-done
+returns-in_err-step-clause-done g c =
+    stays_done (record {
+      old = c.args.caller.now;
+      new = c.step.new.self;
+      client_old = c.client_mut.result.now;
+      client_new = c.step.new.client;
+    }) c.in_err-step.ensures.wanting
+
+pub returns-in-None-clause-done : goal.returns-in-None-clause-done
+returns-in-None-clause-done g c =
+    next_done _ (record {
+      old = c.args.caller.now;
+      new = c.step.new.self;
+      client_old = c.client_mut.result.now;
+      client_new = c.step.new.client;
+    }) c.in_ok-step.field-0 c.in_ok-step.ensures.made
+
+pub returns-in-Some-clause-done : goal.returns-in-Some-clause-done
+returns-in-Some-clause-done g c =
+    next_done _ (record {
+      old = c.args.caller.now;
+      new = c.step.new.self;
+      client_old = c.client_mut.result.now;
+      client_new = c.step.new.client;
+    }) c.in_ok-step.field-0 c.in_ok-step.ensures.made

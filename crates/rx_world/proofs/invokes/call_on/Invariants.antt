@@ -1,9 +1,10 @@
 use Rattle.std.proofs.Common.{◌≡◌, length}
 use Rattle.rx_caller.specs.Asks.{begun, calling}
 use Rattle.rx_caller.specs.declared.caller.TheConstants.{REPLY_BYTES}
+use Rattle.rx_world.specs.Done.{StaysDone}
 use Rattle.rx_world.specs.Tells.{told}
 use Rattle.rx_world.proofs.Going.{Going}
-use Rattle.rx_world.proofs.turns.call_on.Given as goal
+use Rattle.rx_world.proofs.invokes.call_on.Given as goal
 
 -- the calls made so far lead from the beginning of the turn to here
 abbrev pub invariant-calls : goal.invariant-calls
@@ -12,4 +13,5 @@ invariant-calls g l = record {
       (told (g.J.Journal.told l.fn.book) (g.O.Sink.told l.fn.out) (g.O.Sink.faults l.fn.out))
       (told (g.J.Journal.told l.book) (g.O.Sink.told l.out) (g.O.Sink.faults l.out));
   clients : length l.nodes.clients ≡ length l.fn.nodes.clients;
+  done : StaysDone l.fn.caller l.caller;
 }

@@ -1,11 +1,12 @@
 use Rattle.std.proofs.Common.{◌≡◌, ◌≤◌, ◌∙◌, refl, sym, subst, true, false, length, rules, arith}
-use Rattle.rx_caller.specs.Asks.{begun, calling}
+use Rattle.rx_caller.specs.Asks.{begun, calling, is_done}
 use Rattle.rx_caller.specs.declared.caller.TheConstants.{REPLY_BYTES}
 use Rattle.rx_caller.specs.View.{CallerState}
 use Rattle.rx_world.specs.Tells.{Told, told}
 use Rattle.rx_world.specs.Turned.{RestsAnyhow}
+use Rattle.rx_world.proofs.Done.{done_ended}
 use Rattle.rx_world.proofs.Going.{Going, goes_ended, goes_more, goes_over, going_here, turn_wants}
-use Rattle.rx_world.proofs.turns.call_on.Goals as goal
+use Rattle.rx_world.proofs.invokes.call_on.Goals as goal
 
 pub calls-init : goal.calls-init
 calls-init g c =
@@ -16,17 +17,18 @@ calls-init g c =
           c.args.nodes.now c.args.nodes.now t t) (sym c.begin.ensures)
           (going_here (calling REPLY_BYTES) c.args.node (begun c.args.caller.now) c.args.nodes.now t);
       clients = refl;
+      done = λ is. subst (λ (v : CallerState). is_done v ≡ true) (sym c.begin.ensures) (done_ended c.args.caller.now is);
     }
 
-pub returns-in_err-call : goal.returns-in_err-call
-returns-in_err-call g c =
+pub returns-in_err-call-clause-plays : goal.returns-in_err-call-clause-plays
+returns-in_err-call-clause-plays g c =
     let there : c.args.node ≤ length c.calls.nodes.clients = omega (arith, c.calls.invariant.clients, c.requires.1) in
     goes_ended (calling REPLY_BYTES) c.args.node _ c.calls.caller _ _ c.calls.nodes c.call.new.nodes _
     c.from_residual.result
     c.in_err-call.field-0.0 _ _ _ c.calls.invariant.going there c.from_residual.ensures.1 c.in_err-call.ensures.goes
 
-pub returns-then-not-branch : goal.returns-then-not-branch
-returns-then-not-branch g c =
+pub returns-then-not-branch-clause-plays : goal.returns-then-not-branch-clause-plays
+returns-then-not-branch-clause-plays g c =
     let off : c.in_ok-call.field-0 ≡ false = search rules in
     goes_over (calling REPLY_BYTES) c.args.node RestsAnyhow _ c.calls.caller _ _ c.calls.nodes _ c.in_ok-call.field-0
     _ _ _
@@ -40,8 +42,18 @@ calls-preserved g c =
       going = goes_more (calling REPLY_BYTES) c.args.node RestsAnyhow _ c.calls.caller _ _ c.calls.nodes _
           c.in_ok-call.field-0 _ _ _ c.calls.invariant.going c.in_ok-call.ensures.goes on there;
       clients = c.call.ensures.clients ∙ c.calls.invariant.clients;
+      done = λ is. c.call.ensures.done (c.calls.invariant.done is);
     }
 
-pub returns : goal.returns
-returns g c = turn_wants (calling REPLY_BYTES) c.args.node _ c.calls.caller _ _ c.calls.nodes _ _ _
+pub returns-clause-plays : goal.returns-clause-plays
+returns-clause-plays g c = turn_wants (calling REPLY_BYTES) c.args.node _ c.calls.caller _ _ c.calls.nodes _ _ _
     c.calls.invariant.going
+
+pub returns-in_err-call-clause-done : goal.returns-in_err-call-clause-done
+returns-in_err-call-clause-done g c = λ is. c.call.ensures.done (c.calls.invariant.done is)
+
+pub returns-then-not-branch-clause-done : goal.returns-then-not-branch-clause-done
+returns-then-not-branch-clause-done g c = λ is. c.call.ensures.done (c.calls.invariant.done is)
+
+pub returns-clause-done : goal.returns-clause-done
+returns-clause-done g c = λ is. c.calls.invariant.done is
