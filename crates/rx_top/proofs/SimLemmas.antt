@@ -1,6 +1,9 @@
 -- Lemmas on the files that `sim` names, on its words, and on how the run of its plan ends.
 use Rattle.std.proofs.Common.{◌≡◌, ◌∙◌, ◌⊎◌, ℕ, List, [], Option, Some, None, Ok, true, All, refl, reverse, ap}
-use Rattle.std.proofs.Common.{subst, sym}
+use Rattle.std.proofs.Common.{arith, false, if◌then◌else◌, nat_lt, subst, sym, unwrap_or, ◌<◌, ◌^◌, ◌∷◌, ℤ, Bool, pos}
+use Rattle.std.proofs.lemmas.Bool.Decides.{nat_tests}
+use Rattle.std.proofs.lemmas.List.Elements.{All-cons, All-nil}
+use lib.IntN.{negsuc}
 use Rattle.rx_base.specs.Sink.{HasRisen}
 use Rattle.rx_dispatch.specs.Handlers.{Handlers}
 use Rattle.rx_law.specs.Promises.{ServerForgotNone}
@@ -11,9 +14,11 @@ use Rattle.rx_script.specs.declared.outcome.Outcome.TheVariants as runs
 use Rattle.rx_script.specs.declared.plan.Numbered.{Numbered}
 use Rattle.rx_script.specs.Plans.{plan_of}
 use Rattle.rx_script.specs.Saying.{Answering, plan_rows}
+use Rattle.rx_script.specs.Scripts.{script_of}
 use Rattle.rx_words.specs.declared.command.Command.{Command}
 use Rattle.rx_words.specs.declared.command.Command.TheVariants as commands
-use Rattle.rx_world.specs.Answering.{AbortedAsServed, AreDriven, AreServable, EndedAsServed, EndedByLaw, OkAsAnswered}
+use Rattle.rx_world.specs.Answering.{AbortedAsServed, AnswersNoZero, AreDriven, AreServable, EndedAsServed}
+use Rattle.rx_world.specs.Answering.{EndedByLaw, OkAsAnswered}
 use Rattle.rx_world.specs.Follows.{CutOff, Empty, RefusedAt, Went, Whole, plan_goes}
 use Rattle.rx_world.specs.Lines.{IsWell}
 use Rattle.rx_world.specs.Promises.{AreDistinct, KeepsPromises, plan_nodes}
@@ -22,9 +27,16 @@ use Rattle.rx_world.specs.Stages.{Stage}
 use Rattle.rx_world.specs.Tells.{Fails, Gains, Told, Wants, fails_last, fails_one, gains_none, gains_one, wants_last}
 use Rattle.rx_world.specs.Tells.{wants_more, wants_one}
 use Rattle.xdr_value.specs.Tests.{differ, is_sound}
+use Rattle.xdr_value.specs.Data.{Procedure, Procs, Types}
+use Rattle.xg_parse.specs.declared.tree.Item.{Item}
+use Rattle.xg_parse.specs.declared.tree.Part.{Part}
+use Rattle.xg_parse.specs.declared.tree.Part.TheVariants as parts
+use Rattle.xg_check.specs.Constants.{ConstantDef, constants_in, in_32_bits}
 use Rattle.xg_check.specs.Meaning.{Meant}
+use Rattle.xg_check.specs.Meant.{proc_meant, procs_behind, with_proc}
+use Rattle.xg_check.specs.Opcodes.{opcode_behind}
 use Rattle.rx_top.specs.declared.sim.SimFiles.{SimFiles}
-use Rattle.rx_top.specs.Inputs.{reads_by}
+use Rattle.rx_top.specs.Inputs.{IsInterface, IsScript, reads_by}
 use Rattle.rx_top.specs.Sims.{IsRead, Played, handlers_with}
 
 -- ---- files
@@ -39,6 +51,50 @@ pub reads_on : {F : Type 0} (contents : F → Option (List (List ℕ × List ℕ
     (failed_last : F → Option (Option (List ℕ))) (old now new : F) → contents now ≡ contents old
     → failed_last now ≡ failed_last old → reads_by contents failed_last now new ≡ reads_by contents failed_last old new
 reads_on contents failed_last old now new same last = rw (same, last) refl
+
+-- ---- what serves the calls of a plan
+
+-- an opcode that a text means has four bytes
+meant_opcode : (o : Option ℤ) → unwrap_or (in_32_bits o) 0 < 2 ^ 32
+meant_opcode None = omega arith
+meant_opcode (Some (negsuc n)) = omega arith
+meant_opcode (Some (pos n)) = of (nat_lt n (2 ^ 32)) refl
+  where
+    of : (b : Bool) → nat_lt n (2 ^ 32) ≡ b → unwrap_or (if b then Some n else None) 0 < 2 ^ 32
+    of true low = grind (arith, nat_tests)
+    of false high = omega arith
+
+meant_opcodes : (cs : List ConstantDef) (front : List Part) (items : List Item)
+    → All (λ p. p.opcode < 2 ^ 32) (procs_behind cs front items)
+meant_opcodes cs front [] = All-nil (λ (p : Procedure). p.opcode < 2 ^ 32)
+meant_opcodes cs front (i ∷ items) = by i.part (meant_opcodes cs (i.part ∷ front) items)
+  where
+    by : (part : Part) → All (λ p. p.opcode < 2 ^ 32) (procs_behind cs (i.part ∷ front) items)
+        → All (λ p. p.opcode < 2 ^ 32) (with_proc cs front part (procs_behind cs (i.part ∷ front) items))
+    by (parts.Proc name args kind opcode) rest =
+        All-cons (λ (p : Procedure). p.opcode < 2 ^ 32) (proc_meant cs (opcode_behind cs front opcode) name args kind)
+        (procs_behind cs (i.part ∷ front) items) (meant_opcode (opcode_behind cs front opcode)) rest
+    by part rest = rest
+
+-- those of the interface that a file means, or of the empty one
+pub interface_opcodes : (contents : Option (List (List ℕ × List ℕ))) (name : Option (List ℕ)) (m : Meant)
+    → IsInterface contents name m → All (λ p. p.opcode < 2 ^ 32) m.procs
+interface_opcodes contents None m is =
+    subst (λ (n : Meant). All (λ p. p.opcode < 2 ^ 32) n.procs) (sym is)
+    (All-nil (λ (p : Procedure). p.opcode < 2 ^ 32))
+interface_opcodes contents (Some name) m is =
+    subst (λ (n : Meant). All (λ p. p.opcode < 2 ^ 32) n.procs) (sym is.2.is.is)
+    (meant_opcodes (constants_in is.2.tree.items) [] is.2.tree.items)
+
+-- the script that a file gives, or the empty one, answers no code 0, by the law of scripts that were read
+pub script_codes : (no_zero : (types : Types) (procs : Procs) (text : List ℕ) (script : List Answering)
+    → script_of types procs text ≡ Ok script → All (λ (b : Answering). All AnswersNoZero b.lines) script)
+    (contents : Option (List (List ℕ × List ℕ))) (m : Meant) (name : Option (List ℕ)) (s : List Answering)
+    → IsScript contents m name s → All (λ (b : Answering). All AnswersNoZero b.lines) s
+script_codes no_zero contents m None s is =
+    subst (λ (bs : List Answering). All (λ (b : Answering). All AnswersNoZero b.lines) bs) (sym is)
+    (All-nil (λ (b : Answering). All AnswersNoZero b.lines))
+script_codes no_zero contents m (Some name) s is = no_zero m.types m.procs is.0 s is.2
 
 -- ---- words
 
@@ -125,10 +181,10 @@ module _ (are_well : (g : Handlers) (text : List ℕ) (ls : List Numbered) → p
     (aborts : SaysOfInvokes (λ g lines es s. AbortedAsServed g lines (plan_nodes lines) (reverse es) s)) where
   -- the run of a plan that was read keeps its promises, and its invokes are answered
   pub run_plays : (m : Meant) (s : List Answering) (lines : List Numbered) (ran : Outcome) (before after : Told)
-      → IsRead m lines → RunIs (handlers_with m s) lines ran before after
+      → AreServable (handlers_with m s) → IsRead m lines → RunIs (handlers_with m s) lines ran before after
       → KeepsPromises (handlers_with m s) lines ran before after
       → Played (handlers_with m s) lines ran before after
-  run_plays m s lines ran before after read run keeps =
+  run_plays m s lines ran before after servable read run keeps =
       let g : Handlers = handlers_with m s in
       let well : All (λ l. IsWell g l.what) lines = are_well g read.0 lines read.1 in
       record {
@@ -138,7 +194,7 @@ module _ (are_well : (g : Handlers) (text : List ℕ) (ls : List Numbered) → p
         answers = λ t whole driven distinct premise.
             let goes : plan_goes g lines run.events (Whole t) = subst (plan_goes g lines run.events) whole run.goes in
             record {
-              ok = λ servable. ok g lines run.events t servable well driven distinct goes premise;
+              ok = ok g lines run.events t servable well driven distinct goes premise;
               served = served g lines run.events t well driven distinct goes premise;
               ends = ends g lines run.events t well driven distinct goes premise;
               aborts = aborts g lines run.events t well driven distinct goes premise;

@@ -9,7 +9,7 @@ use Rattle.rx_script.specs.declared.outcome.Outcome.{Outcome}
 use Rattle.rx_script.specs.declared.outcome.Outcome.TheVariants as runs
 use Rattle.rx_script.specs.declared.plan.Numbered.{Numbered}
 use Rattle.rx_script.specs.Saying.{Answering, plan_rows}
-use Rattle.rx_world.specs.Answering.{AbortedAsServed, AreDriven, AreServable, EndedAsServed, EndedByLaw, OkAsAnswered}
+use Rattle.rx_world.specs.Answering.{AbortedAsServed, AreDriven, EndedAsServed, EndedByLaw, OkAsAnswered}
 use Rattle.rx_world.specs.Follows.{Went, Whole}
 use Rattle.rx_world.specs.Promises.{AreDistinct, Promises, plan_nodes}
 use Rattle.rx_world.specs.Runs.{RunIs}
@@ -35,7 +35,7 @@ IsRead m lines = (text : List ℕ) × (plan_given m text ≡ Ok (plan_rows lines
 -- the invokes of a plan: each `ok` line says what the script answers, each handler ended with what is served for its
 -- request, each caller ended as its call did, and with a code for one of the causes of that
 pub record Answered (g : Handlers) (lines : List Numbered) (es : List Noted) (s : Stage) : Type 0 where
-  pub ok : AreServable g → OkAsAnswered g lines s
+  pub ok : OkAsAnswered g lines s
   pub served : EndedAsServed g lines (plan_nodes lines) (reverse es) s
   pub ends : EndedByLaw (plan_nodes lines) (reverse es) s
   pub aborts : AbortedAsServed g lines (plan_nodes lines) (reverse es) s

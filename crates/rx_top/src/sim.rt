@@ -1,8 +1,9 @@
 //! The command that runs a plan.
 
-ghost use Rattle.std.specs.Prelude.{◌≡◌, ◌≢◌};
+ghost use Rattle.std.specs.Prelude.{◌≡◌, ◌≢◌, ◌<◌, ◌^◌, All};
 ghost use Rattle.rx_base.specs.Sink.{HasRisen};
 ghost use Rattle.rx_script.specs.Saying.{blocks_of};
+ghost use Rattle.rx_world.specs.Answering.{AreServable};
 ghost use Rattle.rx_world.specs.Tells.{told};
 ghost use Rattle.xg_check.specs.Meaning.{interface_of};
 ghost use Rattle.rx_top.specs.Inputs.{reads_by, status_of};
@@ -15,7 +16,7 @@ use crate::status::Status;
 use rx_base::{Files, Sink};
 use rx_script::{Outcome, Plan, Script};
 use rx_wire::Journal;
-use rx_world::{plans_answer_as_served, plans_are_well, run};
+use rx_world::{plans_answer_as_served, plans_are_well, run, scripts_answer_no_zero};
 use std::alloc::Global;
 use xdr_value::Interface;
 use xg_lex::Text;
@@ -63,6 +64,7 @@ fn sim_over<'a, F: Files, O: Sink, J: Journal>(
     out: &mut O,
     book: &mut J,
 ) -> SimOutcome<'a>
+    requires { All (λ p. p.opcode < 2 ^ 32) (interface_of iface.now).procs }
     ensures sim { ScriptIs (interface_of iface.now) names.now result
         (reads_by F.contents F.failed_last files.old files.new)
         (told (J.told book.old) (O.told out.old) (O.faults out.old))
@@ -75,6 +77,7 @@ fn sim_over<'a, F: Files, O: Sink, J: Journal>(
     ensures same_failed_last { status_of result ≢ Status.FileFault
         → F.failed_last files.new ≡ F.failed_last files.old }
 {
+    scripts_answer_no_zero();
     match named_script(alloc, iface, &names.script, files) {
         Ok(script) => sim_with(alloc, iface, script, names.plan.as_str(), files, out, book),
         Err(outcome) => outcome,
@@ -91,6 +94,7 @@ fn sim_with<'a, F: Files, O: Sink, J: Journal>(
     out: &mut O,
     book: &mut J,
 ) -> SimOutcome<'a>
+    requires { AreServable (handlers_with (interface_of iface.now) (blocks_of script.blocks.items)) }
     ensures sim { PlanIs (interface_of iface.now) (blocks_of script.blocks.items) name.now result
         (reads_by F.contents F.failed_last files.old files.new)
         (told (J.told book.old) (O.told out.old) (O.faults out.old))
@@ -119,7 +123,8 @@ fn play<'a, O: Sink, J: Journal>(
     out: &mut O,
     book: &mut J,
 ) -> SimOutcome<'a>
-    requires { IsRead (interface_of iface.now) plan.now.lines.items }
+    requires servable { AreServable (handlers_with (interface_of iface.now) (blocks_of script.blocks.items)) }
+    requires read { IsRead (interface_of iface.now) plan.now.lines.items }
     ensures played { EndsAs result name.now (λ ran. Played
         (handlers_with (interface_of iface.now) (blocks_of script.blocks.items)) plan.now.lines.items ran
         (told (J.told book.old) (O.told out.old) (O.faults out.old))

@@ -37,8 +37,9 @@ use Rattle.rx_law.proofs.Openings.{channel_prepared}
 use Rattle.rx_law.proofs.Orderly.{Orderly, orderly_dims}
 use Rattle.rx_law.proofs.OrderlyHistory.{orderly_history}
 use Rattle.rx_law.proofs.ServerHistory.{running-at}
-use Rattle.rx_world.specs.Causes.{Breaks}
-use Rattle.rx_world.proofs.OwedCodes.{ConnOwes, IsOwnLatest, MayOwe, MayOweBy, MayOweFor, Owed, owed_after}
+use Rattle.rx_world.specs.Causes.{Silences}
+use Rattle.rx_world.proofs.ChannelsHold.{IsOwnLatest}
+use Rattle.rx_world.proofs.OwedCodes.{ConnOwes, MayOwe, MayOweBy, MayOweFor, Owed, owed_after}
 use Rattle.rx_world.proofs.RowsOver.{busy_above, follow_data, latest_number, may_follow}
 use Rattle.rx_world.proofs.ToldCodes.{MayGive, MayStop, MayTake, MayTakeFrom, Told, above_is, told_after, told_of}
 
@@ -54,14 +55,26 @@ pub record LaterBy (s : Setup) (l : Looks) (from : Host) (bytes : List ℕ) (c :
   pub on : channel_of (named s from message) ≡ channel_of c
   pub above : c.number < (named s from message).number
 
--- its handler finished it, or its application gave it up, with the code; an ABORT told it; a later call came; or it
--- broke
+-- a RESPONSE of the call came that isn't right, and stopped it
+pub record WrongBy (s : Setup) (l : Looks) (from : Host) (bytes : List ℕ) (got : Took) (c : CallName) (code : ℤ)
+    : Type 0 where
+  pub code_is : code ≡ RX_PROTOCOL_ERROR
+  pub message : Message
+  pub text : List ℕ
+  pub reads : reading_of bytes ≡ Ok message
+  pub front : outer_row s s.kind l from message ≡ None
+  pub name : named s from message ≡ c
+  pub body : message.body ≡ bodies.Response text
+  pub stopped : got ≡ tooks.Stopped
+
+-- its handler finished it, or its application gave it up, with the code; an ABORT told it; a later call or a wrong
+-- RESPONSE came; or nothing was heard of it
 abbrev pub GivesCode : Setup → Looks → CallName → ℤ → Event → Type 0
 GivesCode s l c code (events.Finished d told (Ok done)) = (d ≡ c) × (told ≡ code) × (is_zero told ≡ false)
 GivesCode s l c code (events.Cancelled d told (Ok done)) = (d ≡ c) × (told ≡ code)
-GivesCode s l c code (events.Polled got) = Breaks s l c code (events.Polled got)
+GivesCode s l c code (events.Polled got) = (code ≡ RX_CALL_DEAD) × Silences l c (events.Polled got)
 GivesCode s l c code (events.Taken from bytes got) =
-    StoppedBy s l from bytes c code ⊎ (LaterBy s l from bytes c code ⊎ Breaks s l c code (events.Taken from bytes got))
+    StoppedBy s l from bytes c code ⊎ (LaterBy s l from bytes c code ⊎ WrongBy s l from bytes got c code)
 GivesCode s l c code _ = ⊥
 
 -- one of the events gave it
@@ -110,9 +123,9 @@ cancelled_live (Client host epoch) s l d code done allowed =
     own true is = done-is (is_call (λ k. is_live k.life) (call_at l d)) is
     own false is = absurd cc
 
-pub live_latest : (K : CallName → ℤ → Type 0) (s : Setup) (l : Looks) (d : CallName) → Orderly s l
-    → is_call (λ k. is_live k.life) (call_at l d) ≡ true → IsOwnLatest K l d
-live_latest K s l d o lives = record { differ = o.conns.differ; number = (o.latest d lives).number }
+pub live_latest : (s : Setup) (l : Looks) (d : CallName) → Orderly s l
+    → is_call (λ k. is_live k.life) (call_at l d) ≡ true → IsOwnLatest l d
+live_latest s l d o lives = record { differ = o.conns.differ; number = (o.latest d lives).number }
 
 -- ---- one event more
 
@@ -153,17 +166,16 @@ module _ (s : Setup) (h : List Event) (from : Host) (bytes : List ℕ) (got : To
   wrong_gives : (c : CallName) (text : List ℕ) → got ≡ tooks.Stopped → m.body ≡ bodies.Response text → d ≡ c
       → HasCode s (e ∷ h) c RX_PROTOCOL_ERROR
   wrong_gives c text same at name =
-      inl (inr (inr (
-        refl,
-        record {
-          message = m;
-          response = text;
-          reads = reads;
-          name = name;
-          body = at;
-          stopped = same;
-        },
-      )))
+      inl (inr (inr (record {
+        code_is = refl;
+        message = m;
+        text = text;
+        reads = reads;
+        front = front;
+        name = name;
+        body = at;
+        stopped = same;
+      })))
 
   -- a call whose name is the latest of the channel, and a number above
   later_gives : (c : CallName) → may_follow got ≡ true → same_name c (latest_name ready (channel_of d)) ≡ true
@@ -219,10 +231,10 @@ module _ (s : Setup) (h : List Event) (from : Host) (bytes : List ℕ) (got : To
   take_gives c tooks.Stopped same = stop_gives c same m.body refl
   take_gives c _ same = tt
 
-  -- a message that makes a channel owe a code is of its latest call
-  pub ready_latest : Legal s h → may_abort got m.body ≡ true → enters got ≡ false
-      → IsOwnLatest (HasCode s (e ∷ h)) ready d
-  ready_latest legal may out =
+  -- a message that makes a channel owe something is of its latest call
+  pub ready_here : Legal s h → enters got ≡ false → (channel_at (looks s h) (channel_of d)).number ≡ d.number
+      → IsOwnLatest ready d
+  ready_here legal out number =
       let l : Looks = looks s h in
       record {
         differ = subst
@@ -231,9 +243,13 @@ module _ (s : Setup) (h : List Event) (from : Host) (bytes : List ℕ) (got : To
             (sym out)
             (orderly_dims s l (used (connection_of d) l) (used_dims (connection_of d) l)
             (orderly_history s h legal)).conns.differ;
-        number = sym (channel_number ready (channel_of d)) ∙ channel_prepared s got d l
-            ∙ latest_number s l d m got refl (named_row s l from bytes got m is reads front) may;
+        number = sym (channel_number ready (channel_of d)) ∙ channel_prepared s got d l ∙ number;
       }
+
+  pub ready_latest : Legal s h → may_abort got m.body ≡ true → enters got ≡ false → IsOwnLatest ready d
+  ready_latest legal may out =
+      ready_here legal out
+      (latest_number s (looks s h) d m got refl (named_row s (looks s h) from bytes got m is reads front) may)
 
   owe_stopped : Legal s h → got ≡ tooks.Stopped → (body : Body) → m.body ≡ body
       → MayOwe (HasCode s (e ∷ h)) tooks.Stopped d body ready
@@ -294,13 +310,13 @@ event_gives s h (events.Clocked now) allowed c = tt
 event_owes : (s : Setup) (h : List Event) (e : Event) → Allowed s (looks s h) e → Legal s h → Codes s h
     → MayOweBy (HasCode s (e ∷ h)) s (looks s h) e
 event_owes s h (events.Finished d code (Ok done)) allowed legal old = (
-  live_latest (HasCode s (events.Finished d code (Ok done) ∷ h)) s (looks s h) d (orderly_history s h legal)
+  live_latest s (looks s h) d (orderly_history s h legal)
       (finished_live s.kind s (looks s h) d code done allowed),
   λ some. inl (refl, refl, some),
 )
 event_owes s h (events.Finished d code (Err bad)) allowed legal old = tt
 event_owes s h (events.Cancelled d code (Ok done)) allowed legal old = (
-  live_latest (HasCode s (events.Cancelled d code (Ok done) ∷ h)) s (looks s h) d (orderly_history s h legal)
+  live_latest s (looks s h) d (orderly_history s h legal)
       (cancelled_live s.kind s (looks s h) d code done allowed),
   inl (refl, refl),
 )

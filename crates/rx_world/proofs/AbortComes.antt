@@ -93,7 +93,7 @@ module _ (nodes : List Node) (k : ℕ) (client server : Node) (y : Connection) (
     (apart : (i j : ℕ) → i ≢ j → IfSome (slice_get nodes i) (λ n. IfSome (slice_get nodes j)
     (λ o. AreApart n.setup.kind o.setup.kind))) where
   -- two clients of one host and epoch are one
-  one_client : (j : ℕ) (n : Node) (a : Host) (b : ℕ) → slice_get nodes j ≡ Some n → n.setup.kind ≡ Client a b
+  pub one_client : (j : ℕ) (n : Node) (a : Host) (b : ℕ) → slice_get nodes j ≡ Some n → n.setup.kind ≡ Client a b
       → a ≡ y.host → b ≡ y.epoch → j ≡ k
   one_client j n a b at is host epoch = of (j == k) refl
     where

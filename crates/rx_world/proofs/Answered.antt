@@ -5,7 +5,6 @@ use Rattle.std.proofs.Common.{refl, inl, inr, ◌∙◌, ap, sym, subst, slice_g
 use Rattle.std.proofs.Common.{IfSome, IsSomeAnd}
 use Rattle.std.specs.Option.{option_and_then}
 use Rattle.std.proofs.lemmas.List.Elements.{All-weaker}
-use Rattle.hex.specs.Hex.{IsBytes}
 use Rattle.xdr_value.specs.Data.{Data, Procedure}
 use Rattle.xdr_value.specs.View.{values_of}
 use Rattle.rx_model.specs.declared.answers.End.{End}
@@ -16,7 +15,7 @@ use Rattle.rx_model.specs.Names.{Connection, connection_of}
 use Rattle.rx_rules.specs.After.{looks}
 use Rattle.rx_rules.specs.Looks.{CallRecord, call_at}
 use Rattle.rx_rules.specs.Rules.{Legal}
-use Rattle.rx_rules.specs.Setup.{Setup, Kind, Client, FitsSetup, IsServer}
+use Rattle.rx_rules.specs.Setup.{Setup, Kind, Client, Server, FitsSetup, IsServer}
 use Rattle.rx_law.specs.Promises.{EndsAs}
 use Rattle.rx_law.specs.Promises.{ServerForgotNone, ends_in}
 use Rattle.rx_law.specs.Sides.{Node, side}
@@ -40,24 +39,27 @@ use Rattle.rx_script.specs.Served.{served_answer}
 use Rattle.rx_script.specs.declared.plan.Numbered.{Numbered}
 use Rattle.rx_script.specs.declared.plan.PlanLine.{PlanLine}
 use Rattle.rx_script.specs.declared.plan.PlanLine.TheVariants as lines
-use Rattle.rx_world.specs.Answering.{AbortedAsServed, AbortsAs, EndedByLaw, EndsByLaw}
+use Rattle.rx_world.specs.Answering.{AbortedAsServed, EndedByLaw, EndsByLaw, SaysAbort}
 use Rattle.rx_world.specs.Answering.{EndedAsServed, EndsAsServed, FinishesAsServed, AgreesOnStreams, AreDriven}
 use Rattle.rx_world.specs.Answering.{AreServable, Invoked, IsDriven, OkAsAnswered, SaysAnswer}
 use Rattle.rx_world.specs.Answering.{answer_for, invoked_at, invoked_by, request_for}
 use Rattle.rx_world.specs.Answers.{answer_of, asked_at, asked_by, asked_of, line_for, said, said_of}
-use Rattle.rx_world.specs.Follows.{Whole, plan_goes}
+use Rattle.rx_world.specs.Causes.{key_at}
+use Rattle.rx_world.specs.Follows.{Whole, class_of, plan_goes}
 use Rattle.rx_world.specs.Lines.{IsWell}
 use Rattle.rx_world.specs.Promises.{AreDistinct, AreInRange, AreUnforged, IsUnforged, line_kind, plan_nodes}
 use Rattle.rx_world.specs.Stages.{InvokedState, Stage}
-use Rattle.rx_world.proofs.Aborted.{aborted_as}
+use Rattle.rx_world.proofs.Aborted.{AreKeyed, aborted_as}
 use Rattle.rx_world.proofs.DrivenPlan.{plan_follows}
 use Rattle.rx_world.proofs.Exchanged.{Serving, ends_as_served, exchanged_by, fed_in}
 use Rattle.rx_world.proofs.Driven.{seen}
 use Rattle.rx_world.proofs.Followed.{IsCaller, IsPlayed}
 use Rattle.rx_world.proofs.Handling.{Serves}
+use Rattle.rx_world.proofs.PlanKeys.{classes_are, served_side, service_at}
 use Rattle.rx_world.proofs.Promised.{plans_carry, plans_end, plans_whole}
 use Rattle.rx_world.proofs.Replying.{IsReturned, named_at, returned_said, served_invoke, served_nonzero}
 use Rattle.rx_world.proofs.Replying.{served_returned}
+use Rattle.rx_world.proofs.QuietEvents.{AreServed}
 use Rattle.rx_world.proofs.SoundPlan.{lines_in_range}
 
 -- ---- the line of a caller
@@ -202,39 +204,64 @@ module _ (g : Handlers) (ls : List Numbered) (nodes : List Node) (h : List Noted
           ((law-of x h c n.fed refl).ends end at_end))))
 
   -- its handler ends with what is served for its request
-  caller_ended : (k : InvokedState) → (i : IsCaller g ls nodes h k) → IsBytes (request_for g i.invoke)
+  caller_ended : (k : InvokedState) → (i : IsCaller g ls nodes h k)
       → FinishesAsServed g nodes h k.caller.call (request_for g i.invoke)
-  caller_ended k i fits later before code is =
+  caller_ended k i later before code is =
       let c : CallName = k.caller.call in
       let n : Connected k i = connected k i in
       subst (λ (o : Option Node). IfSome o (λ m. EndsAsServed g (request_for g i.invoke)
       (streams.said (looks m.setup (side 0 before)) c) code)) (sym n.there)
       (ends_as_served g h t (connection_of c) k.node i.node.client n.server c n.fed refl code later before is k.caller
-      (request_for g i.invoke) refl n.tells fits (world-law nodes h w premise).once serves)
+      (request_for g i.invoke) refl n.tells i.fits (world-law nodes h w premise).once serves)
 
   -- where it ended with a code, it is one that the server told so
-  caller_aborted : (k : InvokedState) → (i : IsCaller g ls nodes h k) → IsBytes (request_for g i.invoke) → (code : ℤ)
+  caller_aborted : AreServed nodes h
+      → ((j : ℕ) (n : Node) → slice_get nodes j ≡ Some n → n.setup.class ≡ class_of (key_at ls j))
+      → (k : InvokedState) → (i : IsCaller g ls nodes h k) → (code : ℤ)
       → k.caller.end ≡ Some (ends.Abort code)
-      → IsSomeAnd (slice_get nodes 0)
-      (λ server. AbortsAs g server (side 0 h) k.caller.call (request_for g i.invoke) code)
-  caller_aborted k i fits code ended =
+      → IsSomeAnd (slice_get nodes 0) (λ server. SaysAbort g ls server (side 0 h) k i.invoke code)
+  caller_aborted links classes k i code ended =
       let c : CallName = k.caller.call in
       let n : Connected k i = connected k i in
       let x : TwoEnds = ends_in (connection_of c) k.node i.node.client n.server in
       let at_end : streams.end_at (looks i.node.client.setup (side k.node h)) c ≡ Some (ends.Abort code) =
       by_end (n.tells.ended (ends.Abort code) ended) in
-      subst (λ (o : Option Node). IsSomeAnd o (λ server. AbortsAs g server (side 0 h) c (request_for g i.invoke) code))
+      subst (λ (o : Option Node). IsSomeAnd o (λ server. SaysAbort g ls server (side 0 h) k i.invoke code))
       (sym n.there)
-      (aborted_as g nodes h w c k.node i.node.client n.server i.node.there n.fed.client_kind n.there
-      (request_for g i.invoke) code n.fed
-      (λ later before with is.
-      ends_as_served g h t (connection_of c) k.node i.node.client n.server c n.fed refl with later before is k.caller
-      (request_for g i.invoke) refl n.tells fits (world-law nodes h w premise).once serves) at_end)
+      (record {
+        line = ap (λ (e : Option End). line_for k.call (answer_of (said g.types g.procs k.caller.reply
+            (asked_at ls k.line)) e)) ended;
+        cause =
+            aborted_as g nodes h w c k.node i.node.client n.server i.node.there n.fed.client_kind n.there
+            (request_for g i.invoke) code n.fed
+            (λ later before with is.
+            ends_as_served g h t (connection_of c) k.node i.node.client n.server c n.fed refl with later before is
+            k.caller (request_for g i.invoke) refl n.tells i.fits (world-law nodes h w premise).once serves)
+            (key_at ls k.node) (key_at ls 0)
+            (keyed k.node i.node.client n.server i.node.there n.there n.fed.server_kind) at_end;
+      })
     where
       by_end : {at : Option End} → (ends.Abort code ≡ ends.Cancelled CC_UNMARSHAL) ⊎ (at ≡ Some (ends.Abort code))
           → at ≡ Some (ends.Abort code)
       by_end (inl never) = absurd cc
       by_end (inr is) = is
+
+      keyed : (node : ℕ) (client server : Node) → slice_get nodes node ≡ Some client → slice_get nodes 0 ≡ Some server
+          → IsServer server.setup.kind → AreKeyed (key_at ls node) (key_at ls 0) node h client server
+      keyed node client server there first serving = by server.setup.kind refl serving
+        where
+          by : (q : Kind) → server.setup.kind ≡ q → IsServer q
+              → AreKeyed (key_at ls node) (key_at ls 0) node h client server
+          by (Client host epoch) is serves = absurd serves
+          by (Server service nonces) is serves =
+              record {
+                own_class = classes node client there;
+                other_class = classes 0 server first;
+                service = service;
+                nonces = nonces;
+                serving = is;
+                links = served_side node service nodes h (service_at nodes server service nonces first is) links;
+              }
 
   -- its line says the answer
   caller_says : AreServable g → (k : InvokedState) → (i : IsCaller g ls nodes h k) → AgreesOnStreams g i.invoke
@@ -343,14 +370,18 @@ module _ (g : Handlers) (ls : List Numbered) (es : List Noted) (s : Stage) (well
   -- each invoke's call is ended by its handler with what is served for its request
   pub plan_ends : EndedAsServed g ls (plan_nodes ls) (reverse es) s
   plan_ends =
-      of_each (λ k i. IsBytes (request_for g i)
-      → FinishesAsServed g (plan_nodes ls) (reverse es) k.caller.call (request_for g i))
+      of_each (λ k i. FinishesAsServed g (plan_nodes ls) (reverse es) k.caller.call (request_for g i))
       (caller_ended g ls (plan_nodes ls) (reverse es) world premise (over s.jobs) serves_all)
 
   -- each invoke's call that ended with a code had it from the server so
   pub plan_aborts : AbortedAsServed g ls (plan_nodes ls) (reverse es) s
   plan_aborts =
-      of_each (λ k i. IsBytes (request_for g i) → (code : ℤ) → k.caller.end ≡ Some (ends.Abort code)
+      of_each (λ k i. (code : ℤ) → k.caller.end ≡ Some (ends.Abort code)
       → IsSomeAnd (slice_get (plan_nodes ls) 0)
-      (λ server. AbortsAs g server (side 0 (reverse es)) k.caller.call (request_for g i) code))
-      (caller_aborted g ls (plan_nodes ls) (reverse es) world premise (over s.jobs) serves_all)
+      (λ server. SaysAbort g ls server (side 0 (reverse es)) k i code))
+      (caller_aborted g ls (plan_nodes ls) (reverse es) world premise (over s.jobs) serves_all served (classes_are ls))
+    where
+      served : AreServed (plan_nodes ls) (reverse es)
+      served =
+          subst (λ (ns : List Node). AreServed ns (reverse es)) nodes_are.0
+          (subst (AreServed s.nodes) history_is (plan_follows g ls es s well driven goes).links)

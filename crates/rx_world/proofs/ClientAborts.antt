@@ -109,8 +109,7 @@ module _ (s : Setup) (host : Host) (epoch : ℕ) (kind : s.kind ≡ Client host 
   cancel_owes h d code done legal =
       let l : Looks = looks s h in
       let living = cancelled_live s.kind s l d code done legal.0 in (
-        live_latest (HasEnded (looks s (events.Cancelled d code (Ok done) ∷ h))) s l d (orderly_history s h legal.1)
-            living,
+        live_latest s l d (orderly_history s h legal.1) living,
         record {
           end = ends.Cancelled code;
           at =
@@ -149,12 +148,8 @@ module _ (s : Setup) (host : Host) (epoch : ℕ) (kind : s.kind ≡ Client host 
     with_got : (g : Took) → got ≡ g → MayOwe K g d m.body ready
     with_got tooks.Stopped same = with_body m.body refl
     with_got tooks.Over same = (
-      record {
-        differ = (ready_latest s h from bytes got m is reads front legal.1
-            (ap (λ (g : Took). may_abort g m.body) same) (ap enters same)).differ;
-        number = (ready_latest s h from bytes got m is reads front legal.1
-            (ap (λ (g : Took). may_abort g m.body) same) (ap enters same)).number;
-      },
+      ready_latest s h from bytes got m is reads front legal.1 (ap (λ (g : Took). may_abort g m.body) same)
+          (ap enters same),
       over_told,
     )
     with_got _ same = tt
@@ -200,10 +195,10 @@ module _ (s : Setup) (host : Host) (epoch : ℕ) (kind : s.kind ≡ Client host 
     pub own : OwnName s.kind (named s to m)
     pub ended : HasEnded (looks s h) (named s to m) code
 
-  no_stray : (to : Host) (m : Message) (code : ℤ) → Mine s to m → IsStray m code → ⊥
-  no_stray to m code mine stray =
+  no_stray : (h : List Event) (to : Host) (m : Message) (code : ℤ) → Mine s to m → IsStray s h to m code → ⊥
+  no_stray h to m code mine stray =
       let none : has_flag CLIENT_INITIATED 0 ≡ is_client s.kind =
-      ap (has_flag CLIENT_INITIATED) (sym stray.flags) ∙ mine.flag in
+      ap (λ (n : Message). has_flag CLIENT_INITIATED n.flags) (sym stray.is) ∙ mine.flag in
       let client : is_client s.kind ≡ true = ap is_client kind in
       let never : false ≡ true = none ∙ client in
       cc
@@ -214,8 +209,9 @@ module _ (s : Setup) (host : Host) (epoch : ℕ) (kind : s.kind ≡ Client host 
   client_aborts (e ∷ h) to bytes m code legal reads aborts gave =
       by gave (λ before. client_aborts h to bytes m code legal.1 reads aborts before)
     where
-      now : IsStray m code ⊎ IsOfCall (HasEnded (looks s h)) s to m code → Mine s to m → IsOfEnded (e ∷ h) to m code
-      now (inl stray) mine = absurd (no_stray to m code mine stray)
+      now : IsStray s h to m code ⊎ IsOfCall (HasEnded (looks s h)) s to m code → Mine s to m
+          → IsOfEnded (e ∷ h) to m code
+      now (inl stray) mine = absurd (no_stray h to m code mine stray)
       now (inr own) mine =
           record { some = own.some; own = own.own; ended = later_ended e h (named s to m) code legal own.has }
 

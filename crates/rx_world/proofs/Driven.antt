@@ -1,12 +1,13 @@
 -- Lines of a driven plan as single events: what holds behind each event holds behind each line.
 use Rattle.std.proofs.Common.{◌≡◌, ◌==◌, ◌&&◌, not, nat_le, nat_lt, ℕ, zero, suc, Bool, true, false, List, []}
 use Rattle.std.proofs.Common.{◌∷◌, ◌++◌, length, set, Option, Some, None, Ok, Err, refl, subst, ap}
-use Rattle.std.proofs.Common.{◌+◌, ℤ, if◌then◌else◌, slice_get, string_bytes}
+use Rattle.std.proofs.Common.{◌+◌, if◌then◌else◌, slice_get, string_bytes}
 use Rattle.rx_model.specs.declared.event.Event.{Event}
 use Rattle.rx_model.specs.declared.event.Event.TheVariants as events
 use Rattle.rx_model.specs.declared.event.Noted.{Noted}
 use Rattle.rx_model.specs.declared.names.CallName.{CallName}
 use Rattle.rx_model.specs.declared.names.Host.{Host}
+use Rattle.hex.specs.Hex.{IsBytes}
 use Rattle.xdr_value.specs.View.{values_of}
 use Rattle.rx_caller.specs.Asks.{Asking, IsAsked as IsAskedOf, begun as caller_begun, calling, heard}
 use Rattle.rx_caller.specs.View.{CallerState, caller_for}
@@ -16,7 +17,7 @@ use Rattle.rx_dispatch.specs.Handlers.{Handlers}
 use Rattle.rx_dispatch.specs.Jobs.{Ask, IsCall, JobState}
 use Rattle.rx_law.specs.Sides.{Node, moment}
 use Rattle.rx_law.specs.Worlds.{Datagram}
-use Rattle.rx_nodes.specs.Events.{IsAsked, IsCalled, IsCancelled, IsClocked, IsLinked, IsPolled, IsTaken}
+use Rattle.rx_nodes.specs.Events.{IsAsked, IsCalled, IsCancelled, IsClocked, IsPolled, IsTaken}
 use Rattle.rx_nodes.specs.Nodes.{IsAllowedAt}
 use Rattle.rx_nodes.specs.Waits.{any_lives, least_wait}
 use Rattle.rx_script.specs.Procs.{proc_named}
@@ -29,7 +30,8 @@ use Rattle.rx_world.specs.declared.network_lines.TheConstants.{MAX_PACKETS}
 use Rattle.rx_world.specs.declared.world.ClientCall.{ClientCall}
 use Rattle.rx_world.specs.Answering.{IsDriven}
 use Rattle.rx_world.specs.Finds.{at_call, call_at, client_at, found_or, node_at, numbered}
-use Rattle.rx_world.specs.Lines.{bytes_of, can_join, clocks, clocks_all, connects, given_packet, invokes, is_back}
+use Rattle.rx_world.specs.Lines.{IsInvoked, bytes_of, can_join, clocks, clocks_all, connects, given_packet, invokes}
+use Rattle.rx_world.specs.Lines.{is_back}
 use Rattle.rx_world.specs.Lines.{jumbo_line, line_part, packets_in, polls_line, turn_line}
 use Rattle.rx_world.specs.Lines.{with_called, with_caller, with_packet}
 use Rattle.rx_world.specs.Lossy.{Lossy, comes, fated, gathered, lossy_round, lossy_rounds}
@@ -40,13 +42,15 @@ use Rattle.rx_world.specs.Rounds.{Polled, clients_first, may_move, moves_by, mov
 use Rattle.rx_world.specs.Rounds.{polls, polls_at, polls_out, round, rounds, settles, turns}
 use Rattle.rx_world.specs.Stages.{InvokedState, IsAllowedNext, Stage, event, event_with, host_at, is_client}
 use Rattle.rx_world.specs.Stages.{name_called}
-use Rattle.rx_world.specs.Stages.{service_of, with_event}
+use Rattle.rx_world.specs.Stages.{with_event}
 use Rattle.rx_world.specs.Turned.{dispatches, is_of, turns_all, turns_at, turns_for, turns_of}
 use Rattle.rx_world.specs.Turned.{turns_where}
 use Rattle.rx_world.proofs.Handling.{IsQuiet}
 use Rattle.rx_world.proofs.Leading.{IsSteady, Leads, each_lead, ends_lead, heard_steady, one_lead, steady_over}
 use Rattle.rx_world.proofs.Leading.{test_lead}
 use Rattle.rx_world.proofs.Leading.{then_lead, turn_lead}
+use Rattle.rx_world.proofs.QuietEvents.{IsQuietOf, LinksServed, quiet_asked, quiet_cancelled, quiet_clocked}
+use Rattle.rx_world.proofs.QuietEvents.{quiet_linked, quiet_polled, quiet_taken}
 use Rattle.rx_world.proofs.Sound.{IfTo}
 
 -- ---- what is followed
@@ -77,10 +81,10 @@ with_view k v = record k { caller = v }
 -- it holds behind each event of a driven plan
 pub record Carries (g : Handlers) (Asks : ℕ → List ℕ → Type 0) (Q : Seen → Type 0) : Type 0 where
   pub quiet :
-      (x : Seen) (node : ℕ) (e : Event) → IsQuiet e → IsAllowedAt x.nodes x.history node e → Q x
-      → Q (seen_behind node e x)
+      (x : Seen) (node : ℕ) (e : Event) → IsQuiet e → LinksServed x.nodes e → IsAllowedAt x.nodes x.history node e
+      → Q x → Q (seen_behind node e x)
   pub invokes :
-      (x : Seen) (call node line cid : ℕ) (c : CallName) (bytes : List ℕ) → Asks line bytes
+      (x : Seen) (call node line cid : ℕ) (c : CallName) (bytes : List ℕ) → Asks line bytes → IsBytes bytes
       → IsAllowedAt x.nodes x.history node (events.Called cid (Ok c)) → Q x
       → Q (record (seen_behind node (events.Called cid (Ok c)) x) {
         callers = x.callers ++ invoked call node line c bytes ∷ [];
@@ -98,28 +102,6 @@ pub record Carries (g : Handlers) (Asks : ℕ → List ℕ → Type 0) (Q : Seen
       (x : Seen) (place : ℕ) (k : InvokedState) (a : Asking) (e : Event) → slice_get x.callers place ≡ Some k
       → (calling REPLY_BYTES).asks k.caller ≡ Some a → IsAskedOf a e → IsAllowedAt x.nodes x.history k.node e → Q x
       → Q (record (seen_behind k.node e x) { callers = set x.callers place (with_view k (heard k.caller e)) })
-
--- ---- quiet events
-
-quiet_linked : (to : Host) (service first : ℕ) (e : Event) → IsLinked to service first e → IsQuiet e
-quiet_linked to service first (events.Linked host its low got) i = tt
-quiet_linked to service first e i = elim i [ ]
-
-quiet_asked : (c : CallName) (e : Event) → IsAsked c e → IsQuiet e
-quiet_asked c (events.Ended call got) i = tt
-quiet_asked c e i = elim i [ ]
-
-quiet_taken : (from : Host) (bytes : List ℕ) (e : Event) → IsTaken from bytes e → IsQuiet e
-quiet_taken from bytes (events.Taken sender given got) i = tt
-quiet_taken from bytes e i = elim i [ ]
-
-quiet_polled : (e : Event) → IsPolled e → IsQuiet e
-quiet_polled (events.Polled got) i = tt
-quiet_polled e i = elim i [ ]
-
-quiet_clocked : (now : ℕ) (e : Event) → IsClocked now e → IsQuiet e
-quiet_clocked now (events.Clocked moment) i = tt
-quiet_clocked now e i = elim i [ ]
 
 -- ---- a list with a changed place
 
@@ -153,10 +135,11 @@ module _ (g : Handlers) (Asks : ℕ → List ℕ → Type 0) (Q : Seen → Type 
       (one_lead (λ e. is e × IsAllowedAt s.nodes s.history node e) node (IsAllowedNext s node is) (λ e there. there))
       (λ e there. ends_lead At (came e (with_event node e s)) (next e there.0 there.1))
 
-  quiet_lead : (s : Stage) (node : ℕ) (is : Event → Type 0) → ((e : Event) → is e → IsQuiet e) → At s
+  quiet_lead : (s : Stage) (node : ℕ) (is : Event → Type 0) → ((e : Event) → is e → IsQuietOf s.nodes e) → At s
       → Leads At (event node is s)
   quiet_lead s node is quiet so =
-      event_lead s node is (λ e t. To t) (λ e there allowed. carries.quiet (seen s) node e (quiet e there) allowed so)
+      event_lead s node is (λ e t. To t)
+      (λ e there allowed. carries.quiet (seen s) node e (quiet e there).0 (quiet e there).1 allowed so)
 
   rest_lead : (s : Stage) → At s → Leads At (ends (To s))
   rest_lead s so = ends_lead At (To s) so
@@ -224,8 +207,8 @@ module _ (g : Handlers) (Asks : ℕ → List ℕ → Type 0) (Q : Seen → Type 
 
   come_lead : (d : Datagram) (node : ℕ) (s : Stage) → At s → Leads At (comes_to d node s)
   come_lead d node s so =
-      test_lead At (is_for d s node) _ _ (quiet_lead s node (IsTaken d.from d.bytes) (quiet_taken d.from d.bytes) so)
-      (rest_lead s so)
+      test_lead At (is_for d s node) _ _
+      (quiet_lead s node (IsTaken d.from d.bytes) (quiet_taken s.nodes d.from d.bytes) so) (rest_lead s so)
 
   deliver_lead : (d : Datagram) (s : Stage) → At s → Leads At (delivers d s)
   deliver_lead d s so = each_lead At (comes_to d) (come_lead d) (all_nodes s) s so
@@ -238,7 +221,8 @@ module _ (g : Handlers) (Asks : ℕ → List ℕ → Type 0) (Q : Seen → Type 
   poll_lead node (Some from) p so =
       then_lead (λ r. At r.1 × ((polling from).asks r.0 ≡ None)) (λ r. At r.stage) _ _
       (turn_lead (polling from) node (λ v t. At t)
-      (λ v t a e there asked is allowed. carries.quiet (seen t) node e (quiet_polled e is) allowed there)
+      (λ v t a e there asked is allowed. carries.quiet (seen t) node e (quiet_polled t.nodes e is).0
+      (quiet_polled t.nodes e is).1 allowed there)
       (record { again = true; given = p.given }) p.stage so)
       (λ r there. ends_lead (λ q. At q.stage) _ there.0)
 
@@ -255,7 +239,8 @@ module _ (g : Handlers) (Asks : ℕ → List ℕ → Type 0) (Q : Seen → Type 
       test_lead At (not (time == 0) && may_move time s) _ _
       (each_lead At (moves_on time)
       (λ node t there.
-      quiet_lead t node (IsClocked (moment node t.history + time)) (quiet_clocked (moment node t.history + time)) there)
+      quiet_lead t node (IsClocked (moment node t.history + time))
+      (quiet_clocked t.nodes (moment node t.history + time)) there)
       (clients_first s) s so) (rest_lead s so)
 
   settles_lead : (quiet : Bool) (s : Stage) → At s → Leads At (settles quiet s)
@@ -317,27 +302,25 @@ module _ (g : Handlers) (Asks : ℕ → List ℕ → Type 0) (Q : Seen → Type 
   invoke_lead : (line cid : ℕ) (bytes : List ℕ) (node : ℕ) (s : Stage) → Asks line bytes → At s
       → Leads At (invokes line cid bytes node s)
   invoke_lead line cid bytes node s asks so =
-      event_lead s node (IsCalled cid) (λ e t. To (with_caller node line bytes (name_called e) (with_called node e t)))
-      (λ e there allowed. of e there allowed)
+      event_lead s node (IsInvoked cid bytes)
+      (λ e t. To (with_caller node line bytes (name_called e) (with_called node e t)))
+      (λ e there allowed. of e there.0 there.1 allowed)
     where
-      of : (e : Event) → IsCalled cid e → IsAllowedAt s.nodes s.history node e
+      of : (e : Event) → IsCalled cid e → IsBytes bytes → IsAllowedAt s.nodes s.history node e
           → At (with_caller node line bytes (name_called e) (with_called node e (with_event node e s)))
-      of (events.Called its (Ok c)) there allowed =
-          carries.invokes (seen s) _ node line its c bytes asks allowed so
-      of (events.Called its (Err refused)) there allowed =
-          carries.quiet (seen s) node (events.Called its (Err refused)) tt allowed so
-      of e there allowed = elim there [ ]
+      of (events.Called its (Ok c)) there fits allowed =
+          carries.invokes (seen s) _ node line its c bytes asks fits allowed so
+      of (events.Called its (Err refused)) there fits allowed =
+          carries.quiet (seen s) node (events.Called its (Err refused)) tt tt allowed so
+      of e there fits allowed = elim there [ ]
 
   -- a call of a client that no caller makes
   at_call_lead : (k : ℕ) (is : ClientCall → Event → Type 0) (s : Stage)
-      → ((c : ClientCall) (e : Event) → is c e → IsQuiet e) → At s → Leads At (at_call k (λ c. event c.node (is c)) s)
+      → ((c : ClientCall) (e : Event) → is c e → IsQuietOf s.nodes e) → At s
+      → Leads At (at_call k (λ c. event c.node (is c)) s)
   at_call_lead k is s quiet so =
       found_lead causes.NoCall (λ c. event c.node (is c)) (call_at k s) s
       (λ c there. quiet_lead s c.node (is c) (quiet c) so)
-
-  quiet_cancelled : (c : CallName) (code : ℤ) (e : Event) → IsCancelled c code e → IsQuiet e
-  quiet_cancelled c code (events.Cancelled call with got) i = tt
-  quiet_cancelled c code e i = elim i [ ]
 
   jumbo_lead : (first last : ℕ) (s : Stage) → At s → Leads At (jumbo_line first last s)
   jumbo_lead first last s so =
@@ -351,17 +334,17 @@ module _ (g : Handlers) (Asks : ℕ → List ℕ → Type 0) (Q : Seen → Type 
   clock_lead : (now node : ℕ) (s : Stage) → At s → Leads At (clocks now node s)
   clock_lead now node s so =
       test_lead At (nat_lt now (moment node s.history)) _ _ (refused_lead causes.ClockBack)
-      (quiet_lead s node (IsClocked now) (quiet_clocked now) so)
+      (quiet_lead s node (IsClocked now) (quiet_clocked s.nodes now) so)
 
   clocks_lead : (now : ℕ) (s : Stage) → At s → Leads At (clocks_all now s)
   clocks_lead now s so =
       test_lead At (is_back now s) _ _ (refused_lead causes.ClockBack)
       (each_lead At (λ node. event node (IsClocked now))
-      (λ node t there. quiet_lead t node (IsClocked now) (quiet_clocked now) there) (clients_first s) s so)
+      (λ node t there. quiet_lead t node (IsClocked now) (quiet_clocked t.nodes now) there) (clients_first s) s so)
 
   connect_lead : (first node : ℕ) (s : Stage) → At s → Leads At (connects first node s)
   connect_lead first node s so =
-      quiet_lead s node _ (λ e there. quiet_linked there.0 (service_of (slice_get s.nodes 0)) first e there.2) so
+      quiet_lead s node _ (λ e there. quiet_linked s.nodes there.0 first e there.2) so
 
   -- a line that is driven
   pub line_leads : (place : ℕ) (line : PlanLine) (s : Stage) → IsDriven line → LineAsks g Asks place line → At s
@@ -375,9 +358,9 @@ module _ (g : Handlers) (Asks : ℕ → List ℕ → Type 0) (Q : Seen → Type 
   line_leads place (lines.Shut call) s driven asks so = absurd driven
   line_leads place (lines.Read call max) s driven asks so = absurd driven
   line_leads place (lines.Ask call) s driven asks so =
-      at_call_lead call (λ c. IsAsked c.name) s (λ c. quiet_asked c.name) so
+      at_call_lead call (λ c. IsAsked c.name) s (λ c. quiet_asked s.nodes c.name) so
   line_leads place (lines.Cancel call code) s driven asks so =
-      at_call_lead call (λ c. IsCancelled c.name code) s (λ c. quiet_cancelled c.name code) so
+      at_call_lead call (λ c. IsCancelled c.name code) s (λ c. quiet_cancelled s.nodes c.name code) so
   line_leads place lines.Accept s driven asks so = absurd driven
   line_leads place (lines.HandlerRead call max) s driven asks so = absurd driven
   line_leads place (lines.HandlerWrite call bytes) s driven asks so = absurd driven
@@ -388,7 +371,7 @@ module _ (g : Handlers) (Asks : ℕ → List ℕ → Type 0) (Q : Seen → Type 
       event_lead s k IsPolled (λ e t. with_packet (given_packet (host_at s k) e) t)
       (λ e polled allowed.
       packet_lead (given_packet (host_at s k) e) (with_event k e s)
-      (carries.quiet (seen s) k e (quiet_polled e polled) allowed so)))
+      (carries.quiet (seen s) k e (quiet_polled s.nodes e polled).0 (quiet_polled s.nodes e polled).1 allowed so)))
   line_leads place (lines.Deliver packet) s driven asks so =
       found_lead causes.NoPacket delivers (numbered s.packets packet) s (λ d there. deliver_lead d s so)
   line_leads place (lines.Jumbo first last) s driven asks so = jumbo_lead first last s so

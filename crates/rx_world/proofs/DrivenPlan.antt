@@ -30,6 +30,7 @@ use Rattle.rx_world.proofs.Leading.{Leads, ends_lead, then_lead}
 use Rattle.rx_world.proofs.Followed.{Asks, AreCallers, IsFollowed, followed}
 use Rattle.rx_world.proofs.Handling.{Serves}
 use Rattle.rx_world.proofs.Handling as handling
+use Rattle.rx_world.proofs.QuietEvents.{AreServed}
 use Rattle.rx_world.proofs.SoundPlan.{IfWhole}
 
 -- ---- the line at a place
@@ -88,6 +89,7 @@ module _ (g : Handlers) (ls : List Numbered) where
   empty_followed s e =
       record {
         allowed = subst (AreAllowed s.nodes) (sym e.history) tt;
+        links = subst (AreServed s.nodes) (sym e.history) tt;
         played = λ are. record {
           serves =
               subst (λ (h : List Noted). Serves g (over s.jobs) (side 0 h)) (sym e.history)

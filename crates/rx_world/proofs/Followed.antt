@@ -2,6 +2,7 @@
 use Rattle.std.proofs.Common.{◌≡◌, ◌≢◌, ◌==◌, ℕ, Bool, true, false, List, [], ◌∷◌}
 use Rattle.std.proofs.Common.{◌++◌, set, Some, Ok, refl, ◌∙◌, ap, sym, subst}
 use Rattle.std.proofs.Common.{slice_get}
+use Rattle.hex.specs.Hex.{IsBytes}
 use Rattle.rx_model.specs.declared.event.Event.{Event}
 use Rattle.rx_model.specs.declared.event.Event.TheVariants as events
 use Rattle.rx_model.specs.declared.event.Noted.{Noted}
@@ -39,6 +40,7 @@ use Rattle.rx_world.proofs.Callers.{set_other, side_by, side_own}
 use Rattle.rx_world.proofs.Driven.{Carries, Seen, invoked, seen_behind, set_own, with_view}
 use Rattle.rx_world.proofs.Handling.{IsQuiet, Serves}
 use Rattle.rx_world.proofs.Handling as handling
+use Rattle.rx_world.proofs.QuietEvents.{AreServed, LinksServed, asked_links, call_links}
 
 module _ (g : Handlers) (ls : List Numbered) where
   -- these bytes are the request of the invoke at a place
@@ -53,6 +55,7 @@ module _ (g : Handlers) (ls : List Numbered) where
     pub invoke : Invoked
     pub at : invoked_at g ls k.line ≡ Some invoke
     pub can : CanSend g.types invoke.proc invoke.args invoke.up
+    pub fits : IsBytes (request_for g invoke)
     pub node : IsClientNode nodes k.node
     pub drives : Drives REPLY_BYTES (request_for g invoke) k.caller (side k.node h)
 
@@ -71,6 +74,7 @@ module _ (g : Handlers) (ls : List Numbered) where
   -- at each moment of it
   pub record IsFollowed (x : Seen) : Type 0 where
     pub allowed : AreAllowed x.nodes x.history
+    pub links : AreServed x.nodes x.history
     pub played : AreNodes x.nodes → IsPlayed x
 
   -- ---- events that are no caller's of these
@@ -86,6 +90,7 @@ module _ (g : Handlers) (ls : List Numbered) where
               invoke = i.invoke;
               at = i.at;
               can = i.can;
+              fits = i.fits;
               node = i.node;
               drives = side_by (Drives REPLY_BYTES (request_for g i.invoke) k.caller) k.node node e h
                   (λ same d. driven.leaves k.caller e (side k.node h) (leaves j k at same) d) i.drives;
@@ -93,11 +98,12 @@ module _ (g : Handlers) (ls : List Numbered) where
         apart = a.apart;
       }
 
-  follow_quiet : (x : Seen) (node : ℕ) (e : Event) → IsQuiet e → IsAllowedAt x.nodes x.history node e → IsFollowed x
-      → IsFollowed (seen_behind node e x)
-  follow_quiet x node e quiet allowed q =
+  follow_quiet : (x : Seen) (node : ℕ) (e : Event) → IsQuiet e → LinksServed x.nodes e
+      → IsAllowedAt x.nodes x.history node e → IsFollowed x → IsFollowed (seen_behind node e x)
+  follow_quiet x node e quiet links allowed q =
       record {
         allowed = (allowed, q.allowed);
+        links = (links, q.links);
         played = λ are. (
             let p = q.played are in
             record {
@@ -135,13 +141,14 @@ module _ (g : Handlers) (ls : List Numbered) where
       (calls.sound k.caller.call) calls.standing.conns tt
 
   new_caller : (nodes : List Node) (h : List Noted) (call node line cid : ℕ) (c : CallName) (bytes : List ℕ)
-      → Asks line bytes → IsClientNode nodes node
+      → Asks line bytes → IsBytes bytes → IsClientNode nodes node
       → IsCaller nodes (noted node (events.Called cid (Ok c)) ∷ h) (invoked call node line c bytes)
-  new_caller nodes h call node line cid c bytes asks n =
+  new_caller nodes h call node line cid c bytes asks fits n =
       record {
         invoke = asks.invoke;
         at = asks.at;
         can = asks.can;
+        fits = subst IsBytes asks.request fits;
         node = n;
         drives =
             subst (λ (past : List Event). Drives REPLY_BYTES (request_for g asks.invoke) (caller_for node c bytes) past)
@@ -151,11 +158,11 @@ module _ (g : Handlers) (ls : List Numbered) where
       }
 
   more_callers : (nodes : List Node) (h : List Noted) (call node line cid : ℕ) (c : CallName) (bytes : List ℕ)
-      (ks : List InvokedState) → Asks line bytes → IsClientNode nodes node
+      (ks : List InvokedState) → Asks line bytes → IsBytes bytes → IsClientNode nodes node
       → ((j : ℕ) (k : InvokedState) → slice_get ks j ≡ Some k → k.node ≡ node → same_name k.caller.call c ≡ false)
       → AreCallers nodes h ks
       → AreCallers nodes (noted node (events.Called cid (Ok c)) ∷ h) (ks ++ invoked call node line c bytes ∷ [])
-  more_callers nodes h call node line cid c bytes ks asks n fresh a =
+  more_callers nodes h call node line cid c bytes ks asks fits n fresh a =
       record {
         each_is = λ j k at. each_of j k (old_or_new ks new k j at);
         apart = λ i j k m differ at_i at_j same.
@@ -171,7 +178,7 @@ module _ (g : Handlers) (ls : List Numbered) where
       each_of : (j : ℕ) (k : InvokedState) → OldOrNew ks new j k → IsCaller nodes (noted node e ∷ h) k
       each_of j k (Old at) = (callers_leave nodes h node e ks (λ i m there same. tt) a).each_is j k at
       each_of j k (New place is) =
-          subst (IsCaller nodes (noted node e ∷ h)) is (new_caller nodes h call node line cid c bytes asks n)
+          subst (IsCaller nodes (noted node e ∷ h)) is (new_caller nodes h call node line cid c bytes asks fits n)
 
       two_of : (i j : ℕ) (k m : InvokedState) → i ≢ j → k.node ≡ m.node → OldOrNew ks new i k → OldOrNew ks new j m
           → same_name k.caller.call m.caller.call ≡ false
@@ -186,20 +193,21 @@ module _ (g : Handlers) (ls : List Numbered) where
       two_of i j k m differ same (New place is) (New place' is') = absurd (differ (place ∙ sym place'))
 
   follow_invoke : (x : Seen) (call node line cid : ℕ) (c : CallName) (bytes : List ℕ) → Asks line bytes
-      → IsAllowedAt x.nodes x.history node (events.Called cid (Ok c)) → IsFollowed x
+      → IsBytes bytes → IsAllowedAt x.nodes x.history node (events.Called cid (Ok c)) → IsFollowed x
       → IsFollowed (record (seen_behind node (events.Called cid (Ok c)) x) {
         callers = x.callers ++ invoked call node line c bytes ∷ [];
       })
-  follow_invoke x call node line cid c bytes asks allowed q =
+  follow_invoke x call node line cid c bytes asks fits allowed q =
       record {
         allowed = (allowed, q.allowed);
+        links = (tt, q.links);
         played = λ are. (
             let p = q.played are in
             let n = called_by x.nodes node cid c x.history allowed in
             record {
               serves = side_by (Serves g x.turning) 0 node (events.Called cid (Ok c)) x.history
                   (λ same s. absurd (client_apart x.nodes node are n same)) p.serves;
-              callers = more_callers x.nodes x.history call node line cid c bytes x.callers asks n
+              callers = more_callers x.nodes x.history call node line cid c bytes x.callers asks fits n
                   (λ j k at same.
                   fresh_call x.nodes x.history node cid c k are q.allowed allowed (p.callers.each_is j k at) same)
                   p.callers;
@@ -213,6 +221,7 @@ module _ (g : Handlers) (ls : List Numbered) where
   follow_begin x jobs is q =
       record {
         allowed = q.allowed;
+        links = q.links;
         played = λ are. (
             let p = q.played are in
             record {
@@ -228,6 +237,7 @@ module _ (g : Handlers) (ls : List Numbered) where
   follow_serve x a e asked is allowed q =
       record {
         allowed = (allowed, q.allowed);
+        links = (call_links x.nodes a e is, q.links);
         played = λ are. (
             let p = q.played are in
             record {
@@ -310,6 +320,7 @@ module _ (g : Handlers) (ls : List Numbered) where
   follow_offer x place k at q =
       record {
         allowed = q.allowed;
+        links = q.links;
         played = λ are. (
             let p = q.played are in
             let i = p.callers.each_is place k at in
@@ -320,6 +331,7 @@ module _ (g : Handlers) (ls : List Numbered) where
                     invoke = i.invoke;
                     at = i.at;
                     can = i.can;
+                    fits = i.fits;
                     node = i.node;
                     drives = driven.begins k.caller (side k.node x.history) i.drives;
                   }) (λ j m differ there. p.callers.each_is j m there) p.callers;
@@ -333,6 +345,7 @@ module _ (g : Handlers) (ls : List Numbered) where
   follow_call x place k a e at asked is allowed q =
       record {
         allowed = (allowed, q.allowed);
+        links = (asked_links x.nodes a e is, q.links);
         played = λ are. (
             let p = q.played are in
             let i = p.callers.each_is place k at in
@@ -346,6 +359,7 @@ module _ (g : Handlers) (ls : List Numbered) where
                     invoke = i.invoke;
                     at = i.at;
                     can = i.can;
+                    fits = i.fits;
                     node = i.node;
                     drives = subst (Drives REPLY_BYTES (request_for g i.invoke) (heard k.caller e))
                         (sym (side_own k.node e h))
@@ -357,6 +371,7 @@ module _ (g : Handlers) (ls : List Numbered) where
                     invoke = o.invoke;
                     at = o.at;
                     can = o.can;
+                    fits = o.fits;
                     node = o.node;
                     drives = side_by (Drives REPLY_BYTES (request_for g o.invoke) m.caller) m.node k.node e h
                         (λ same d.

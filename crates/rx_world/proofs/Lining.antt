@@ -1,10 +1,9 @@
 -- Codes of lines, and an invoke before which memory is wanted.
 use Rattle.std.proofs.Common.{◌≡◌, ℕ, ℤ, List, [], Option, subst}
-use Rattle.rx_nodes.specs.Events.{IsCalled}
 use Rattle.rx_script.specs.declared.outcome.PlanWhy.TheVariants as causes
 use Rattle.rx_world.specs.declared.stop.Stop.{Stop}
 use Rattle.rx_world.specs.Finds.{at_client, client_at}
-use Rattle.rx_world.specs.Lines.{invokes, with_called, with_caller}
+use Rattle.rx_world.specs.Lines.{IsInvoked, invokes, with_called, with_caller}
 use Rattle.rx_world.specs.Parts.{Cut, Part, To}
 use Rattle.rx_world.specs.Stages.{Plays, Stage, WorldState, name_called}
 use Rattle.rx_world.specs.Tells.{Told}
@@ -20,5 +19,5 @@ pub invoke_cut : (client place cid : ℕ) (bytes : List ℕ) (s : Stage)
     → at_client client (invokes place cid bytes) s [] Cut
 invoke_cut client place cid bytes s =
     named_cut causes.NoNode (invokes place cid bytes) (client_at client)
-    (λ x t. event_with_cut x (IsCalled cid)
+    (λ x t. event_with_cut x (IsInvoked cid bytes)
     (λ e u. To (with_caller x place bytes (name_called e) (with_called x e u))) t) s

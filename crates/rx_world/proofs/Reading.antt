@@ -326,7 +326,7 @@ row_well : (g : Handlers) (n : ℕ) (before : List (Row PlanLine)) (said : Resul
 row_well g n before (Err why) all well = tt
 row_well g n before (Ok said) all well = All-push (λ r. IsWellSaid g r.1) before (n, said) all well
 
-given_either : {S : Type 0} (test : Bool) (r s : Given S) (P : S → Type 0) → IfOk r P → IfOk s P
+pub given_either : {S : Type 0} (test : Bool) (r s : Given S) (P : S → Type 0) → IfOk r P → IfOk s P
     → IfOk (if test then r else s) P
 given_either true r s P first other = first
 given_either false r s P first other = other
@@ -339,7 +339,7 @@ taken_well g n line before all =
     (row_well g n before (plan_line g.types g.procs (is_host (server_host before)) (words_of line)) all
     (line_well g (is_host (server_host before)) (words_of line))))
 
-after_well : {S : Type 0} (r : Given S) (next : S → Given S) (P : S → Type 0) → IfOk r P
+pub after_well : {S : Type 0} (r : Given S) (next : S → Given S) (P : S → Type 0) → IfOk r P
     → ((s : S) → P s → IfOk (next s) P) → IfOk (after r next) P
 after_well (Ok s) next P there more = more s there
 after_well (Err fault) next P there more = tt

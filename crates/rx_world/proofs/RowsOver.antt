@@ -81,22 +81,22 @@ opened-over s l c m above is =
 -- ---- the rows in front
 
 -- the message has a number, neither below nor above its channel's
-record Latest (f : Facts) : Type 0 where
-  has : f.has_number ≡ true
-  below : f.is_below ≡ false
-  above : f.is_above ≡ false
+pub record Latest (f : Facts) : Type 0 where
+  pub has : f.has_number ≡ true
+  pub below : f.is_below ≡ false
+  pub above : f.is_above ≡ false
 
-passed : (test : Took → Bool) (b : Bool) (row rest got : Took) → test got ≡ true → test row ≡ false
+pub passed : (test : Took → Bool) (b : Bool) (row rest got : Took) → test got ≡ true → test row ≡ false
     → (if b then row else rest) ≡ got
     → (b ≡ false) × (rest ≡ got)
 passed test true row rest got is other e = absurd (let same : test row ≡ test got = ap test e in cc (same, is, other))
 passed test false row rest got is other e = (refl, e)
 
-skipped : (b : Bool) (row rest got : Took) → b ≡ false → (if b then row else rest) ≡ got → rest ≡ got
+pub skipped : (b : Bool) (row rest got : Took) → b ≡ false → (if b then row else rest) ≡ got → rest ≡ got
 skipped true row rest got none e = absurd cc
 skipped false row rest got none e = e
 
-not_false : (b : Bool) → not b ≡ false → b ≡ true
+pub not_false : (b : Bool) → not b ≡ false → b ≡ true
 not_false true is = refl
 not_false false is = absurd cc
 
@@ -129,12 +129,12 @@ abbrev is_stopped : Took → Bool
 is_stopped tooks.Stopped = true
 is_stopped _ = false
 
-above-starts : (above starts : Bool) → starts ≡ false → (above && not starts) ≡ false → above ≡ false
+pub above-starts : (above starts : Bool) → starts ≡ false → (above && not starts) ≡ false → above ≡ false
 above-starts false starts none is = refl
 above-starts true true none is = absurd cc
 above-starts true false none is = absurd cc
 
-side-stopped : (kind : Kind) (f : Facts) (call : Took) → f.stops_all ≡ false → f.can_start ≡ false
+pub side-stopped : (kind : Kind) (f : Facts) (call : Took) → f.stops_all ≡ false → f.can_start ≡ false
     → side_row kind f call ≡ tooks.Stopped → Latest f
 side-stopped (Server service nonces) f call one starts is =
     let a = passed is_stopped
@@ -154,7 +154,7 @@ side-stopped (Client host epoch) f call one starts is =
 
 -- ---- the channel's number
 
-same_numbers : (m n : ℕ) → nat_lt m n ≡ false → nat_lt n m ≡ false → n ≡ m
+pub same_numbers : (m n : ℕ) → nat_lt m n ≡ false → nat_lt n m ≡ false → n ≡ m
 same_numbers m n below above = grind (arith, nat_tests)
 
 -- it is the message's

@@ -25,7 +25,8 @@ use Rattle.rx_world.specs.declared.network_lines.TheConstants.{MAX_PACKETS}
 use Rattle.rx_world.specs.declared.world.ClientCall.{ClientCall}
 use Rattle.rx_world.specs.Finds.{at_accepted, at_call, at_client, at_node, at_packet, call_at, client_at, found_or}
 use Rattle.rx_world.specs.Finds.{node_at, numbered}
-use Rattle.rx_world.specs.Lines.{calls, can_join, clocks, clocks_all, connects, forges, given_packet, invokes, is_back}
+use Rattle.rx_world.specs.Lines.{IsInvoked, calls, can_join, clocks, clocks_all, connects, forges, given_packet}
+use Rattle.rx_world.specs.Lines.{invokes, is_back}
 use Rattle.rx_world.specs.Lines.{jumbo_line, line_part, packets_in, polls_line, turn_line, with_called, with_caller}
 use Rattle.rx_world.specs.Lines.{with_packet}
 use Rattle.rx_world.specs.Network.{delivers}
@@ -87,10 +88,10 @@ module _ (Honest : Type 0) (nodes : List Node) where
   invokes_safe : (line cid : ℕ) (bytes : List ℕ) (node : ℕ) (h : List Noted) (s : Stage) → Good Honest nodes h
       → Is Honest nodes h s → Safe Honest nodes (Is Honest nodes) h (invokes line cid bytes node s)
   invokes_safe line cid bytes node h s good i =
-      event_with_safe Honest nodes h s node (IsCalled cid)
+      event_with_safe Honest nodes h s node (IsInvoked cid bytes)
       (λ e t. To (with_caller node line bytes (name_called e) (with_called node e t))) good i
       (λ e there.
-      calm_honest Honest nodes h node e (calm_by (IsCalled cid) (λ from datagram got no. no) e there))
+      calm_honest Honest nodes h node e (calm_by (IsCalled cid) (λ from datagram got no. no) e there.0))
       (λ e there.
       caller_is node line bytes (name_called e) (noted node e ∷ h) _
       (called_is node e (noted node e ∷ h) _ (is_next Honest nodes h s node e i)))

@@ -44,6 +44,8 @@ use Rattle.rx_rules.proofs.StartLaws.{call_at-other}
 use Rattle.rx_law.proofs.Calls.{call-changed}
 use Rattle.rx_law.proofs.Takes.{call_at-any}
 use Rattle.rx_world.proofs.Passed.{challenged-calls, prepared-calls, turned-calls}
+use Rattle.rx_world.proofs.ToldLives.{Tells, tells_accept, tells_acks, tells_cancel, tells_code, tells_end}
+use Rattle.rx_world.proofs.ToldLives.{tells_finish, tells_gone, tells_later, tells_silence}
 
 -- the code that a call tells, if it has one
 abbrev pub told_of : Option CallRecord → Option ℤ
@@ -55,112 +57,6 @@ pub above_is : (a b : ℕ) → nat_lt a b ≡ true → a < b
 above_is a b is = grind (arith, nat_tests)
 
 module _ (K : ℤ → Type 0) (c : CallName) where
-  -- ---- steps of a life
-
-  -- its code is one of these
-  abbrev Tells : Life → Type 0
-  Tells x = (code : ℤ) → told_code x ≡ Some code → K code
-
-  same_code : (a b : ℤ) → Some a ≡ Some b → K a → K b
-  same_code a b is k = subst K (let one : a ≡ b = cc in one) k
-
-  tells_code : (told : ℤ) → K told → (x : Life) → Tells x → Tells (after_code told x)
-  tells_code told k lives.Calling t code is = absurd cc
-  tells_code told k (lives.Ended end) t code is = t code is
-  tells_code told k lives.Waiting t code is = same_code told code is k
-  tells_code told k lives.Accepted t code is = same_code told code is k
-  tells_code told k lives.Finished t code is = same_code told code is k
-  tells_code told k (lives.Broken before) t code is = t code is
-  tells_code told k (lives.Over before) t code is = t code is
-
-  tells_silence : (n : ℕ) → K RX_CALL_DEAD → (x : Life) → Tells x → Tells (after_silence n x)
-  tells_silence n k lives.Calling t code is = absurd cc
-  tells_silence n k (lives.Ended end) t code is = t code is
-  tells_silence n k lives.Waiting t code is = same_code RX_CALL_DEAD code is k
-  tells_silence n k lives.Accepted t code is = same_code RX_CALL_DEAD code is k
-  tells_silence n k lives.Finished t code is = same_code RX_CALL_DEAD code is k
-  tells_silence n k (lives.Broken before) t code is = t code is
-  tells_silence n k (lives.Over before) t code is = t code is
-
-  tells_later : K RX_CALL_DEAD → (x : Life) → Tells x → Tells (after_later x)
-  tells_later k lives.Waiting t code is = same_code RX_CALL_DEAD code is k
-  tells_later k lives.Finished t code is = absurd cc
-  tells_later k lives.Calling t code is = t code is
-  tells_later k (lives.Ended end) t code is = t code is
-  tells_later k lives.Accepted t code is = t code is
-  tells_later k (lives.Broken before) t code is = t code is
-  tells_later k (lives.Over before) t code is = t code is
-
-  tells_acks : (all : Bool) (x : Life) → Tells x → Tells (after_acks all x)
-  tells_acks true lives.Finished t code is = absurd cc
-  tells_acks false lives.Finished t code is = absurd cc
-  tells_acks all lives.Waiting t code is = t code is
-  tells_acks all lives.Calling t code is = t code is
-  tells_acks all (lives.Ended end) t code is = t code is
-  tells_acks all lives.Accepted t code is = t code is
-  tells_acks all (lives.Broken before) t code is = t code is
-  tells_acks all (lives.Over before) t code is = t code is
-
-  tells_accept : (x : Life) → Tells x → Tells (after_accept x)
-  tells_accept lives.Waiting t code is = absurd cc
-  tells_accept lives.Finished t code is = t code is
-  tells_accept lives.Calling t code is = t code is
-  tells_accept (lives.Ended end) t code is = t code is
-  tells_accept lives.Accepted t code is = t code is
-  tells_accept (lives.Broken before) t code is = t code is
-  tells_accept (lives.Over before) t code is = t code is
-
-  tells_finish : (fine : Bool) (told : ℤ) → (fine ≡ false → K told) → (x : Life) → Tells x
-      → Tells (after_finish fine told x)
-  tells_finish true told k lives.Accepted t code is = absurd cc
-  tells_finish false told k lives.Accepted t code is = same_code told code is (k refl)
-  tells_finish true told k lives.Waiting t code is = t code is
-  tells_finish true told k lives.Finished t code is = t code is
-  tells_finish true told k lives.Calling t code is = t code is
-  tells_finish true told k (lives.Ended end) t code is = t code is
-  tells_finish true told k (lives.Broken before) t code is = t code is
-  tells_finish true told k (lives.Over before) t code is = t code is
-  tells_finish false told k lives.Waiting t code is = t code is
-  tells_finish false told k lives.Finished t code is = t code is
-  tells_finish false told k lives.Calling t code is = t code is
-  tells_finish false told k (lives.Ended end) t code is = t code is
-  tells_finish false told k (lives.Broken before) t code is = t code is
-  tells_finish false told k (lives.Over before) t code is = t code is
-
-  tells_gone : (x : Life) → Tells x → Tells (after_gone x)
-  tells_gone (lives.Broken before) t code is = t code is
-  tells_gone lives.Waiting t code is = t code is
-  tells_gone lives.Finished t code is = t code is
-  tells_gone lives.Calling t code is = t code is
-  tells_gone (lives.Ended end) t code is = t code is
-  tells_gone lives.Accepted t code is = t code is
-  tells_gone (lives.Over before) t code is = t code is
-
-  tells_end : (end : Bool) (x : Life) → Tells x → Tells (after_end end x)
-  tells_end true lives.Calling t code is = absurd cc
-  tells_end false lives.Calling t code is = t code is
-  tells_end true (lives.Broken before) t code is = t code is
-  tells_end true lives.Waiting t code is = t code is
-  tells_end true lives.Finished t code is = t code is
-  tells_end true (lives.Ended end) t code is = t code is
-  tells_end true lives.Accepted t code is = t code is
-  tells_end true (lives.Over before) t code is = t code is
-  tells_end false (lives.Broken before) t code is = t code is
-  tells_end false lives.Waiting t code is = t code is
-  tells_end false lives.Finished t code is = t code is
-  tells_end false (lives.Ended end) t code is = t code is
-  tells_end false lives.Accepted t code is = t code is
-  tells_end false (lives.Over before) t code is = t code is
-
-  tells_cancel : (told : ℤ) → K told → (x : Life) → Tells x → Tells (after_cancel told x)
-  tells_cancel told k lives.Calling t code is = same_code told code is k
-  tells_cancel told k (lives.Ended end) t code is = t code is
-  tells_cancel told k lives.Waiting t code is = t code is
-  tells_cancel told k lives.Accepted t code is = t code is
-  tells_cancel told k lives.Finished t code is = t code is
-  tells_cancel told k (lives.Broken before) t code is = t code is
-  tells_cancel told k (lives.Over before) t code is = t code is
-
   -- ---- changes of calls
 
   -- the call's code is one of these
@@ -175,19 +71,19 @@ module _ (K : ℤ → Type 0) (c : CallName) where
       subst (λ (ks : List CallRecord). ToldIn (find (λ k. same_name k.name c) ks)) (sym same) t
 
   told-map : (change : CallRecord → CallRecord) (o : Option CallRecord)
-      → ((k : CallRecord) → o ≡ Some k → Tells k.life → Tells (change k).life) → ToldIn o
+      → ((k : CallRecord) → o ≡ Some k → Tells K k.life → Tells K (change k).life) → ToldIn o
       → ToldIn (option_map change o)
   told-map change None bears t = t
   told-map change (Some k) bears t = bears k refl t
 
   told-calls : (change : CallRecord → CallRecord) (l : Looks) → KeepsNames change
-      → ((k : CallRecord) → call_at l c ≡ Some k → Tells k.life → Tells (change k).life) → Told l
+      → ((k : CallRecord) → call_at l c ≡ Some k → Tells K k.life → Tells K (change k).life) → Told l
       → Told (on_calls change l)
   told-calls change l names bears t =
       subst ToldIn (sym (call_at-on_calls c change l names)) (told-map change (call_at l c) bears t)
 
   told-call : (d : CallName) (change : CallRecord → CallRecord) (l : Looks) → KeepsNames change
-      → (same_name c d ≡ true → (k : CallRecord) → Tells k.life → Tells (change k).life) → Told l
+      → (same_name c d ≡ true → (k : CallRecord) → Tells K k.life → Tells K (change k).life) → Told l
       → Told (on_call d change l)
   told-call d change l names bears t =
       subst ToldIn (sym (call-changed c d change l names)) (by (same_name c d) refl)
@@ -197,7 +93,7 @@ module _ (K : ℤ → Type 0) (c : CallName) where
       by false other = t
 
   told-life : (d : CallName) (change : Life → Life) (l : Looks)
-      → (same_name c d ≡ true → (x : Life) → Tells x → Tells (change x)) → Told l → Told (on_life d change l)
+      → (same_name c d ≡ true → (x : Life) → Tells K x → Tells K (change x)) → Told l → Told (on_life d change l)
   told-life d change l bears t =
       told-call d (λ k. record k { life = change k.life }) l (λ k. refl) (λ same k here. bears same k.life here) t
 
@@ -254,7 +150,7 @@ module _ (K : ℤ → Type 0) (c : CallName) where
   told-settled : (d : CallName) (l : Looks) → Told l → Told (on_call d settled l)
   told-settled d l t =
       told-call d settled l (λ k. refl)
-      (λ same k here. tells_acks (is_all_acked k.looks.sent) k.life here) t
+      (λ same k here. tells_acks K (is_all_acked k.looks.sent) k.life here) t
 
   told-heard : (s : Setup) (d : CallName) (body : Body) (l : Looks) → Told l → Told (taken_heard s d body l)
   told-heard s d (bodies.Ack a) l t =
@@ -270,9 +166,9 @@ module _ (K : ℤ → Type 0) (c : CallName) where
   coded-name true code k = refl
   coded-name false code k = refl
 
-  coded-tells : (test : Bool) (code : ℤ) (k : CallRecord) → (test ≡ true → K code) → Tells k.life
-      → Tells (cond test (record k { life = after_code code k.life }) k).life
-  coded-tells true code k why t = tells_code code (why refl) k.life t
+  coded-tells : (test : Bool) (code : ℤ) (k : CallRecord) → (test ≡ true → K code) → Tells K k.life
+      → Tells K (cond test (record k { life = after_code code k.life }) k).life
+  coded-tells true code k why t = tells_code K code (why refl) k.life t
   coded-tells false code k why t = t
 
   own_name : (l : Looks) (k : CallRecord) → call_at l c ≡ Some k → k.name ≡ c
@@ -295,9 +191,9 @@ module _ (K : ℤ → Type 0) (c : CallName) where
       of : (b : Bool) → (d.number == 0) ≡ b
           → Told (if b then stopped_all (connection_of d) code l else on_life d (after_code code) l)
       of true none = told-stopped_all (connection_of d) code l (may.0 none) t
-      of false some = told-life d (after_code code) l (λ same. tells_code code (may.1 some same)) t
+      of false some = told-life d (after_code code) l (λ same. tells_code K code (may.1 some same)) t
   told-stopped d (bodies.Response bytes) l may t =
-      told-life d (after_code RX_PROTOCOL_ERROR) l (λ same. tells_code RX_PROTOCOL_ERROR (may same)) t
+      told-life d (after_code RX_PROTOCOL_ERROR) l (λ same. tells_code K RX_PROTOCOL_ERROR (may same)) t
   told-stopped d _ l may t = t
 
   told-over : (d : CallName) (body : Body) (o : Option CallRecord) (l : Looks) → Told l → Told (taken_over d body o l)
@@ -311,7 +207,7 @@ module _ (K : ℤ → Type 0) (c : CallName) where
           → Told (if b then started_later s d l else l)
       of true above =
           told-started s lives.Waiting d (on_life (latest_name l (channel_of d)) after_later l) refl
-          (told-life (latest_name l (channel_of d)) after_later l (λ same. tells_later (may same above)) t)
+          (told-life (latest_name l (channel_of d)) after_later l (λ same. tells_later K (may same above)) t)
       of false low = t
 
   told-with : (s : Setup) (got : Took) (d : CallName) (m : Message) (l : Looks) → MayTake got d m.body l → Told l
@@ -327,7 +223,7 @@ module _ (K : ℤ → Type 0) (c : CallName) where
   told-with s tooks.Stopped d m l may t = told-stopped d m.body l may t
   told-with s tooks.Busy d m l may t =
       told-life (latest_name l (channel_of d)) (after_code RX_CALL_DEAD) l
-      (λ same. tells_code RX_CALL_DEAD (may same)) t
+      (λ same. tells_code K RX_CALL_DEAD (may same)) t
   told-with s tooks.NoRoom d m l may t = t
   told-with s tooks.Over d m l may t = told-over d m.body (call_at l d) l t
   told-with s tooks.Full d m l may t = t
@@ -387,9 +283,9 @@ module _ (K : ℤ → Type 0) (c : CallName) where
   silent-name true now k = refl
   silent-name false now k = refl
 
-  silent-tells : (test : Bool) (now : ℕ) (k : CallRecord) → (test ≡ true → K RX_CALL_DEAD) → Tells k.life
-      → Tells (cond test (record k { life = after_silence (silence_of now k) k.life }) k).life
-  silent-tells true now k why t = tells_silence (silence_of now k) (why refl) k.life t
+  silent-tells : (test : Bool) (now : ℕ) (k : CallRecord) → (test ≡ true → K RX_CALL_DEAD) → Tells K k.life
+      → Tells K (cond test (record k { life = after_silence (silence_of now k) k.life }) k).life
+  silent-tells true now k why t = tells_silence K (silence_of now k) (why refl) k.life t
   silent-tells false now k why t = t
 
   pub told-silenced : (l : Looks)
@@ -413,8 +309,8 @@ module _ (K : ℤ → Type 0) (c : CallName) where
       → (got ≡ Ok tt → same_name c d ≡ true → is_zero code ≡ false → K code) → Told l → Told (finish_done d code got l)
   told-finish d code (Ok done) l why t =
       told-life d (after_finish (is_zero code) code) (finished d code l)
-      (λ same. tells_finish (is_zero code) code (why refl same)) (told-finished d code l t)
-  told-finish d code (Err (refusals.Gone told)) l why t = told-life d after_gone l (λ same. tells_gone) t
+      (λ same. tells_finish K (is_zero code) code (why refl same)) (told-finished d code l t)
+  told-finish d code (Err (refusals.Gone told)) l why t = told-life d after_gone l (λ same. tells_gone K) t
   told-finish d code (Err refusals.NotOpen) l why t = t
   told-finish d code (Err refusals.Unread) l why t = t
 
@@ -422,7 +318,7 @@ module _ (K : ℤ → Type 0) (c : CallName) where
       → Told (on_life d (after_end end) (on_looks d (after_read l.now end bytes) (acknowledged end d l)))
   told-read d end bytes l t =
       told-life d (after_end end) (on_looks d (after_read l.now end bytes) (acknowledged end d l))
-      (λ same. tells_end end)
+      (λ same. tells_end K end)
       (told-looks d (after_read l.now end bytes) (acknowledged end d l) t)
 
   told-linked : (kind : Kind) (to : Host) (service first cid : ℕ) (l : Looks) → Told l
@@ -451,9 +347,9 @@ module _ (K : ℤ → Type 0) (c : CallName) where
   told_after s l (events.HasRead d max got bytes) may t = told-read d (is_end got) bytes l t
   told_after s l (events.Ended d got) may t = t
   told_after s l (events.Cancelled d code (Ok done)) may t =
-      told-life d (after_cancel code) l (λ same. tells_cancel code (may same)) t
+      told-life d (after_cancel code) l (λ same. tells_cancel K code (may same)) t
   told_after s l (events.Cancelled d code (Err closed)) may t = t
-  told_after s l (events.Accepted (Some d)) may t = told-life d after_accept l (λ same. tells_accept) t
+  told_after s l (events.Accepted (Some d)) may t = told-life d after_accept l (λ same. tells_accept K) t
   told_after s l (events.Accepted None) may t = t
   told_after s l (events.Finished d code (Ok done)) may t =
       told-finish d code (Ok done) l (λ ok same. may same) t

@@ -2,6 +2,7 @@
 use Rattle.std.specs.Prelude.{◌≡◌, ◌≢◌, ◌==◌, ◌<◌, ◌-◌, ◌^◌, ◌&&◌, not, if◌then◌else◌, nat_le, nat_lt, ℕ, suc, Bool}
 use Rattle.std.specs.Prelude.{false, true, pos, List, [], ◌∷◌, ◌++◌, length, take, drop, Option, Some, None, option_map}
 use Rattle.std.specs.Prelude.{◌≤◌, slice_get, string_bytes}
+use Rattle.hex.specs.Hex.{IsBytes}
 use Rattle.rx_model.specs.declared.event.Event.{Event}
 use Rattle.rx_model.specs.declared.event.Event.TheVariants as events
 use Rattle.rx_model.specs.declared.names.CallName.{CallName}
@@ -128,10 +129,15 @@ keeps_caller node line bytes (Some name) w =
       } ∷ [];
     }
 
+-- a call on the connection with this cid, for which there are bytes to say
+abbrev pub IsInvoked : ℕ → List ℕ → Event → Type 0
+IsInvoked cid bytes e = IsCalled cid e × IsBytes bytes
+
 -- the client calls, and has a caller
 abbrev pub invokes : ℕ → ℕ → List ℕ → ℕ → Stage → Part Stage
 invokes line cid bytes node s =
-    event_with node (IsCalled cid) (λ e t. To (with_caller node line bytes (name_called e) (with_called node e t))) s
+    event_with node (IsInvoked cid bytes)
+    (λ e t. To (with_caller node line bytes (name_called e) (with_called node e t))) s
 
 -- ---- the network
 

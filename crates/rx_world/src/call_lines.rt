@@ -1,6 +1,7 @@
 //! Lines that start calls.
 ghost use Rattle.std.specs.Prelude.{◌≡◌, [], IfErr, IfOk, OnOk, option_copied, option_map};
 ghost use Rattle.std.specs.List.{Contains};
+ghost use Rattle.hex.specs.Hex.{IsBytes};
 ghost use Rattle.xdr_value.specs.View.{proc_of, procs_of, types_of, values_of};
 ghost use Rattle.rx_dispatch.specs.Handlers.{handlers_of};
 ghost use Rattle.rx_reply.specs.Sent.{CanSend, sent_spelling};
@@ -60,6 +61,7 @@ impl World {
         ensures script { script_of self.new ≡ script_of self.old }
     {
         let node = self.client(client)?;
+        are_bytes(&bytes);
         let event = self.nodes.call(node, cid);
         self.tell(node, &event, out, book)?;
         keep_called(&mut self.calls, node, &event)?;
@@ -139,6 +141,11 @@ pub fn invoked_bytes(
         None => Ok(Vec::new(alloc)),
     }
 }
+
+/// The elements of a slice of bytes are bytes: what the law of answers rests on.
+fn are_bytes(bytes: &[u8])
+    ensures { IsBytes bytes.now }
+{}
 
 /// The bytes of a request that can be sent.
 fn sent_bytes(

@@ -54,10 +54,10 @@ pub fn plans_keep_promises()
 /// arguments and upload, and the script's download where one was asked for. Whether they agree or not, a handler of its
 /// call ends with what is served for its request: the code, or 0 behind all of the reply. An end other than ok is that
 /// of its call: the server gave an ABORT with the code, nothing was heard for so long, or it was cancelled; or the
-/// caller gave up a reply that passed its limit. The code of an ABORT that ended it is what is served for its request,
-/// or RX_INVALID_OPERATION, which is told where the server hasn't the service or the class, or the call broke at the
-/// server: with RX_CALL_DEAD, when nothing had been heard of it for so long, or with RX_PROTOCOL_ERROR, by a RESPONSE
-/// that wasn't right.
+/// caller gave up a reply that passed its limit. Where it ended with an ABORT its line says the code, which is what is
+/// served for its request; or RX_CALL_DEAD, and a poll of the server came when nothing had been heard of the call for
+/// 12 seconds; or RX_PROTOCOL_ERROR, and the lines of its client and of the server have different keys; or
+/// RX_INVALID_OPERATION, and one of the two lines has a key and the other has none.
 pub fn plans_answer_as_served()
     ensures ok { (g : Handlers) (lines : List Numbered) (es : List Noted) (s : Stage)
         → AreServable g → All (λ l. IsWell g l.what) lines → AreDriven lines → AreDistinct (plan_nodes lines)

@@ -30,7 +30,7 @@ mod world;
 pub use laws::{
     plan_limits, plans_answer_as_served, plans_are_legal, plans_are_worlds, plans_keep_promises,
 };
-pub use plans::plans_are_well;
+pub use plans::{plans_are_well, scripts_answer_no_zero};
 pub use runs::run;
 
 #[cfg(test)]

@@ -8,13 +8,13 @@ use Rattle.rx_top.proofs.sim.play.Goals as goal
 pub run-requires : goal.run-requires
 run-requires g c =
     c.plans_are_well.ensures (handlers_with (interface_of c.args.iface.now) (blocks_of c.args.script.blocks.items))
-    c.requires.0 c.args.plan.now.lines.items c.requires.1
+    c.requires.read.0 c.args.plan.now.lines.items c.requires.read.1
 
 pub returns-in-Ran-clause-played : goal.returns-in-Ran-clause-played
 returns-in-Ran-clause-played g c =
     let law = c.plans_answer_as_served.ensures in
     run_plays c.plans_are_well.ensures law.ok law.ended law.caused law.aborted (interface_of c.args.iface.now)
-    (blocks_of c.args.script.blocks.items) _ _ _ _ c.requires c.in-Ran.ensures.run
+    (blocks_of c.args.script.blocks.items) _ _ _ _ c.requires.servable c.requires.read c.in-Ran.ensures.run
     c.in-Ran.ensures.headline
 
 pub returns-in-Ran-clause-no_sink_fault : goal.returns-in-Ran-clause-no_sink_fault
@@ -25,7 +25,7 @@ returns-in-Refused-clause-played g c =
     let law = c.plans_answer_as_served.ensures in (
       refl,
       run_plays c.plans_are_well.ensures law.ok law.ended law.caused law.aborted (interface_of c.args.iface.now)
-          (blocks_of c.args.script.blocks.items) _ _ _ _ c.requires c.in-Refused.ensures.run
+          (blocks_of c.args.script.blocks.items) _ _ _ _ c.requires.servable c.requires.read c.in-Refused.ensures.run
           c.in-Refused.ensures.headline,
     )
 
@@ -36,7 +36,7 @@ pub returns-in-SinkFault-clause-played : goal.returns-in-SinkFault-clause-played
 returns-in-SinkFault-clause-played g c =
     let law = c.plans_answer_as_served.ensures in
     run_plays c.plans_are_well.ensures law.ok law.ended law.caused law.aborted (interface_of c.args.iface.now)
-    (blocks_of c.args.script.blocks.items) _ _ _ _ c.requires c.in-SinkFault.ensures.run
+    (blocks_of c.args.script.blocks.items) _ _ _ _ c.requires.servable c.requires.read c.in-SinkFault.ensures.run
     c.in-SinkFault.ensures.headline
 
 pub returns-in-SinkFault-clause-sink_fault : goal.returns-in-SinkFault-clause-sink_fault
@@ -46,7 +46,7 @@ pub returns-in-OutOfMemory-clause-played : goal.returns-in-OutOfMemory-clause-pl
 returns-in-OutOfMemory-clause-played g c =
     let law = c.plans_answer_as_served.ensures in
     run_plays c.plans_are_well.ensures law.ok law.ended law.caused law.aborted (interface_of c.args.iface.now)
-    (blocks_of c.args.script.blocks.items) _ _ _ _ c.requires c.in-OutOfMemory.ensures.run
+    (blocks_of c.args.script.blocks.items) _ _ _ _ c.requires.servable c.requires.read c.in-OutOfMemory.ensures.run
     c.in-OutOfMemory.ensures.headline
 
 pub returns-in-OutOfMemory-clause-no_sink_fault : goal.returns-in-OutOfMemory-clause-no_sink_fault

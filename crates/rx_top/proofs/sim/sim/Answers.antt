@@ -3,8 +3,11 @@ use Rattle.rx_world.specs.Tells.{Told, told}
 use Rattle.xg_check.specs.Meaning.{interface_of}
 use Rattle.rx_top.specs.Inputs.{Reads}
 use Rattle.rx_top.specs.Sims.{ScriptIs}
-use Rattle.rx_top.proofs.SimLemmas.{reads_on}
+use Rattle.rx_top.proofs.SimLemmas.{interface_opcodes, reads_on}
 use Rattle.rx_top.proofs.sim.sim.Goals as goal
+
+pub sim_over-requires : goal.sim_over-requires
+sim_over-requires g c = interface_opcodes _ _ _ c.in-Ok.ensures.ok
 
 pub returns-in-Ok-clause-sim : goal.returns-in-Ok-clause-sim
 returns-in-Ok-clause-sim g c =
