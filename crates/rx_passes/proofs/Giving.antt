@@ -1,0 +1,197 @@
+-- What is given on a wire, joined.
+use Rattle.std.proofs.Common.{◌≡◌, ◌∙◌, ◌≤◌, ◌<◌, ◌+◌, ◌==◌, ◌||◌, ℕ, Bool, true, false, List, [], ◌∷◌, ◌++◌}
+use Rattle.std.proofs.Common.{Option, Some, None, refl, sym, ap, subst, arith, length, append_assoc}
+use Rattle.std.specs.Prelude.{nat_lt}
+use Rattle.std.proofs.lemmas.List.{append-nil, length-append, map-append}
+use Rattle.std.proofs.lemmas.Bool.Decides.{nat_tests}
+use Rattle.rx_jumbo.specs.JoinerState.{JoinerState, joins, takes}
+use Rattle.rx_jumbo.specs.Parts.{parts_of}
+use Rattle.rx_model.specs.declared.names.Host.{Host}
+use Rattle.rx_model.specs.Names.{same_host}
+use Rattle.rx_model.proofs.NameLaws.{both, host_is}
+use Rattle.rx_udp.specs.Wire.{GaveTo, Traffic}
+use Rattle.rx_passes.specs.declared.stop.Stop.{Stop}
+use Rattle.rx_passes.specs.declared.stop.Stop.TheVariants as stops
+use Rattle.rx_passes.specs.Ports.{Behind, Empties, GivesOne, IsWithin, Keeps, Passes, all_for, gave_all, held}
+use Rattle.rx_passes.specs.Ports.{parts_all}
+use Rattle.rx_passes.specs.Tells.{HasLoggedAll, WireTells}
+use Rattle.rx_passes.proofs.Telling.{logged_none, logged_one}
+
+zero_low : (n : ℕ) → 0 ≤ n
+zero_low n = omega arith
+
+-- ---- lists of datagrams
+
+-- those of one host behind one another
+pub all_for_both : (to : Host) (xs ys : List (List ℕ)) → all_for to (xs ++ ys) ≡ all_for to xs ++ all_for to ys
+all_for_both to xs ys = map-append (λ (b : List ℕ). (to, b)) xs ys
+
+pub parts_all_both : (xs ys : List (Host × List ℕ)) → parts_all (xs ++ ys) ≡ parts_all xs ++ parts_all ys
+parts_all_both [] ys = refl
+parts_all_both (x ∷ xs) ys =
+    ap (λ (zs : List (Host × List ℕ)). all_for x.0 (parts_of x.1) ++ zs) (parts_all_both xs ys)
+    ∙ sym (append_assoc (all_for x.0 (parts_of x.1)) (parts_all xs) (parts_all ys))
+
+pub gave_all_both : (xs ys : List (Host × List ℕ)) → gave_all (xs ++ ys) ≡ gave_all xs ++ gave_all ys
+gave_all_both xs ys = map-append (λ (d : Host × List ℕ). GaveTo d.0 d.1) xs ys
+
+-- ---- giving what is held back
+
+-- a joiner that holds none keeps what it has room for
+pub keeps_none : (j new : JoinerState) → new ≡ record j { datagrams = [] } → IsWithin j → Keeps j new
+keeps_none j new is within =
+    record {
+      within = rw is (record { some = within.some; few = zero_low j.most });
+      most = ap (λ (k : JoinerState). k.most) is;
+    }
+
+-- nothing is held back
+pub empties_none : (j new : JoinerState) (wire : WireTells) → j.datagrams ≡ [] → new ≡ record j { datagrams = [] }
+    → Empties j new wire wire None
+empties_none j new wire none is =
+    record {
+      passes = record {
+        given = [];
+        gave = (logged_none wire.traffic, refl, refl);
+        rest = rw is (rw none refl);
+        few = tt;
+      };
+      empty = λ ok. ap (λ (k : JoinerState). k.datagrams) is;
+    }
+
+-- it was given, or the wire failed
+pub empties_given : (j new : JoinerState) (to : Host) (bytes : List ℕ) (first last : WireTells) (stop : Option Stop)
+    → to ≡ j.host → parts_of bytes ≡ j.datagrams → new ≡ record j { datagrams = [] } → IsWithin j
+    → GivesOne first last (to, bytes) stop → Empties j new first last stop
+empties_given j new to bytes first last None host parts is within gave =
+    record {
+      passes = record {
+        given = (to, bytes) ∷ [];
+        gave = (logged_one first.traffic last.traffic (GaveTo to bytes) gave.0, gave.1, gave.2);
+        rest = rw is (append-nil (all_for to (parts_of bytes) ++ []) ∙ append-nil (all_for to (parts_of bytes))
+            ∙ (λ i. all_for (host i) (parts i)));
+        few = (rw parts within.few, tt);
+      };
+      empty = λ ok. ap (λ (k : JoinerState). k.datagrams) is;
+    }
+empties_given j new to bytes first last (Some stops.WireFault) host parts is within gave =
+    record {
+      passes = record {
+        given = [];
+        gave = (
+          subst (λ (t : Option Traffic). HasLoggedAll first.traffic t []) (sym gave.0) (logged_none first.traffic),
+          gave.1,
+          gave.2,
+        );
+        rest = (held j, refl);
+        few = tt;
+      };
+      empty = λ bad. absurd (cc (bad));
+    }
+empties_given j new to bytes first last (Some stops.SinkFault) host parts is within gave = absurd gave
+empties_given j new to bytes first last (Some stops.OutOfMemory) host parts is within gave = absurd gave
+
+-- ---- one datagram more
+
+-- behind others that it follows there is room for it, and it is for their host
+pub record Follows (j : JoinerState) (to : Host) : Type 0 where
+  pub host : j.host ≡ to
+  pub room : length j.datagrams < j.most
+
+follows_others : (most : ℕ) (host to : Host) (x : List ℕ) (xs : List (List ℕ)) (d : List ℕ)
+    → takes (record { most = most; host = host; datagrams = x ∷ xs }) to d ≡ true
+    → Follows (record { most = most; host = host; datagrams = x ∷ xs }) to
+follows_others most host to x xs d taken =
+    (let j : JoinerState = record { most = most; host = host; datagrams = x ∷ xs } in
+    let some : (length (x ∷ xs) == 0) ≡ false = grind (arith, nat_tests) in
+    let joined : joins j to d ≡ true = sym (ap (λ (b : Bool). b || joins j to d) some) ∙ taken in
+    let room : nat_lt (length (x ∷ xs)) most ≡ true = (both _ _ joined).0 in
+    let same : same_host host to ≡ true = (both _ _ (both _ _ joined).1).0 in
+    record { host = host_is host to same; room = grind (arith, nat_tests) })
+
+-- it is held back behind the others
+held_more : (most : ℕ) (host to : Host) (ds : List (List ℕ)) (d : List ℕ)
+    → takes (record { most = most; host = host; datagrams = ds }) to d ≡ true
+    → all_for to (ds ++ d ∷ []) ≡ all_for host ds ++ (to, d) ∷ []
+held_more most host to [] d taken = refl
+held_more most host to (x ∷ xs) d taken =
+    all_for_both to (x ∷ xs) (d ∷ [])
+    ∙ ap (λ (h : Host). all_for h (x ∷ xs) ++ (to, d) ∷ []) (sym (follows_others most host to x xs d taken).host)
+
+held_few : (most : ℕ) (host to : Host) (ds : List (List ℕ)) (d : List ℕ) → 1 ≤ most
+    → takes (record { most = most; host = host; datagrams = ds }) to d ≡ true → length (ds ++ d ∷ []) ≤ most
+held_few most host to [] d some taken = some
+held_few most host to (x ∷ xs) d some taken =
+    (let room = (follows_others most host to x xs d taken).room in
+    let long : length ((x ∷ xs) ++ d ∷ []) ≡ length (x ∷ xs) + 1 = length-append (x ∷ xs) (d ∷ []) in
+    omega (arith, room, long))
+
+pub passes_held : (j new : JoinerState) (to : Host) (d : List ℕ) (wire : WireTells) → takes j to d ≡ true
+    → new ≡ record j { host = to; datagrams = j.datagrams ++ d ∷ [] }
+    → Passes (held j ++ (to, d) ∷ []) j new wire wire None
+passes_held j new to d wire taken is =
+    record {
+      given = [];
+      gave = (logged_none wire.traffic, refl, refl);
+      rest = rw is (held_more j.most j.host to j.datagrams d taken);
+      few = tt;
+    }
+
+pub keeps_held : (j new : JoinerState) (to : Host) (d : List ℕ) → takes j to d ≡ true
+    → new ≡ record j { host = to; datagrams = j.datagrams ++ d ∷ [] } → IsWithin j → Keeps j new
+keeps_held j new to d taken is within =
+    record {
+      within = rw is (record {
+        some = within.some;
+        few = held_few j.most j.host to j.datagrams d within.some taken;
+      });
+      most = ap (λ (k : JoinerState). k.most) is;
+    }
+
+-- it follows what was given before it
+pub passes_behind : (j mid new : JoinerState) (to : Host) (d : List ℕ) (first last : WireTells)
+    → Empties j mid first last None → new ≡ record mid { host = to; datagrams = mid.datagrams ++ d ∷ [] }
+    → Passes (held j ++ (to, d) ∷ []) j new first last None
+passes_behind j mid new to d first last e is =
+    (let none : mid.datagrams ≡ [] = e.empty refl in
+    let whole : parts_all e.passes.given ++ held mid ≡ held j = e.passes.rest in
+    let alone : held mid ≡ [] = ap (all_for mid.host) none in
+    let given : parts_all e.passes.given ≡ held j =
+    sym (append-nil (parts_all e.passes.given)) ∙ ap (λ (xs : List (Host × List ℕ)). parts_all e.passes.given ++ xs)
+    (sym alone) ∙ whole in
+    record {
+      given = e.passes.given;
+      gave = e.passes.gave;
+      rest = rw is (rw none (ap (λ (xs : List (Host × List ℕ)). xs ++ (to, d) ∷ []) given));
+      few = e.passes.few;
+    })
+
+pub keeps_behind : (j mid new : JoinerState) (to : Host) (d : List ℕ) → Keeps j mid → mid.datagrams ≡ []
+    → new ≡ record mid { host = to; datagrams = mid.datagrams ++ d ∷ [] } → Keeps j new
+keeps_behind j mid new to d keeps none is =
+    record {
+      within = rw is (rw none (record { some = keeps.within.some; few = keeps.within.some }));
+      most = ap (λ (k : JoinerState). k.most) is ∙ keeps.most;
+    }
+
+-- a datagram is taken where none is held
+pub takes_first : (j : JoinerState) (to : Host) (d : List ℕ) → j.datagrams ≡ [] → takes j to d ≡ true
+takes_first j to d none = rw none refl
+
+-- the wire failed before it
+pub passes_failed : (j mid : JoinerState) (d : Host × List ℕ) (first last : WireTells) (stop : Stop)
+    → Empties j mid first last (Some stop) → Passes (held j ++ d ∷ []) j mid first last (Some stop)
+passes_failed j mid d first last stop e = of e.passes.rest
+  where
+    of : Behind (held j) e.passes.given mid (Some stop) → Passes (held j ++ d ∷ []) j mid first last (Some stop)
+    of (missing, whole) =
+        record {
+          given = e.passes.given;
+          gave = e.passes.gave;
+          rest = (
+            missing ++ d ∷ [],
+            sym (append_assoc (parts_all e.passes.given) missing (d ∷ []))
+                ∙ ap (λ (xs : List (Host × List ℕ)). xs ++ d ∷ []) whole,
+          );
+          few = e.passes.few;
+        }

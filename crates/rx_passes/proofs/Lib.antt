@@ -1,0 +1,17 @@
+pub mod Placing
+pub mod Telling
+pub mod Running
+pub mod Noting
+pub mod Callings
+pub mod Beginning
+pub mod Clocking
+pub mod Taking
+pub mod Giving
+pub mod Polling
+pub mod Single
+pub mod Turning
+pub mod Dispatching
+pub mod Passing
+pub mod Bringing
+pub mod Driving
+pub mod ToldCalls

@@ -1,0 +1,88 @@
+-- One event of a node without a line, which is noted.
+use Rattle.std.proofs.Common.{◌≡◌, ◌≤◌, ℕ, List, [], ◌∷◌, Option, Some, None, refl, sym, subst}
+use Rattle.rx_model.specs.declared.event.Event.{Event}
+use Rattle.rx_model.specs.declared.event.Noted.{Noted}
+use Rattle.rx_base.specs.Sink.{Gained}
+use Rattle.rx_law.proofs.Moments.{now-after}
+use Rattle.rx_law.specs.Sides.{with_clock}
+use Rattle.rx_rules.specs.After.{looks}
+use Rattle.rx_rules.specs.Setup.{Setup}
+use Rattle.rx_wire.specs.Journal.{HasNoted}
+use Rattle.rx_wire.specs.Turns.{noted}
+use Rattle.rx_wire.proofs.TurnLaws.{HasNotedAll-one, HasNotedMost-refused}
+use Rattle.rx_passes.specs.declared.stop.Stop.TheVariants as stops
+use Rattle.rx_passes.specs.Nodes.{Answers}
+use Rattle.rx_passes.specs.Parts.{Cut, Part, Place, To}
+use Rattle.rx_passes.specs.Runs.{IsAt, Plays, change}
+use Rattle.rx_passes.specs.Tells.{Gains, SinkTells, Wants, WireTells, told}
+use Rattle.rx_passes.specs.Texts.{event_line, lines}
+use Rattle.rx_passes.proofs.Telling.{gained_all, gained_none, logged_none}
+
+-- the lines of one event without a line
+lines_one : (e : Event) → event_line e ≡ [] → lines (e ∷ []) ≡ []
+lines_one e none = rw none refl
+
+module _ (n : ℕ) (s : Setup) (s0 s1 : List Event → Type 0) (book after : Option (List Noted)) (sink : SinkTells)
+    (wire : WireTells) (e : Event) (quiet : event_line e ≡ []) where
+  put_nothing : Gained sink.put sink.put (lines (e ∷ []))
+  put_nothing = subst (λ (xs : List ℕ). Gained sink.put sink.put xs) (sym (lines_one e quiet)) (gained_none sink.put)
+
+  pub noted_gains : HasNoted book after (noted n e) → Gains n (told book sink wire) (told after sink wire) (e ∷ []) []
+  noted_gains one =
+      record {
+        noted = HasNotedAll-one book after n e one;
+        put = put_nothing;
+        log = logged_none wire.traffic;
+        puts = refl;
+        calls = refl;
+      }
+
+  pub refused_wants : after ≡ book → Wants n (told book sink wire) (told after sink wire) (e ∷ []) []
+  refused_wants same =
+      record {
+        noted = HasNotedMost-refused book after n e same;
+        put = gained_all sink.put sink.put (lines (e ∷ [])) put_nothing;
+        log = logged_none wire.traffic;
+        puts = refl;
+        calls = refl;
+      }
+
+  -- it was noted
+  pub one_noted : {A : Type 0} (part : Part A) (x : A) (shows : A → Type 0) → Answers s s0 s1 e
+      → ((p : Place) → IsAt s s0 (told book sink wire) p
+      → part p (e ∷ []) [] (To x) × (with_clock e ((looks s p.history).now) ≤ p.now))
+      → shows x → HasNoted book after (noted n e)
+      → Plays (change n s s0 s1 (told book sink wire) (told after sink wire)) part shows None
+  one_noted part x shows answers made there one p at =
+      (let m = made p at in
+      record {
+        events = e ∷ [];
+        log = [];
+        came = To x;
+        made = m.0;
+        standing = (answers p.history at.standing).1;
+        fits = (
+          there,
+          noted_gains one,
+          record {
+            standing = (answers p.history at.standing).1;
+            now = at.now;
+            later = subst (λ (t : ℕ). t ≤ p.now) (sym (now-after s (looks s p.history) e)) m.1;
+          },
+        );
+      })
+
+  -- memory was wanted for its note
+  pub one_refused : {A : Type 0} (part : Part A) (shows : A → Type 0) → Answers s s0 s1 e
+      → ((p : Place) → IsAt s s0 (told book sink wire) p → part p (e ∷ []) [] Cut)
+      → after ≡ book
+      → Plays (change n s s0 s1 (told book sink wire) (told after sink wire)) part shows (Some stops.OutOfMemory)
+  one_refused part shows answers made same p at =
+      record {
+        events = e ∷ [];
+        log = [];
+        came = Cut;
+        made = made p at;
+        standing = (answers p.history at.standing).1;
+        fits = refused_wants same;
+      }

@@ -1,0 +1,598 @@
+-- Polls of a node, whose datagrams are passed on.
+use Rattle.std.proofs.Common.{◌≡◌, ◌⊎◌, ◌∙◌, ◌≤◌, ℕ, Bool, true, false, List, [], ◌∷◌, ◌++◌, append_assoc}
+use Rattle.std.proofs.Common.{Option, Some, None, Result, Ok, Err, refl, sym, ap, subst, inl, inr, drop, length, take}
+use Rattle.std.proofs.lemmas.List.{append-nil, map-append}
+use Rattle.std.proofs.Math.Seq.{take-append_seam}
+use Rattle.rx_jumbo.specs.JoinerState.{JoinerState}
+use Rattle.rx_model.specs.declared.event.Event.{Event}
+use Rattle.rx_model.specs.declared.event.Event.TheVariants as events
+use Rattle.rx_model.specs.declared.event.Noted.{Noted}
+use Rattle.rx_model.specs.declared.names.Host.{Host}
+use Rattle.rx_rules.specs.After.{looks}
+use Rattle.rx_rules.specs.Setup.{Setup}
+use Rattle.rx_udp.specs.Wire.{Logged}
+use Rattle.rx_law.proofs.Moments.{now-after}
+use Rattle.rx_wire.specs.Journal.{HasNoted}
+use Rattle.rx_wire.specs.Turns.{noted}
+use Rattle.rx_wire.proofs.TurnLaws.{HasNotedAll-none}
+use Rattle.rx_jumbo.specs.Parts.{is_jumbo}
+use Rattle.rx_model.specs.declared.wire.TheConstants.{DATAGRAM_BYTES}
+use Rattle.rx_rules.specs.Rules.{Legal}
+use Rattle.rx_rules.specs.Setup.{FitsSetup}
+use Rattle.std.specs.Prelude.{IfOk}
+use Rattle.rx_passes.specs.declared.stop.Stop.{Stop}
+use Rattle.rx_passes.specs.declared.stop.Stop.TheVariants as stops
+use Rattle.rx_passes.specs.Nodes.{Answers}
+use Rattle.rx_passes.specs.Parts.{Came, Cut, Part, Place, To, behind, moment_after}
+use Rattle.rx_passes.specs.Ports.{AreOfFew, Behind, CutsOne, Empties, Gave, IsWithin, NotesOne, Passes, PassesOn}
+use Rattle.rx_passes.specs.Ports.{PollsCut}
+use Rattle.rx_passes.specs.Ports.{PollsOne, PollsOut, PortsState, gave_all, held, parts_all, polled_all, polls}
+use Rattle.rx_passes.specs.Ports.{polls_once}
+use Rattle.rx_passes.specs.Runs.{Fits, IsAt, Plays, Ran, change, stop_of}
+use Rattle.rx_passes.specs.Tells.{SinkTells, Told, WireTells, told}
+use Rattle.rx_passes.proofs.Giving.{gave_all_both, parts_all_both}
+use Rattle.rx_passes.proofs.Noting.{noted_gains, one_noted, one_refused, refused_wants}
+use Rattle.rx_passes.proofs.Single.{single_polled}
+use Rattle.rx_passes.proofs.Running.{plays_as, plays_at, plays_cut, plays_join}
+use Rattle.rx_passes.proofs.Telling.{gained_none, gains_both, logged_none, breaks_behind}
+use Rattle.rx_passes.specs.Tells.{Breaks, Gains}
+
+-- ---- one poll
+
+-- datagrams given leave the moment as it is
+given_moment : (ds : List (Host × List ℕ)) (now : ℕ) → moment_after (gave_all ds) now ≡ now
+given_moment [] now = refl
+given_moment (d ∷ ds) now = given_moment ds now
+
+-- it gave none, and that was noted
+pub none_polled : (n : ℕ) (s : Setup) (s0 s1 : List Event → Type 0) (book after : Option (List Noted))
+    (sink : SinkTells)
+    (wire : WireTells) (j : JoinerState) → Answers s s0 s1 (events.Polled None)
+    → HasNoted book after (noted n (events.Polled None))
+    → Plays (change n s s0 s1 (told book sink wire) (told after sink wire)) (polls_once j j) (λ b. b ≡ false) None
+none_polled n s s0 s1 book after sink wire j answers one =
+    one_noted n s s0 s1 book after sink wire (events.Polled None) refl (polls_once j j) false (λ b. b ≡ false) answers
+    (λ p at. ((refl, refl, refl), at.later)) refl one
+
+pub none_refused : (n : ℕ) (s : Setup) (s0 s1 : List Event → Type 0) (book after : Option (List Noted))
+    (sink : SinkTells) (wire : WireTells) (j k : JoinerState) (shows : Bool → Type 0)
+    → Answers s s0 s1 (events.Polled None) → after ≡ book
+    → Plays (change n s s0 s1 (told book sink wire) (told after sink wire)) (polls_once j k) shows
+    (Some stops.OutOfMemory)
+none_refused n s s0 s1 book after sink wire j k shows answers same =
+    one_refused n s s0 s1 book after sink wire (events.Polled None) refl (polls_once j k) shows answers
+    (λ p at. inl (refl, refl)) same
+
+module _ (n : ℕ) (s : Setup) (s0 s1 : List Event → Type 0) (book after : Option (List Noted)) (sink : SinkTells)
+    (first last : WireTells) (j k : JoinerState) (d : Host × List ℕ) (answers : Answers s s0 s1
+    (events.Polled (Some d)))
+  where
+    abbrev e : Event
+    e = events.Polled (Some d)
+
+    -- what was noted and then given
+    gains_given : (given : List (Host × List ℕ)) → HasNoted book after (noted n e) → Gave first last given None
+        → Gains n (told book sink first) (told after sink last) (e ∷ []) (gave_all given)
+    gains_given given one gave =
+        gains_both n (told book sink first) (told after sink first) (told after sink last) (e ∷ []) [] []
+        (gave_all given)
+        (noted_gains n s s0 s1 book after sink first e refl one)
+        (record {
+          noted = HasNotedAll-none after n;
+          put = gained_none sink.put;
+          log = gave.0;
+          puts = refl;
+          calls = gave.1;
+        })
+
+    breaks_given : (given : List (Host × List ℕ)) → HasNoted book after (noted n e)
+        → Gave first last given (Some stops.WireFault)
+        → Breaks n (told book sink first) (told after sink last) (e ∷ []) (gave_all given)
+    breaks_given given one gave =
+        breaks_behind n (told book sink first) (told after sink first) (told after sink last) (e ∷ []) [] []
+        (gave_all given)
+        (noted_gains n s s0 s1 book after sink first e refl one)
+        (record {
+          noted = HasNotedAll-none after n;
+          put = gained_none sink.put;
+          log = gave.0;
+          puts = refl;
+          calls = gave.1;
+        })
+
+    at_given : (given : List (Host × List ℕ)) (p : Place) → Gave first last given None
+        → IsAt s s0 (told book sink first) p → IsAt s s1 (told after sink last) (behind (e ∷ []) (gave_all given) p)
+    at_given given p gave at =
+        record {
+          standing = (answers p.history at.standing).1;
+          now = given_moment given p.now ∙ at.now ∙ sym gave.2;
+          later = subst (λ (t : ℕ). t ≤ moment_after (gave_all given) p.now) (sym (now-after s (looks s p.history) e))
+              (subst (λ (t : ℕ). (looks s p.history).now ≤ t) (sym (given_moment given p.now)) at.later);
+        }
+
+    -- it gave this datagram, which was passed on
+    pub one_passed : HasNoted book after (noted n e) → Passes (held j ++ d ∷ []) j k first last None
+        → Plays (change n s s0 s1 (told book sink first) (told after sink last)) (polls_once j k) (λ b. b ≡ true) None
+    one_passed one passes p at =
+        record {
+          events = e ∷ [];
+          log = gave_all passes.given;
+          came = To true;
+          made = record {
+            datagram = d;
+            given = passes.given;
+            events = refl;
+            log = refl;
+            joined = passes.rest;
+            few = passes.few;
+          };
+          standing = (answers p.history at.standing).1;
+          fits = (refl, gains_given passes.given one passes.gave, at_given passes.given p passes.gave at);
+        }
+
+    cuts : (given missing : List (Host × List ℕ)) → parts_all given ++ missing ≡ held j ++ d ∷ [] → AreOfFew j.most
+        given
+        → CutsOne j (e ∷ []) (gave_all given)
+    cuts given missing joined few =
+        record {
+          datagram = d;
+          given = given;
+          missing = missing;
+          events = refl;
+          log = refl;
+          joined = joined;
+          few = few;
+        }
+
+    -- memory was wanted for its note
+    pub one_forgotten : (shows : Bool → Type 0) → after ≡ book → last ≡ first
+        → Plays (change n s s0 s1 (told book sink first) (told after sink last)) (polls_once j k) shows
+        (Some stops.OutOfMemory)
+    one_forgotten shows same wire p at =
+        record {
+          events = e ∷ [];
+          log = [];
+          came = Cut;
+          made = inr (cuts [] (held j ++ d ∷ []) refl tt);
+          standing = (answers p.history at.standing).1;
+          fits = subst (λ (w : WireTells). Rattle.rx_passes.specs.Tells.Wants n (told book sink first)
+              (told after sink w)
+              (e ∷ []) []) (sym wire) (refused_wants n s s0 s1 book after sink first e refl same);
+        }
+
+    -- the wire failed
+    pub one_failed : (shows : Bool → Type 0) → HasNoted book after (noted n e)
+        → Passes (held j ++ d ∷ []) j k first last (Some stops.WireFault)
+        → Plays (change n s s0 s1 (told book sink first) (told after sink last)) (polls_once j k) shows
+        (Some stops.WireFault)
+    one_failed shows one passes p at = of passes.rest
+      where
+        of : Behind (held j ++ d ∷ []) passes.given k (Some stops.WireFault)
+            → Ran (change n s s0 s1 (told book sink first) (told after sink last))
+            (polls_once j k) shows (Some stops.WireFault) p
+        of (missing, whole) =
+            record {
+              events = e ∷ [];
+              log = gave_all passes.given;
+              came = Cut;
+              made = inr (cuts passes.given missing whole passes.few);
+              standing = (answers p.history at.standing).1;
+              fits = breaks_given passes.given one passes.gave;
+            }
+
+-- ---- polls so far
+
+-- datagrams were polled, and given but for those that are held back
+pub record PollsSo (most : ℕ) (j : JoinerState) (es : List Event) (ls : List Logged) : Type 0 where
+  pub polled : List (Host × List ℕ)
+  pub given : List (Host × List ℕ)
+  pub events : es ≡ polled_all polled
+  pub log : ls ≡ gave_all given
+  pub joined : parts_all given ++ held j ≡ polled
+  pub few : AreOfFew most given
+
+abbrev pub polls_so : ℕ → JoinerState → Part (Unit {0})
+polls_so most j p es ls (To done) = PollsSo most j es ls
+polls_so most j p es ls Cut = Unit {0}
+
+abbrev pub Anyhow : Unit {0} → Type 0
+Anyhow u = Unit {0}
+
+few_both : (most : ℕ) (xs ys : List (Host × List ℕ)) → AreOfFew most xs → AreOfFew most ys → AreOfFew most (xs ++ ys)
+few_both most [] ys first second = second
+few_both most (x ∷ xs) ys first second = (first.0, few_both most xs ys first.1 second)
+
+-- none yet
+pub polls_none : (n : ℕ) (s : Setup) (stands : List Event → Type 0) (t : Told) (j : JoinerState) → j.datagrams ≡ []
+    → Plays (change n s stands stands t t) (polls_so j.most j) Anyhow None
+polls_none n s stands t j none p at =
+    record {
+      events = [];
+      log = [];
+      came = To tt;
+      made = record { polled = []; given = []; events = refl; log = refl; joined = rw none refl; few = tt };
+      standing = at.standing;
+      fits = (tt, Rattle.rx_passes.proofs.Telling.gains_none n t, at);
+    }
+
+module _ (most : ℕ) (j k : JoinerState) (es fs : List Event) (ls ms : List Logged) where
+  -- one more, which gave a datagram
+  so_more : PollsSo most j es ls → j.most ≡ most → PollsOne j k fs ms → PollsSo most k (es ++ fs) (ls ++ ms)
+  so_more x is y =
+      record {
+        polled = x.polled ++ y.datagram ∷ [];
+        given = x.given ++ y.given;
+        events = rw x.events (rw y.events (sym (map-append (λ (d : Host × List ℕ). events.Polled (Some d)) x.polled
+            (y.datagram ∷ []))));
+        log = rw x.log (rw y.log (sym (gave_all_both x.given y.given)));
+        joined =
+            ap (λ (zs : List (Host × List ℕ)). zs ++ held k) (parts_all_both x.given y.given)
+            ∙ append_assoc (parts_all x.given) (parts_all y.given) (held k)
+            ∙ ap (λ (zs : List (Host × List ℕ)). parts_all x.given ++ zs) y.joined
+            ∙ sym (append_assoc (parts_all x.given) (held j) (y.datagram ∷ []))
+            ∙ ap (λ (zs : List (Host × List ℕ)). zs ++ y.datagram ∷ []) x.joined;
+        few = few_both most x.given y.given x.few (subst (λ (m : ℕ). AreOfFew m y.given) is y.few);
+      }
+
+  -- one that was cut off
+  so_cut : PollsSo most j es ls → j.most ≡ most → CutsOne j fs ms → PollsCut most (es ++ fs) (ls ++ ms)
+  so_cut x is y =
+      record {
+        polled = x.polled ++ y.datagram ∷ [];
+        given = x.given ++ y.given;
+        missing = y.missing;
+        events = inl (rw x.events (rw y.events (sym (map-append (λ (d : Host × List ℕ). events.Polled (Some d)) x.polled
+            (y.datagram ∷ [])))));
+        log = rw x.log (rw y.log (sym (gave_all_both x.given y.given)));
+        joined =
+            ap (λ (zs : List (Host × List ℕ)). zs ++ y.missing) (parts_all_both x.given y.given)
+            ∙ append_assoc (parts_all x.given) (parts_all y.given) y.missing
+            ∙ ap (λ (zs : List (Host × List ℕ)). parts_all x.given ++ zs) y.joined
+            ∙ sym (append_assoc (parts_all x.given) (held j) (y.datagram ∷ []))
+            ∙ ap (λ (zs : List (Host × List ℕ)). zs ++ y.datagram ∷ []) x.joined;
+        few = few_both most x.given y.given x.few (subst (λ (m : ℕ). AreOfFew m y.given) is y.few);
+      }
+
+  -- the last one
+  so_none : PollsSo most j es ls → fs ≡ events.Polled None ∷ [] → ms ≡ [] → PollsCut most (es ++ fs) (ls ++ ms)
+  so_none x last none =
+      record {
+        polled = x.polled;
+        given = x.given;
+        missing = held j;
+        events = inr (rw x.events (rw last refl));
+        log = rw none (append-nil ls ∙ x.log);
+        joined = x.joined;
+        few = x.few;
+      }
+
+-- ---- the loop
+
+module _ (n : ℕ) (s : Setup) (s0 s1 s2 : List Event → Type 0) (a b c : Told) (most : ℕ) (j k : JoinerState)
+    (is : j.most ≡ most) where
+  -- a poll gave a datagram
+  pub polls_more : Plays (change n s s0 s1 a b) (polls_so most j) Anyhow None
+      → Plays (change n s s1 s2 b c) (polls_once j k) (λ r. r ≡ true) None
+      → Plays (change n s s0 s2 a c) (polls_so most k) Anyhow None
+  polls_more first second =
+      plays_join n s s0 s1 s2 a b c (polls_so most j) (λ u. polls_once j k) (polls_so most k) (λ r. tt) Anyhow
+      (λ r. r ≡ true) Anyhow None
+      (λ p es fs ls ms u r i holds made one. so_more most j k es fs ls ms made is
+      (subst (λ (r' : Bool). polls_once j k (behind es ls p) fs ms (To r')) holds one))
+      (λ p es fs ls ms u i made one. tt) (λ r holds. tt) first (λ u i. second)
+
+  -- passes ended at a poll
+  pub polls_stopped : (stop : Stop) (shows : Bool → Type 0) → Plays (change n s s0 s1 a b) (polls_so most j) Anyhow None
+      → Plays (change n s s1 s2 b c) (polls_once j k) shows (Some stop)
+      → Plays (change n s s0 s2 a c) (polls most) Anyhow (Some stop)
+  polls_stopped stop shows first second =
+      plays_cut n s s0 s1 s2 a b c (polls_so most j) (λ u. polls_once j k) (polls most) (λ r. tt) Anyhow shows Anyhow
+      stop
+      (λ p es fs ls ms u i made one. cut es fs ls ms made one) first (λ u i. second)
+    where
+      cut : (es fs : List Event) (ls ms : List Logged) → PollsSo most j es ls
+          → ((fs ≡ events.Polled None ∷ []) × (ms ≡ [])) ⊎ CutsOne j fs ms → PollsCut most (es ++ fs) (ls ++ ms)
+      cut es fs ls ms made (inl none) = so_none most j k es fs ls ms made none.0 none.1
+      cut es fs ls ms made (inr one) = so_cut most j k es fs ls ms made is one
+
+-- ---- the end of a polling
+
+-- polls until one gave nothing; what they gave was given but for what is held back
+pub record PollsLast (most : ℕ) (j : JoinerState) (es : List Event) (ls : List Logged) : Type 0 where
+  pub polled : List (Host × List ℕ)
+  pub given : List (Host × List ℕ)
+  pub events : es ≡ polled_all polled ++ events.Polled None ∷ []
+  pub log : ls ≡ gave_all given
+  pub joined : parts_all given ++ held j ≡ polled
+  pub few : AreOfFew most given
+
+abbrev pub polls_last : ℕ → JoinerState → Part (Unit {0})
+polls_last most j p es ls (To done) = PollsLast most j es ls
+polls_last most j p es ls Cut = Unit {0}
+
+-- what is held back is given
+pub record Flushed (most : ℕ) (j : JoinerState) (missing : List (Host × List ℕ)) (es : List Event) (ls : List Logged)
+    : Type 0 where
+  pub given : List (Host × List ℕ)
+  pub events : es ≡ []
+  pub log : ls ≡ gave_all given
+  pub joined : parts_all given ++ missing ≡ held j
+  pub few : AreOfFew most given
+
+abbrev pub flushes : ℕ → JoinerState → Part (Unit {0})
+flushes most j p es ls (To done) = Flushed most j [] es ls
+flushes most j p es ls Cut = (missing : List (Host × List ℕ)) × Flushed most j missing es ls
+
+module _ (n : ℕ) (s : Setup) (stands : List Event → Type 0) (book : Option (List Noted)) (sink : SinkTells)
+    (first last : WireTells) (j k : JoinerState) where
+  flush_at : (given : List (Host × List ℕ)) (p : Place) → last.moment ≡ first.moment
+      → IsAt s stands (told book sink first) p
+      → IsAt s stands (told book sink last) (behind [] (gave_all given) p)
+  flush_at given p same at =
+      record {
+        standing = at.standing;
+        now = given_moment given p.now ∙ at.now ∙ sym same;
+        later = subst (λ (t : ℕ). (looks s p.history).now ≤ t) (sym (given_moment given p.now)) at.later;
+      }
+
+  pub flush_plays : (stop : Option Stop) → Empties j k first last stop
+      → Plays (change n s stands stands (told book sink first) (told book sink last)) (flushes j.most j) Anyhow stop
+  flush_plays None e p at =
+      (let none : held k ≡ [] = ap (Rattle.rx_passes.specs.Ports.all_for k.host) (e.empty refl) in
+      record {
+        events = [];
+        log = gave_all e.passes.given;
+        came = To tt;
+        made = record {
+          given = e.passes.given;
+          events = refl;
+          log = refl;
+          joined = ap (λ (xs : List (Host × List ℕ)). parts_all e.passes.given ++ xs) (sym none) ∙ e.passes.rest;
+          few = e.passes.few;
+        };
+        standing = at.standing;
+        fits = (
+          tt,
+          record {
+            noted = HasNotedAll-none book n;
+            put = gained_none sink.put;
+            log = e.passes.gave.0;
+            puts = refl;
+            calls = e.passes.gave.1;
+          },
+          flush_at e.passes.given p e.passes.gave.2 at,
+        );
+      })
+  flush_plays (Some stops.WireFault) e p at = of e.passes.rest
+    where
+      of : Behind (held j) e.passes.given k (Some stops.WireFault)
+          → Ran (change n s stands stands (told book sink first) (told book sink last))
+          (flushes j.most j) Anyhow (Some stops.WireFault) p
+      of (missing, whole) =
+          record {
+            events = [];
+            log = gave_all e.passes.given;
+            came = Cut;
+            made = (
+              missing,
+              record { given = e.passes.given; events = refl; log = refl; joined = whole; few = e.passes.few },
+            );
+            standing = at.standing;
+            fits = record {
+              noted = HasNotedAll-none book n;
+              put = gained_none sink.put;
+              log = e.passes.gave.0;
+              puts = refl;
+              calls = e.passes.gave.1;
+            };
+          }
+  flush_plays (Some stops.OutOfMemory) e p at = absurd e.passes.gave
+  flush_plays (Some stops.SinkFault) e p at = absurd e.passes.gave
+
+module _ (n : ℕ) (s : Setup) (s0 s1 s2 : List Event → Type 0) (a b c : Told) (most : ℕ) (j k : JoinerState)
+    (is : j.most ≡ most) where
+  -- a poll gave none
+  pub polls_over : Plays (change n s s0 s1 a b) (polls_so most j) Anyhow None
+      → Plays (change n s s1 s2 b c) (polls_once j k) (λ r. r ≡ false) None
+      → Plays (change n s s0 s2 a c) (polls_last most k) Anyhow None
+  polls_over first second =
+      plays_join n s s0 s1 s2 a b c (polls_so most j) (λ u. polls_once j k) (polls_last most k) (λ r. tt) Anyhow
+      (λ r. r ≡ false) Anyhow None
+      (λ p es fs ls ms u r i off made one. over es fs ls ms made
+      (subst (λ (r' : Bool). polls_once j k (behind es ls p) fs ms (To r')) off one))
+      (λ p es fs ls ms u i made one. tt) (λ r off. tt) first (λ u i. second)
+    where
+      over : (es fs : List Event) (ls ms : List Logged) → PollsSo most j es ls
+          → (fs ≡ events.Polled None ∷ []) × (ms ≡ []) × (k ≡ j) → PollsLast most k (es ++ fs) (ls ++ ms)
+      over es fs ls ms x none =
+          record {
+            polled = x.polled;
+            given = x.given;
+            events = rw x.events (rw none.0 refl);
+            log = rw none.1 (append-nil ls ∙ x.log);
+            joined = subst (λ (i : JoinerState). parts_all x.given ++ held i ≡ x.polled) (sym none.2) x.joined;
+            few = x.few;
+          }
+
+  -- what is held back was given, or the wire failed
+  pub polls_flushed : (stop : Option Stop) → Plays (change n s s0 s1 a b) (polls_last most j) Anyhow None
+      → Plays (change n s s1 s2 b c) (flushes j.most j) Anyhow stop
+      → Plays (change n s s0 s2 a c) (polls most) Anyhow stop
+  polls_flushed stop first second =
+      plays_join n s s0 s1 s2 a b c (polls_last most j) (λ u. flushes j.most j) (polls most) (λ u. tt) Anyhow Anyhow
+      Anyhow stop
+      (λ p es fs ls ms u v i y made one. whole es fs ls ms made one)
+      (λ p es fs ls ms u i made one. cut es fs ls ms made one.0 one.1) (λ u y. tt) first (λ u i. second)
+    where
+      joins : (x : List (Host × List ℕ)) (y missing polled : List (Host × List ℕ)) → parts_all y ++ missing ≡ held j
+          → parts_all x ++ held j ≡ polled → parts_all (x ++ y) ++ missing ≡ polled
+      joins x y missing polled later early =
+          ap (λ (zs : List (Host × List ℕ)). zs ++ missing) (parts_all_both x y)
+          ∙ append_assoc (parts_all x) (parts_all y) missing
+          ∙ ap (λ (zs : List (Host × List ℕ)). parts_all x ++ zs) later ∙ early
+
+      whole : (es fs : List Event) (ls ms : List Logged) → PollsLast most j es ls → Flushed j.most j [] fs ms
+          → PollsOut most (es ++ fs) (ls ++ ms)
+      whole es fs ls ms x y =
+          record {
+            polled = x.polled;
+            given = x.given ++ y.given;
+            events = rw y.events (append-nil es ∙ x.events);
+            log = rw x.log (rw y.log (sym (gave_all_both x.given y.given)));
+            joined = sym (append-nil (parts_all (x.given ++ y.given))) ∙ joins x.given y.given [] x.polled y.joined
+                x.joined;
+            few = few_both most x.given y.given x.few (subst (λ (m : ℕ). AreOfFew m y.given) is y.few);
+          }
+
+      cut : (es fs : List Event) (ls ms : List Logged) → PollsLast most j es ls → (missing : List (Host × List ℕ))
+          → Flushed j.most j missing fs ms → PollsCut most (es ++ fs) (ls ++ ms)
+      cut es fs ls ms x missing y =
+          record {
+            polled = x.polled;
+            given = x.given ++ y.given;
+            missing = missing;
+            events = inr (rw y.events (append-nil es ∙ x.events));
+            log = rw x.log (rw y.log (sym (gave_all_both x.given y.given)));
+            joined = joins x.given y.given missing x.polled y.joined x.joined;
+            few = few_both most x.given y.given x.few (subst (λ (m : ℕ). AreOfFew m y.given) is y.few);
+          }
+
+-- memory is wanted though the polls go on
+pub polls_wanted : (n : ℕ) (s : Setup) (s0 s1 : List Event → Type 0) (a b : Told) (most : ℕ) (j : JoinerState)
+    → Plays (change n s s0 s1 a b) (polls_so most j) Anyhow None
+    → Plays (change n s s0 s1 a b) (polls most) Anyhow (Some stops.OutOfMemory)
+polls_wanted n s s0 s1 a b most j plays p at = of r.came r.made r.fits
+  where
+    r : Ran (change n s s0 s1 a b) (polls_so most j) Anyhow None p
+    r = plays p at
+
+    of : (came : Came (Unit {0})) → polls_so most j p r.events r.log came
+        → Fits (change n s s0 s1 a b) Anyhow p r.events r.log came None
+        → Ran (change n s s0 s1 a b) (polls most) Anyhow (Some stops.OutOfMemory) p
+    of (To u) x (i, told, here) =
+        record {
+          events = r.events;
+          log = r.log;
+          came = Cut;
+          made = record {
+            polled = x.polled;
+            given = x.given;
+            missing = held j;
+            events = inl x.events;
+            log = x.log;
+            joined = x.joined;
+            few = x.few;
+          };
+          standing = r.standing;
+          fits = Rattle.rx_passes.proofs.Telling.wants_then n a b r.events r.log told;
+        }
+    of Cut x none = absurd none
+
+-- ---- one poll, by how it ended
+
+-- it gave a datagram
+pub polled_on : (n : ℕ) (s : Setup) (s0 s1 : List Event → Type 0) (book after : Option (List Noted)) (sink : SinkTells)
+    (first last : WireTells) (j k : JoinerState) (d : Host × List ℕ) (result : Result Bool Stop)
+    → Answers s s0 s1 (events.Polled (Some d)) → ((h : List Event) → s0 h → Legal s h) → FitsSetup s
+    → (is_jumbo d.1 ≡ false → length d.1 ≤ DATAGRAM_BYTES → PassesOn n j k book after d first last (stop_of result))
+    → IfOk result (λ b. b ≡ true)
+    → Plays (change n s s0 s1 (told book sink first) (told after sink last)) (polls_once j k)
+    (λ b. IfOk result (λ r. b ≡ r)) (stop_of result)
+polled_on n s s0 s1 book after sink first last j k d result answers law fits passes holds p at =
+    (let single = single_polled s p.history d.0 d.1 fits (law p.history at.standing)
+    (answers p.history at.standing).0 in
+    by result (passes single.0 single.1) holds p at)
+  where
+    by : (r : Result Bool Stop) → PassesOn n j k book after d first last (stop_of r) → IfOk r (λ b. b ≡ true)
+        → Plays (change n s s0 s1 (told book sink first) (told after sink last)) (polls_once j k)
+        (λ b. IfOk r (λ x. b ≡ x)) (stop_of r)
+    by (Ok b) passed is =
+        plays_as n s s0 s1 (told book sink first) (told after sink last) (polls_once j k) (polls_once j k) (λ x. x)
+        (λ x. x ≡ true) (λ x. x ≡ b) None (λ q es ls x there made. made) (λ q es ls made. made)
+        (λ x there. there ∙ sym is)
+        (one_passed n s s0 s1 book after sink first last j k d answers passed.0 passed.1)
+    by (Err stops.OutOfMemory) passed is =
+        one_forgotten n s s0 s1 book after sink first last j k d answers (λ x. Unit {0}) passed.0 passed.1
+    by (Err stops.WireFault) passed is =
+        one_failed n s s0 s1 book after sink first last j k d answers (λ x. Unit {0}) passed.0 passed.1
+    by (Err stops.SinkFault) passed is = absurd passed
+
+-- it gave none
+pub none_on : (n : ℕ) (s : Setup) (s0 s1 : List Event → Type 0) (book after : Option (List Noted)) (sink : SinkTells)
+    (wire : WireTells) (j : JoinerState) (result : Result Bool Stop) → Answers s s0 s1 (events.Polled None)
+    → NotesOne n book after (events.Polled None) (stop_of result) → IfOk result (λ b. b ≡ false)
+    → Plays (change n s s0 s1 (told book sink wire) (told after sink wire)) (polls_once j j)
+    (λ b. IfOk result (λ r. b ≡ r)) (stop_of result)
+none_on n s s0 s1 book after sink wire j (Ok b) answers notes is =
+    plays_as n s s0 s1 (told book sink wire) (told after sink wire) (polls_once j j) (polls_once j j) (λ x. x)
+    (λ x. x ≡ false) (λ x. x ≡ b) None (λ q es ls x there made. made) (λ q es ls made. made)
+    (λ x there. there ∙ sym is) (none_polled n s s0 s1 book after sink wire j answers notes)
+none_on n s s0 s1 book after sink wire j (Err stops.OutOfMemory) answers notes is =
+    none_refused n s s0 s1 book after sink wire j j (λ x. Unit {0}) answers notes
+none_on n s s0 s1 book after sink wire j (Err stops.SinkFault) answers notes is = absurd notes
+none_on n s s0 s1 book after sink wire j (Err stops.WireFault) answers notes is = absurd notes
+
+-- the same by the view of a node's ports, with the bytes that the poll wrote
+pub polled_in : (v : PortsState) (n : ℕ) (j : JoinerState) → record { node = n; joiner = j } ≡ v → (s : Setup)
+    (s0 s1 : List Event → Type 0) (book after : Option (List Noted)) (sink : SinkTells) (first last : WireTells)
+    (k : JoinerState) (to : Host) (d b : List ℕ) (result : Result Bool Stop) → d ≡ b
+    → Answers s s0 s1 (events.Polled (Some (to, b))) → ((h : List Event) → s0 h → Legal s h) → FitsSetup s
+    → (is_jumbo d ≡ false → length d ≤ DATAGRAM_BYTES → PassesOn n j k book after (to, d) first last (stop_of result))
+    → IfOk result (λ x. x ≡ true)
+    → Plays (change v.node s s0 s1 (told book sink first) (told after sink last)) (polls_once v.joiner k)
+    (λ x. IfOk result (λ r. x ≡ r)) (stop_of result)
+polled_in v n j is s s0 s1 book after sink first last k to d b result same answers law fits passes holds =
+    subst (λ (w : PortsState). Plays (change w.node s s0 s1 (told book sink first) (told after sink last))
+    (polls_once w.joiner k) (λ x. IfOk result (λ r. x ≡ r)) (stop_of result)) is
+    (polled_on n s s0 s1 book after sink first last j k (to, d) result
+    (subst (λ (x : List ℕ). Answers s s0 s1 (events.Polled (Some (to, x)))) (sym same) answers) law fits passes holds)
+
+pub none_in : (v : PortsState) (n : ℕ) (j : JoinerState) → record { node = n; joiner = j } ≡ v → (s : Setup)
+    (s0 s1 : List Event → Type 0) (book after : Option (List Noted)) (sink : SinkTells) (wire : WireTells)
+    (result : Result Bool Stop) → Answers s s0 s1 (events.Polled None)
+    → NotesOne n book after (events.Polled None) (stop_of result) → IfOk result (λ b. b ≡ false)
+    → Plays (change v.node s s0 s1 (told book sink wire) (told after sink wire)) (polls_once v.joiner j)
+    (λ b. IfOk result (λ r. b ≡ r)) (stop_of result)
+none_in v n j is s s0 s1 book after sink wire result answers notes holds =
+    subst (λ (w : PortsState). Plays (change w.node s s0 s1 (told book sink wire) (told after sink wire))
+    (polls_once w.joiner j) (λ x. IfOk result (λ r. x ≡ r)) (stop_of result)) is
+    (none_on n s s0 s1 book after sink wire j result answers notes holds)
+
+-- ---- the loop, where its node and its setup have other names
+
+module _ (n m : ℕ) (s t : Setup) (s0 s1 s2 : List Event → Type 0) (a b c : Told) (most : ℕ) (j k : JoinerState)
+    (number : m ≡ n) (setup : t ≡ s) (is : j.most ≡ most) where
+  pub polls_step : (again : Bool) → again ≡ true → Plays (change n s s0 s1 a b) (polls_so most j) Anyhow None
+      → Plays (change m t s1 s2 b c) (polls_once j k) (λ r. r ≡ again) None
+      → Plays (change n s s0 s2 a c) (polls_so most k) Anyhow None
+  polls_step again on first second =
+      polls_more n s s0 s1 s2 a b c most j k is first
+      (plays_at n m s t s1 s2 b c (polls_once j k) (λ r. r ≡ true) None number setup
+      (subst (λ (x : Bool). Plays (change m t s1 s2 b c) (polls_once j k) (λ r. r ≡ x) None) on second))
+
+  pub polls_ends : (stop : Stop) (shows : Bool → Type 0) → Plays (change n s s0 s1 a b) (polls_so most j) Anyhow None
+      → Plays (change m t s1 s2 b c) (polls_once j k) shows (Some stop)
+      → Plays (change n s s0 s2 a c) (polls most) Anyhow (Some stop)
+  polls_ends stop shows first second =
+      polls_stopped n s s0 s1 s2 a b c most j k is stop shows first
+      (plays_at n m s t s1 s2 b c (polls_once j k) shows (Some stop) number setup second)
+
+pub polls_whole : (n m : ℕ) (s t : Setup) (s0 s1 s2 : List Event → Type 0) (a b : Told) (book : Option (List Noted))
+    (sink : SinkTells) (first last : WireTells) (most : ℕ) (j k l : JoinerState) → m ≡ n → t ≡ s → j.most ≡ most
+    → k.most ≡ most → (again : Bool) → again ≡ false → (stop : Option Stop)
+    → Plays (change n s s0 s1 a b) (polls_so most j) Anyhow None
+    → Plays (change m t s1 s2 b (told book sink first)) (polls_once j k) (λ r. r ≡ again) None
+    → Empties k l first last stop
+    → Plays (change n s s0 s2 a (told book sink last)) (polls most) Anyhow stop
+polls_whole n m s t s0 s1 s2 a b book sink first last most j k l number setup was is again off stop so once flush =
+    polls_flushed n s s0 s2 s2 a (told book sink first) (told book sink last) most k k is stop
+    (polls_over n s s0 s1 s2 a b (told book sink first) most j k was so
+    (plays_at n m s t s1 s2 b (told book sink first) (polls_once j k) (λ r. r ≡ false) None number setup
+    (subst (λ (x : Bool). Plays (change m t s1 s2 b (told book sink first)) (polls_once j k) (λ r. r ≡ x) None) off
+    once)))
+    (flush_plays n s s2 book sink first last k l stop flush)
+
+-- a buffer that was lent whole has what was put there
+pub restored : (n : ℕ) (xs ys : List ℕ) → length xs ≡ n → take n (xs ++ drop (length xs) ys) ≡ xs
+restored n xs ys whole =
+    subst (λ (k : ℕ). take k (xs ++ drop (length xs) ys) ≡ xs) whole (take-append_seam xs (drop (length xs) ys))

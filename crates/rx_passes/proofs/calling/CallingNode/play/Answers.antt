@@ -1,0 +1,79 @@
+use Rattle.std.proofs.Common.{◌≡◌, ◌∙◌, None, Some, refl}
+use Rattle.rx_caller.specs.Asks.{begun}
+use Rattle.rx_caller.specs.View.{CallerState}
+use Rattle.rx_caller.specs.declared.caller.TheConstants.{REPLY_BYTES}
+use Rattle.rx_passes.specs.Calls.{calls}
+use Rattle.rx_passes.specs.Ports.{clocks}
+use Rattle.rx_passes.specs.declared.stop.Stop.TheVariants as stops
+use Rattle.rx_passes.proofs.Callings.{call_turned, call_wanted, node_kept}
+use Rattle.rx_passes.proofs.Clocking.{AnyEvent}
+use Rattle.rx_passes.proofs.Passing.{play_clock, play_first, play_last, play_turn, polls_at}
+use Rattle.rx_passes.proofs.Running.{plays_at, stopped}
+use Rattle.rx_passes.proofs.calling.CallingNode.play.Goals as goal
+
+pub returns-in_err-clock-clause-plays : goal.returns-in_err-clock-clause-plays
+returns-in_err-clock-clause-plays g c =
+    λ sink. rw (stopped c.from_residual.result c.in_err-clock.field-0.0 c.from_residual.ensures.1)
+    (play_clock 1 _ c.args.self.now.ports.joiner.most calls c.args.self.now.caller
+    (λ (v : CallerState). v ≡ c.args.self.now.caller) _ _ _ _ c.in_err-clock.field-0.0
+    (plays_at 1 c.args.self.now.ports.node _ _ _ _ _ _ clocks AnyEvent _ c.requires.ready.number refl
+    (c.in_err-clock.ensures.plays sink)))
+
+pub returns-in_err-give_due-clause-plays : goal.returns-in_err-give_due-clause-plays
+returns-in_err-give_due-clause-plays g c =
+    λ sink. rw (stopped c.from_residual-in_err-give_due.result c.in_err-give_due.field-0.0
+    c.from_residual-in_err-give_due.ensures.1) (play_first 1 _ c.args.self.now.ports.joiner.most calls
+    c.args.self.now.caller (λ (v : CallerState). v ≡ c.args.self.now.caller) _ _ _ _ _ _ c.in_err-give_due.field-0.0
+    (plays_at 1 c.args.self.now.ports.node _ _ _ _ _ _ clocks AnyEvent _ c.requires.ready.number refl
+    (c.in_ok-clock.ensures.plays sink)) (polls_at 1 c.args.self.now.ports.node _ _ _ _ _ _
+    c.args.self.now.ports.joiner.most c.args.self.now.ports.joiner.most _ c.requires.ready.number c.clock.ensures.setup
+    refl (c.in_err-give_due.ensures.plays sink)))
+
+pub returns-in_err-ended-clause-plays : goal.returns-in_err-ended-clause-plays
+returns-in_err-ended-clause-plays g c =
+    λ sink. rw (stopped c.from_residual-in_err-ended.result stops.OutOfMemory c.from_residual-in_err-ended.ensures.1)
+    (play_turn 1 _ c.args.self.now.ports.joiner.most calls c.args.self.now.caller
+    (λ (v : CallerState). v ≡ c.turn.new.self) _ _ _ _ _ _ _ _ stops.OutOfMemory (λ (v : CallerState). v ≡
+    c.turn.new.self) (plays_at 1 c.args.self.now.ports.node _ _ _ _ _ _ clocks AnyEvent _ c.requires.ready.number refl
+    (c.in_ok-clock.ensures.plays sink)) (polls_at 1 c.args.self.now.ports.node _ _ _ _ _ _
+    c.args.self.now.ports.joiner.most c.args.self.now.ports.joiner.most _ c.requires.ready.number c.clock.ensures.setup
+    refl (c.in_ok-give_due.ensures.plays sink)) (plays_at 1 c.args.self.now.caller.node _ _ _ _ _ _
+    (calls c.args.self.now.caller) (λ (v : CallerState). v ≡ c.turn.new.self) _ c.requires.number refl
+    (call_wanted c.args.self.now.caller.node _ c.args.self.now.caller c.turn.new.self _ _ _ _ sink _
+    (λ (v : CallerState). v ≡ c.turn.new.self) c.in_err-ended.ensures.wanting)))
+
+pub returns-in_err-give_due-2-clause-plays : goal.returns-in_err-give_due-2-clause-plays
+returns-in_err-give_due-2-clause-plays g c =
+    λ sink. rw (stopped c.from_residual-in_err-give_due-2.result c.in_err-give_due-2.field-0.0
+    c.from_residual-in_err-give_due-2.ensures.1) (play_last 1 _ c.args.self.now.ports.joiner.most calls
+    c.args.self.now.caller (λ (v : CallerState). v ≡ c.turn.new.self) _ _ _ _ _ _ _ _ _ _
+    (Some c.in_err-give_due-2.field-0.0) (plays_at 1 c.args.self.now.ports.node _ _ _ _ _ _ clocks AnyEvent _
+    c.requires.ready.number refl (c.in_ok-clock.ensures.plays sink)) (polls_at 1 c.args.self.now.ports.node _ _ _ _ _ _
+    c.args.self.now.ports.joiner.most c.args.self.now.ports.joiner.most _ c.requires.ready.number c.clock.ensures.setup
+    refl (c.in_ok-give_due.ensures.plays sink)) (plays_at 1 c.args.self.now.caller.node _ _ _ _ _ _
+    (calls c.args.self.now.caller) (λ (v : CallerState). v ≡ c.turn.new.self) _ c.requires.number refl
+    (call_turned c.args.self.now.caller.node _ c.args.self.now.caller c.turn.new.self _ _ _ _ sink _
+    c.in_ok-ended.ensures.turned)) (polls_at 1 c.give_due.new.self.node _ _ _ _ _ _ c.give_due.new.self.joiner.most
+    c.args.self.now.ports.joiner.most (Some c.in_err-give_due-2.field-0.0) (c.give_due.ensures.node
+    ∙ c.requires.ready.number) (c.turn.ensures.setup ∙ c.give_due.ensures.setup ∙ c.clock.ensures.setup)
+    c.give_due.ensures.most (c.in_err-give_due-2.ensures.plays sink)))
+
+pub returns-clause-plays : goal.returns-clause-plays
+returns-clause-plays g c =
+    λ sink. play_last 1 _ c.args.self.now.ports.joiner.most calls c.args.self.now.caller
+    (λ (v : CallerState). v ≡ c.turn.new.self) _ _ _ _ _ _ _ _ _ _ None (plays_at 1 c.args.self.now.ports.node _ _ _ _ _
+    _ clocks AnyEvent _ c.requires.ready.number refl (c.in_ok-clock.ensures.plays sink))
+    (polls_at 1 c.args.self.now.ports.node _ _ _ _ _ _ c.args.self.now.ports.joiner.most
+    c.args.self.now.ports.joiner.most _ c.requires.ready.number c.clock.ensures.setup refl
+    (c.in_ok-give_due.ensures.plays sink)) (plays_at 1 c.args.self.now.caller.node _ _ _ _ _ _
+    (calls c.args.self.now.caller) (λ (v : CallerState). v ≡ c.turn.new.self) _ c.requires.number refl
+    (call_turned c.args.self.now.caller.node _ c.args.self.now.caller c.turn.new.self _ _ _ _ sink _
+    c.in_ok-ended.ensures.turned)) (polls_at 1 c.give_due.new.self.node _ _ _ _ _ _ c.give_due.new.self.joiner.most
+    c.args.self.now.ports.joiner.most None (c.give_due.ensures.node ∙ c.requires.ready.number)
+    (c.turn.ensures.setup ∙ c.give_due.ensures.setup ∙ c.clock.ensures.setup) c.give_due.ensures.most
+    (c.in_ok-give_due-2.ensures.plays sink))
+
+pub returns-clause-number : goal.returns-clause-number
+returns-clause-number g c =
+    node_kept REPLY_BYTES (begun c.args.self.now.caller) c.turn.new.self c.in_ok-ended.ensures.turned.events
+    c.in_ok-ended.ensures.turned.turns.runs ∙ c.requires.number

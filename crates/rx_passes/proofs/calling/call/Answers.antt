@@ -1,0 +1,16 @@
+use Rattle.std.proofs.Common.{inr, refl}
+use Rattle.rx_passes.specs.Tells.{told}
+use Rattle.rx_passes.proofs.calling.call.Goals as goal
+
+pub returns-in-Ok : goal.returns-in-Ok
+returns-in-Ok g c =
+    λ sink. inr (
+      c.in-Ok.host,
+      told _ sink _,
+      refl,
+      refl,
+      c.in-Ok.ensures.ok,
+      c.in-Ok.ensures.same,
+      c.in-Ok.ensures.same_moment,
+      c.call_from.ensures sink,
+    )

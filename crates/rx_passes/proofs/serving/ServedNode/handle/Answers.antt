@@ -1,0 +1,30 @@
+use Rattle.std.proofs.Common.{refl}
+use Rattle.rx_dispatch.specs.Handlers.{handlers_of}
+use Rattle.rx_dispatch.specs.States.{state_of}
+use Rattle.rx_passes.specs.declared.stop.Stop.TheVariants.{OutOfMemory}
+use Rattle.rx_passes.specs.Turned.{handles_wants}
+use Rattle.rx_passes.proofs.Dispatching.{handled_none, handled_some}
+use Rattle.rx_passes.proofs.Running.{is_stopped}
+use Rattle.rx_passes.proofs.serving.ServedNode.handle.Goals as goal
+
+pub returns-in_err-event-clause-handled : goal.returns-in_err-event-clause-handled
+returns-in_err-event-clause-handled g c =
+    rw (is_stopped c.from_residual.result OutOfMemory c.from_residual.ensures.1) (handles_wants OutOfMemory (record {
+      wants = refl;
+      server = c.in_err-event.ensures.wanting.1;
+      noted = refl;
+      sink = refl;
+    }))
+
+pub returns-in-Some-clause-handled : goal.returns-in-Some-clause-handled
+returns-in-Some-clause-handled g c =
+    handled_some g.C.Class.class_of (handlers_of c.args.iface.now (state_of c.args.self.now.dispatcher).script)
+    (state_of c.args.self.now.dispatcher).round (state_of c.step.new.self).round c.args.self.now.server
+    c.step.new.server _ _ _ _ c.tell.result (state_of c.step.new.self).round.jobs c.in_ok-event.field-0 c.in-Some.event
+    c.in-Some.is c.in_ok-event.ensures.made c.tell.ensures.told c.tell.ensures.again
+
+pub returns-in-None-clause-handled : goal.returns-in-None-clause-handled
+returns-in-None-clause-handled g c =
+    handled_none g.C.Class.class_of (handlers_of c.args.iface.now (state_of c.args.self.now.dispatcher).script)
+    (state_of c.args.self.now.dispatcher).round (state_of c.step.new.self).round c.args.self.now.server
+    c.step.new.server _ _ _ _ c.in_ok-event.field-0 c.in-None.is c.in_ok-event.ensures.made refl refl

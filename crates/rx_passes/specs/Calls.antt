@@ -1,0 +1,172 @@
+-- The passes of a client that makes a call, and what it tells. Public clauses cite this module.
+use Rattle.std.specs.Prelude.{◌≡◌, ◌<◌, ◌≤◌, ◌⊎◌, ℕ, true, List, [], ◌++◌, None, Result, Ok, Err, is_some}
+use Rattle.rx_base.specs.Sink.{HasRisen}
+use Rattle.rx_caller.specs.Asks.{begun, calling}
+use Rattle.rx_caller.specs.View.{CallerState, caller_for}
+use Rattle.rx_caller.specs.declared.caller.TheConstants.{REPLY_BYTES}
+use Rattle.rx_model.specs.declared.event.Event.{Event}
+use Rattle.rx_model.specs.declared.event.Event.TheVariants as events
+use Rattle.rx_model.specs.declared.names.CallName.{CallName}
+use Rattle.rx_model.specs.declared.names.Host.{Host}
+use Rattle.rx_rules.specs.Classes.{Class}
+use Rattle.rx_rules.specs.Rules.{Legal}
+use Rattle.rx_rules.specs.Setup.{Client, Setup}
+use Rattle.rx_udp.specs.Wire.{HasBound, Logged}
+use Rattle.rx_wire.specs.Turns.{Runs, Turns, after_all}
+use Rattle.rx_passes.specs.declared.calling.CallEnd.{CallEnd}
+use Rattle.rx_passes.specs.declared.calling.CallEnd.TheVariants as call_ends
+use Rattle.rx_passes.specs.declared.calling.Calling.{Calling as Words}
+use Rattle.rx_passes.specs.declared.stop.Stop.{Stop}
+use Rattle.rx_passes.specs.declared.stop.Stop.TheVariants as stops
+use Rattle.rx_passes.specs.Parts.{Came, To, Cut, One, Part, Place, Then, behind, ends}
+use Rattle.rx_passes.specs.Ports.{clocks, takes}
+use Rattle.rx_passes.specs.Serves.{Passed, pass, plays}
+use Rattle.rx_passes.specs.Tells.{Breaks, Gains, Told, Wants}
+
+-- ---- the beginning
+
+-- a connection to a service of a host, whose first call has the number 1
+abbrev pub IsLinked : Host → ℕ → Event → Type 0
+IsLinked to service (events.Linked its_to its first got) = (its_to ≡ to) × (its ≡ service) × (first ≡ 1)
+IsLinked to service _ = ⊥
+
+-- a call on a connection
+abbrev pub IsCalledOn : ℕ → Event → Type 0
+IsCalledOn cid (events.Called its got) = its ≡ cid
+IsCalledOn cid _ = ⊥
+
+-- the name that a call answered; where it answered none, nothing more is made
+abbrev pub named : Event → Came CallName
+named (events.Called cid (Ok name)) = To name
+named _ = Cut
+
+-- the cid of the connection that was made
+abbrev pub linked : Event → Came ℕ
+linked (events.Linked to service first (Ok cid)) = To cid
+linked _ = Cut
+
+-- a call is begun on a connection
+abbrev pub begins_on : ℕ → Part CallName
+begins_on cid = Then (One (IsCalledOn cid)) (λ c. ends (named c))
+
+-- the connection is made, and then the call on it
+abbrev pub begins_to : Host → ℕ → Part CallName
+begins_to to service = Then (Then (One (IsLinked to service)) (λ l. ends (linked l))) begins_on
+
+-- the clock is handed in before
+abbrev pub begins : Words → Part CallName
+begins w = Then clocks (λ e. begins_to w.to w.service)
+
+-- ---- passes
+
+-- a turn of the caller
+abbrev pub calls : CallerState → Part CallerState
+calls v p es ls (To w) = (ls ≡ []) × Turns (calling REPLY_BYTES) (begun v) es w
+calls v p es ls Cut = (ls ≡ []) × ((w : CallerState) × Runs (calling REPLY_BYTES) (begun v) es w)
+
+-- what a call is made by: how its client is set up, how many datagrams at most are given as one, and how many takes are
+-- made at most
+pub record CallTerms : Type 0 where
+  pub setup : Setup
+  pub most : ℕ
+  pub turns : ℕ
+
+-- a pass of it up to its take
+abbrev pub call_play : CallTerms → CallerState → Part CallerState
+call_play t = plays t.most calls
+
+-- its take
+abbrev pub call_take : CallTerms → Part (Unit {0})
+call_take t = takes t.setup None
+
+-- passes go on while the call isn't ended
+abbrev pub call_goes : CallerState → Place → Type 0
+call_goes v p = v.end ≡ None
+
+-- so many of its passes
+abbrev pub CallPassed : CallTerms → CallerState → Place → ℕ → List Event → List Logged → CallerState → Type 0
+CallPassed t v p n es ls w = Passed (call_play t) (call_take t) call_goes v p n es ls w
+
+-- how the passes of a call went
+pub data CallCame : Type 0 where
+  IsEnded : CallerState → CallCame
+  IsSpent : CallCame
+  IsCut : CallCame
+
+-- the events and entries of the passes of a call, and how they went
+pub data Calls (t : CallTerms) (v : CallerState) (p : Place) : List Event → List Logged → CallCame → Type 0 where
+  -- the call ended in a pass
+  calls_ended : (n : ℕ) (es later : List Event) (ls later_log : List Logged) (w u : CallerState)
+      → n ≤ t.turns → CallPassed t v p n es ls w → call_play t w (behind es ls p) later later_log (To u)
+      → is_some u.end ≡ true → Calls t v p (es ++ later) (ls ++ later_log) (IsEnded u)
+  -- all takes were made before
+  calls_spent : (es later : List Event) (ls later_log : List Logged) (w u : CallerState)
+      → CallPassed t v p t.turns es ls w → call_play t w (behind es ls p) later later_log (To u) → u.end ≡ None
+      → Calls t v p (es ++ later) (ls ++ later_log) IsSpent
+  -- they were cut off in a pass, or in the last one
+  calls_cut : (n : ℕ) (es later : List Event) (ls later_log : List Logged) (w : CallerState)
+      → n < t.turns → CallPassed t v p n es ls w
+      → pass (call_play t) (call_take t) w (behind es ls p) later later_log Cut
+      → Calls t v p (es ++ later) (ls ++ later_log) IsCut
+  calls_cut_last : (es later : List Event) (ls later_log : List Logged) (w : CallerState)
+      → CallPassed t v p t.turns es ls w → call_play t w (behind es ls p) later later_log Cut
+      → Calls t v p (es ++ later) (ls ++ later_log) IsCut
+
+-- ---- what it tells
+
+-- by how it ended and how it went
+abbrev pub CallEnds : ℕ → Result CallEnd Stop → CallCame → Told → Told → List Event → List Logged → Type 0
+CallEnds node (Ok (call_ends.Ended caller)) (IsEnded v) before after es ls =
+    (caller ≡ v) × Gains node before after es ls
+CallEnds node (Ok call_ends.TurnsSpent) IsSpent before after es ls = Gains node before after es ls
+CallEnds node (Err stops.OutOfMemory) IsCut before after es ls = Wants node before after es ls
+CallEnds node (Err stops.WireFault) IsCut before after es ls = Breaks node before after es ls
+CallEnds node _ _ before after es ls = ⊥
+
+-- passes of a call were made and told, and the history of its client is legal
+pub record CallMade (t : CallTerms) (v : CallerState) (p : Place) (result : Result CallEnd Stop) (before after : Told)
+    : Type 0 where
+  pub events : List Event
+  pub log : List Logged
+  pub came : CallCame
+  pub calls : Calls t v p events log came
+  pub legal : Legal t.setup (after_all events p.history)
+  pub ends : CallEnds 1 result came before after events log
+
+-- ---- the whole command
+
+-- how a client is set up on a host, by what a call is made with and its class
+abbrev pub client_setup : Words → Class → Host → Setup
+client_setup w class host = record { kind = Client host w.epoch; limits = w.limits; class = class }
+
+-- what the call is made by
+abbrev pub call_terms : Words → Setup → CallTerms
+call_terms w s = record { setup = s; most = w.jumbo; turns = w.turns }
+
+-- the wire wasn't bound, and nothing was told
+pub record CallsNothing (result : Result CallEnd Stop) (before after : Told) : Type 0 where
+  pub result_is : result ≡ Err stops.WireFault
+  pub noted : after.noted ≡ before.noted
+  pub sink : after.sink ≡ before.sink
+  pub traffic : after.wire.traffic ≡ before.wire.traffic
+  pub calls : HasRisen before.wire.faults after.wire.faults
+
+-- The beginning of a call ended it, for want of memory; or it began, and passes were made.
+abbrev pub CallsBound : Words → List ℕ → Setup → Result CallEnd Stop → Told → Told → Type 0
+CallsBound w request s result before after =
+    ((result ≡ Err stops.OutOfMemory) × ((es : List Event) × (ls : List Logged)
+    × begins w (record { history = []; now = before.wire.moment }) es ls Cut × Legal s (after_all es [])
+    × Wants 1 before after es ls))
+    ⊎ ((name : CallName) × (es : List Event) × (ls : List Logged) × (between : Told)
+    × begins w (record { history = []; now = before.wire.moment }) es ls (To name) × Gains 1 before between es ls
+    × CallMade (call_terms w s) (caller_for 1 name request)
+    (behind es ls (record { history = []; now = before.wire.moment })) result between after)
+
+-- The wire is bound to the host that was asked for, and the client is set up on the one that it got.
+abbrev pub CallIs : Words → List ℕ → Class → Result CallEnd Stop → Told → Told → Type 0
+CallIs w request class result before after =
+    CallsNothing result before after
+    ⊎ ((host : Host) × (bound : Told) × (bound.noted ≡ before.noted) × (bound.sink ≡ before.sink)
+    × HasBound before.wire.traffic bound.wire.traffic w.from host × (bound.wire.faults ≡ before.wire.faults)
+    × (bound.wire.moment ≡ before.wire.moment)
+    × CallsBound w request (client_setup w class host) result bound after)

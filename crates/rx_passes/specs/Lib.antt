@@ -1,0 +1,12 @@
+pub mod Nodes
+pub mod Parts
+pub mod Tells
+pub mod Runs
+pub mod Ports
+pub mod Texts
+pub mod Lines
+pub mod Serves
+pub mod Serving
+pub mod Turned
+pub mod Calls
+pub mod ToldCalls

@@ -1,0 +1,243 @@
+-- What goes between a node and its wire. Public clauses cite this module.
+use Rattle.std.specs.Prelude.{◌≡◌, ◌⊎◌, ◌+◌, ◌-◌, ◌^◌, ◌≤◌, ℕ, min, Bool, true, false, List, [], ◌∷◌, ◌++◌, map, length}
+use Rattle.std.specs.Prelude.{Option, Some, None, IfNone}
+use Rattle.rx_base.specs.Sink.{HasRisen}
+use Rattle.rx_jumbo.specs.JoinerState.{JoinerState}
+use Rattle.rx_jumbo.specs.Parts.{parts_of}
+use Rattle.rx_model.specs.declared.answers.Took.{Took}
+use Rattle.rx_model.specs.declared.event.Event.{Event}
+use Rattle.rx_model.specs.declared.event.Event.TheVariants as events
+use Rattle.rx_model.specs.declared.names.Host.{Host}
+use Rattle.rx_rules.specs.After.{looks}
+use Rattle.rx_rules.specs.Items.{due}
+use Rattle.rx_rules.specs.Setup.{Setup}
+use Rattle.rx_model.specs.declared.event.Noted.{Noted}
+use Rattle.rx_udp.specs.Wire.{Came as Arrived, HasLogged, Logged, TookUntil, GaveTo}
+use Rattle.rx_wire.specs.Journal.{HasNoted}
+use Rattle.rx_wire.specs.Turns.{noted}
+use Rattle.rx_passes.specs.declared.stop.Stop.{Stop}
+use Rattle.rx_passes.specs.declared.stop.Stop.TheVariants as stops
+use Rattle.rx_passes.specs.Parts.{To, Cut, Part, Place, One, Then}
+use Rattle.rx_passes.specs.Tells.{HasLoggedAll, WireTells}
+
+-- what a contract sees of the ports of a node: its number, and the datagrams that are held back
+pub record PortsState : Type 0 where
+  pub node : ℕ
+  pub joiner : JoinerState
+
+-- ---- the clock
+
+-- the moment of the wire is handed in
+abbrev pub clocks : Part Event
+clocks p = One (λ e. e ≡ events.Clocked p.now) p
+
+-- ---- polling
+
+-- the events of polls that gave these datagrams
+abbrev pub polled_all : List (Host × List ℕ) → List Event
+polled_all ds = map (λ d. events.Polled (Some d)) ds
+
+-- the entries of these datagrams given
+abbrev pub gave_all : List (Host × List ℕ) → List Logged
+gave_all ds = map (λ d. GaveTo d.0 d.1) ds
+
+-- datagrams for one host
+abbrev pub all_for : Host → List (List ℕ) → List (Host × List ℕ)
+all_for to bs = map (λ b. (to, b)) bs
+
+-- the parts of these datagrams, in order
+abbrev pub parts_all : List (Host × List ℕ) → List (Host × List ℕ)
+parts_all [] = []
+parts_all (d ∷ ds) = all_for d.0 (parts_of d.1) ++ parts_all ds
+
+-- none of these has more parts
+abbrev pub AreOfFew : ℕ → List (Host × List ℕ) → Type 0
+AreOfFew most [] = Unit {0}
+AreOfFew most (d ∷ ds) = (length (parts_of d.1) ≤ most) × AreOfFew most ds
+
+-- polls until one gave nothing: what they gave was given on the wire, joined
+pub record PollsOut (most : ℕ) (es : List Event) (ls : List Logged) : Type 0 where
+  pub polled : List (Host × List ℕ)
+  pub given : List (Host × List ℕ)
+  pub events : es ≡ polled_all polled ++ events.Polled None ∷ []
+  pub log : ls ≡ gave_all given
+  pub joined : parts_all given ≡ polled
+  pub few : AreOfFew most given
+
+-- polls that were cut off: a suffix of what they gave may be missing on the wire
+pub record PollsCut (most : ℕ) (es : List Event) (ls : List Logged) : Type 0 where
+  pub polled : List (Host × List ℕ)
+  pub given : List (Host × List ℕ)
+  pub missing : List (Host × List ℕ)
+  pub events : (es ≡ polled_all polled) ⊎ (es ≡ polled_all polled ++ events.Polled None ∷ [])
+  pub log : ls ≡ gave_all given
+  pub joined : parts_all given ++ missing ≡ polled
+  pub few : AreOfFew most given
+
+-- one polling, of which at most so many datagrams are given as one
+abbrev pub polls : ℕ → Part (Unit {0})
+polls most p es ls (To done) = PollsOut most es ls
+polls most p es ls Cut = PollsCut most es ls
+
+-- ---- taking
+
+-- the lesser of a number and another, if there is one
+abbrev pub lesser : Option ℕ → ℕ → ℕ
+lesser None n = n
+lesser (Some m) n = min n m
+
+-- Up to which moment a take waits: the least of what is due at the node, the end if there is one, a minute after the
+-- node's moment, and the last moment that there is.
+abbrev pub until_of : Setup → Option ℕ → List Event → ℕ
+until_of s end h = lesser (due s (looks s h)) (lesser end (min ((looks s h).now + 60000) (2 ^ 62 - 1)))
+
+-- a single datagram was taken from a host
+abbrev pub IsTaken : Host → List ℕ → Event → Type 0
+IsTaken from b e = (got : Took) × (e ≡ events.Taken from b got)
+
+-- the events are the takings of these, one for each
+abbrev pub TakesAll : Host → List (List ℕ) → List Event → Type 0
+TakesAll from [] es = es ≡ []
+TakesAll from (b ∷ bs) [] = ⊥
+TakesAll from (b ∷ bs) (e ∷ es) = IsTaken from b e × TakesAll from bs es
+
+-- the events are the takings of the first of these
+abbrev pub TakesSome : Host → List (List ℕ) → List Event → Type 0
+TakesSome from bs [] = Unit {0}
+TakesSome from [] (e ∷ es) = ⊥
+TakesSome from (b ∷ bs) (e ∷ es) = IsTaken from b e × TakesSome from bs es
+
+-- the node takes these from a host, one after another
+abbrev pub takes_parts : Host → List (List ℕ) → Part (Unit {0})
+takes_parts from bs p es ls (To done) = (ls ≡ []) × TakesAll from bs es
+takes_parts from bs p es ls Cut = (ls ≡ []) × TakesSome from bs es
+
+-- the node takes what came, if anything came: the clock is handed in, and then it takes each part
+abbrev pub takes_came : Option Arrived → Part (Unit {0})
+takes_came None p es ls (To done) = (es ≡ []) × (ls ≡ [])
+takes_came None p es ls Cut = ⊥
+takes_came (Some came) p es ls out = Then clocks (λ e. takes_parts came.from (parts_of came.bytes)) p es ls out
+
+-- one take up to this moment in the log, by which this came: if nothing came, it waited up to its moment
+pub record Waits (until : ℕ) (p : Place) (ls : List Logged) (came : Option Arrived) : Type 0 where
+  pub moment : ℕ
+  pub log : ls ≡ TookUntil until came moment ∷ []
+  pub later : p.now ≤ moment
+  pub reached : IfNone came (until ≤ moment)
+
+-- the wire is waited on up to this moment, for what comes
+abbrev pub waits : ℕ → Part (Option Arrived)
+waits until p es ls (To came) = (es ≡ []) × Waits until p ls came
+waits until p es ls Cut = (es ≡ []) × (ls ≡ [])
+
+-- one take up to this moment, of which the node takes what came
+abbrev pub takes_until : ℕ → Part (Unit {0})
+takes_until until = Then (waits until) takes_came
+
+-- one take of a node that is set up so and has to end at some moment, if it has
+abbrev pub takes : Setup → Option ℕ → Part (Unit {0})
+takes s end p = takes_until (until_of s end p.history) p
+
+-- ---- parts of these
+
+-- the datagrams that are held back, with their host
+abbrev pub held : JoinerState → List (Host × List ℕ)
+held j = all_for j.host j.datagrams
+
+-- a joiner has room for one datagram at least, and holds as many as it has room for at most
+pub record IsWithin (j : JoinerState) : Type 0 where
+  pub some : 1 ≤ j.most
+  pub few : length j.datagrams ≤ j.most
+
+-- it has room for as many as before, and holds as many as it has room for at most
+pub record Keeps (old new : JoinerState) : Type 0 where
+  pub within : IsWithin new
+  pub most : new.most ≡ old.most
+
+-- the wire gave these datagrams, one after another, and failed then or didn't; memory isn't wanted for it
+abbrev pub Gave : WireTells → WireTells → List (Host × List ℕ) → Option Stop → Type 0
+Gave before after given None =
+    HasLoggedAll before.traffic after.traffic (gave_all given) × (after.faults ≡ before.faults)
+    × (after.moment ≡ before.moment)
+Gave before after given (Some stops.WireFault) =
+    HasLoggedAll before.traffic after.traffic (gave_all given) × HasRisen before.faults after.faults
+    × (after.moment ≡ before.moment)
+Gave before after given (Some stops.SinkFault) = ⊥
+Gave before after given (Some stops.OutOfMemory) = ⊥
+
+-- what is held back behind these datagrams given: nothing is missing where the wire didn't fail
+abbrev pub Behind : List (Host × List ℕ) → List (Host × List ℕ) → JoinerState → Option Stop → Type 0
+Behind all given new None = parts_all given ++ held new ≡ all
+Behind all given new (Some stop) = (missing : List (Host × List ℕ)) × (parts_all given ++ missing ≡ all)
+
+-- datagrams were given of these, in order, and the rest of them is held back
+pub record Passes (all : List (Host × List ℕ)) (old new : JoinerState) (before after : WireTells) (stop : Option Stop)
+    : Type 0 where
+  pub given : List (Host × List ℕ)
+  pub gave : Gave before after given stop
+  pub rest : Behind all given new stop
+  pub few : AreOfFew old.most given
+
+-- what is held back was given, and nothing is then
+pub record Empties (old new : JoinerState) (before after : WireTells) (stop : Option Stop) : Type 0 where
+  pub passes : Passes (held old) old new before after stop
+  pub empty : stop ≡ None → new.datagrams ≡ []
+
+-- a poll gave a datagram, which was passed on; or it gave none
+pub record PollsOne (old new : JoinerState) (es : List Event) (ls : List Logged) : Type 0 where
+  pub datagram : Host × List ℕ
+  pub given : List (Host × List ℕ)
+  pub events : es ≡ events.Polled (Some datagram) ∷ []
+  pub log : ls ≡ gave_all given
+  pub joined : parts_all given ++ held new ≡ held old ++ datagram ∷ []
+  pub few : AreOfFew old.most given
+
+-- a poll that gave a datagram was cut off
+pub record CutsOne (old : JoinerState) (es : List Event) (ls : List Logged) : Type 0 where
+  pub datagram : Host × List ℕ
+  pub given : List (Host × List ℕ)
+  pub missing : List (Host × List ℕ)
+  pub events : es ≡ events.Polled (Some datagram) ∷ []
+  pub log : ls ≡ gave_all given
+  pub joined : parts_all given ++ missing ≡ held old ++ datagram ∷ []
+  pub few : AreOfFew old.most given
+
+-- one poll, and whether it gave something
+abbrev pub polls_once : JoinerState → JoinerState → Part Bool
+polls_once old new p es ls (To true) = PollsOne old new es ls
+polls_once old new p es ls (To false) = (es ≡ events.Polled None ∷ []) × (ls ≡ []) × (new ≡ old)
+polls_once old new p es ls Cut = ((es ≡ events.Polled None ∷ []) × (ls ≡ [])) ⊎ CutsOne old es ls
+
+-- an event was noted, or memory was wanted for that
+abbrev pub NotesOne : ℕ → Option (List Noted) → Option (List Noted) → Event → Option Stop → Type 0
+NotesOne node before after e None = HasNoted before after (noted node e)
+NotesOne node before after e (Some stops.OutOfMemory) = after ≡ before
+NotesOne node before after e (Some stops.SinkFault) = ⊥
+NotesOne node before after e (Some stops.WireFault) = ⊥
+
+-- the wire gave a datagram, or failed
+abbrev pub GivesOne : WireTells → WireTells → Host × List ℕ → Option Stop → Type 0
+GivesOne before after d None =
+    HasLogged before.traffic after.traffic (GaveTo d.0 d.1) × (after.faults ≡ before.faults)
+    × (after.moment ≡ before.moment)
+GivesOne before after d (Some stops.WireFault) =
+    (after.traffic ≡ before.traffic) × HasRisen before.faults after.faults × (after.moment ≡ before.moment)
+GivesOne before after d (Some stops.SinkFault) = ⊥
+GivesOne before after d (Some stops.OutOfMemory) = ⊥
+
+-- a datagram that was polled was noted and passed on; or memory was wanted for its note; or the wire failed
+abbrev pub PassesOn : ℕ → JoinerState → JoinerState → Option (List Noted) → Option (List Noted) → Host × List ℕ
+    → WireTells → WireTells → Option Stop → Type 0
+PassesOn node old new before after d first last None =
+    HasNoted before after (noted node (events.Polled (Some d))) × Passes (held old ++ d ∷ []) old new first last None
+PassesOn node old new before after d first last (Some stops.OutOfMemory) = (after ≡ before) × (last ≡ first)
+PassesOn node old new before after d first last (Some stops.SinkFault) = ⊥
+PassesOn node old new before after d first last (Some stops.WireFault) =
+    HasNoted before after (noted node (events.Polled (Some d)))
+    × Passes (held old ++ d ∷ []) old new first last (Some stops.WireFault)
+
+-- the ports of a node with this number that join so many datagrams at most, with none held back
+pub record AreReady (node most : ℕ) (ports : PortsState) : Type 0 where
+  pub number : ports.node ≡ node
+  pub most_is : ports.joiner.most ≡ most
+  pub empty : ports.joiner.datagrams ≡ []
