@@ -1,9 +1,9 @@
 #!/usr/bin/env python3
 """Runs the program as its callers do: .ci/program.py [PROGRAM]
 
-Compares the exit status and the bytes that arrive from standard output and standard error with the table of
-docs/FORMATS.md and with examples/afs/*.table, and the statuses of the script ./rx with what is said there. PROGRAM is the
-one that the gate built, or else the one that ./rx builds."""
+Compares the exit status and the bytes that arrive from standard output and standard error with the table of statuses of
+README.md, with docs/FORMATS.md and with examples/afs/*.table, and the statuses of the script ./rx with what is said
+there. PROGRAM is the one that the gate built, or else the one that ./rx builds."""
 import contextlib
 import os
 import pathlib
@@ -19,8 +19,8 @@ failed = []
 
 
 def statuses():
-    """The exit status and the line on standard error of each way to end, by the table under "The command"."""
-    text = (top / "docs" / "FORMATS.md").read_text().split("\n## The command\n")[1].split("\n## ")[0]
+    """The exit status and the line on standard error of each way to end, by the table under "Commands"."""
+    text = (top / "README.md").read_text().split("\n## Commands\n")[1].split("\n## ")[0]
     rows = re.findall(r"^\| (\d) (\w+) \| (?:`(.*)`)? *\|", text, flags=re.M)
     return {name: (int(number), line + "\n" if line else "") for number, name, line in rows}
 
@@ -70,10 +70,14 @@ def usage():
     lists = *lists, ["sim", "plan", "--script", "plan"], ["sim", "plan", "--xg"], ["sim", "plan", "--xg=x", "--xg=x"]
     for words in (*lists, ["compile"], ["compile", "plan", "plan"], ["compile", "-plan"]):
         expect(f"the words {words}", run(*words), "Usage")
+    # options that are missing or out of range
+    serve, call = ["serve", "x.xg", "script"], ["call", "x.xg", "P", "[]", "--to", "127.0.0.1:7000"]
+    at, epoch = ["--at", "127.0.0.1:7000"], ["--epoch", "1"]
+    lists = serve, [*serve, *at, "--jumbo", "17"], [*serve, *at, "--nonce", "1"], [*serve, *at, *epoch]
+    for words in (*lists, call, [*call, *epoch, "--down", "no"], [*call, *epoch, "--turns", "0"], [*call, *epoch, *at]):
+        expect(f"the words {words}", run(*words), "Usage")
     # commands that the program doesn't have yet
-    serve = ["serve", "x.xg", "script", "--at", "127.0.0.1:7000"]
-    call = ["call", "x.xg", "P", "[]", "--to", "127.0.0.1:7000", "--epoch", "1"]
-    for words in (serve, call, ["load", "1", "40"], ["peers", "x.xg", "script", "plan"]):
+    for words in (["load", "1", "40"], ["peers", "x.xg", "script", "plan"]):
         expect(f"the words {words}", run(*words), "Usage")
     for words in ([b"\xff"], [b"sim", b"\xff"], [b"sim", b"plan", b"\xed\xa0\x80"]):
         expect(f"the words {words}", run(*words), "Usage")
@@ -122,10 +126,10 @@ def plans():
 
 
 def interfaces():
-    """Interface files: each of examples/afs/ has its table; each kind of refusal has its line, and nothing is printed."""
-    for source in sorted((top / "examples" / "afs").glob("*.xg")):
-        table = source.with_suffix(".table").read_bytes()
-        expect(f"examples/afs/{source.name}", run("compile", source), "Ok", table)
+    """Interface files: those of examples/afs/ have their tables; each kind of refusal has its line, and nothing is printed."""
+    for table in sorted((top / "examples" / "afs").glob("*.table")):
+        source = table.with_suffix(".xg")
+        expect(f"examples/afs/{source.name}", run("compile", source), "Ok", table.read_bytes())
     counted = "startingopcode 5 P(int a, OUT int b); Q(c_t x); typedef int c_t;"
     table = b"interface - -\ntype c_t int\nproc 5 P plain in:a:int out:b:int\nproc 6 Q plain in:x:c_t\n"
     expect("counted opcodes", run("compile", write("x.xg", counted)), "Ok", table)
@@ -163,6 +167,97 @@ def interfaces():
     for place in ("/dev/full", "&-"):
         through = ["sh", "-c", f'exec "$@" >{place}', "sh"]
         expect(f"a table to {place}", run("compile", write("x.xg", ""), through=through), "SinkFault")
+
+
+def refused_calls():
+    """Calls that end before a socket is bound: what is asked for is judged behind the interface file."""
+    write("x.xg", "P(IN int a, INOUT string b<4>) = 1; Q(IN int a) split = 2; R(IN opaque a<70000>) = 3;")
+    write("long", b"0" * 16_777_217), write("short", b"0" * 31)
+
+    def call(*words):
+        return run("call", *words, "--to", "127.0.0.1:9", "--epoch", "1")
+
+    rows = [
+        (["x.xg", "S", "nothing"], "proc"), (["x.xg", "P", "nothing", "--down", "yes"], "kind"),
+        (["x.xg", "P", "nothing", "--up", "none"], "kind"), (["x.xg", "P", "nothing"], "notjson"),
+        (["x.xg", "P", "[1]"], "mismatch $ args"), (["x.xg", "P", '[1,"five5"]'], "mismatch $[1] string<4>"),
+        (["x.xg", "P", '[1,"four",2]'], "mismatch $ args"), (["x.xg", "R", '["' + "00" * 65_530 + '"]'], "-450"),
+        (["x.xg", "Q", "[1]", "--up", "long", "--key", "none"], "number"),
+    ]
+    STATUS["args"] = 2, "rx: args: WHY\n"
+    for words, why in rows:
+        expect(f"the call {[word[:20] for word in words]}", call(*words), "args", WHY=why)
+    for words, name in ((["none", "P", "[]"], "none"), (["x.xg", "Q", "[1]", "--up", "no", "--key", "none"], "no")):
+        expect(f"the call {words}", call(*words), "FileFault", NAME=name)
+    expect("a call with a key of 31 bytes", call("x.xg", "Q", "[1]", "--key", "short"), "Refused", FILE="short", LINE="0", WHY="key")
+    got = run("serve", "x.xg", write("s", "on T\n"), "--at", "127.0.0.1:0", "--key", "short")
+    expect("a server whose script is refused", got, "Refused", FILE="s", LINE="1", WHY="proc")
+
+
+@contextlib.contextmanager
+def served(ending, *words):
+    """The host of a server while it runs, and its lines behind it, which are looked at when it has ended."""
+    server = subprocess.Popen([PROGRAM, "serve", *words], stdout=subprocess.PIPE, stderr=subprocess.PIPE)
+    lines = []
+    try:
+        ready = server.stdout.readline().decode()
+        yield ready.removeprefix("ready ").strip(), lines
+        rest, err = server.communicate(timeout=100)
+        expect(f"the server {words}", (server.returncode, rest, err), ending, "".join(lines).encode())
+    finally:
+        server.kill()
+
+
+def wires():
+    """Calls over loopback, and what ends them; the calls of one server, one after another, from one host."""
+    xg = write("x.xg", "P(IN int a, INOUT string b<4>) = 1; Q(IN int a, OUT int n) split = 2; R() = 3;")
+    other = write("o.xg", "P(IN int a, INOUT string b<4>, OUT hyper c) = 1; S() = 9;")
+    script = write("s", "on P\nwhen a 7 77\non Q\nup\ndown\ncount n\necho\n")
+    write("up", b"\x00\xff" * 3), write("key", b"k" * 32), write("other", b"o" * 32)
+    STATUS["reply"] = 2, "rx: reply: -451\n"
+    rows = [
+        ([xg, "P", '[1,"a"]'], "Ok", 'ok ["a"]\n', {}, "finish NAME 0"),
+        ([xg, "Q", "[1]", "--up", "up", "--down", "yes"], "Ok", "ok [6] down 00ff00ff00ff\n", {}, "finish NAME 0"),
+        ([xg, "P", '[7,"a"]'], "Aborted", "", {"CODE": "77"}, "finish NAME 77"),
+        ([other, "S", "[]"], "Aborted", "", {"CODE": "-455"}, "finish NAME -455"),
+        ([other, "P", '[1,"a"]'], "reply", "", {}, "finish NAME 0"),
+        ([xg, "R", "[]", "--service", "2"], "Aborted", "", {"CODE": "-2"}, None),
+        ([xg, "R", "[]", "--key", "key"], "Aborted", "", {"CODE": "-2"}, None),
+    ]
+    with served("Ok", xg, script, "--at", "127.0.0.1:0", "--for", "3000") as (host, lines):
+        for epoch, (words, ending, out, more, finish) in enumerate(rows):
+            at = f"127.0.0.1:{20_000 + os.getpid() % 10_000 + epoch}"
+            got = run("call", *words, "--to", host, "--from", at, "--epoch", str(epoch))
+            expect(f"the call {words}", got, ending, out.encode(), **more)
+            if finish:
+                name = f"{at}/{epoch}/4/0/1"
+                lines.append(f"accept {name}\n{finish.replace('NAME', name)}\n")
+        lines.append("time up\n")
+    with served("Ok", xg, script, "--at", "127.0.0.1:0", "--for", "1500", "--key", "key", "--nonce", "5") as (host, lines):
+        at = f"127.0.0.1:{20_000 + os.getpid() % 10_000}"
+        words = [xg, "P", '[1,"a"]', "--to", host, "--epoch", "1"]
+        expect("a call with the key", run("call", *words, "--from", at, "--key", "key"), "Ok", b'ok ["a"]\n')
+        expect("a call with another key", run("call", *words, "--key", "other"), "Aborted", CODE="-5")
+        expect("a call without a key", run("call", *words), "Aborted", CODE="-2")
+        lines.append(f"accept {at}/1/4/0/1\nfinish {at}/1/4/0/1 0\ntime up\n")
+    # the example of README.md
+    example = [str(top / "examples" / f"fetch-status.{it}") for it in ("xg", "script")]
+    with served("Ok", *example, "--at", "127.0.0.1:0", "--for", "1000") as (host, lines):
+        at = f"127.0.0.1:{20_000 + os.getpid() % 10_000}"
+        words = [example[0], "FetchStatus", '[{"Volume":1,"Vnode":2,"Unique":3},"a",420]', "--to", host, "--epoch", "1"]
+        text = b'ok [420,[{"Unique":3,"Vnode":2,"Volume":1}]]\n'
+        expect("the call of the README", run("call", *words, "--from", at), "Ok", text)
+        lines.append(f"accept {at}/1/4/0/1\nfinish {at}/1/4/0/1 0\ntime up\n")
+    call = ["call", xg, "R", "[]", "--to", "127.0.0.1:9", "--epoch", "1"]
+    expect("a call of one take", run(*call, "--turns", "1"), "TurnsSpent", N="1")
+    expect("a call from a host of others", run(*call, "--from", "192.0.2.1:0"), "WireFault")
+    got = run("serve", xg, script, "--at", "192.0.2.1:0")
+    expect("a server on a host of others", got, "WireFault")
+    status, out, err = run(*call)
+    silence = re.fullmatch(r"rx: dead (\d+)\n", err.decode())
+    if (status, out) != (4, b"") or not silence or not 12_000 <= int(silence[1]) < 15_000:
+        failed.append("silence")
+        print(f"a call that nobody answers: {status}, {out}, {err}")
 
 
 def files():
@@ -264,7 +359,7 @@ def script():
 
 with tempfile.TemporaryDirectory() as folder:
     os.chdir(folder)
-    for part in (usage, plans, interfaces, files, streams, memory, script):
+    for part in (usage, plans, interfaces, refused_calls, wires, files, streams, memory, script):
         part()
     os.chdir(top)
 print(f"the program: {len(failed)} runs failed" if failed else "the program: each run ended and printed as it is to")

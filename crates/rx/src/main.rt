@@ -1,8 +1,9 @@
-//! Rx over the system: its words, files and streams.
+//! Rx over the system: its words, files, streams and sockets.
 #![tactic(auto)]
 
 use rx_base::{DiskFiles, StdSink};
 use rx_top::{end_without_words, rx_main};
+use rx_udp::UdpWire;
 use rx_wire::Forgetting;
 use std::process::ExitCode;
 use std::{env, io};
@@ -12,6 +13,7 @@ fn main(rt: HostRuntime) -> ExitCode {
     let mut files = DiskFiles::make(&rt);
     let mut out = StdSink::make(&stdout);
     let mut err = StdSink::make(&stderr);
+    let mut wire = UdpWire::make(&rt);
     let mut book = Forgetting;
     let status = match words(&rt) {
         Ok(words) => rx_main(
@@ -20,6 +22,7 @@ fn main(rt: HostRuntime) -> ExitCode {
             &mut files,
             &mut out,
             &mut err,
+            &mut wire,
             &mut book,
         ),
         Err(error) => end_without_words(error, &mut err),

@@ -1,2 +1,6 @@
 pub mod TopLemmas
 pub mod SimLemmas
+pub mod JobLemmas
+pub mod WireLemmas
+pub mod DrivingLemmas
+pub mod SilenceLemmas

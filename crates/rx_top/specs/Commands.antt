@@ -6,8 +6,8 @@ use Rattle.rx_words.specs.declared.command.Command.TheVariants as commands
 -- a command that the program has
 abbrev pub has_command : Command → Bool
 has_command (commands.Sim plan xg script) = true
-has_command (commands.Serve xg script at service span turns limits key nonce jumbo) = false
-has_command (commands.Call xg proc args to epoch from service turns up down window key jumbo) = false
+has_command (commands.Serve xg script at service span turns limits key nonce jumbo) = true
+has_command (commands.Call xg proc args to epoch from service turns up down window key jumbo) = true
 has_command (commands.Compile xg) = true
 has_command (commands.Load number calls) = false
 has_command (commands.Peers xg script plan) = false
@@ -17,8 +17,17 @@ abbrev pub is_command : Option Command → Bool
 is_command None = false
 is_command (Some c) = has_command c
 
--- the words are `sim`
-abbrev pub is_sim : Option Command → Bool
-is_sim None = false
-is_sim (Some (commands.Sim plan xg script)) = true
-is_sim (Some _) = false
+-- the words are a command that makes events: only these note any in a journal
+abbrev pub has_events : Option Command → Bool
+has_events None = false
+has_events (Some (commands.Sim plan xg script)) = true
+has_events (Some (commands.Serve xg script at service span turns limits key nonce jumbo)) = true
+has_events (Some (commands.Call xg proc args to epoch from service turns up down window key jumbo)) = true
+has_events (Some _) = false
+
+-- the words are a command over UDP: only these have to do with a wire
+abbrev pub has_wire : Option Command → Bool
+has_wire None = false
+has_wire (Some (commands.Serve xg script at service span turns limits key nonce jumbo)) = true
+has_wire (Some (commands.Call xg proc args to epoch from service turns up down window key jumbo)) = true
+has_wire (Some _) = false

@@ -8,9 +8,13 @@ abbrev pub number_of : Status → ℕ
 number_of statuses.Ok = 0
 number_of statuses.Usage = 1
 number_of statuses.Refused = 2
+number_of statuses.Aborted = 3
+number_of statuses.Dead = 4
 number_of statuses.Memory = 5
 number_of statuses.FileFault = 6
 number_of statuses.SinkFault = 7
+number_of statuses.WireFault = 8
+number_of statuses.TurnsSpent = 9
 
 -- what is said where the words are no command
 abbrev pub usage_text : List ℕ

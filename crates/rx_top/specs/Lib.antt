@@ -3,3 +3,7 @@ pub mod Compiles
 pub mod Commands
 pub mod Inputs
 pub mod Sims
+pub mod Wires
+pub mod Serves
+pub mod Calls
+pub mod Jobs

@@ -41,7 +41,8 @@ pub fn named_interface<'a, F: Files>(
     }
 }
 
-fn read_interface<'a, F: Files>(
+/// The interface of a file.
+pub fn read_interface<'a, F: Files>(
     alloc: Global,
     name: &'a str,
     files: &mut F,
@@ -139,7 +140,8 @@ pub fn named_script<'a, F: Files>(
     }
 }
 
-fn script_file<'a, F: Files>(
+/// The script of a file over an interface.
+pub fn script_file<'a, F: Files>(
     alloc: Global,
     iface: &Interface,
     name: &'a str,

@@ -1,18 +1,29 @@
-//! The commands of the program: `sim` runs a plan, `compile` prints the table of an interface file.
+//! The commands of the program: `sim` runs a plan, `serve` serves a node and `call` makes a call over a wire, `compile`
+//! prints the table of an interface file.
 #![tactic(auto)]
 
+mod call;
 mod cause;
 mod compile;
 mod inputs;
+mod job;
+mod keys;
 mod outcome;
+mod reply;
+mod request;
 mod saying;
+mod serve;
 mod sim;
 mod status;
 mod top;
+mod wire_outcome;
 
+pub use call::CallWords;
 pub use cause::Cause;
 pub use compile::CompileOutcome;
 pub use outcome::SimOutcome;
+pub use serve::ServeFiles;
 pub use sim::SimFiles;
 pub use status::Status;
 pub use top::{end_without_words, rx_main};
+pub use wire_outcome::{ArgsFault, WireOutcome};

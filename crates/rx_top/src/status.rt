@@ -12,12 +12,20 @@ pub enum Status {
     Usage,
     /// A line of a file is refused; its place and cause were said on `err`.
     Refused,
+    /// The call was ended by a code.
+    Aborted,
+    /// The call ended in silence.
+    Dead,
     /// There is no memory for the command.
     Memory,
     /// A file can't be read; its name was said on `err`.
     FileFault,
     /// `out` takes no more bytes.
     SinkFault,
+    /// The wire takes or gives nothing more.
+    WireFault,
+    /// All takes were made before the end came.
+    TurnsSpent,
 }
 
 impl Status {
@@ -29,9 +37,13 @@ impl Status {
             Status::Ok => 0,
             Status::Usage => 1,
             Status::Refused => 2,
+            Status::Aborted => 3,
+            Status::Dead => 4,
             Status::Memory => 5,
             Status::FileFault => 6,
             Status::SinkFault => 7,
+            Status::WireFault => 8,
+            Status::TurnsSpent => 9,
         }
     }
 }

@@ -1,24 +1,36 @@
 //! The program behind its words, files and sinks.
 
-ghost use Rattle.std.specs.Prelude.{◌≡◌, ◌≢◌, map, List, ℕ, Option, Some, false};
+ghost use Rattle.std.specs.Prelude.{◌≡◌, ◌≢◌, map, List, ℕ, Bool, Option, Some, false};
 ghost use Rattle.std.specs.IoError.{error_kind};
 ghost use Rattle.std.specs.String.{string_bytes};
 ghost use Rattle.rx_base.specs.Sink.{HasRisen, IsPut};
 ghost use Rattle.rx_words.specs.Commands.{command_of};
+ghost use Rattle.rx_model.specs.declared.names.Host.{Host};
+ghost use Rattle.rx_model.specs.declared.names.Limits.{Limits};
+ghost use Rattle.rx_passes.specs.Tells.{sink_tells, told as told_over, wire_tells};
 ghost use Rattle.rx_world.specs.Tells.{told};
 ghost use Rattle.rx_top.specs.declared.sim.SimFiles.{SimFiles};
-ghost use Rattle.rx_top.specs.Commands.{is_command, is_sim};
+ghost use Rattle.rx_top.specs.Calls.{CallLeaves, CanCall, client_limits};
+ghost use Rattle.rx_top.specs.Commands.{has_events, has_wire, is_command};
 ghost use Rattle.rx_top.specs.Compiles.{CompileLeaves};
 ghost use Rattle.rx_top.specs.Endings.{memory_text, seen_by, usage_text};
 ghost use Rattle.rx_top.specs.Inputs.{reads_by};
+ghost use Rattle.rx_top.specs.Jobs.{CanDo, JobLeaves, is_job, is_over_wire, makes_events};
+ghost use Rattle.rx_top.specs.Serves.{CanServe, ServeLeaves};
 ghost use Rattle.rx_top.specs.Sims.{SimLeaves};
 
+use crate::call::{CallWords, call_files};
 use crate::compile::{compile_file, say_compiled};
+use crate::job::{Job, job_of};
 use crate::outcome::say_outcome;
 use crate::saying::say;
+use crate::serve::{ServeFiles, serve_files};
 use crate::sim::{SimFiles, sim};
 use crate::status::Status;
+use crate::wire_outcome::say_ended;
 use rx_base::{Files, Sink};
+use rx_passes::{Calling, Serving};
+use rx_udp::Wire;
 use rx_wire::Journal;
 use rx_words::{Command, WordsFault, read_words};
 use std::alloc::Global;
@@ -26,15 +38,17 @@ use std::io;
 use std::io::ErrorKind;
 
 /// Does the command that the words name: `sim PLAN` runs a plan, with the interface and the script that are named, and
-/// puts its trace on `out`, each event noted in `book` before; `compile XG` puts the table of an interface file. The
-/// other commands of the words aren't built yet.
+/// puts its trace on `out`, each event noted in `book` before; `serve XG SCRIPT` serves a node over `wire`, and
+/// `call XG PROC ARGS` makes a call, each event of the node noted in `book`; `compile XG` puts the table of an
+/// interface file. The other commands of the words aren't built yet.
 /// What isn't done whole says its line on `err`, as far as that takes it.
-pub fn rx_main<F: Files, O: Sink, E: Sink, J: Journal>(
+pub fn rx_main<F: Files, O: Sink, E: Sink, W: Wire, J: Journal>(
     alloc: Global,
     words: &[String],
     files: &mut F,
     out: &mut O,
     err: &mut E,
+    wire: &mut W,
     book: &mut J,
 ) -> Status
     // Words that are no command that the program has. Want of memory for them stands in the way of it alone.
@@ -47,8 +61,10 @@ pub fn rx_main<F: Files, O: Sink, E: Sink, J: Journal>(
         → IsPut (E.told err.old) (E.told err.new) (E.faults err.old) (E.faults err.new) memory_text }
     ensures no_command_out { is_command (command_of (map string_bytes words.now)) ≡ false
         → O.told out.new ≡ O.told out.old }
-    ensures no_sim_book { is_sim (command_of (map string_bytes words.now)) ≡ false
+    ensures no_events { has_events (command_of (map string_bytes words.now)) ≡ false
         → J.told book.new ≡ J.told book.old }
+    ensures no_wire { has_wire (command_of (map string_bytes words.now)) ≡ false
+        → (W.told wire.new ≡ W.told wire.old) × (W.moment wire.new ≡ W.moment wire.old) }
 
     // What `sim PLAN [--xg XG] [--script SCRIPT]` does, and what it says of that.
     ensures sim { (plan : List ℕ) (xg script : Option (List ℕ))
@@ -57,6 +73,46 @@ pub fn rx_main<F: Files, O: Sink, E: Sink, J: Journal>(
         (reads_by F.contents F.failed_last files.old files.new)
         (told (J.told book.old) (O.told out.old) (O.faults out.old))
         (told (J.told book.new) (O.told out.new) (O.faults out.new))
+        (IsPut (E.told err.old) (E.told err.new) (E.faults err.old) (E.faults err.new)) }
+
+    // What `serve XG SCRIPT --at HOST ..` does, and what it says of that.
+    ensures serve { (xg script : List ℕ) (at : Host) (service span turns : ℕ) (limits : Limits)
+        (key : Option (List ℕ)) (nonce jumbo : ℕ) → command_of (map string_bytes words.now)
+        ≡ Some (Command.Serve xg script at service span turns limits key nonce jumbo)
+        → ServeLeaves result (record { xg = xg; script = script; key = key }) (record {
+          at = at;
+          service = service;
+          limits = limits;
+          nonce = nonce;
+          span = span;
+          turns = turns;
+          jumbo = jumbo;
+        }) (reads_by F.contents F.failed_last files.old files.new)
+        (told_over (J.told book.old) (sink_tells (O.told out.old) (O.faults out.old))
+        (wire_tells (W.told wire.old) (W.faults wire.old) (W.moment wire.old)))
+        (told_over (J.told book.new) (sink_tells (O.told out.new) (O.faults out.new))
+        (wire_tells (W.told wire.new) (W.faults wire.new) (W.moment wire.new)))
+        (IsPut (E.told err.old) (E.told err.new) (E.faults err.old) (E.faults err.new)) }
+
+    // What `call XG PROC ARGS --to HOST --epoch N ..` does, and what it says of that.
+    ensures call { (xg proc args : List ℕ) (to : Host) (epoch : ℕ) (from : Host) (service turns : ℕ)
+        (up : Option (List ℕ)) (down : Bool) (window : ℕ) (key : Option (List ℕ)) (jumbo : ℕ)
+        → command_of (map string_bytes words.now)
+        ≡ Some (Command.Call xg proc args to epoch from service turns up down window key jumbo)
+        → CallLeaves result
+        (record { xg = xg; proc = proc; args = args; up = up; down = down; key = key }) (record {
+          from = from;
+          epoch = epoch;
+          limits = client_limits window;
+          to = to;
+          service = service;
+          turns = turns;
+          jumbo = jumbo;
+        }) (reads_by F.contents F.failed_last files.old files.new)
+        (told_over (J.told book.old) (sink_tells (O.told out.old) (O.faults out.old))
+        (wire_tells (W.told wire.old) (W.faults wire.old) (W.moment wire.old)))
+        (told_over (J.told book.new) (sink_tells (O.told out.new) (O.faults out.new))
+        (wire_tells (W.told wire.new) (W.faults wire.new) (W.moment wire.new)))
         (IsPut (E.told err.old) (E.told err.new) (E.faults err.old) (E.faults err.new)) }
 
     // What `compile XG` does, and what it says of that.
@@ -73,23 +129,65 @@ pub fn rx_main<F: Files, O: Sink, E: Sink, J: Journal>(
     ensures no_file_fault { result ≢ Status.FileFault → F.faults files.new ≡ F.faults files.old }
     ensures sink_fault { result ≡ Status.SinkFault → HasRisen (O.faults out.old) (O.faults out.new) }
     ensures no_sink_fault { result ≢ Status.SinkFault → O.faults out.new ≡ O.faults out.old }
+    ensures wire_fault { result ≡ Status.WireFault → HasRisen (W.faults wire.old) (W.faults wire.new) }
+    ensures no_wire_fault { result ≢ Status.WireFault → W.faults wire.new ≡ W.faults wire.old }
     ensures same_contents { F.contents files.new ≡ F.contents files.old }
     ensures same_failed_last { result ≢ Status.FileFault → F.failed_last files.new ≡ F.failed_last files.old }
 {
     match read_words(alloc, words) {
-        Ok(Command::Sim { plan, xg, script }) => {
-            let names = SimFiles { plan, xg, script };
-            do_sim(alloc, &names, files, out, err, book)
-        }
-        Ok(Command::Compile { xg }) => do_compile(alloc, xg.as_str(), files, out, err),
-        Ok(
-            Command::Serve { .. }
-            | Command::Call { .. }
-            | Command::Load { .. }
-            | Command::Peers { .. },
-        )
-        | Err(WordsFault::Usage) => refuse(err),
+        Ok(command) => do_job(alloc, &job_of(command), files, out, err, wire, book),
+        Err(WordsFault::Usage) => refuse(err),
         Err(WordsFault::OutOfMemory) => end_for_memory(err),
+    }
+}
+
+/// Does what a command is asked for.
+fn do_job<F: Files, O: Sink, E: Sink, W: Wire, J: Journal>(
+    alloc: Global,
+    job: &Job,
+    files: &mut F,
+    out: &mut O,
+    err: &mut E,
+    wire: &mut W,
+    book: &mut J,
+) -> Status
+    requires { CanDo job.now }
+    ensures leaves { JobLeaves job.now result (record {
+      reads = reads_by F.contents F.failed_last files.old files.new;
+      seen = seen_by F.contents F.failed_last O.told files.old files.new out.old out.new;
+      before = told (J.told book.old) (O.told out.old) (O.faults out.old);
+      after = told (J.told book.new) (O.told out.new) (O.faults out.new);
+      before_wire = told_over (J.told book.old) (sink_tells (O.told out.old) (O.faults out.old))
+          (wire_tells (W.told wire.old) (W.faults wire.old) (W.moment wire.old));
+      after_wire = told_over (J.told book.new) (sink_tells (O.told out.new) (O.faults out.new))
+          (wire_tells (W.told wire.new) (W.faults wire.new) (W.moment wire.new));
+    }) (IsPut (E.told err.old) (E.told err.new) (E.faults err.old) (E.faults err.new)) }
+    ensures usage { result ≡ Status.Usage → is_job job.now ≡ false }
+    ensures nothing { is_job job.now ≡ false → result ≡ Status.Usage }
+    ensures nothing_put { is_job job.now ≡ false → O.told out.new ≡ O.told out.old }
+    ensures no_events { makes_events job.now ≡ false → J.told book.new ≡ J.told book.old }
+    ensures no_wire { is_over_wire job.now ≡ false
+        → (W.told wire.new ≡ W.told wire.old) × (W.moment wire.new ≡ W.moment wire.old) }
+    ensures quiet_told { result ≡ Status.Ok → E.told err.new ≡ E.told err.old }
+    ensures quiet_faults { result ≡ Status.Ok → E.faults err.new ≡ E.faults err.old }
+    ensures file_fault { result ≡ Status.FileFault → HasRisen (F.faults files.old) (F.faults files.new) }
+    ensures no_file_fault { result ≢ Status.FileFault → F.faults files.new ≡ F.faults files.old }
+    ensures sink_fault { result ≡ Status.SinkFault → HasRisen (O.faults out.old) (O.faults out.new) }
+    ensures no_sink_fault { result ≢ Status.SinkFault → O.faults out.new ≡ O.faults out.old }
+    ensures wire_fault { result ≡ Status.WireFault → HasRisen (W.faults wire.old) (W.faults wire.new) }
+    ensures no_wire_fault { result ≢ Status.WireFault → W.faults wire.new ≡ W.faults wire.old }
+    ensures same_contents { F.contents files.new ≡ F.contents files.old }
+    ensures same_failed_last { result ≢ Status.FileFault
+        → F.failed_last files.new ≡ F.failed_last files.old }
+{
+    match job {
+        Job::Sim(names) => do_sim(alloc, names, files, out, err, book),
+        Job::Serve(names, serving) => {
+            do_serve(alloc, names, serving, files, out, err, wire, book)
+        }
+        Job::Call(asked, calling) => do_call(alloc, asked, calling, files, out, err, wire, book),
+        Job::Compile(xg) => do_compile(alloc, xg.as_str(), files, out, err),
+        Job::Nothing => refuse(err),
     }
 }
 
@@ -118,6 +216,78 @@ fn do_sim<F: Files, O: Sink, E: Sink, J: Journal>(
 {
     let outcome = sim(alloc, names, files, out, book);
     say_outcome(err, &outcome);
+    outcome.status()
+}
+
+/// Serves a node, and says how that ended.
+fn do_serve<F: Files, O: Sink, E: Sink, W: Wire, J: Journal>(
+    alloc: Global,
+    names: &ServeFiles,
+    serving: &Serving,
+    files: &mut F,
+    out: &mut O,
+    err: &mut E,
+    wire: &mut W,
+    book: &mut J,
+) -> Status
+    requires { CanServe serving.now }
+    ensures serve { ServeLeaves result names.now serving.now (reads_by F.contents F.failed_last files.old files.new)
+        (told_over (J.told book.old) (sink_tells (O.told out.old) (O.faults out.old))
+        (wire_tells (W.told wire.old) (W.faults wire.old) (W.moment wire.old)))
+        (told_over (J.told book.new) (sink_tells (O.told out.new) (O.faults out.new))
+        (wire_tells (W.told wire.new) (W.faults wire.new) (W.moment wire.new)))
+        (IsPut (E.told err.old) (E.told err.new) (E.faults err.old) (E.faults err.new)) }
+    ensures a_command { result ≢ Status.Usage }
+    ensures quiet_told { result ≡ Status.Ok → E.told err.new ≡ E.told err.old }
+    ensures quiet_faults { result ≡ Status.Ok → E.faults err.new ≡ E.faults err.old }
+    ensures file_fault { result ≡ Status.FileFault → HasRisen (F.faults files.old) (F.faults files.new) }
+    ensures no_file_fault { result ≢ Status.FileFault → F.faults files.new ≡ F.faults files.old }
+    ensures sink_fault { result ≡ Status.SinkFault → HasRisen (O.faults out.old) (O.faults out.new) }
+    ensures no_sink_fault { result ≢ Status.SinkFault → O.faults out.new ≡ O.faults out.old }
+    ensures wire_fault { result ≡ Status.WireFault → HasRisen (W.faults wire.old) (W.faults wire.new) }
+    ensures no_wire_fault { result ≢ Status.WireFault → W.faults wire.new ≡ W.faults wire.old }
+    ensures same_contents { F.contents files.new ≡ F.contents files.old }
+    ensures same_failed_last { result ≢ Status.FileFault
+        → F.failed_last files.new ≡ F.failed_last files.old }
+{
+    let outcome = serve_files(alloc, names, serving, files, out, wire, book);
+    say_ended(err, &outcome);
+    outcome.status()
+}
+
+/// Makes a call, and says how that ended.
+fn do_call<F: Files, O: Sink, E: Sink, W: Wire, J: Journal>(
+    alloc: Global,
+    asked: &CallWords,
+    calling: &Calling,
+    files: &mut F,
+    out: &mut O,
+    err: &mut E,
+    wire: &mut W,
+    book: &mut J,
+) -> Status
+    requires { CanCall calling.now }
+    ensures call { CallLeaves result asked.now calling.now (reads_by F.contents F.failed_last files.old files.new)
+        (told_over (J.told book.old) (sink_tells (O.told out.old) (O.faults out.old))
+        (wire_tells (W.told wire.old) (W.faults wire.old) (W.moment wire.old)))
+        (told_over (J.told book.new) (sink_tells (O.told out.new) (O.faults out.new))
+        (wire_tells (W.told wire.new) (W.faults wire.new) (W.moment wire.new)))
+        (IsPut (E.told err.old) (E.told err.new) (E.faults err.old) (E.faults err.new)) }
+    ensures a_command { result ≢ Status.Usage }
+    ensures quiet_told { result ≡ Status.Ok → E.told err.new ≡ E.told err.old }
+    ensures quiet_faults { result ≡ Status.Ok → E.faults err.new ≡ E.faults err.old }
+    ensures file_fault { result ≡ Status.FileFault → HasRisen (F.faults files.old) (F.faults files.new) }
+    ensures no_file_fault { result ≢ Status.FileFault → F.faults files.new ≡ F.faults files.old }
+    ensures sink_fault { result ≡ Status.SinkFault → HasRisen (O.faults out.old) (O.faults out.new) }
+    ensures no_sink_fault { result ≢ Status.SinkFault → O.faults out.new ≡ O.faults out.old }
+    ensures wire_fault { result ≡ Status.WireFault → HasRisen (W.faults wire.old) (W.faults wire.new) }
+    ensures no_wire_fault { result ≢ Status.WireFault → W.faults wire.new ≡ W.faults wire.old }
+    ensures same_contents { F.contents files.new ≡ F.contents files.old }
+    ensures same_failed_last { result ≢ Status.FileFault
+        → F.failed_last files.new ≡ F.failed_last files.old }
+{
+    let outcome = call_files(alloc, asked, calling, files, out, wire, book);
+    say_ended(err, &outcome);
     outcome.status()
 }
 
@@ -184,3 +354,5 @@ pub fn end_without_words<E: Sink>(error: io::Error, err: &mut E) -> Status
 
 #[cfg(test)]
 mod tests;
+#[cfg(test)]
+mod wire_tests;

@@ -2,6 +2,7 @@
 
 use super::{Status, end_without_words, rx_main};
 use rx_base::{MemFiles, MemSink};
+use rx_udp::MemWire;
 use rx_wire::MemJournal;
 use std::alloc::{AllocError, Global};
 use std::io::ErrorKind;
@@ -83,7 +84,8 @@ fn done(
     }
     let mut files = MemFiles::make(files, Vec::new(alloc));
     let mut book = MemJournal::make(alloc);
-    let status = rx_main(alloc, &words, &mut files, out, err, &mut book);
+    let mut wire = MemWire::make(alloc, Vec::new(alloc), 0, Vec::new(alloc))?;
+    let status = rx_main(alloc, &words, &mut files, out, err, &mut wire, &mut book);
     Ok((status, book.noted().len()))
 }
 
@@ -246,7 +248,7 @@ fn the_first_missing_file_is_named(rt: HostRuntime) -> Result<(), Fail> {
 
 #[test]
 fn other_words_are_no_command(rt: HostRuntime) -> Result<(), Fail> {
-    let lists: [&[&str]; 13] = [
+    let lists: [&[&str]; 11] = [
         &[],
         &["sim"],
         &["sim", "p", "q"],
@@ -257,17 +259,6 @@ fn other_words_are_no_command(rt: HostRuntime) -> Result<(), Fail> {
         &["compile"],
         &["compile", "p", "q"],
         // commands that the program doesn't have yet
-        &["serve", "x", "s", "--at", "10.0.0.1:7000"],
-        &[
-            "call",
-            "x",
-            "Take",
-            "[1]",
-            "--to",
-            "10.0.0.1:7000",
-            "--epoch",
-            "1",
-        ],
         &["load", "1", "40"],
         &["peers", "x", "s", "p"],
     ];

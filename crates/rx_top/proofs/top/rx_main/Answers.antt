@@ -1,28 +1,37 @@
-use Rattle.std.proofs.Common.{◌∙◌, Some, ap, inl, refl, subst}
-use Rattle.rx_base.specs.Sink.{IsPut}
-use Rattle.rx_words.specs.declared.command.Command.{Command}
-use Rattle.rx_world.specs.Tells.{Told, told}
+use Rattle.std.proofs.Common.{◌≡◌, ◌∙◌, false, inl, map, refl, sym}
+use Rattle.std.specs.String.{string_bytes}
 use Rattle.rx_top.specs.declared.outcome.SimOutcome.TheVariants as outcomes
-use Rattle.rx_top.specs.declared.sim.SimFiles.{SimFiles}
-use Rattle.rx_top.specs.Inputs.{Reads, reads_by}
-use Rattle.rx_top.specs.Sims.{SimLeaves}
-use Rattle.rx_top.proofs.SimLemmas.{same_files}
+use Rattle.rx_top.specs.declared.status.Status.TheVariants as statuses
+use Rattle.rx_top.specs.declared.wire_outcome.WireOutcome.TheVariants as wire_outcomes
+use Rattle.rx_top.specs.Jobs.{is_job, is_over_wire}
+use Rattle.rx_top.proofs.JobLemmas.{job_fits, there_by_job, wire_by_job}
 use Rattle.rx_top.proofs.top.rx_main.Goals as goal
 
-pub returns-in-Ok-Sim-clause-sim : goal.returns-in-Ok-Sim-clause-sim
-returns-in-Ok-Sim-clause-sim g c plan xg script is =
-    let were = c.in-Ok-Sim.ensures.ok ∙ ap (λ (command : Command). Some command) c.in-Ok-Sim.field-0-is in
-    let reads : Reads =
-    reads_by g.F.Files.contents g.F.Files.failed_last c.args.files.now c.do_sim.new.files in
-    let before : Told =
-    told (g.J.Journal.told c.args.book.now) (g.O.Sink.told c.args.out.now) (g.O.Sink.faults c.args.out.now) in
-    let after : Told =
-    told (g.J.Journal.told c.do_sim.new.book) (g.O.Sink.told c.do_sim.new.out) (g.O.Sink.faults c.do_sim.new.out) in
-    subst (λ (names : SimFiles). SimLeaves c.do_sim.result names reads before after
-    (IsPut (g.E.Sink.told c.args.err.now) (g.E.Sink.told c.do_sim.new.err) (g.E.Sink.faults c.args.err.now)
-    (g.E.Sink.faults c.do_sim.new.err)))
-    (same_files _ c.in-Ok-Sim.plan plan c.in-Ok-Sim.xg xg c.in-Ok-Sim.script script were is) c.do_sim.ensures.sim
+pub do_job-requires : goal.do_job-requires
+do_job-requires g c =
+    rw c.job_of.ensures (job_fits (map string_bytes c.args.words.now) c.in-Ok.command c.in-Ok.ensures.ok)
 
-pub returns-clause-sim : goal.returns-clause-sim
-returns-clause-sim g c plan xg script is =
+pub returns-in-Ok-clause-no_command_said : goal.returns-in-Ok-clause-no_command_said
+returns-in-Ok-clause-no_command_said g c is memory =
+    let nothing : is_job c.job_of.result ≡ false =
+    rw c.job_of.ensures (sym (there_by_job c.in-Ok.command) ∙ (rw c.in-Ok.ensures.ok at is)) in
+    let usage : c.do_job.result ≡ statuses.Usage = c.do_job.ensures.nothing nothing in
+    absurd cc
+
+pub returns-in-Ok-clause-no_wire : goal.returns-in-Ok-clause-no_wire
+returns-in-Ok-clause-no_wire g c is =
+    let over : is_over_wire c.job_of.result ≡ false =
+    rw c.job_of.ensures (sym (wire_by_job c.in-Ok.command) ∙ (rw c.in-Ok.ensures.ok at is)) in
+    c.do_job.ensures.no_wire over
+
+pub returns-in-Err-OutOfMemory-clause-sim : goal.returns-in-Err-OutOfMemory-clause-sim
+returns-in-Err-OutOfMemory-clause-sim g c plan xg script is =
     (outcomes.OutOfMemory, c.end_for_memory.ensures.memory, inl (refl, refl), c.end_for_memory.ensures.said)
+
+pub returns-in-Err-OutOfMemory-clause-serve : goal.returns-in-Err-OutOfMemory-clause-serve
+returns-in-Err-OutOfMemory-clause-serve g c xg script at service span turns limits key nonce jumbo is =
+    (wire_outcomes.OutOfMemory, c.end_for_memory.ensures.memory, inl (refl, refl), c.end_for_memory.ensures.said)
+
+pub returns-in-Err-OutOfMemory-clause-call : goal.returns-in-Err-OutOfMemory-clause-call
+returns-in-Err-OutOfMemory-clause-call g c xg proc args to epoch from service turns up down window key jumbo is =
+    (wire_outcomes.OutOfMemory, c.end_for_memory.ensures.memory, inl (refl, refl), c.end_for_memory.ensures.said)

@@ -1,0 +1,46 @@
+use Rattle.rx_passes.specs.Tells.{SinkTells, Told, sink_tells, told, wire_tells}
+use Rattle.rx_token.specs.Chosen.{chosen, secret_of}
+use Rattle.rx_top.specs.Calls.{CallAsked, asked_of}
+use Rattle.rx_top.proofs.SilenceLemmas.{call_long}
+use Rattle.rx_top.proofs.WireLemmas.{call_risen, call_same, no_sink_ends}
+use Rattle.rx_top.proofs.reply.call_with.Goals as goal
+
+pub called-requires-clause-no_sink : goal.called-requires-clause-no_sink
+called-requires-clause-no_sink g c =
+    let sink : SinkTells = sink_tells (g.O.Sink.told c.args.out.now) (g.O.Sink.faults c.args.out.now) in
+    no_sink_ends c.args.calling.now c.args.request.items (chosen (secret_of c.args.class)) c.call-result.result
+    (told (g.J.Journal.told c.args.book.now) sink (wire_tells (g.W.Wire.told c.args.wire.now)
+    (g.W.Wire.faults c.args.wire.now) (g.W.Wire.moment c.args.wire.now)))
+    (told (g.J.Journal.told c.call-result.new.book) sink (wire_tells (g.W.Wire.told c.call-result.new.wire)
+    (g.W.Wire.faults c.call-result.new.wire) (g.W.Wire.moment c.call-result.new.wire)))
+    (c.call-result.ensures sink)
+
+pub returns : goal.returns
+returns g c =
+    let sink : SinkTells = sink_tells (g.O.Sink.told c.args.out.now) (g.O.Sink.faults c.args.out.now) in
+    let before : Told =
+    told (g.J.Journal.told c.args.book.now) sink (wire_tells (g.W.Wire.told c.args.wire.now)
+    (g.W.Wire.faults c.args.wire.now) (g.W.Wire.moment c.args.wire.now)) in
+    let after : Told =
+    told (g.J.Journal.told c.call-result.new.book) sink (wire_tells (g.W.Wire.told c.call-result.new.wire)
+    (g.W.Wire.faults c.call-result.new.wire) (g.W.Wire.moment c.call-result.new.wire)) in
+    let last : SinkTells = sink_tells (g.O.Sink.told c.called.new.out) (g.O.Sink.faults c.called.new.out) in
+    let asked : CallAsked = asked_of c.args.iface.now c.args.p.now c.args.down in
+    record {
+      call =
+          record {
+            result = c.call-result.result;
+            made = c.call-result.ensures sink;
+            ends = c.called.ensures.ends;
+            long = λ n is. call_long asked c.args.calling.now c.args.request.items (secret_of c.args.class)
+                c.call-result.result c.called.result before after sink last n c.requires.calling
+                (c.call-result.ensures sink) c.called.ensures.ends is;
+          };
+      no_file_fault = c.called.ensures.no_file_fault;
+      sink_fault = c.called.ensures.sink_fault;
+      no_sink_fault = c.called.ensures.no_sink_fault;
+      wire_fault = λ is. call_risen c.args.calling.now c.args.request.items (chosen (secret_of c.args.class))
+          c.call-result.result before after (c.call-result.ensures sink) (c.called.ensures.wire_fault is);
+      no_wire_fault = λ not. call_same c.args.calling.now c.args.request.items (chosen (secret_of c.args.class))
+          c.call-result.result before after (c.call-result.ensures sink) (c.called.ensures.no_wire_fault not);
+    }

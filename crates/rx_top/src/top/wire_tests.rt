@@ -1,0 +1,278 @@
+//! Commands over a wire in memory: what comes, what is given, their lines and statuses.
+
+ghost use Rattle.std.specs.Prelude.{◌≡◌, ◌<◌, ◌^◌, All, IfOk};
+
+use super::{Status, rx_main};
+use rx_base::{MemFiles, MemSink};
+use rx_model::{Event, Host};
+use rx_udp::{Arrival, LogEntry, MemWire};
+use rx_wire::MemJournal;
+use std::alloc::{AllocError, Global};
+use std::process::Abort;
+use std::test::Fail;
+
+/// Room for all that is put here.
+const ROOM: usize = 16_384;
+
+/// Room of a wire's log.
+const LOG_ROOM: usize = 400_000;
+
+const CLIENT: Host = Host {
+    addr: 0x0a00_0002,
+    port: 7001,
+};
+
+const SERVER: Host = Host {
+    addr: 0x0a00_0001,
+    port: 7000,
+};
+
+const XG: &[u8] = b"package RXAFS_\n\
+    prefix S\n\
+    struct AFSFid {\n  afs_uint32 Volume;\n  afs_uint32 Vnode;\n  afs_uint32 Unique;\n};\n\
+    typedef AFSFid AFSCBFids<50>;\n\
+    proc FetchData(IN AFSFid *Fid, afs_int32 Pos, afs_int32 Length,\n  OUT afs_int32 *Left) split = 130;\n\
+    FetchStatus(IN AFSFid *Fid, IN string Name<256>,\n  INOUT afs_uint32 *Mode, OUT AFSCBFids *Kin) = 132;\n";
+
+const SCRIPT: &[u8] = b"on FetchStatus\nset Kin []\n";
+
+/// A whole request of FetchStatus in one datagram.
+static REQUEST: &str = "0000000100000004000000010000000100000001\
+    0107000000000001\
+    00000084 00000001 00000002 00000003 00000001 61000000 000001a4";
+
+/// What a command over these files did, with a wire on which these datagrams come.
+fn done(
+    alloc: Global,
+    line: &str,
+    wire: &mut MemWire,
+    out: &mut MemSink,
+    err: &mut MemSink,
+    book: &mut MemJournal,
+) -> Result<Status, AllocError> {
+    let mut words = Vec::new(alloc);
+    for word in line.split(' ') {
+        words.push(String::from_str(alloc, word)?)?;
+    }
+    let mut files = Vec::new(alloc);
+    files.push((
+        String::from_str(alloc, "AFS.xg")?,
+        Vec::from_slice(alloc, XG)?,
+    ))?;
+    files.push((
+        String::from_str(alloc, "S.txt")?,
+        Vec::from_slice(alloc, SCRIPT)?,
+    ))?;
+    let mut files = MemFiles::make(files, Vec::new(alloc));
+    Ok(rx_main(alloc, &words, &mut files, out, err, wire, book))
+}
+
+/// Expects of a command, with a wire on which these datagrams come and whose calls with these numbers fail, this
+/// status, and these bytes on `out` and `err`.
+fn leaves(
+    rt: &(impl AllocGlobal + Abort),
+    line: &str,
+    arrivals: Vec<Arrival>,
+    failing: &[u64],
+    status: u8,
+    out_text: &str,
+    err_text: &str,
+) -> Result<(), AllocError>
+    requires { All (λ a. a.at < 2 ^ 62) arrivals.items }
+{
+    let alloc = rt.alloc();
+    let mut out = MemSink::make(alloc, ROOM, Vec::new(alloc))?;
+    let mut err = MemSink::make(alloc, ROOM, Vec::new(alloc))?;
+    let mut book = MemJournal::make(alloc);
+    let Ok(mut wire) = MemWire::make(alloc, arrivals, LOG_ROOM, Vec::from_slice(alloc, failing)?)
+    else {
+        return Err(AllocError);
+    };
+    let ended = done(alloc, line, &mut wire, &mut out, &mut err, &mut book)?;
+    assert_eq!(rt; ended.number(), status);
+    assert!(rt;
+        out.as_slice() == out_text.as_bytes(),
+        "{line} puts another text"
+    );
+    assert!(rt;
+        err.as_slice() == err_text.as_bytes(),
+        "{line} says another line than {err_text}"
+    );
+    agrees(rt, &wire, &book);
+    Ok(())
+}
+
+/// Expects that the journal has a taking for each datagram that the log took, and a poll for each that it gave.
+fn agrees(rt: &impl Abort, wire: &MemWire, book: &MemJournal) {
+    let (mut came, mut given) = (0u64, 0u64);
+    for entry in wire.log() {
+        match entry {
+            LogEntry::Came { .. } => came = came.saturating_add(1),
+            LogEntry::Given { .. } => given = given.saturating_add(1),
+            LogEntry::Waited { .. } => {}
+        }
+    }
+    let (mut taken, mut polled) = (0u64, 0u64);
+    for noted in book.noted() {
+        match &noted.event {
+            Event::Taken { .. } => taken = taken.saturating_add(1),
+            Event::Polled { got: Some(_) } => polled = polled.saturating_add(1),
+            _ => {}
+        }
+    }
+    assert_eq!(rt; taken, came);
+    assert!(rt; given <= polled);
+}
+
+/// The arrival of a datagram, given in hex.
+fn arrival(alloc: Global, at: u64, from: Host, text: &str) -> Result<Arrival, AllocError>
+    ensures { IfOk result (λ a. a.at ≡ at) }
+{
+    let mut digits = String::new(alloc);
+    for piece in text.split(' ') {
+        digits.push_str(piece)?;
+    }
+    match hex::decode(alloc, digits.as_bytes()) {
+        Ok(bytes) => Ok(Arrival { at, from, bytes }),
+        Err(_) => Err(AllocError),
+    }
+}
+
+/// One datagram comes, at a moment.
+fn comes(alloc: Global, at: u64, from: Host, text: &str) -> Result<Vec<Arrival>, AllocError>
+    requires { at < 2 ^ 62 }
+    ensures { IfOk result (λ arrivals. All (λ a. a.at < 2 ^ 62) arrivals.items) }
+{
+    Ok(vec![in alloc; arrival(alloc, at, from, text)?]?)
+}
+
+/// Nine datagrams of a byte come, at nine moments.
+fn nine_come(alloc: Global) -> Result<Vec<Arrival>, AllocError>
+    ensures { IfOk result (λ arrivals. All (λ a. a.at < 2 ^ 62) arrivals.items) }
+{
+    let mut arrivals = Vec::new(alloc);
+    for at in 0..9 {
+        arrivals.push(arrival(alloc, at, CLIENT, "00")?)?;
+    }
+    Ok(arrivals)
+}
+
+const SERVE: &str = "serve AFS.xg S.txt --at 10.0.0.1:7000 --for 5000";
+
+const SERVED: &str = "ready 10.0.0.1:7000\n\
+    accept 10.0.0.2:7001/1/4/0/1\n\
+    finish 10.0.0.2:7001/1/4/0/1 0\n\
+    time up\n";
+
+#[test]
+fn serve_one(rt: HostRuntime) -> Result<(), Fail> {
+    let arrivals = comes(rt.alloc(), 0, CLIENT, REQUEST)?;
+    leaves(&rt, SERVE, arrivals, &[], 0, SERVED, "")?;
+    Ok(())
+}
+
+#[test]
+fn failing_wire(rt: HostRuntime) -> Result<(), Fail> {
+    let alloc = rt.alloc();
+    let outs = ["", "ready 10.0.0.1:7000\n"];
+    for k in 1..3 {
+        let arrivals = comes(rt.alloc(), 0, CLIENT, REQUEST)?;
+        leaves(
+            &rt,
+            SERVE,
+            arrivals,
+            &[k],
+            8,
+            outs[k as usize - 1],
+            "rx: network fault\n",
+        )?;
+    }
+    Ok(())
+}
+
+/// What a call to the server is refused for before its wire is bound: its words, and its line.
+static REFUSALS: [(&str, &str); 6] = [
+    ("Fetch []", "rx: args: proc\n"),
+    ("FetchStatus [] --down yes", "rx: args: kind\n"),
+    ("FetchStatus [", "rx: args: notjson\n"),
+    ("FetchStatus [1]", "rx: args: mismatch $ args\n"),
+    (
+        "FetchStatus [1,\"a\",420]",
+        "rx: args: mismatch $[0] AFSFid\n",
+    ),
+    (
+        "FetchStatus [{\"Volume\":1,\"Vnode\":2,\"Unique\":3},\"a\",420] --key AFS.xg",
+        "rx: AFS.xg:0: key\n",
+    ),
+];
+
+#[test]
+fn misfit_arguments(rt: HostRuntime) -> Result<(), Fail> {
+    let alloc = rt.alloc();
+    for (words, said) in &REFUSALS {
+        let line = format!(in alloc; "call AFS.xg {words} --to 10.0.0.1:7000 --epoch 1")?;
+        leaves(&rt, line.as_str(), Vec::new(alloc), &[], 2, "", said)?;
+    }
+    Ok(())
+}
+
+const CALL: &str = "call AFS.xg FetchStatus [{\"Volume\":1,\"Vnode\":2,\"Unique\":3},\"a\",420] \
+    --to 10.0.0.1:7000 --epoch 1 --from 10.0.0.2:7001";
+
+const CALL_FIVE: &str =
+    "call AFS.xg FetchStatus [{\"Volume\":1,\"Vnode\":2,\"Unique\":3},\"a\",420] \
+    --to 10.0.0.1:7000 --epoch 1 --from 10.0.0.2:7001 --turns 5";
+
+/// The whole reply in one datagram.
+static REPLY: &str = "0000000100000004000000010000000100000001\
+    0106000000000001\
+    000001a4 00000000";
+
+#[test]
+fn a_call_is_answered(rt: HostRuntime) -> Result<(), Fail> {
+    let alloc = rt.alloc();
+    let arrivals = comes(rt.alloc(), 7, SERVER, REPLY)?;
+    leaves(&rt, CALL, arrivals, &[], 0, "ok [420,[]]\n", "")?;
+    Ok(())
+}
+
+/// An ABORT of the call with -5.
+static ABORT: &str = "0000000100000004000000010000000000000001\
+    0400000000000001\
+    fffffffb";
+
+#[test]
+fn an_abort_ends_a_call(rt: HostRuntime) -> Result<(), Fail> {
+    let alloc = rt.alloc();
+    let arrivals = comes(rt.alloc(), 7, SERVER, ABORT)?;
+    leaves(&rt, CALL, arrivals, &[], 3, "", "rx: aborted -5\n")?;
+    Ok(())
+}
+
+#[test]
+fn wire_faults(rt: HostRuntime) -> Result<(), Fail> {
+    let alloc = rt.alloc();
+    leaves(&rt, CALL, Vec::new(alloc), &[], 4, "", "rx: dead 12000\n")?;
+    // the bind, the third datagram given, and a take
+    for k in [1, 6, 3] {
+        leaves(
+            &rt,
+            CALL,
+            Vec::new(alloc),
+            &[k],
+            8,
+            "",
+            "rx: network fault\n",
+        )?;
+    }
+    leaves(
+        &rt,
+        CALL_FIVE,
+        nine_come(alloc)?,
+        &[],
+        9,
+        "",
+        "rx: turns spent 5\n",
+    )?;
+    Ok(())
+}
