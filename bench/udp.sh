@@ -1,0 +1,121 @@
+#!/usr/bin/env bash
+# Calls over loopback, the program beside OpenAFS's own Rx library: bench/udp.sh [PROGRAM]
+# The peers are those of interop/: a C client and a C server on libafsrpc.a, with the stubs of OpenAFS's rxgen. Prints a
+# line for each piece of work and pair of ends: the milliseconds of a call, the fastest of five runs, what that makes a
+# second, the processor's microseconds that a call takes at the client and at the server, and the time beside that of
+# OpenAFS's two ends at the same work.
+# All counts as it is used: a client's start and end too; so `rx call`, which makes one call and ends, stands beside a C
+# client that makes one call and ends, and rates of small calls are those of the C client against each server. `rx call`
+# prints a download in hex, here to a file; `rx serve` prints two lines a call, here to a file. An upload is kept whole
+# by `rx serve` and added up by the C server; a download is made before by `rx serve` and as it goes by the C server.
+# Between two ends of the program a stream waits for a delayed acknowledgement at each window where the sender's isn't
+# the larger one, so there the windows are 64 at the server, 128 at a client that sends and 32 at one that receives;
+# "equal windows" are 32 at both ends, one run each.
+# Wants cc, Debian's libopenafs-dev, the ports 7920 to 7922 of 127.0.0.1, and processors that have nothing else to do.
+set -u
+top=$(cd "$(dirname "$0")/.." && pwd)
+work=$(mktemp -d)
+# shellcheck source=../interop/started.sh
+. "$top/interop/started.sh"
+trap 'end_all; rm -rf "$work"' EXIT
+trap 'exit 1' INT TERM
+RX=$(program "$@")
+ECHOES=${ECHOES:-20000} BYTES=${BYTES:-16777216} RUNS=${RUNS:-5}
+client=$work/peers/client xg=$top/interop/peer.xg
+
+# The nanoseconds that the threads of a process had a processor.
+used() {
+    cat "/proc/${pid_of[$1]}"/task/*/schedstat | awk '{ all += $1 } END { printf "%.0f\n", all }'
+}
+
+# our_words PORT WORD..: sets `words` to those of `rx call` for the work of these words of the C client.
+our_words() {
+    local port=$1 work_words window=32
+    case $2 in
+        echo) work_words=(Echo "[\"$(printf '%040d' 0)\"]") ;;
+        up) work_words=(Up '[7]' --up "$work/bytes") ;;
+        down) work_words=(Down "[$3]" --down yes) ;;
+    esac
+    [ "$port $2" != '7922 up' ] || window=128
+    words=("$RX" call "$xg" "${work_words[@]:0:2}" --to "127.0.0.1:$port" --service 60 --epoch "$(epoch)"
+        --turns 1000000000 --jumbo "$jumbo" --window "$window" "${work_words[@]:2}")
+}
+
+# run ENDS WORD..: one run, the words being those of the C client. Prints its nanoseconds, the microseconds of the
+# client and the nanoseconds of the server.
+run() {
+    local server=theirs port=7920 words before begin end
+    case $1 in
+        'rx call, rx serve') server=wide port=7922 ;;
+        *', rx serve'*) server=ours port=7921 ;;
+    esac
+    case $1 in
+        'rx call'*) our_words "$port" "${@:2}" ;;
+        *) words=("$client" "$port" 60 "${@:2}") ;;
+    esac
+    before=$(used "$server")
+    begin=$(date +%s%N)
+    TIMEFORMAT='%U %S'
+    { time "${words[@]}" >"$work/said" 2>"$work/said.err"; } 2>"$work/time"
+    end=$(date +%s%N)
+    [ "$(head -c 3 "$work/said")" = 'ok ' ] || { head -c 200 "$work/said" "$work/said.err" >&2; return 1; }
+    echo "$((end - begin)) $(awk '{ printf "%.0f", ($1 + $2) * 1e6 }' "$work/time") $(($(used "$server") - before))"
+}
+
+# measure WHAT CALLS SIZE WORD..: a line of the table for each pair of ends. They run in turns, so that all have the
+# machine as it is at the time. Many calls of one client are those of the C client alone.
+measure() {
+    local what=$1 calls=$2 size=$3 pairs=('OpenAFS, OpenAFS' 'OpenAFS, rx serve') ends i first
+    shift 3
+    [ "$calls" != 1 ] || pairs+=('rx call, OpenAFS' 'rx call, rx serve')
+    for ((i = 0; i < RUNS; i++)); do
+        for ends in "${pairs[@]}"; do
+            run "$ends" "$@" >>"$work/runs $ends"
+        done
+    done
+    first=$(sort -n "$work/runs ${pairs[0]}" | awk 'NR == 1 { print $1 }')
+    if [ "$size" != 0 ] && [ "$jumbo" = 1 ]; then
+        pairs+=('rx call, rx serve, equal windows')
+        run "${pairs[-1]}" "$@" >>"$work/runs ${pairs[-1]}"
+    fi
+    for ends in "${pairs[@]}"; do
+        told "$what" "$ends" "$calls" "$size"
+    done
+    rm "$work/runs"*
+}
+
+# told WHAT ENDS CALLS SIZE: the line of the table of the fastest of the runs of these ends.
+told() {
+    sort -n "$work/runs $2" | head -n 1 |
+        awk -v what="$1" -v ends="$2" -v calls="$3" -v size="$4" -v first="$first" '{
+            rate = size ? sprintf("%.1f MB", size * 1e3 / $1) : sprintf("%.0f", calls * 1e9 / $1)
+            printf "| %s | %s | %.3f | %s | %.1f | %.1f | %.2f |\n", what, ends, $1 / calls / 1e6, rate,
+                $2 / calls, $3 / calls / 1e3, $1 / first }'
+}
+
+# The pieces of work of one call.
+one_calls() {
+    measure "one echo$1" 1 0 echo 1 1 20
+    measure "$BYTES bytes up$1" 1 "$BYTES" up "$BYTES"
+    measure "$BYTES bytes down$1" 1 "$BYTES" down "$BYTES"
+}
+
+"$top/interop/build.sh" "$work/peers" >"$work/build" 2>&1 || { cat "$work/build"; exit 1; }
+"$client" 0 0 bytes "$BYTES" >"$work/bytes" 2>/dev/null
+printf '%s\n' 'on Echo' 'copy Same Body' 'on Up' up 'count Size' 'on Down' down "send $BYTES*5a" >"$work/script"
+
+echo '| work | client, server | ms a call | a second | client, us a call | server, us a call | beside OpenAFS |'
+echo '|---|---|---|---|---|---|---|'
+jumbo=1
+start_ready theirs "$work/peers/server" 7920 && serve ours "$xg" "$work/script" 127.0.0.1:7921 60 &&
+    serve wide "$xg" "$work/script" 127.0.0.1:7922 60 --window 64 || exit
+measure "$ECHOES echoes, one at a time" "$ECHOES" 0 echo "$ECHOES" 1 20
+measure "$ECHOES echoes, four at a time" "$ECHOES" 0 echo "$ECHOES" 4 20
+one_calls ''
+end_all
+jumbo=4
+export JUMBO=yes
+start_ready theirs "$work/peers/server" 7920 jumbo &&
+    serve ours "$xg" "$work/script" 127.0.0.1:7921 60 --jumbo 4 &&
+    serve wide "$xg" "$work/script" 127.0.0.1:7922 60 --jumbo 4 --window 64 || exit
+one_calls ', jumbograms'
