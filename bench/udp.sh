@@ -10,7 +10,7 @@
 # by `rx serve` and added up by the C server; a download is made before by `rx serve` and as it goes by the C server.
 # Between two ends of the program a stream waits for a delayed acknowledgement at each window where the sender's isn't
 # the larger one, so there the windows are 64 at the server, 128 at a client that sends and 32 at one that receives;
-# "equal windows" are 32 at both ends, one run each.
+# "equal windows" are 32 at both ends, one run each, and left out with EQUAL=no in the environment.
 # Wants cc, Debian's libopenafs-dev, the ports 7920 to 7922 of 127.0.0.1, and processors that have nothing else to do.
 set -u
 top=$(cd "$(dirname "$0")/.." && pwd)
@@ -20,7 +20,7 @@ work=$(mktemp -d)
 trap 'end_all; rm -rf "$work"' EXIT
 trap 'exit 1' INT TERM
 RX=$(program "$@")
-ECHOES=${ECHOES:-20000} BYTES=${BYTES:-16777216} RUNS=${RUNS:-5}
+ECHOES=${ECHOES:-20000} BYTES=${BYTES:-16777216} RUNS=${RUNS:-5} EQUAL=${EQUAL:-yes}
 client=$work/peers/client xg=$top/interop/peer.xg
 
 # The nanoseconds that the threads of a process had a processor.
@@ -74,7 +74,7 @@ measure() {
         done
     done
     first=$(sort -n "$work/runs ${pairs[0]}" | awk 'NR == 1 { print $1 }')
-    if [ "$size" != 0 ] && [ "$jumbo" = 1 ]; then
+    if [ "$size" != 0 ] && [ "$jumbo" = 1 ] && [ "$EQUAL" = yes ]; then
         pairs+=('rx call, rx serve, equal windows')
         run "${pairs[-1]}" "$@" >>"$work/runs ${pairs[-1]}"
     fi
