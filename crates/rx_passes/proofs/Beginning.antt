@@ -56,12 +56,12 @@ module _ {B : Type 0} (n : ℕ) (s : Setup) (s0 s1 : List Event → Type 0) (boo
       (sym (ap of same ∙ came)) (plays_to n s s1 behind_it shows x there))
 
   -- nothing was
-  pub answered_cut : of e ≡ Cut → HasNoted book after (noted n e)
+  pub answered_cut : of e ≡ Cut stops.OutOfMemory → HasNoted book after (noted n e)
       → Plays (change n s s0 s1 before behind_it) part shows (Some stops.OutOfMemory)
   answered_cut came one =
       plays_then n s s0 s1 s1 before behind_it behind_it (One is) (λ d. ends (of d)) (λ d. d ≡ e) shows
       (Some stops.OutOfMemory) (one_made one)
-      (λ d same. plays_wants n s s1 behind_it shows (ends (of d)) (λ p. (refl, refl, inr refl)))
+      (λ d same. plays_wants n s s1 behind_it shows (ends (of d)) (λ p. (refl, refl, sym (ap of same ∙ came))))
 
   -- memory was wanted for its note
   pub answer_lost : after ≡ book → Plays (change n s s0 s1 before behind_it) part shows (Some stops.OutOfMemory)
@@ -76,7 +76,7 @@ pub call_unmade : (w : Words) (request : List ℕ) (s : Setup) (book : Option (L
     (wire : WireTells)
     → CallsBound w request s (Err stops.OutOfMemory) (told book sink wire) (told book sink wire)
 call_unmade w request s book sink wire =
-    (let made : begins w (record { history = []; now = wire.moment }) [] [] Cut =
+    (let made : begins w (record { history = []; now = wire.moment }) [] [] (Cut stops.OutOfMemory) =
     record {
       early = [];
       late = [];
@@ -84,9 +84,9 @@ call_unmade w request s book sink wire =
       late_log = [];
       events = refl;
       log = refl;
-      came = Cut;
+      came = Cut stops.OutOfMemory;
       made = not_made;
-      goes = (refl, refl, inl refl);
+      goes = (refl, refl, refl);
     } in
     inl (refl, ([], [], made, tt, wants_none 1 (told book sink wire))))
 
@@ -116,8 +116,17 @@ module _ (w : Words) (request : List ℕ) (s : Setup) (s0 s1 : List Event → Ty
           (Some stops.OutOfMemory)
           → CallsBound w request s (Err stops.OutOfMemory) (told book sink wire) (told mid sink wire)
       of (To x) made fits = absurd fits
-      of Cut made fits =
-          inl (refl, (r.events, r.log, made, law (after_all r.events []) r.standing, fits))
+      of (Cut why) made fits =
+          inl (
+            refl,
+            (
+              r.events,
+              r.log,
+              subst (λ (k : Stop). begins w start r.events r.log (Cut k)) fits.0 made,
+              law (after_all r.events []) r.standing,
+              fits.1,
+            ),
+          )
 
   -- it began, and passes were made
   pub call_begun : (name : CallName) (t : Setup) (most : ℕ) (v : CallerState) (result : Result CallEnd Stop)
@@ -154,4 +163,4 @@ module _ (w : Words) (request : List ℕ) (s : Setup) (s0 s1 : List Event → Ty
             gained,
             as_named (behind r.events r.log start) there,
           )
-      of Cut made fits = absurd fits
+      of (Cut why) made fits = absurd fits

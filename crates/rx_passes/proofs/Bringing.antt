@@ -1,5 +1,5 @@
 -- To which histories parts of passes bring a node.
-use Rattle.std.proofs.Common.{◌≡◌, ◌⊎◌, List, ◌∷◌, ◌++◌, inl, inr, sym, subst}
+use Rattle.std.proofs.Common.{◌≡◌, List, ◌∷◌, ◌++◌, sym, subst}
 use Rattle.rx_model.specs.declared.event.Event.{Event}
 use Rattle.rx_udp.specs.Wire.{Logged}
 use Rattle.rx_wire.specs.Turns.{after_all}
@@ -16,11 +16,7 @@ Brings {A} part stood stands =
 pub brings_ends : {A : Type 0} (came : Came A) (stood : List Event → Type 0) (stands : A → List Event → Type 0)
     → ((a : A) (h : List Event) → came ≡ To a → stood h → stands a h) → Brings (ends came) stood stands
 brings_ends came stood stands there p es ls a at made =
-    rw made.0 (by made.2)
-  where
-    by : (To a ≡ came) ⊎ (To a ≡ Cut) → stands a p.history
-    by (inl same) = there a p.history (sym same) at
-    by (inr cut) = absurd (cc)
+    rw made.0 (there a p.history (sym made.2) at)
 
 -- one event is made
 pub brings_one : (is : Event → Type 0) (stood : List Event → Type 0) (stands : Event → List Event → Type 0)
@@ -36,8 +32,8 @@ module _ {A B : Type 0} (first : Part A) (next : A → Part B) (stood : List Eve
   on p es fs ls ms b (To a) at made goes =
       subst (stands b) (sym (after_all-append es fs p.history))
       (late a (behind es ls p) fs ms b (early p es ls a at made) goes)
-  on p es fs ls ms b Cut at made goes =
-      brings_ends Cut (λ h. stood p.history) (λ c h. stands c (after_all (es ++ fs) p.history))
+  on p es fs ls ms b (Cut stop) at made goes =
+      brings_ends (Cut stop) (λ h. stood p.history) (λ c h. stands c (after_all (es ++ fs) p.history))
       (λ c h cut i. absurd (cc)) (behind es ls p) fs ms b at goes
 
   pub brings_then : Brings (Then first next) stood stands

@@ -1,5 +1,5 @@
 -- Passes of a client that makes a call.
-use Rattle.std.proofs.Common.{◌≡◌, ◌∙◌, ◌<◌, ◌≤◌, ℕ, suc, true, false, List, [], ◌++◌, Option, Some, None, Ok, Err}
+use Rattle.std.proofs.Common.{◌≡◌, ◌∙◌, ◌<◌, ◌≤◌, ℕ, suc, true, false, List, [], ◌∷◌, ◌++◌, Option, Some, None, Ok, Err}
 use Rattle.std.proofs.Common.{refl}
 use Rattle.std.proofs.Common.{inl, inr, sym, ap, subst, rules}
 use Rattle.std.specs.Prelude.{is_some}
@@ -17,7 +17,7 @@ use Rattle.rx_rules.specs.Rules.{Legal}
 use Rattle.rx_rules.specs.Setup.{Setup}
 use Rattle.rx_udp.specs.Wire.{Logged}
 use Rattle.rx_wire.specs.Advances.{Turned}
-use Rattle.rx_wire.specs.Turns.{Runs, after_all, goes, stays}
+use Rattle.rx_wire.specs.Turns.{HasNotedMost, Runs, after_all, goes, stays}
 use Rattle.rx_wire.proofs.TurnLaws.{after_all-append}
 use Rattle.rx_passes.specs.Calls.{CallEnds, CallMade, CallPassed, CallTerms, IsCut, IsEnded, IsSpent, call_play}
 use Rattle.rx_passes.specs.Calls.{call_take}
@@ -27,12 +27,14 @@ use Rattle.rx_passes.specs.declared.stop.Stop.{Stop}
 use Rattle.rx_passes.specs.declared.stop.Stop.TheVariants as stops
 use Rattle.rx_passes.specs.Parts.{Came, Cut, Part, Place, To, behind}
 use Rattle.rx_passes.specs.Ports.{takes}
-use Rattle.rx_passes.specs.Runs.{Fits, IsAt, Plays, Ran, change}
+use Rattle.rx_passes.specs.Runs.{Fits, IsAt, Plays, Ran, Stops, change}
 use Rattle.rx_passes.specs.Serves.{pass, passed_more, passed_none, plays}
-use Rattle.rx_passes.specs.Tells.{Gains, SinkTells, Told, WireTells, sink_tells, told}
+use Rattle.rx_passes.specs.Tells.{Gains, SinkTells, Told, WantsAt, WireTells, sink_tells, told, wants_next}
+use Rattle.rx_passes.specs.Tells.{wants_note}
 use Rattle.rx_passes.specs.Texts.{event_line, lines}
 use Rattle.rx_passes.proofs.Placing.{behind_both}
-use Rattle.rx_passes.proofs.Telling.{breaks_behind, gained_none, gains_both, gains_none, logged_none, wants_behind}
+use Rattle.rx_passes.proofs.Telling.{breaks_behind, gained_none, gains_both, gains_none, lines_both, logged_none}
+use Rattle.rx_passes.proofs.Telling.{wants_behind}
 use Rattle.rx_passes.proofs.Turning.{still}
 
 -- ---- what the calls of a caller are
@@ -86,6 +88,10 @@ node_kept limit v w es (stays at) = refl
 node_kept limit v w es (goes at a e rest to asked is more) =
     node_kept limit (heard at e) to rest more ∙ heard_node at e
 
+front_none : (xs ys : List ℕ) → xs ++ ys ≡ [] → xs ≡ []
+front_none [] ys none = refl
+front_none (x ∷ xs) ys none = absurd (cc (none))
+
 -- ---- its turns
 
 module _ (n : ℕ) (s : Setup) (v w : CallerState) (s0 s1 : List Event → Type 0) (before after : Option (List Noted))
@@ -120,6 +126,18 @@ module _ (n : ℕ) (s : Setup) (v w : CallerState) (s0 s1 : List Event → Type 
         );
       }
 
+  quietly : (es : List Event) → lines es ≡ [] → Gained sink.put sink.put (lines es)
+  quietly es quiet = subst (λ (xs : List ℕ). Gained sink.put sink.put xs) (sym quiet) (gained_none sink.put)
+
+  wanted_at : {es : List Event} → HasNotedMost before after n es → lines es ≡ []
+      → WantsAt n (told before sink wire) (told after sink wire) es
+  wanted_at {es} (inl all) quiet = wants_next es all (quietly es quiet)
+  wanted_at {es} (inr most) quiet =
+      subst (λ (xs : List Event). WantsAt n (told before sink wire) (told after sink wire) xs) (sym most.are)
+      (wants_note most.front most.last most.noted_front
+      (quietly most.front (front_none (lines most.front) (lines (most.last ∷ []))
+      (sym (lines_both most.front (most.last ∷ [])) ∙ sym (ap lines most.are) ∙ quiet))))
+
   -- memory is wanted in it
   pub call_wanted : (shows : CallerState → Type 0) → StopsAt (calling REPLY_BYTES) n (begun v) w s0 s1 before after
       → Plays (change n s s0 s1 (told before sink wire) (told after sink wire)) (calls v) shows (Some stops.OutOfMemory)
@@ -127,16 +145,18 @@ module _ (n : ℕ) (s : Setup) (v w : CallerState) (s0 s1 : List Event → Type 
       record {
         events = x.events;
         log = [];
-        came = Cut;
-        made = (refl, (w, x.runs));
+        came = Cut stops.OutOfMemory;
+        made = (refl, refl, (w, x.runs));
         standing = x.standing p.history at.standing;
-        fits = record {
-          noted = x.noting;
-          put = ([], lines x.events, refl, gained_none sink.put);
-          log = logged_none wire.traffic;
-          puts = refl;
-          calls = refl;
-        };
+        fits = (
+          refl,
+          record {
+            wanted = wanted_at x.noting (lines_quiet REPLY_BYTES (begun v) w x.events x.runs);
+            log = logged_none wire.traffic;
+            puts = refl;
+            calls = refl;
+          },
+        );
       }
 
 -- ---- its passes, so far
@@ -196,7 +216,7 @@ module _ (t : CallTerms) (v : CallerState) (p : Place) (n : ℕ) (w : CallerStat
             at = subst (λ (q : Place). IsAt t.setup s2 (told na sink wa) q)
                 (sym (behind_both (x sink).events r.events (x sink).log r.log p)) there;
           }
-      of Cut made fits = absurd fits
+      of (Cut why) made fits = absurd fits
 
   -- a history with more events is legal
   legal_behind : (sink : SinkTells) (es : List Event) → ((h : List Event) → s2 h → Legal t.setup h)
@@ -207,16 +227,17 @@ module _ (t : CallTerms) (v : CallerState) (p : Place) (n : ℕ) (w : CallerStat
       (law (after_all es (after_all (x sink).events p.history)) stands)
 
   -- what was told where passes ended behind those so far
-  stopped_ends : (sink : SinkTells) (es : List Event) (ls : List Logged) (stop : Stop) (shows : CallerState → Type 0)
-      → (stop ≡ stops.SinkFault → ⊥) → Fits (moves sink) shows (here sink) es ls Cut (Some stop)
-      → CallEnds 1 (Err stop) IsCut (told n0 sink w0) (told na sink wa) ((x sink).events ++ es) ((x sink).log ++ ls)
-  stopped_ends sink es ls stops.OutOfMemory shows none fits =
+  stopped_ends : (sink : SinkTells) (es : List Event) (ls : List Logged) (stop : Stop)
+      → (stop ≡ stops.SinkFault → ⊥) → Stops (moves sink) es ls stop
+      → CallEnds 1 (Err stop) (IsCut stop) (told n0 sink w0) (told na sink wa) ((x sink).events ++ es)
+      ((x sink).log ++ ls)
+  stopped_ends sink es ls stops.OutOfMemory none ends =
       wants_behind 1 (told n0 sink w0) (told nb sink wb) (told na sink wa) (x sink).events es (x sink).log ls
-      (x sink).told fits
-  stopped_ends sink es ls stops.SinkFault shows none fits = absurd (none refl)
-  stopped_ends sink es ls stops.WireFault shows none fits =
+      (x sink).told ends
+  stopped_ends sink es ls stops.SinkFault none ends = absurd (none refl)
+  stopped_ends sink es ls stops.WireFault none ends =
       breaks_behind 1 (told n0 sink w0) (told nb sink wb) (told na sink wa) (x sink).events es (x sink).log ls
-      (x sink).told fits
+      (x sink).told ends
 
   -- no sink fails
   sinks_hold : (part : Part CallerState) (shows : CallerState → Type 0) (stop : Stop)
@@ -234,7 +255,7 @@ module _ (t : CallTerms) (v : CallerState) (p : Place) (n : ℕ) (w : CallerStat
       of : (came : Came CallerState) → Fits (moves none) shows (here none) r.events r.log came (Some stops.SinkFault)
           → ⊥
       of (To u) fits = absurd fits
-      of Cut fits = no_rise fits.puts
+      of (Cut why) fits = no_rise fits.1.puts
 
   -- passes ended in one of them
   pub call_stopped : (shows : CallerState → Type 0) (stop : Stop)
@@ -250,14 +271,15 @@ module _ (t : CallTerms) (v : CallerState) (p : Place) (n : ℕ) (w : CallerStat
           → Fits (moves sink) shows (here sink) r.events r.log came (Some stop)
           → CallMade t v p (Err stop) (told n0 sink w0) (told na sink wa)
       of (To u) made fits = absurd fits
-      of Cut made fits =
+      of (Cut why) made fits =
           record {
             events = (x sink).events ++ r.events;
             log = (x sink).log ++ r.log;
-            came = IsCut;
-            calls = calls_cut n (x sink).events r.events (x sink).log r.log w low (x sink).passed made;
+            came = IsCut stop;
+            calls = calls_cut stop n (x sink).events r.events (x sink).log r.log w low (x sink).passed
+                (subst (λ (k : Stop). whole_pass (here sink) r.events r.log (Cut k)) fits.0 made);
             legal = legal_behind sink r.events law r.standing;
-            ends = stopped_ends sink r.events r.log stop shows (sinks_hold whole_pass shows stop plays) fits;
+            ends = stopped_ends sink r.events r.log stop (sinks_hold whole_pass shows stop plays) fits.1;
           }
 
   -- passes ended in the last one
@@ -274,15 +296,16 @@ module _ (t : CallTerms) (v : CallerState) (p : Place) (n : ℕ) (w : CallerStat
           → Fits (moves sink) shows (here sink) r.events r.log came (Some stop)
           → CallMade t v p (Err stop) (told n0 sink w0) (told na sink wa)
       of (To u) made fits = absurd fits
-      of Cut made fits =
+      of (Cut why) made fits =
           record {
             events = (x sink).events ++ r.events;
             log = (x sink).log ++ r.log;
-            came = IsCut;
-            calls = calls_cut_last (x sink).events r.events (x sink).log r.log w
-                (subst (λ (k : ℕ). CallPassed t v p k (x sink).events (x sink).log w) all (x sink).passed) made;
+            came = IsCut stop;
+            calls = calls_cut_last stop (x sink).events r.events (x sink).log r.log w
+                (subst (λ (k : ℕ). CallPassed t v p k (x sink).events (x sink).log w) all (x sink).passed)
+                (subst (λ (k : Stop). call_play t w (here sink) r.events r.log (Cut k)) fits.0 made);
             legal = legal_behind sink r.events law r.standing;
-            ends = stopped_ends sink r.events r.log stop shows (sinks_hold (call_play t w) shows stop plays) fits;
+            ends = stopped_ends sink r.events r.log stop (sinks_hold (call_play t w) shows stop plays) fits.1;
           }
 
   -- the call ended in a pass
@@ -311,7 +334,7 @@ module _ (t : CallTerms) (v : CallerState) (p : Place) (n : ℕ) (w : CallerStat
                   (x sink).log r.log (x sink).told gained,
             );
           }
-      of Cut made fits = absurd fits
+      of (Cut why) made fits = absurd fits
 
   -- all takes were made: the last pass was made up to its take
   pub call_spent : (next : CallerState) (sink : SinkTells) → Plays (moves sink) (call_play t w) (λ u. u ≡ next) None
@@ -337,7 +360,7 @@ module _ (t : CallTerms) (v : CallerState) (p : Place) (n : ℕ) (w : CallerStat
             ends = gains_both 1 (told n0 sink w0) (told nb sink wb) (told na sink wa) (x sink).events r.events
                 (x sink).log r.log (x sink).told gained;
           }
-      of Cut made fits = absurd fits
+      of (Cut why) made fits = absurd fits
 
 -- ---- the same under other names
 

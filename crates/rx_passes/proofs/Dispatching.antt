@@ -1,6 +1,6 @@
 -- Calls of a turn of the handlers, as they were made and told.
 use Rattle.std.proofs.Common.{◌≡◌, ◌∙◌, ℕ, Bool, true, false, List, [], ◌∷◌, Option, Some, None, Result, Ok, Err, refl}
-use Rattle.std.proofs.Common.{sym}
+use Rattle.std.proofs.Common.{◌⊎◌, inl, inr, sym}
 use Rattle.std.proofs.Common.{ap, subst}
 use Rattle.std.specs.Prelude.{IfOk}
 use Rattle.rx_dispatch.specs.Dispatching.{RoundState, accepts, dispatching, turning_of}
@@ -17,8 +17,7 @@ use Rattle.rx_wire.specs.Turns.{noted}
 use Rattle.rx_passes.specs.declared.stop.Stop.{Stop}
 use Rattle.rx_passes.specs.declared.stop.Stop.TheVariants as stops
 use Rattle.rx_passes.specs.Lines.{PutsLine}
-use Rattle.rx_passes.specs.Parts.{Cut}
-use Rattle.rx_passes.specs.Runs.{Fits, Plays, change, stop_of}
+use Rattle.rx_passes.specs.Runs.{Plays, Stops, change, stop_of}
 use Rattle.rx_passes.specs.Serves.{dispatches}
 use Rattle.rx_passes.specs.Tells.{Gains, SinkTells, Told, WireTells, told}
 use Rattle.rx_passes.specs.Texts.{event_line}
@@ -124,22 +123,25 @@ module _ (class : List ℕ → Class) (g : Handlers) (jobs : List JobState) (old
   calls_over s x r (handles_wants stop w) is = absurd (cc (is))
 
   -- what is told of a call behind which passes end
-  fits_of : (s : Setup) (e : Event) (shows : List JobState → Type 0) (o : Option Stop) (stop : Stop)
+  stops_of : (s : Setup) (e : Event) (o : Option Stop) (stop : Stop)
       → TellsOne 0 before after first last e o → o ≡ Some stop
-      → Fits (change 0 s (Stands class served) (Stands class serves) (told before first wire) (told after last wire))
-      shows
-      (record { history = []; now = 0 }) (e ∷ []) [] Cut (Some stop)
-  fits_of s e shows o stops.OutOfMemory (tells_refused none same) is =
-      told_refused 0 before after first last wire e none same
-  fits_of s e shows o stops.SinkFault (tells_refused none same) is = absurd (cc (is))
-  fits_of s e shows o stops.WireFault (tells_refused none same) is = absurd (cc (is))
-  fits_of s e shows o stops.OutOfMemory (tells_line why one puts) is =
-      told_wants 0 before after first last wire e one
-      (subst (λ (x : Option Stop). PutsLine first last (event_line e) x) is puts)
-  fits_of s e shows o stops.SinkFault (tells_line why one puts) is =
-      told_fails 0 before after first last wire e one
-      (subst (λ (x : Option Stop). PutsLine first last (event_line e) x) is puts)
-  fits_of s e shows o stops.WireFault (tells_line why one puts) is =
+      → ((stop ≡ stops.OutOfMemory) ⊎ (stop ≡ stops.SinkFault)) × Stops (change 0 s (Stands class served)
+      (Stands class serves) (told before first wire) (told after last wire)) (e ∷ []) [] stop
+  stops_of s e o stops.OutOfMemory (tells_refused none same) is =
+      (inl refl, told_refused 0 before after first last wire e none same)
+  stops_of s e o stops.SinkFault (tells_refused none same) is = absurd (cc (is))
+  stops_of s e o stops.WireFault (tells_refused none same) is = absurd (cc (is))
+  stops_of s e o stops.OutOfMemory (tells_line why one puts) is = (
+    inl refl,
+    told_wants 0 before after first last wire e one
+        (subst (λ (x : Option Stop). PutsLine first last (event_line e) x) is puts),
+  )
+  stops_of s e o stops.SinkFault (tells_line why one puts) is = (
+    inr refl,
+    told_fails 0 before after first last wire e one
+        (subst (λ (x : Option Stop). PutsLine first last (event_line e) x) is puts),
+  )
+  stops_of s e o stops.WireFault (tells_line why one puts) is =
       absurd (subst (λ (x : Option Stop). PutsLine first last (event_line e) x) is puts)
 
   -- passes ended
@@ -153,7 +155,7 @@ module _ (class : List ℕ → Class) (g : Handlers) (jobs : List JobState) (old
       went_stops 0 s (setup_of class served.node) g jobs s0 (Stands class served) (Stands class serves)
       (turning_of g old) (turning_of g new) a
       (told before first wire) (told after last wire) h.made.ask h.event shows stop x h.made.asked h.made.is
-      (sym h.made.told) h.made.answered (fits_of s h.event shows (Some why) stop h.told (ap Some same)))
+      (sym h.made.told) h.made.answered (stops_of s h.event (Some why) stop h.told (ap Some same)))
   calls_stopped s shows x r (handles_wants why w) stop is =
       (let same : stops.OutOfMemory ≡ stop = sym w.wants ∙ cc (is) in
       subst (λ (z : Stop). Plays (change 0 s s0 (Stands class serves) a (told after last wire)) (dispatches g jobs)

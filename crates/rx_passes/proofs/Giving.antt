@@ -1,5 +1,5 @@
 -- What is given on a wire, joined.
-use Rattle.std.proofs.Common.{◌≡◌, ◌∙◌, ◌≤◌, ◌<◌, ◌+◌, ◌==◌, ◌||◌, ℕ, Bool, true, false, List, [], ◌∷◌, ◌++◌}
+use Rattle.std.proofs.Common.{◌≡◌, ◌≢◌, ◌∙◌, ◌≤◌, ◌<◌, ◌+◌, ◌==◌, ◌||◌, ℕ, Bool, true, false, List, [], ◌∷◌, ◌++◌}
 use Rattle.std.proofs.Common.{Option, Some, None, refl, sym, ap, subst, arith, length, append_assoc}
 use Rattle.std.specs.Prelude.{nat_lt}
 use Rattle.std.proofs.lemmas.List.{append-nil, length-append, map-append}
@@ -59,11 +59,21 @@ empties_none j new wire none is =
       empty = λ ok. ap (λ (k : JoinerState). k.datagrams) is;
     }
 
+-- none of a host is none
+none_for : (to : Host) (bs : List (List ℕ)) → all_for to bs ≡ [] → bs ≡ []
+none_for to [] none = refl
+none_for to (b ∷ bs) none = absurd (cc (none))
+
+-- there is a last one
+pub some_last : {A : Type 0} (xs : List A) (y : A) → xs ++ y ∷ [] ≢ []
+some_last [] y none = absurd (cc (none))
+some_last (x ∷ xs) y none = absurd (cc (none))
+
 -- it was given, or the wire failed
 pub empties_given : (j new : JoinerState) (to : Host) (bytes : List ℕ) (first last : WireTells) (stop : Option Stop)
-    → to ≡ j.host → parts_of bytes ≡ j.datagrams → new ≡ record j { datagrams = [] } → IsWithin j
+    → to ≡ j.host → parts_of bytes ≡ j.datagrams → j.datagrams ≢ [] → new ≡ record j { datagrams = [] } → IsWithin j
     → GivesOne first last (to, bytes) stop → Empties j new first last stop
-empties_given j new to bytes first last None host parts is within gave =
+empties_given j new to bytes first last None host parts some is within gave =
     record {
       passes = record {
         given = (to, bytes) ∷ [];
@@ -74,7 +84,7 @@ empties_given j new to bytes first last None host parts is within gave =
       };
       empty = λ ok. ap (λ (k : JoinerState). k.datagrams) is;
     }
-empties_given j new to bytes first last (Some stops.WireFault) host parts is within gave =
+empties_given j new to bytes first last (Some stops.WireFault) host parts some is within gave =
     record {
       passes = record {
         given = [];
@@ -83,13 +93,13 @@ empties_given j new to bytes first last (Some stops.WireFault) host parts is wit
           gave.1,
           gave.2,
         );
-        rest = (held j, refl);
+        rest = (held j, λ none. some (none_for j.host j.datagrams none), refl);
         few = tt;
       };
       empty = λ bad. absurd (cc (bad));
     }
-empties_given j new to bytes first last (Some stops.SinkFault) host parts is within gave = absurd gave
-empties_given j new to bytes first last (Some stops.OutOfMemory) host parts is within gave = absurd gave
+empties_given j new to bytes first last (Some stops.SinkFault) host parts some is within gave = absurd gave
+empties_given j new to bytes first last (Some stops.OutOfMemory) host parts some is within gave = absurd gave
 
 -- ---- one datagram more
 
@@ -184,12 +194,13 @@ pub passes_failed : (j mid : JoinerState) (d : Host × List ℕ) (first last : W
 passes_failed j mid d first last stop e = of e.passes.rest
   where
     of : Behind (held j) e.passes.given mid (Some stop) → Passes (held j ++ d ∷ []) j mid first last (Some stop)
-    of (missing, whole) =
+    of (missing, some, whole) =
         record {
           given = e.passes.given;
           gave = e.passes.gave;
           rest = (
             missing ++ d ∷ [],
+            some_last missing d,
             sym (append_assoc (parts_all e.passes.given) missing (d ∷ []))
                 ∙ ap (λ (xs : List (Host × List ℕ)). xs ++ d ∷ []) whole,
           );

@@ -9,14 +9,14 @@ use Rattle.rx_rules.specs.After.{looks}
 use Rattle.rx_rules.specs.Setup.{Setup}
 use Rattle.rx_wire.specs.Journal.{HasNoted}
 use Rattle.rx_wire.specs.Turns.{noted}
-use Rattle.rx_wire.proofs.TurnLaws.{HasNotedAll-one, HasNotedMost-refused}
+use Rattle.rx_wire.proofs.TurnLaws.{HasNotedAll-one}
 use Rattle.rx_passes.specs.declared.stop.Stop.TheVariants as stops
 use Rattle.rx_passes.specs.Nodes.{Answers}
 use Rattle.rx_passes.specs.Parts.{Cut, Part, Place, To}
 use Rattle.rx_passes.specs.Runs.{IsAt, Plays, change}
-use Rattle.rx_passes.specs.Tells.{Gains, SinkTells, Wants, WireTells, told}
+use Rattle.rx_passes.specs.Tells.{Gains, SinkTells, Wants, WireTells, told, wants_note}
 use Rattle.rx_passes.specs.Texts.{event_line, lines}
-use Rattle.rx_passes.proofs.Telling.{gained_all, gained_none, logged_none}
+use Rattle.rx_passes.proofs.Telling.{gained_none, logged_none, unnoted}
 
 -- the lines of one event without a line
 lines_one : (e : Event) → event_line e ≡ [] → lines (e ∷ []) ≡ []
@@ -40,8 +40,7 @@ module _ (n : ℕ) (s : Setup) (s0 s1 : List Event → Type 0) (book after : Opt
   pub refused_wants : after ≡ book → Wants n (told book sink wire) (told after sink wire) (e ∷ []) []
   refused_wants same =
       record {
-        noted = HasNotedMost-refused book after n e same;
-        put = gained_all sink.put sink.put (lines (e ∷ [])) put_nothing;
+        wanted = wants_note [] e (unnoted n book after same) (gained_none sink.put);
         log = logged_none wire.traffic;
         puts = refl;
         calls = refl;
@@ -74,15 +73,15 @@ module _ (n : ℕ) (s : Setup) (s0 s1 : List Event → Type 0) (book after : Opt
 
   -- memory was wanted for its note
   pub one_refused : {A : Type 0} (part : Part A) (shows : A → Type 0) → Answers s s0 s1 e
-      → ((p : Place) → IsAt s s0 (told book sink wire) p → part p (e ∷ []) [] Cut)
+      → ((p : Place) → IsAt s s0 (told book sink wire) p → part p (e ∷ []) [] (Cut stops.OutOfMemory))
       → after ≡ book
       → Plays (change n s s0 s1 (told book sink wire) (told after sink wire)) part shows (Some stops.OutOfMemory)
   one_refused part shows answers made same p at =
       record {
         events = e ∷ [];
         log = [];
-        came = Cut;
+        came = Cut stops.OutOfMemory;
         made = made p at;
         standing = (answers p.history at.standing).1;
-        fits = refused_wants same;
+        fits = (refl, refused_wants same);
       }

@@ -19,17 +19,17 @@ use Rattle.rx_passes.specs.declared.stop.Stop.TheVariants as stops
 use Rattle.rx_passes.specs.Lines.{PutsLine, PutsText}
 use Rattle.rx_passes.specs.Parts.{Came, Cut, Part, Place, Then, To, behind, ends}
 use Rattle.rx_passes.specs.Ports.{clocks, polls, takes, takes_until, until_of}
-use Rattle.rx_passes.specs.Runs.{Fits, IsAt, Plays, Ran, change}
+use Rattle.rx_passes.specs.Runs.{Fits, IsAt, Plays, Ran, Stops, change}
 use Rattle.rx_passes.specs.Serves.{IsCut, IsSpent, IsUp, ServePassed, Terms, dispatches, pass, passed_more}
 use Rattle.rx_passes.specs.Serves.{passed_none, plays, serve_play, serve_take, serves_cut, serves_cut_last}
 use Rattle.rx_passes.specs.Serves.{serves_spent, serves_up}
-use Rattle.rx_passes.specs.Serving.{FailsUp, Serving, ServesBound, TellsUp}
+use Rattle.rx_passes.specs.Serving.{ServeEnds, Serving, ServesBound}
 use Rattle.rx_passes.specs.Tells.{Gains, SinkTells, Told, WireTells, told}
 use Rattle.rx_passes.specs.Texts.{lines, ready_line, time_up_line}
 use Rattle.rx_passes.proofs.Placing.{behind_both}
 use Rattle.rx_passes.proofs.Polling.{Anyhow}
 use Rattle.rx_passes.proofs.Running.{plays_at, plays_stops, plays_then, plays_to}
-use Rattle.rx_passes.proofs.Telling.{breaks_behind, fails_behind, gained_behind, gained_both, gains_both, gains_none}
+use Rattle.rx_passes.proofs.Telling.{breaks_behind, fails_behind, gained_both, gains_both, gains_none}
 use Rattle.rx_passes.proofs.Telling.{wants_behind}
 
 -- a last part, behind which something is known already
@@ -162,15 +162,15 @@ module _ (t : Terms) (p : Place) (n : ℕ) (jobs next : List JobState) (s1 s2 : 
             at = subst (λ (q : Place). IsAt t.setup s2 after q) (sym (behind_both x.events r.events x.log r.log p))
                 there;
           }
-      of Cut made fits = absurd fits
+      of (Cut why) made fits = absurd fits
 
   -- what was told where passes ended behind those so far
   stopped_ends : (es : List Event) (ls : List Logged) (stop : Stop)
-      → Fits (change 0 t.setup s1 s2 mid after) (λ (js : List JobState). Unit {0}) here es ls Cut (Some stop)
-      → Rattle.rx_passes.specs.Serving.ServeEnds 0 (Err stop) IsCut before after (x.events ++ es) (x.log ++ ls)
-  stopped_ends es ls stops.OutOfMemory fits = wants_behind 0 before mid after x.events es x.log ls x.told fits
-  stopped_ends es ls stops.SinkFault fits = fails_behind 0 before mid after x.events es x.log ls x.told fits
-  stopped_ends es ls stops.WireFault fits = breaks_behind 0 before mid after x.events es x.log ls x.told fits
+      → Stops (change 0 t.setup s1 s2 mid after) es ls stop
+      → ServeEnds 0 (Err stop) (IsCut stop) before after (x.events ++ es) (x.log ++ ls)
+  stopped_ends es ls stops.OutOfMemory told = wants_behind 0 before mid after x.events es x.log ls x.told told
+  stopped_ends es ls stops.SinkFault told = fails_behind 0 before mid after x.events es x.log ls x.told told
+  stopped_ends es ls stops.WireFault told = breaks_behind 0 before mid after x.events es x.log ls x.told told
 
   -- a history with more events is legal
   legal_behind : (es : List Event) → ((h : List Event) → s2 h → Legal t.setup h)
@@ -188,25 +188,19 @@ module _ (t : Terms) (p : Place) (n : ℕ) (jobs next : List JobState) (s1 s2 : 
       r : Ran (change 0 t.setup s1 s2 mid after) whole_pass shows (Some stop) here
       r = plays here x.at
 
-      by : (es : List Event) (ls : List Logged) (why : Stop)
-          → Fits (change 0 t.setup s1 s2 mid after) shows here es ls Cut (Some why)
-          → Fits (change 0 t.setup s1 s2 mid after) (λ (js : List JobState). Unit {0}) here es ls Cut (Some why)
-      by es ls stops.OutOfMemory fits = fits
-      by es ls stops.SinkFault fits = fits
-      by es ls stops.WireFault fits = fits
-
       of : (came : Came (List JobState)) → whole_pass here r.events r.log came
           → Fits (change 0 t.setup s1 s2 mid after) shows here r.events r.log came (Some stop)
           → Serving t p (Err stop) before after
       of (To js) made fits = absurd fits
-      of Cut made fits =
+      of (Cut why) made fits =
           record {
             events = x.events ++ r.events;
             log = x.log ++ r.log;
-            came = IsCut;
-            serves = serves_cut n x.events r.events x.log r.log jobs low x.passed made;
+            came = IsCut stop;
+            serves = serves_cut stop n x.events r.events x.log r.log jobs low x.passed
+                (subst (λ (k : Stop). whole_pass here r.events r.log (Cut k)) fits.0 made);
             legal = legal_behind r.events law r.standing;
-            ends = stopped_ends r.events r.log stop (by r.events r.log stop fits);
+            ends = stopped_ends r.events r.log stop fits.1;
           }
 
   -- the last of them came to the end
@@ -242,7 +236,7 @@ module _ (t : Terms) (p : Place) (n : ℕ) (jobs next : List JobState) (s1 s2 : 
               calls = all.calls;
             };
           })
-      of Cut made fits = absurd fits
+      of (Cut why) made fits = absurd fits
 
   -- the sink failed as that was put
   pub serving_up_failed : Plays (change 0 t.setup s1 s2 mid after) whole_pass (λ js. js ≡ next) None → n < t.turns
@@ -269,14 +263,15 @@ module _ (t : Terms) (p : Place) (n : ℕ) (jobs next : List JobState) (s1 s2 : 
             legal = legal_behind r.events law r.standing;
             ends = record {
               noted = all.noted;
-              put = gained_behind before.sink.put after.sink.put last.put (lines (x.events ++ r.events)) time_up_line
-                  all.put puts.0;
+              between = after.sink.put;
+              put = all.put;
+              some = puts.0;
               log = all.log;
               puts = subst (λ (k : ℕ). Rattle.rx_base.specs.Sink.HasRisen k last.faults) all.puts puts.1;
               calls = all.calls;
             };
           })
-      of Cut made fits = absurd fits
+      of (Cut why) made fits = absurd fits
   serving_up_failed plays low late law last stops.OutOfMemory puts = absurd puts
   serving_up_failed plays low late law last stops.WireFault puts = absurd puts
 
@@ -302,7 +297,7 @@ module _ (t : Terms) (p : Place) (n : ℕ) (jobs next : List JobState) (s1 s2 : 
             legal = legal_behind r.events law r.standing;
             ends = gains_both 0 before mid after x.events r.events x.log r.log x.told gained;
           }
-      of Cut made fits = absurd fits
+      of (Cut why) made fits = absurd fits
 
   -- passes ended in the last one
   pub serving_stopped_last : (shows : List JobState → Type 0) (stop : Stop)
@@ -313,26 +308,20 @@ module _ (t : Terms) (p : Place) (n : ℕ) (jobs next : List JobState) (s1 s2 : 
       r : Ran (change 0 t.setup s1 s2 mid after) (serve_play t jobs) shows (Some stop) here
       r = plays here x.at
 
-      by : (es : List Event) (ls : List Logged) (why : Stop)
-          → Fits (change 0 t.setup s1 s2 mid after) shows here es ls Cut (Some why)
-          → Fits (change 0 t.setup s1 s2 mid after) (λ (js : List JobState). Unit {0}) here es ls Cut (Some why)
-      by es ls stops.OutOfMemory fits = fits
-      by es ls stops.SinkFault fits = fits
-      by es ls stops.WireFault fits = fits
-
       of : (came : Came (List JobState)) → serve_play t jobs here r.events r.log came
           → Fits (change 0 t.setup s1 s2 mid after) shows here r.events r.log came (Some stop)
           → Serving t p (Err stop) before after
       of (To js) made fits = absurd fits
-      of Cut made fits =
+      of (Cut why) made fits =
           record {
             events = x.events ++ r.events;
             log = x.log ++ r.log;
-            came = IsCut;
-            serves = serves_cut_last x.events r.events x.log r.log jobs
-                (subst (λ (k : ℕ). ServePassed t p k x.events x.log jobs) all x.passed) made;
+            came = IsCut stop;
+            serves = serves_cut_last stop x.events r.events x.log r.log jobs
+                (subst (λ (k : ℕ). ServePassed t p k x.events x.log jobs) all x.passed)
+                (subst (λ (k : Stop). serve_play t jobs here r.events r.log (Cut k)) fits.0 made);
             legal = legal_behind r.events law r.standing;
-            ends = stopped_ends r.events r.log stop (by r.events r.log stop fits);
+            ends = stopped_ends r.events r.log stop fits.1;
           }
 
 -- ---- the same under other names

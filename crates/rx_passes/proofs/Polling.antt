@@ -1,5 +1,5 @@
 -- Polls of a node, whose datagrams are passed on.
-use Rattle.std.proofs.Common.{◌≡◌, ◌⊎◌, ◌∙◌, ◌≤◌, ℕ, Bool, true, false, List, [], ◌∷◌, ◌++◌, append_assoc}
+use Rattle.std.proofs.Common.{◌≡◌, ◌≢◌, ◌⊎◌, ◌∙◌, ◌≤◌, ℕ, Bool, true, false, List, [], ◌∷◌, ◌++◌, append_assoc}
 use Rattle.std.proofs.Common.{Option, Some, None, Result, Ok, Err, refl, sym, ap, subst, inl, inr, drop, length, take}
 use Rattle.std.proofs.lemmas.List.{append-nil, map-append}
 use Rattle.std.proofs.Math.Seq.{take-append_seam}
@@ -24,13 +24,13 @@ use Rattle.rx_passes.specs.declared.stop.Stop.{Stop}
 use Rattle.rx_passes.specs.declared.stop.Stop.TheVariants as stops
 use Rattle.rx_passes.specs.Nodes.{Answers}
 use Rattle.rx_passes.specs.Parts.{Came, Cut, Part, Place, To, behind, moment_after}
-use Rattle.rx_passes.specs.Ports.{AreOfFew, Behind, CutsOne, Empties, Gave, IsWithin, NotesOne, Passes, PassesOn}
-use Rattle.rx_passes.specs.Ports.{PollsCut}
+use Rattle.rx_passes.specs.Ports.{AreOfFew, Behind, CutsOne, Empties, Gave, IsOfWire, IsWithin, NotesOne, Passes}
+use Rattle.rx_passes.specs.Ports.{PassesOn, PollsCut}
 use Rattle.rx_passes.specs.Ports.{PollsOne, PollsOut, PortsState, gave_all, held, parts_all, polled_all, polls}
 use Rattle.rx_passes.specs.Ports.{polls_once}
 use Rattle.rx_passes.specs.Runs.{Fits, IsAt, Plays, Ran, change, stop_of}
 use Rattle.rx_passes.specs.Tells.{SinkTells, Told, WireTells, told}
-use Rattle.rx_passes.proofs.Giving.{gave_all_both, parts_all_both}
+use Rattle.rx_passes.proofs.Giving.{gave_all_both, parts_all_both, some_last}
 use Rattle.rx_passes.proofs.Noting.{noted_gains, one_noted, one_refused, refused_wants}
 use Rattle.rx_passes.proofs.Single.{single_polled}
 use Rattle.rx_passes.proofs.Running.{plays_as, plays_at, plays_cut, plays_join}
@@ -61,7 +61,7 @@ pub none_refused : (n : ℕ) (s : Setup) (s0 s1 : List Event → Type 0) (book a
     (Some stops.OutOfMemory)
 none_refused n s s0 s1 book after sink wire j k shows answers same =
     one_refused n s s0 s1 book after sink wire (events.Polled None) refl (polls_once j k) shows answers
-    (λ p at. inl (refl, refl)) same
+    (λ p at. inl (refl, refl, refl)) same
 
 module _ (n : ℕ) (s : Setup) (s0 s1 : List Event → Type 0) (book after : Option (List Noted)) (sink : SinkTells)
     (first last : WireTells) (j k : JoinerState) (d : Host × List ℕ) (answers : Answers s s0 s1
@@ -131,9 +131,9 @@ module _ (n : ℕ) (s : Setup) (s0 s1 : List Event → Type 0) (book after : Opt
         }
 
     cuts : (given missing : List (Host × List ℕ)) → parts_all given ++ missing ≡ held j ++ d ∷ [] → AreOfFew j.most
-        given
+        given → missing ≢ []
         → CutsOne j (e ∷ []) (gave_all given)
-    cuts given missing joined few =
+    cuts given missing joined few lost =
         record {
           datagram = d;
           given = given;
@@ -142,6 +142,7 @@ module _ (n : ℕ) (s : Setup) (s0 s1 : List Event → Type 0) (book after : Opt
           log = refl;
           joined = joined;
           few = few;
+          lost = lost;
         }
 
     -- memory was wanted for its note
@@ -152,12 +153,14 @@ module _ (n : ℕ) (s : Setup) (s0 s1 : List Event → Type 0) (book after : Opt
         record {
           events = e ∷ [];
           log = [];
-          came = Cut;
-          made = inr (cuts [] (held j ++ d ∷ []) refl tt);
+          came = Cut stops.OutOfMemory;
+          made = inr (inl refl, cuts [] (held j ++ d ∷ []) refl tt (some_last (held j) d));
           standing = (answers p.history at.standing).1;
-          fits = subst (λ (w : WireTells). Rattle.rx_passes.specs.Tells.Wants n (told book sink first)
-              (told after sink w)
-              (e ∷ []) []) (sym wire) (refused_wants n s s0 s1 book after sink first e refl same);
+          fits = (
+            refl,
+            subst (λ (w : WireTells). Rattle.rx_passes.specs.Tells.Wants n (told book sink first) (told after sink w)
+                (e ∷ []) []) (sym wire) (refused_wants n s s0 s1 book after sink first e refl same),
+          );
         }
 
     -- the wire failed
@@ -170,14 +173,14 @@ module _ (n : ℕ) (s : Setup) (s0 s1 : List Event → Type 0) (book after : Opt
         of : Behind (held j ++ d ∷ []) passes.given k (Some stops.WireFault)
             → Ran (change n s s0 s1 (told book sink first) (told after sink last))
             (polls_once j k) shows (Some stops.WireFault) p
-        of (missing, whole) =
+        of (missing, some, whole) =
             record {
               events = e ∷ [];
               log = gave_all passes.given;
-              came = Cut;
-              made = inr (cuts passes.given missing whole passes.few);
+              came = Cut stops.WireFault;
+              made = inr (inr refl, cuts passes.given missing whole passes.few some);
               standing = (answers p.history at.standing).1;
-              fits = breaks_given passes.given one passes.gave;
+              fits = (refl, breaks_given passes.given one passes.gave);
             }
 
 -- ---- polls so far
@@ -193,7 +196,7 @@ pub record PollsSo (most : ℕ) (j : JoinerState) (es : List Event) (ls : List L
 
 abbrev pub polls_so : ℕ → JoinerState → Part (Unit {0})
 polls_so most j p es ls (To done) = PollsSo most j es ls
-polls_so most j p es ls Cut = Unit {0}
+polls_so most j p es ls (Cut stop) = Unit {0}
 
 abbrev pub Anyhow : Unit {0} → Type 0
 Anyhow u = Unit {0}
@@ -215,6 +218,10 @@ polls_none n s stands t j none p at =
       fits = (tt, Rattle.rx_passes.proofs.Telling.gains_none n t, at);
     }
 
+-- wanted memory is no failed wire
+not_both : {A : Type 0} → stops.OutOfMemory ≡ stops.WireFault → A
+not_both is = absurd (cc (is))
+
 module _ (most : ℕ) (j k : JoinerState) (es fs : List Event) (ls ms : List Logged) where
   -- one more, which gave a datagram
   so_more : PollsSo most j es ls → j.most ≡ most → PollsOne j k fs ms → PollsSo most k (es ++ fs) (ls ++ ms)
@@ -235,9 +242,11 @@ module _ (most : ℕ) (j k : JoinerState) (es fs : List Event) (ls ms : List Log
       }
 
   -- one that was cut off
-  so_cut : PollsSo most j es ls → j.most ≡ most → CutsOne j fs ms → PollsCut most (es ++ fs) (ls ++ ms)
-  so_cut x is y =
+  so_cut : (why : Stop) → PollsSo most j es ls → j.most ≡ most → IsOfWire why → CutsOne j fs ms
+      → PollsCut most why (es ++ fs) (ls ++ ms)
+  so_cut why x is reason y =
       record {
+        reason = reason;
         polled = x.polled ++ y.datagram ∷ [];
         given = x.given ++ y.given;
         missing = y.missing;
@@ -251,12 +260,15 @@ module _ (most : ℕ) (j k : JoinerState) (es fs : List Event) (ls ms : List Log
             ∙ sym (append_assoc (parts_all x.given) (held j) (y.datagram ∷ []))
             ∙ ap (λ (zs : List (Host × List ℕ)). zs ++ y.datagram ∷ []) x.joined;
         few = few_both most x.given y.given x.few (subst (λ (m : ℕ). AreOfFew m y.given) is y.few);
+        lost = λ failed. y.lost;
       }
 
   -- the last one
-  so_none : PollsSo most j es ls → fs ≡ events.Polled None ∷ [] → ms ≡ [] → PollsCut most (es ++ fs) (ls ++ ms)
-  so_none x last none =
+  so_none : (why : Stop) → PollsSo most j es ls → why ≡ stops.OutOfMemory → fs ≡ events.Polled None ∷ [] → ms ≡ []
+      → PollsCut most why (es ++ fs) (ls ++ ms)
+  so_none why x wants last none =
       record {
+        reason = inl wants;
         polled = x.polled;
         given = x.given;
         missing = held j;
@@ -264,6 +276,7 @@ module _ (most : ℕ) (j k : JoinerState) (es fs : List Event) (ls ms : List Log
         log = rw none (append-nil ls ∙ x.log);
         joined = x.joined;
         few = x.few;
+        lost = λ failed. not_both (sym wants ∙ failed);
       }
 
 -- ---- the loop
@@ -279,7 +292,7 @@ module _ (n : ℕ) (s : Setup) (s0 s1 s2 : List Event → Type 0) (a b c : Told)
       (λ r. r ≡ true) Anyhow None
       (λ p es fs ls ms u r i holds made one. so_more most j k es fs ls ms made is
       (subst (λ (r' : Bool). polls_once j k (behind es ls p) fs ms (To r')) holds one))
-      (λ p es fs ls ms u i made one. tt) (λ r holds. tt) first (λ u i. second)
+      (λ p es fs ls ms u why i made one. tt) (λ r holds. tt) first (λ u i. second)
 
   -- passes ended at a poll
   pub polls_stopped : (stop : Stop) (shows : Bool → Type 0) → Plays (change n s s0 s1 a b) (polls_so most j) Anyhow None
@@ -288,12 +301,15 @@ module _ (n : ℕ) (s : Setup) (s0 s1 s2 : List Event → Type 0) (a b c : Told)
   polls_stopped stop shows first second =
       plays_cut n s s0 s1 s2 a b c (polls_so most j) (λ u. polls_once j k) (polls most) (λ r. tt) Anyhow shows Anyhow
       stop
-      (λ p es fs ls ms u i made one. cut es fs ls ms made one) first (λ u i. second)
+      (λ p es fs ls ms u why i made one. cut es fs ls ms why made one) first (λ u i. second)
     where
-      cut : (es fs : List Event) (ls ms : List Logged) → PollsSo most j es ls
-          → ((fs ≡ events.Polled None ∷ []) × (ms ≡ [])) ⊎ CutsOne j fs ms → PollsCut most (es ++ fs) (ls ++ ms)
-      cut es fs ls ms made (inl none) = so_none most j k es fs ls ms made none.0 none.1
-      cut es fs ls ms made (inr one) = so_cut most j k es fs ls ms made is one
+      cut : (es fs : List Event) (ls ms : List Logged) (why : Stop) → PollsSo most j es ls
+          → ((why ≡ stops.OutOfMemory) × (fs ≡ events.Polled None ∷ []) × (ms ≡ []))
+          ⊎ (IsOfWire why × CutsOne j fs ms)
+          → PollsCut most why (es ++ fs) (ls ++ ms)
+      cut es fs ls ms why made (inl none) =
+          so_none most j k es fs ls ms why made none.0 none.1 none.2
+      cut es fs ls ms why made (inr one) = so_cut most j k es fs ls ms why made is one.0 one.1
 
 -- ---- the end of a polling
 
@@ -308,7 +324,7 @@ pub record PollsLast (most : ℕ) (j : JoinerState) (es : List Event) (ls : List
 
 abbrev pub polls_last : ℕ → JoinerState → Part (Unit {0})
 polls_last most j p es ls (To done) = PollsLast most j es ls
-polls_last most j p es ls Cut = Unit {0}
+polls_last most j p es ls (Cut stop) = Unit {0}
 
 -- what is held back is given
 pub record Flushed (most : ℕ) (j : JoinerState) (missing : List (Host × List ℕ)) (es : List Event) (ls : List Logged)
@@ -321,7 +337,8 @@ pub record Flushed (most : ℕ) (j : JoinerState) (missing : List (Host × List 
 
 abbrev pub flushes : ℕ → JoinerState → Part (Unit {0})
 flushes most j p es ls (To done) = Flushed most j [] es ls
-flushes most j p es ls Cut = (missing : List (Host × List ℕ)) × Flushed most j missing es ls
+flushes most j p es ls (Cut stop) =
+    (stop ≡ stops.WireFault) × ((missing : List (Host × List ℕ)) × (missing ≢ []) × Flushed most j missing es ls)
 
 module _ (n : ℕ) (s : Setup) (stands : List Event → Type 0) (book : Option (List Noted)) (sink : SinkTells)
     (first last : WireTells) (j k : JoinerState) where
@@ -368,23 +385,30 @@ module _ (n : ℕ) (s : Setup) (stands : List Event → Type 0) (book : Option (
       of : Behind (held j) e.passes.given k (Some stops.WireFault)
           → Ran (change n s stands stands (told book sink first) (told book sink last))
           (flushes j.most j) Anyhow (Some stops.WireFault) p
-      of (missing, whole) =
+      of (missing, some, whole) =
           record {
             events = [];
             log = gave_all e.passes.given;
-            came = Cut;
+            came = Cut stops.WireFault;
             made = (
-              missing,
-              record { given = e.passes.given; events = refl; log = refl; joined = whole; few = e.passes.few },
+              refl,
+              (
+                missing,
+                some,
+                record { given = e.passes.given; events = refl; log = refl; joined = whole; few = e.passes.few },
+              ),
             );
             standing = at.standing;
-            fits = record {
-              noted = HasNotedAll-none book n;
-              put = gained_none sink.put;
-              log = e.passes.gave.0;
-              puts = refl;
-              calls = e.passes.gave.1;
-            };
+            fits = (
+              refl,
+              record {
+                noted = HasNotedAll-none book n;
+                put = gained_none sink.put;
+                log = e.passes.gave.0;
+                puts = refl;
+                calls = e.passes.gave.1;
+              },
+            );
           }
   flush_plays (Some stops.OutOfMemory) e p at = absurd e.passes.gave
   flush_plays (Some stops.SinkFault) e p at = absurd e.passes.gave
@@ -400,7 +424,7 @@ module _ (n : ℕ) (s : Setup) (s0 s1 s2 : List Event → Type 0) (a b c : Told)
       (λ r. r ≡ false) Anyhow None
       (λ p es fs ls ms u r i off made one. over es fs ls ms made
       (subst (λ (r' : Bool). polls_once j k (behind es ls p) fs ms (To r')) off one))
-      (λ p es fs ls ms u i made one. tt) (λ r off. tt) first (λ u i. second)
+      (λ p es fs ls ms u why i made one. tt) (λ r off. tt) first (λ u i. second)
     where
       over : (es fs : List Event) (ls ms : List Logged) → PollsSo most j es ls
           → (fs ≡ events.Polled None ∷ []) × (ms ≡ []) × (k ≡ j) → PollsLast most k (es ++ fs) (ls ++ ms)
@@ -422,7 +446,8 @@ module _ (n : ℕ) (s : Setup) (s0 s1 s2 : List Event → Type 0) (a b c : Told)
       plays_join n s s0 s1 s2 a b c (polls_last most j) (λ u. flushes j.most j) (polls most) (λ u. tt) Anyhow Anyhow
       Anyhow stop
       (λ p es fs ls ms u v i y made one. whole es fs ls ms made one)
-      (λ p es fs ls ms u i made one. cut es fs ls ms made one.0 one.1) (λ u y. tt) first (λ u i. second)
+      (λ p es fs ls ms u why i made one. cut es fs ls ms why made one.0 one.1.0 one.1.1 one.1.2) (λ u y. tt) first
+      (λ u i. second)
     where
       joins : (x : List (Host × List ℕ)) (y missing polled : List (Host × List ℕ)) → parts_all y ++ missing ≡ held j
           → parts_all x ++ held j ≡ polled → parts_all (x ++ y) ++ missing ≡ polled
@@ -444,10 +469,12 @@ module _ (n : ℕ) (s : Setup) (s0 s1 s2 : List Event → Type 0) (a b c : Told)
             few = few_both most x.given y.given x.few (subst (λ (m : ℕ). AreOfFew m y.given) is y.few);
           }
 
-      cut : (es fs : List Event) (ls ms : List Logged) → PollsLast most j es ls → (missing : List (Host × List ℕ))
-          → Flushed j.most j missing fs ms → PollsCut most (es ++ fs) (ls ++ ms)
-      cut es fs ls ms x missing y =
+      cut : (es fs : List Event) (ls ms : List Logged) (why : Stop) → PollsLast most j es ls → why ≡ stops.WireFault
+          → (missing : List (Host × List ℕ)) → missing ≢ [] → Flushed j.most j missing fs ms
+          → PollsCut most why (es ++ fs) (ls ++ ms)
+      cut es fs ls ms why x failed missing some y =
           record {
+            reason = inr failed;
             polled = x.polled;
             given = x.given ++ y.given;
             missing = missing;
@@ -455,6 +482,7 @@ module _ (n : ℕ) (s : Setup) (s0 s1 s2 : List Event → Type 0) (a b c : Told)
             log = rw x.log (rw y.log (sym (gave_all_both x.given y.given)));
             joined = joins x.given y.given missing x.polled y.joined x.joined;
             few = few_both most x.given y.given x.few (subst (λ (m : ℕ). AreOfFew m y.given) is y.few);
+            lost = λ is. some;
           }
 
 -- memory is wanted though the polls go on
@@ -473,8 +501,9 @@ polls_wanted n s s0 s1 a b most j plays p at = of r.came r.made r.fits
         record {
           events = r.events;
           log = r.log;
-          came = Cut;
+          came = Cut stops.OutOfMemory;
           made = record {
+            reason = inl refl;
             polled = x.polled;
             given = x.given;
             missing = held j;
@@ -482,11 +511,12 @@ polls_wanted n s s0 s1 a b most j plays p at = of r.came r.made r.fits
             log = x.log;
             joined = x.joined;
             few = x.few;
+            lost = not_both;
           };
           standing = r.standing;
-          fits = Rattle.rx_passes.proofs.Telling.wants_then n a b r.events r.log told;
+          fits = (refl, Rattle.rx_passes.proofs.Telling.wants_then n a b r.events r.log told);
         }
-    of Cut x none = absurd none
+    of (Cut why) x none = absurd none
 
 -- ---- one poll, by how it ended
 
@@ -508,7 +538,7 @@ polled_on n s s0 s1 book after sink first last j k d result answers law fits pas
         (λ b. IfOk r (λ x. b ≡ x)) (stop_of r)
     by (Ok b) passed is =
         plays_as n s s0 s1 (told book sink first) (told after sink last) (polls_once j k) (polls_once j k) (λ x. x)
-        (λ x. x ≡ true) (λ x. x ≡ b) None (λ q es ls x there made. made) (λ q es ls made. made)
+        (λ x. x ≡ true) (λ x. x ≡ b) None (λ q es ls x there made. made) (λ q es ls why made. made)
         (λ x there. there ∙ sym is)
         (one_passed n s s0 s1 book after sink first last j k d answers passed.0 passed.1)
     by (Err stops.OutOfMemory) passed is =
@@ -525,7 +555,7 @@ pub none_on : (n : ℕ) (s : Setup) (s0 s1 : List Event → Type 0) (book after 
     (λ b. IfOk result (λ r. b ≡ r)) (stop_of result)
 none_on n s s0 s1 book after sink wire j (Ok b) answers notes is =
     plays_as n s s0 s1 (told book sink wire) (told after sink wire) (polls_once j j) (polls_once j j) (λ x. x)
-    (λ x. x ≡ false) (λ x. x ≡ b) None (λ q es ls x there made. made) (λ q es ls made. made)
+    (λ x. x ≡ false) (λ x. x ≡ b) None (λ q es ls x there made. made) (λ q es ls why made. made)
     (λ x there. there ∙ sym is) (none_polled n s s0 s1 book after sink wire j answers notes)
 none_on n s s0 s1 book after sink wire j (Err stops.OutOfMemory) answers notes is =
     none_refused n s s0 s1 book after sink wire j j (λ x. Unit {0}) answers notes

@@ -1,5 +1,5 @@
 -- How what was made of parts is what was made of a part that has them.
-use Rattle.std.proofs.Common.{◌≡◌, ℕ, List, [], ◌++◌, Option, Some, None, Result, Ok, Err, refl, inl, sym}
+use Rattle.std.proofs.Common.{◌≡◌, ℕ, List, [], ◌++◌, Option, Some, None, Result, Ok, Err, refl, sym}
 use Rattle.std.proofs.Common.{ap, subst}
 use Rattle.std.specs.Prelude.{IsErrAnd}
 use Rattle.std.proofs.lemmas.List.{append-nil}
@@ -10,7 +10,7 @@ use Rattle.rx_wire.proofs.TurnLaws.{after_all-append}
 use Rattle.rx_passes.specs.declared.stop.Stop.{Stop}
 use Rattle.rx_passes.specs.declared.stop.Stop.TheVariants as stops
 use Rattle.rx_passes.specs.Parts.{Came, To, Cut, Part, Place, Then, behind, ends}
-use Rattle.rx_passes.specs.Runs.{Fits, IsAt, Plays, Ran, change, stop_of}
+use Rattle.rx_passes.specs.Runs.{Fits, IsAt, Plays, Ran, Stops, change, stop_of}
 use Rattle.rx_passes.specs.Tells.{Gains, Told}
 use Rattle.rx_passes.proofs.Placing.{behind_both}
 use Rattle.rx_passes.proofs.Telling.{breaks_behind, fails_behind, gains_both, gains_none, wants_behind, wants_none}
@@ -25,19 +25,35 @@ plays_to n s stands t shows a there p at =
       events = [];
       log = [];
       came = To a;
-      made = (refl, refl, inl refl);
+      made = (refl, refl, refl);
       standing = at.standing;
       fits = (there, gains_none n t, at);
     }
 
 -- memory is wanted
 pub plays_wants : {A : Type 0} (n : ℕ) (s : Setup) (stands : List Event → Type 0) (t : Told) (shows : A → Type 0)
-    (part : Part A) → ((p : Place) → part p [] [] Cut)
+    (part : Part A) → ((p : Place) → part p [] [] (Cut stops.OutOfMemory))
     → Plays (change n s stands stands t t) part shows (Some stops.OutOfMemory)
 plays_wants n s stands t shows part cut p at =
-    record { events = []; log = []; came = Cut; made = cut p; standing = at.standing; fits = wants_none n t }
+    record {
+      events = [];
+      log = [];
+      came = Cut stops.OutOfMemory;
+      made = cut p;
+      standing = at.standing;
+      fits = (refl, wants_none n t);
+    }
 
 -- ---- one part and then another
+
+-- passes end behind what was told whole
+pub stops_behind : (n : ℕ) (s : Setup) (s0 s1 s2 : List Event → Type 0) (a b c : Told) (es fs : List Event)
+    (ls ms : List Logged) (stop : Stop) → Gains n a b es ls → Stops (change n s s1 s2 b c) fs ms stop
+    → Stops (change n s s0 s2 a c) (es ++ fs) (ls ++ ms) stop
+stops_behind n s s0 s1 s2 a b c es fs ls ms stops.OutOfMemory told rest =
+    wants_behind n a b c es fs ls ms told rest
+stops_behind n s s0 s1 s2 a b c es fs ls ms stops.SinkFault told rest = fails_behind n a b c es fs ls ms told rest
+stops_behind n s s0 s1 s2 a b c es fs ls ms stops.WireFault told rest = breaks_behind n a b c es fs ls ms told rest
 
 module _ {B : Type 0} (n : ℕ) (s : Setup) (s0 s1 s2 : List Event → Type 0) (a b c : Told) (after : B → Type 0)
     (p : Place) (es fs : List Event) (ls ms : List Logged) where
@@ -51,10 +67,8 @@ module _ {B : Type 0} (n : ℕ) (s : Setup) (s0 s1 s2 : List Event → Type 0) (
   fits_behind (To x) None told (there, rest, at) =
       (there, gains_both n a b c es fs ls ms told rest, at_behind at)
   fits_behind (To x) (Some stop) told fits = absurd fits
-  fits_behind Cut None told fits = absurd fits
-  fits_behind Cut (Some stops.OutOfMemory) told fits = wants_behind n a b c es fs ls ms told fits
-  fits_behind Cut (Some stops.SinkFault) told fits = fails_behind n a b c es fs ls ms told fits
-  fits_behind Cut (Some stops.WireFault) told fits = breaks_behind n a b c es fs ls ms told fits
+  fits_behind (Cut why) None told fits = absurd fits
+  fits_behind (Cut why) (Some stop) told fits = (fits.0, stops_behind n s s0 s1 s2 a b c es fs ls ms stop told fits.1)
 
 -- the first was made whole and then the second, and both are a third part
 pub plays_join : {A B D : Type 0} (n : ℕ) (s : Setup) (s0 s1 s2 : List Event → Type 0) (a b c : Told) (first : Part A)
@@ -62,8 +76,8 @@ pub plays_join : {A B D : Type 0} (n : ℕ) (s : Setup) (s0 s1 s2 : List Event �
     (stop : Option Stop)
     → ((p : Place) (es fs : List Event) (ls ms : List Logged) (x : A) (y : B) → shows x → after y
     → first p es ls (To x) → second x (behind es ls p) fs ms (To y) → third p (es ++ fs) (ls ++ ms) (To (f y)))
-    → ((p : Place) (es fs : List Event) (ls ms : List Logged) (x : A) → shows x
-    → first p es ls (To x) → second x (behind es ls p) fs ms Cut → third p (es ++ fs) (ls ++ ms) Cut)
+    → ((p : Place) (es fs : List Event) (ls ms : List Logged) (x : A) (why : Stop) → shows x → first p es ls (To x)
+    → second x (behind es ls p) fs ms (Cut why) → third p (es ++ fs) (ls ++ ms) (Cut why))
     → ((y : B) → after y → last (f y))
     → Plays (change n s s0 s1 a b) first shows None
     → ((x : A) → shows x → Plays (change n s s1 s2 b c) (second x) after stop)
@@ -98,18 +112,14 @@ plays_join {A} {B} {D} n s s0 s1 s2 a b c first second third f shows after last 
         on (To y) None done (is, gained, here) =
             by (To (f y)) None (whole p r.events m.events r.log m.log x y there is made done) (shown y is, gained, here)
         on (To y) (Some why) done fits = absurd fits
-        on Cut None done fits = absurd fits
-        on Cut (Some stops.OutOfMemory) done fits =
-            by Cut (Some stops.OutOfMemory) (cut p r.events m.events r.log m.log x there made done) fits
-        on Cut (Some stops.SinkFault) done fits =
-            by Cut (Some stops.SinkFault) (cut p r.events m.events r.log m.log x there made done) fits
-        on Cut (Some stops.WireFault) done fits =
-            by Cut (Some stops.WireFault) (cut p r.events m.events r.log m.log x there made done) fits
+        on (Cut cause) None done fits = absurd fits
+        on (Cut cause) (Some why) done fits =
+            by (Cut cause) (Some why) (cut p r.events m.events r.log m.log x cause there made done) fits
 
     of : (came : Came A) → first p r.events r.log came → Fits (change n s s0 s1 a b) shows p r.events r.log came None
         → Ran (change n s s0 s2 a c) third last stop p
     of (To x) made (there, told, here) = both x there made told (more x there (behind r.events r.log p) here)
-    of Cut made fits = absurd fits
+    of (Cut why) made fits = absurd fits
 
 -- the first was made whole, and the next one then
 pub plays_then : {A B : Type 0} (n : ℕ) (s : Setup) (s0 s1 s2 : List Event → Type 0) (a b c : Told) (first : Part A)
@@ -130,7 +140,7 @@ plays_then {A} {B} n s s0 s1 s2 a b c first next shows after stop =
       made = made;
       goes = goes;
     })
-    (λ p es fs ls ms x there made goes. record {
+    (λ p es fs ls ms x why there made goes. record {
       early = es;
       late = fs;
       early_log = ls;
@@ -153,13 +163,15 @@ plays_stops {A} {B} n s s0 s1 a b first next shows after stop plays p at = of r.
     r : Ran (change n s s0 s1 a b) first shows (Some stop) p
     r = plays p at
 
-    cut : first p r.events r.log Cut → Fits (change n s s0 s1 a b) after p r.events r.log Cut (Some stop)
+    of : (came : Came A) → first p r.events r.log came → Fits (change n s s0 s1 a b) shows p r.events r.log came
+        (Some stop)
         → Ran (change n s s0 s1 a b) (Then first next) after (Some stop) p
-    cut made fits =
+    of (To x) made fits = absurd fits
+    of (Cut why) made fits =
         record {
           events = r.events;
           log = r.log;
-          came = Cut;
+          came = Cut why;
           made = record {
             early = r.events;
             late = [];
@@ -167,54 +179,36 @@ plays_stops {A} {B} n s s0 s1 a b first next shows after stop plays p at = of r.
             late_log = [];
             events = sym (append-nil r.events);
             log = sym (append-nil r.log);
-            came = Cut;
+            came = Cut why;
             made = made;
-            goes = (refl, refl, inl refl);
+            goes = (refl, refl, refl);
           };
           standing = r.standing;
           fits = fits;
         }
 
-    why : (stop : Stop) → Fits (change n s s0 s1 a b) shows p r.events r.log Cut (Some stop)
-        → Fits (change n s s0 s1 a b) after p r.events r.log Cut (Some stop)
-    why stops.OutOfMemory fits = fits
-    why stops.SinkFault fits = fits
-    why stops.WireFault fits = fits
-
-    of : (came : Came A) → first p r.events r.log came → Fits (change n s s0 s1 a b) shows p r.events r.log came
-        (Some stop)
-        → Ran (change n s s0 s1 a b) (Then first next) after (Some stop) p
-    of (To x) made fits = absurd fits
-    of Cut made fits = cut made (why stop fits)
-
 -- where passes ended nothing was come to
 pub stops_any : {A : Type 0} (n : ℕ) (s : Setup) (s0 s1 : List Event → Type 0) (a b : Told) (part : Part A)
     (shows after : A → Type 0) (stop : Stop) → Plays (change n s s0 s1 a b) part shows (Some stop)
     → Plays (change n s s0 s1 a b) part after (Some stop)
-stops_any {A} n s s0 s1 a b part shows after stop plays p at = of r.came r.made stop r.fits
+stops_any {A} n s s0 s1 a b part shows after stop plays p at = of r.came r.made r.fits
   where
     r : Ran (change n s s0 s1 a b) part shows (Some stop) p
     r = plays p at
 
-    by : (why : Stop) → part p r.events r.log Cut → Fits (change n s s0 s1 a b) after p r.events r.log Cut (Some why)
-        → Ran (change n s s0 s1 a b) part after (Some why) p
-    by why made fits =
-        record { events = r.events; log = r.log; came = Cut; made = made; standing = r.standing; fits = fits }
-
-    of : (came : Came A) → part p r.events r.log came → (why : Stop)
-        → Fits (change n s s0 s1 a b) shows p r.events r.log came (Some why)
-        → Ran (change n s s0 s1 a b) part after (Some why) p
-    of (To x) made why fits = absurd fits
-    of Cut made stops.OutOfMemory fits = by stops.OutOfMemory made fits
-    of Cut made stops.SinkFault fits = by stops.SinkFault made fits
-    of Cut made stops.WireFault fits = by stops.WireFault made fits
+    of : (came : Came A) → part p r.events r.log came
+        → Fits (change n s s0 s1 a b) shows p r.events r.log came (Some stop)
+        → Ran (change n s s0 s1 a b) part after (Some stop) p
+    of (To x) made fits = absurd fits
+    of (Cut why) made fits =
+        record { events = r.events; log = r.log; came = Cut why; made = made; standing = r.standing; fits = fits }
 
 -- the first was made whole and the second ended the passes, and both are a third part that was cut off
 pub plays_cut : {A B D : Type 0} (n : ℕ) (s : Setup) (s0 s1 s2 : List Event → Type 0) (a b c : Told) (first : Part A)
     (second : A → Part B) (third : Part D) (f : B → D) (shows : A → Type 0) (after : B → Type 0) (last : D → Type 0)
     (stop : Stop)
-    → ((p : Place) (es fs : List Event) (ls ms : List Logged) (x : A) → shows x
-    → first p es ls (To x) → second x (behind es ls p) fs ms Cut → third p (es ++ fs) (ls ++ ms) Cut)
+    → ((p : Place) (es fs : List Event) (ls ms : List Logged) (x : A) (why : Stop) → shows x → first p es ls (To x)
+    → second x (behind es ls p) fs ms (Cut why) → third p (es ++ fs) (ls ++ ms) (Cut why))
     → Plays (change n s s0 s1 a b) first shows None
     → ((x : A) → shows x → Plays (change n s s1 s2 b c) (second x) after (Some stop))
     → Plays (change n s s0 s2 a c) third last (Some stop)
@@ -230,7 +224,7 @@ pub plays_as : {A B : Type 0} (n : ℕ) (s : Setup) (s0 s1 : List Event → Type
     (other : Part B) (f : A → B) (shows : A → Type 0) (after : B → Type 0) (stop : Option Stop)
     → ((p : Place) (es : List Event) (ls : List Logged) (x : A) → shows x → part p es ls (To x) → other p es ls
     (To (f x)))
-    → ((p : Place) (es : List Event) (ls : List Logged) → part p es ls Cut → other p es ls Cut)
+    → ((p : Place) (es : List Event) (ls : List Logged) (why : Stop) → part p es ls (Cut why) → other p es ls (Cut why))
     → ((x : A) → shows x → after (f x)) → Plays (change n s s0 s1 a b) part shows stop
     → Plays (change n s s0 s1 a b) other after stop
 plays_as {A} {B} n s s0 s1 a b part other f shows after stop whole cut shown plays p at = of r.came r.made stop r.fits
@@ -248,10 +242,8 @@ plays_as {A} {B} n s s0 s1 a b part other f shows after stop whole cut shown pla
     of (To x) made None (there, told, here) =
         by (To (f x)) None (whole p r.events r.log x there made) (shown x there, told, here)
     of (To x) made (Some why) fits = absurd fits
-    of Cut made None fits = absurd fits
-    of Cut made (Some stops.OutOfMemory) fits = by Cut (Some stops.OutOfMemory) (cut p r.events r.log made) fits
-    of Cut made (Some stops.SinkFault) fits = by Cut (Some stops.SinkFault) (cut p r.events r.log made) fits
-    of Cut made (Some stops.WireFault) fits = by Cut (Some stops.WireFault) (cut p r.events r.log made) fits
+    of (Cut cause) made None fits = absurd fits
+    of (Cut cause) made (Some why) fits = by (Cut cause) (Some why) (cut p r.events r.log cause made) fits
 
 -- ---- results
 

@@ -50,14 +50,14 @@ pub part_refused : (n : ℕ) (s : Setup) (s0 s1 : List Event → Type 0) (book a
 part_refused n s s0 s1 book after sink wire from b got answers same =
     one_refused n s s0 s1 book after sink wire (events.Taken from b got) refl (takes_parts from (b ∷ [])) Anything
     answers
-    (λ p at. (refl, ((got, refl), tt))) same
+    (λ p at. (refl, refl, ((got, refl), tt))) same
 
 pub parts_wanted : (n : ℕ) (s : Setup) (stands : List Event → Type 0) (book : Option (List Noted)) (sink : SinkTells)
     (wire : WireTells) (from : Host) (bs : List (List ℕ))
     → Plays (change n s stands stands (told book sink wire) (told book sink wire)) (takes_parts from bs) Anything
     (Some stops.OutOfMemory)
 parts_wanted n s stands book sink wire from bs =
-    plays_wants n s stands (told book sink wire) Anything (takes_parts from bs) (λ p. (refl, tt))
+    plays_wants n s stands (told book sink wire) Anything (takes_parts from bs) (λ p. (refl, refl, tt))
 
 -- ---- several
 
@@ -93,9 +93,10 @@ parts_more n s s0 s1 s2 a b c from xs y first second =
       rw made.0 more.0,
       takes_both from xs (y ∷ []) es fs made.1 more.1,
     ))
-    (λ p es fs ls ms u i made more. (
-      rw made.0 more.0,
-      takes_some from xs (y ∷ []) es fs made.1 more.1,
+    (λ p es fs ls ms u why i made more. (
+      more.0,
+      rw made.0 more.1,
+      takes_some from xs (y ∷ []) es fs made.1 more.2,
     ))
     (λ u is. tt) first (λ u is. second)
 
@@ -108,9 +109,10 @@ pub parts_stopped : (n : ℕ) (s : Setup) (s0 s1 s2 : List Event → Type 0) (a 
 parts_stopped n s s0 s1 s2 a b c from xs zs y stop first second =
     plays_cut n s s0 s1 s2 a b c (takes_parts from xs) (λ u. takes_parts from (y ∷ []))
     (takes_parts from ((xs ++ y ∷ []) ++ zs)) (λ u. u) Anything Anything Anything stop
-    (λ p es fs ls ms u i made more. (
-      rw made.0 more.0,
-      takes_more from (xs ++ y ∷ []) zs (es ++ fs) (takes_some from xs (y ∷ []) es fs made.1 more.1),
+    (λ p es fs ls ms u why i made more. (
+      more.0,
+      rw made.0 more.1,
+      takes_more from (xs ++ y ∷ []) zs (es ++ fs) (takes_some from xs (y ∷ []) es fs made.1 more.2),
     ))
     first (λ u is. second)
 
@@ -159,16 +161,19 @@ module _ (n : ℕ) (s : Setup) (stands : List Event → Type 0) (book : Option (
       (λ p at. record {
         events = [];
         log = [];
-        came = Cut;
-        made = (refl, refl);
+        came = Cut stops.WireFault;
+        made = (refl, refl, refl);
         standing = at.standing;
-        fits = record {
-          noted = HasNotedAll-none book n;
-          put = gained_none sink.put;
-          log = subst (λ (t : Option Traffic). HasLoggedAll old t []) (sym same) (logged_none old);
-          puts = refl;
-          calls = risen;
-        };
+        fits = (
+          refl,
+          record {
+            noted = HasNotedAll-none book n;
+            put = gained_none sink.put;
+            log = subst (λ (t : Option Traffic). HasLoggedAll old t []) (sym same) (logged_none old);
+            puts = refl;
+            calls = risen;
+          },
+        );
       })
 
 -- nothing came

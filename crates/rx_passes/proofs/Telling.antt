@@ -1,12 +1,15 @@
 -- What is told of some events and entries and then of others is told of both.
-use Rattle.std.proofs.Common.{◌≡◌, ◌∙◌, ℕ, List, [], ◌∷◌, ◌++◌, Option, Some, None, refl, sym, ap, subst, inl}
+use Rattle.std.proofs.Common.{◌≡◌, ◌∙◌, ℕ, List, [], ◌∷◌, ◌++◌, Option, Some, None, refl, sym, ap, subst}
 use Rattle.std.proofs.Common.{append_assoc}
 use Rattle.std.proofs.lemmas.List.{append-nil}
-use Rattle.rx_base.specs.Sink.{Gained, GainedSome, HasRisen}
+use Rattle.rx_base.specs.Sink.{Gained, HasRisen}
 use Rattle.rx_model.specs.declared.event.Event.{Event}
+use Rattle.rx_model.specs.declared.event.Noted.{Noted}
 use Rattle.rx_udp.specs.Wire.{HasLogged, Logged, Traffic}
-use Rattle.rx_wire.proofs.TurnLaws.{HasNotedAll-append, HasNotedAll-none, HasNotedMost-append}
-use Rattle.rx_passes.specs.Tells.{Breaks, Fails, Gains, HasLoggedAll, Told, Wants, logged_all}
+use Rattle.rx_wire.specs.Turns.{HasNotedAll}
+use Rattle.rx_wire.proofs.TurnLaws.{HasNotedAll-append, HasNotedAll-none}
+use Rattle.rx_passes.specs.Tells.{Breaks, Fails, GainedLast, Gains, HasLoggedAll, Told, Wants, WantsAt}
+use Rattle.rx_passes.specs.Tells.{logged_all, wants_line, wants_next, wants_note}
 use Rattle.rx_passes.specs.Texts.{event_line, lines}
 
 -- ---- lines
@@ -29,19 +32,6 @@ gained_both (Some old) b c xs ys first second =
     let behind : Gained (Some (old ++ xs)) c ys = subst (λ (m : Option (List ℕ)). Gained m c ys) first second in
     behind ∙ ap Some (append_assoc old xs ys)
 
-pub gained_behind : (a b c : Option (List ℕ)) (xs ys : List ℕ) → Gained a b xs → GainedSome b c ys
-    → GainedSome a c (xs ++ ys)
-gained_behind a b c xs ys first (part, rest, whole, second) = (
-  xs ++ part,
-  rest,
-  append_assoc xs part rest ∙ ap (λ (zs : List ℕ). xs ++ zs) whole,
-  gained_both a b c xs part first second,
-)
-
--- all of them are some of them
-pub gained_all : (a b : Option (List ℕ)) (xs : List ℕ) → Gained a b xs → GainedSome a b xs
-gained_all a b xs whole = (xs, [], append-nil xs, whole)
-
 -- ---- logs
 
 pub logged_none : (a : Option Traffic) → HasLoggedAll a a []
@@ -63,6 +53,11 @@ logged_one (Some old) b l is = is
 
 -- ---- all of it
 
+-- no event was noted
+pub unnoted : (node : ℕ) (before after : Option (List Noted)) → after ≡ before → HasNotedAll before after node []
+unnoted node before after same =
+    subst (λ (n : Option (List Noted)). HasNotedAll before n node []) (sym same) (HasNotedAll-none before node)
+
 pub gains_none : (node : ℕ) (t : Told) → Gains node t t [] []
 gains_none node t =
     record {
@@ -80,12 +75,6 @@ put_both a b c es fs first second =
     subst (λ (xs : List ℕ). Gained a c xs) (sym (lines_both es fs)) (gained_both a b c (lines es) (lines fs) first
     second)
 
-put_behind : (a b c : Option (List ℕ)) (es fs : List Event) → Gained a b (lines es) → GainedSome b c (lines fs)
-    → GainedSome a c (lines (es ++ fs))
-put_behind a b c es fs first second =
-    subst (λ (xs : List ℕ). GainedSome a c xs) (sym (lines_both es fs))
-    (gained_behind a b c (lines es) (lines fs) first second)
-
 -- a count that rose behind one that stayed
 risen_behind : (a b c : ℕ) → b ≡ a → HasRisen b c → HasRisen a c
 risen_behind a b c same risen = subst (λ (x : ℕ). HasRisen x c) same risen
@@ -101,23 +90,53 @@ gains_both node a b c es fs ls ms x y =
       calls = y.calls ∙ x.calls;
     }
 
+-- where memory was wanted behind what was told whole
+wants_at : (node : ℕ) (a b c : Told) (es fs : List Event) → HasNotedAll a.noted b.noted node es
+    → Gained a.sink.put b.sink.put (lines es) → WantsAt node b c fs → WantsAt node a c (es ++ fs)
+wants_at node a b c es fs noted put (wants_next gs all whole) =
+    wants_next (es ++ gs) (HasNotedAll-append a.noted b.noted c.noted node es gs noted all)
+    (put_both a.sink.put b.sink.put c.sink.put es gs put whole)
+wants_at node a b c es fs noted put (wants_line gs e all whole) =
+    (let are : (es ++ gs) ++ e ∷ [] ≡ es ++ (gs ++ e ∷ []) = append_assoc es gs (e ∷ []) in
+    subst (λ (xs : List Event). WantsAt node a c xs) are
+    (wants_line (es ++ gs) e
+    (subst (λ (xs : List Event). HasNotedAll a.noted c.noted node xs) (sym are)
+    (HasNotedAll-append a.noted b.noted c.noted node es (gs ++ e ∷ []) noted all))
+    (put_both a.sink.put b.sink.put c.sink.put es gs put whole)))
+wants_at node a b c es fs noted put (wants_note gs e front whole) =
+    subst (λ (xs : List Event). WantsAt node a c xs) (append_assoc es gs (e ∷ []))
+    (wants_note (es ++ gs) e (HasNotedAll-append a.noted b.noted c.noted node es gs noted front)
+    (put_both a.sink.put b.sink.put c.sink.put es gs put whole))
+
 pub wants_behind : (node : ℕ) (a b c : Told) (es fs : List Event) (ls ms : List Logged) → Gains node a b es ls
     → Wants node b c fs ms → Wants node a c (es ++ fs) (ls ++ ms)
 wants_behind node a b c es fs ls ms x y =
     record {
-      noted = HasNotedMost-append a.noted b.noted c.noted node es fs x.noted y.noted;
-      put = put_behind a.sink.put b.sink.put c.sink.put es fs x.put y.put;
+      wanted = wants_at node a b c es fs x.noted x.put y.wanted;
       log = logged_both a.wire.traffic b.wire.traffic c.wire.traffic ls ms x.log y.log;
       puts = y.puts ∙ x.puts;
       calls = y.calls ∙ x.calls;
     }
+
+-- the lines of all but the last of both, where those of the first were put
+gained_last : (a b c : Option (List ℕ)) (es fs : List Event) → Gained a b (lines es) → GainedLast b c fs
+    → GainedLast a c (es ++ fs)
+gained_last a b c es fs first (early, last, between, are, whole, some, lined) = (
+  es ++ early,
+  last,
+  between,
+  ap (λ (xs : List Event). es ++ xs) are ∙ sym (append_assoc es early (last ∷ [])),
+  put_both a b between es early first whole,
+  some,
+  lined,
+)
 
 pub fails_behind : (node : ℕ) (a b c : Told) (es fs : List Event) (ls ms : List Logged) → Gains node a b es ls
     → Fails node b c fs ms → Fails node a c (es ++ fs) (ls ++ ms)
 fails_behind node a b c es fs ls ms x y =
     record {
       noted = HasNotedAll-append a.noted b.noted c.noted node es fs x.noted y.noted;
-      put = put_behind a.sink.put b.sink.put c.sink.put es fs x.put y.put;
+      put = gained_last a.sink.put b.sink.put c.sink.put es fs x.put y.put;
       log = logged_both a.wire.traffic b.wire.traffic c.wire.traffic ls ms x.log y.log;
       puts = risen_behind a.sink.faults b.sink.faults c.sink.faults x.puts y.puts;
       calls = y.calls ∙ x.calls;
@@ -139,8 +158,7 @@ pub wants_then : (node : ℕ) (a b : Told) (es : List Event) (ls : List Logged) 
     → Wants node a b es ls
 wants_then node a b es ls x =
     record {
-      noted = inl x.noted;
-      put = gained_all a.sink.put b.sink.put (lines es) x.put;
+      wanted = wants_next es x.noted x.put;
       log = x.log;
       puts = x.puts;
       calls = x.calls;

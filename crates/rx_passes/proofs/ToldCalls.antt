@@ -32,7 +32,7 @@ by_came : (t : CallTerms) (v u : CallerState) (p : Place) (es : List Event) (ls 
 by_came t v u p es ls before after (IsEnded x) made told =
     (subst (λ (y : CallerState). Calls t v p es ls (IsEnded y)) (sym told.0) made, told.1)
 by_came t v u p es ls before after IsSpent made told = absurd told
-by_came t v u p es ls before after IsCut made told = absurd told
+by_came t v u p es ls before after (IsCut why) made told = absurd told
 
 module _ (w : Words) (request : List ℕ) (class : Class) (v : CallerState) (before after : Told)
     (epoch : w.epoch < 2 ^ 32) (limits : FitsLimits w.limits) (fits : FitsClass class) where

@@ -1,5 +1,5 @@
 -- Turns of a program on a node, call by call.
-use Rattle.std.proofs.Common.{◌≡◌, ◌∙◌, ◌≤◌, ℕ, List, [], ◌∷◌, ◌++◌, Option, Some, None}
+use Rattle.std.proofs.Common.{◌≡◌, ◌⊎◌, ◌∙◌, ◌≤◌, ℕ, List, [], ◌∷◌, ◌++◌, Option, Some, None}
 use Rattle.std.proofs.Common.{refl, sym, ap, subst, inl}
 use Rattle.std.proofs.lemmas.List.{append-nil}
 use Rattle.rx_dispatch.specs.Dispatching.{Turning, accepts, dispatching, over}
@@ -13,18 +13,18 @@ use Rattle.rx_rules.specs.After.{looks}
 use Rattle.rx_rules.specs.Setup.{Setup}
 use Rattle.rx_wire.specs.Journal.{HasNoted}
 use Rattle.rx_wire.specs.Turns.{Program, Runs, after_all, goes, noted, stays}
-use Rattle.rx_wire.proofs.TurnLaws.{HasNotedAll-one, HasNotedMost-refused, Runs-append, Runs-one, after_all-append}
+use Rattle.rx_wire.proofs.TurnLaws.{HasNotedAll-one, Runs-append, Runs-one, after_all-append}
 use Rattle.rx_passes.specs.declared.stop.Stop.{Stop}
 use Rattle.rx_passes.specs.declared.stop.Stop.TheVariants as stops
 use Rattle.rx_passes.specs.Lines.{PutsLine}
 use Rattle.rx_passes.specs.Nodes.{Answers}
 use Rattle.rx_passes.specs.Parts.{Cut, To}
-use Rattle.rx_passes.specs.Runs.{IsAt, Plays, change}
+use Rattle.rx_passes.specs.Runs.{Plays, Stops, change}
 use Rattle.rx_passes.specs.Serves.{dispatches}
-use Rattle.rx_passes.specs.Tells.{Fails, Gains, SinkTells, Told, Wants, WireTells, told}
+use Rattle.rx_passes.specs.Tells.{Fails, Gains, SinkTells, Told, Wants, WireTells, told, wants_line, wants_note}
 use Rattle.rx_passes.specs.Texts.{event_line, lines}
-use Rattle.rx_passes.proofs.Telling.{fails_behind, gained_all, gained_none, gains_both, gains_none, logged_none}
-use Rattle.rx_passes.proofs.Telling.{wants_behind}
+use Rattle.rx_passes.proofs.Telling.{gained_none, gains_both, gains_none, logged_none, unnoted}
+use Rattle.rx_passes.proofs.Running.{stops_behind}
 use Rattle.rx_passes.proofs.Telling.{wants_then}
 
 -- ---- what is told of one call
@@ -49,29 +49,22 @@ module _ (n : ℕ) (book after : Option (List Noted)) (first last : SinkTells) (
   told_fails one puts =
       record {
         noted = HasNotedAll-one book after n e one;
-        put = subst (λ (xs : List ℕ). Rattle.rx_base.specs.Sink.GainedSome first.put last.put xs) (sym (line_of e))
-            puts.0;
+        put = ([], e, first.put, refl, gained_none first.put, puts.0, puts.2);
         log = logged_none wire.traffic;
         puts = puts.1;
         calls = refl;
       }
 
-  -- first bytes of a line: none
-  nothing_put : last ≡ first → Rattle.rx_base.specs.Sink.GainedSome first.put last.put (lines (e ∷ []))
-  nothing_put same = (
-    [],
-    lines (e ∷ []),
-    refl,
-    subst (λ (k : SinkTells). Rattle.rx_base.specs.Sink.Gained first.put k.put [])
-        (sym same) (gained_none first.put),
-  )
+  -- no line
+  nothing_put : last ≡ first → Rattle.rx_base.specs.Sink.Gained first.put last.put []
+  nothing_put same =
+      subst (λ (k : SinkTells). Rattle.rx_base.specs.Sink.Gained first.put k.put []) (sym same) (gained_none first.put)
 
   pub told_wants : HasNoted book after (noted n e) → last ≡ first
       → Wants n (told book first wire) (told after last wire) (e ∷ []) []
   told_wants one same =
       record {
-        noted = inl (HasNotedAll-one book after n e one);
-        put = nothing_put same;
+        wanted = wants_line [] e (HasNotedAll-one book after n e one) (nothing_put same);
         log = logged_none wire.traffic;
         puts = ap (λ (k : SinkTells). k.faults) same;
         calls = refl;
@@ -80,8 +73,7 @@ module _ (n : ℕ) (book after : Option (List Noted)) (first last : SinkTells) (
   pub told_refused : after ≡ book → last ≡ first → Wants n (told book first wire) (told after last wire) (e ∷ []) []
   told_refused none same =
       record {
-        noted = HasNotedMost-refused book after n e none;
-        put = nothing_put same;
+        wanted = wants_note [] e (unnoted n book after none) (nothing_put same);
         log = logged_none wire.traffic;
         puts = ap (λ (k : SinkTells). k.faults) same;
         calls = refl;
@@ -174,10 +166,10 @@ module _ (n : ℕ) (s : Setup) (g : Handlers) (jobs : List JobState) (s0 s1 : Li
       record {
         events = x.events;
         log = [];
-        came = Cut;
-        made = (refl, (v, x.runs));
+        came = Cut stops.OutOfMemory;
+        made = (inl refl, refl, (v, x.runs));
         standing = x.standing p.history at.standing;
-        fits = wants_then n a b x.events [] x.told;
+        fits = (refl, wants_then n a b x.events [] x.told);
       }
 
 -- passes ended at the next call
@@ -185,15 +177,15 @@ pub went_stops : (n : ℕ) (s z : Setup) (g : Handlers) (jobs : List JobState) (
     (v u : Turning) (a b c : Told) (ask : Ask) (e : Event) (shows : List JobState → Type 0) (stop : Stop)
     → Went (dispatching g) n s0 s1 (accepts jobs) v a b → (dispatching g).asks v ≡ Some ask → IsCall ask e
     → (dispatching g).heard v e ≡ u → Answers z s1 s2 e
-    → Rattle.rx_passes.specs.Runs.Fits (change n s s1 s2 b c) shows (record { history = []; now = 0 }) (e ∷ []) [] Cut
-    (Some stop)
+    → ((stop ≡ stops.OutOfMemory) ⊎ (stop ≡ stops.SinkFault)) × Stops (change n s s1 s2 b c) (e ∷ []) [] stop
     → Plays (change n s s0 s2 a c) (dispatches g jobs) shows (Some stop)
 went_stops n s z g jobs s0 s1 s2 v u a b c ask e shows stop x asked is heard answers told p at =
     record {
       events = x.events ++ e ∷ [];
       log = [];
-      came = Cut;
+      came = Cut stop;
       made = (
+        told.0,
         refl,
         (
           u,
@@ -203,15 +195,5 @@ went_stops n s z g jobs s0 s1 s2 v u a b c ask e shows stop x asked is heard ans
       );
       standing = subst s2 (sym (after_all-append x.events (e ∷ []) p.history))
           (answers (after_all x.events p.history) (x.standing p.history at.standing)).1;
-      fits = fits stop told;
+      fits = (refl, stops_behind n s s0 s1 s2 a b c x.events (e ∷ []) [] [] stop x.told told.1);
     }
-  where
-    fits : (why : Stop)
-        → Rattle.rx_passes.specs.Runs.Fits (change n s s1 s2 b c) shows (record { history = []; now = 0 }) (e ∷ []) []
-        Cut
-        (Some why)
-        → Rattle.rx_passes.specs.Runs.Fits (change n s s0 s2 a c) shows p (x.events ++ e ∷ []) [] Cut (Some why)
-    fits stops.OutOfMemory them = wants_behind n a b c x.events (e ∷ []) [] [] x.told them
-    fits stops.SinkFault them = fails_behind n a b c x.events (e ∷ []) [] [] x.told them
-    fits stops.WireFault them = Rattle.rx_passes.proofs.Telling.breaks_behind n a b c x.events (e ∷ []) [] [] x.told
-        them

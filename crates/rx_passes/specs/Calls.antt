@@ -35,15 +35,15 @@ abbrev pub IsCalledOn : ℕ → Event → Type 0
 IsCalledOn cid (events.Called its got) = its ≡ cid
 IsCalledOn cid _ = ⊥
 
--- the name that a call answered; where it answered none, nothing more is made
+-- the name that a call answered; where it answered none, passes end for want of memory
 abbrev pub named : Event → Came CallName
 named (events.Called cid (Ok name)) = To name
-named _ = Cut
+named _ = Cut stops.OutOfMemory
 
 -- the cid of the connection that was made
 abbrev pub linked : Event → Came ℕ
 linked (events.Linked to service first (Ok cid)) = To cid
-linked _ = Cut
+linked _ = Cut stops.OutOfMemory
 
 -- a call is begun on a connection
 abbrev pub begins_on : ℕ → Part CallName
@@ -59,10 +59,11 @@ begins w = Then clocks (λ e. begins_to w.to w.service)
 
 -- ---- passes
 
--- a turn of the caller
+-- a turn of the caller, unless memory is wanted
 abbrev pub calls : CallerState → Part CallerState
 calls v p es ls (To w) = (ls ≡ []) × Turns (calling REPLY_BYTES) (begun v) es w
-calls v p es ls Cut = (ls ≡ []) × ((w : CallerState) × Runs (calling REPLY_BYTES) (begun v) es w)
+calls v p es ls (Cut stop) =
+    (stop ≡ stops.OutOfMemory) × (ls ≡ []) × ((w : CallerState) × Runs (calling REPLY_BYTES) (begun v) es w)
 
 -- what a call is made by: how its client is set up, how many datagrams at most are given as one, and how many takes are
 -- made at most
@@ -87,11 +88,11 @@ call_goes v p = v.end ≡ None
 abbrev pub CallPassed : CallTerms → CallerState → Place → ℕ → List Event → List Logged → CallerState → Type 0
 CallPassed t v p n es ls w = Passed (call_play t) (call_take t) call_goes v p n es ls w
 
--- how the passes of a call went
+-- how the passes of a call went: it ended so, all takes were made before, or they ended for a reason
 pub data CallCame : Type 0 where
   IsEnded : CallerState → CallCame
   IsSpent : CallCame
-  IsCut : CallCame
+  IsCut : (stop : Stop) → CallCame
 
 -- the events and entries of the passes of a call, and how they went
 pub data Calls (t : CallTerms) (v : CallerState) (p : Place) : List Event → List Logged → CallCame → Type 0 where
@@ -103,24 +104,24 @@ pub data Calls (t : CallTerms) (v : CallerState) (p : Place) : List Event → Li
   calls_spent : (es later : List Event) (ls later_log : List Logged) (w u : CallerState)
       → CallPassed t v p t.turns es ls w → call_play t w (behind es ls p) later later_log (To u) → u.end ≡ None
       → Calls t v p (es ++ later) (ls ++ later_log) IsSpent
-  -- they were cut off in a pass, or in the last one
-  calls_cut : (n : ℕ) (es later : List Event) (ls later_log : List Logged) (w : CallerState)
+  -- they ended in a pass, or in the last one
+  calls_cut : (stop : Stop) (n : ℕ) (es later : List Event) (ls later_log : List Logged) (w : CallerState)
       → n < t.turns → CallPassed t v p n es ls w
-      → pass (call_play t) (call_take t) w (behind es ls p) later later_log Cut
-      → Calls t v p (es ++ later) (ls ++ later_log) IsCut
-  calls_cut_last : (es later : List Event) (ls later_log : List Logged) (w : CallerState)
-      → CallPassed t v p t.turns es ls w → call_play t w (behind es ls p) later later_log Cut
-      → Calls t v p (es ++ later) (ls ++ later_log) IsCut
+      → pass (call_play t) (call_take t) w (behind es ls p) later later_log (Cut stop)
+      → Calls t v p (es ++ later) (ls ++ later_log) (IsCut stop)
+  calls_cut_last : (stop : Stop) (es later : List Event) (ls later_log : List Logged) (w : CallerState)
+      → CallPassed t v p t.turns es ls w → call_play t w (behind es ls p) later later_log (Cut stop)
+      → Calls t v p (es ++ later) (ls ++ later_log) (IsCut stop)
 
 -- ---- what it tells
 
--- by how it ended and how it went
+-- by how it ended and how it went: passes that ended did so for the reason of the result
 abbrev pub CallEnds : ℕ → Result CallEnd Stop → CallCame → Told → Told → List Event → List Logged → Type 0
 CallEnds node (Ok (call_ends.Ended caller)) (IsEnded v) before after es ls =
     (caller ≡ v) × Gains node before after es ls
 CallEnds node (Ok call_ends.TurnsSpent) IsSpent before after es ls = Gains node before after es ls
-CallEnds node (Err stops.OutOfMemory) IsCut before after es ls = Wants node before after es ls
-CallEnds node (Err stops.WireFault) IsCut before after es ls = Breaks node before after es ls
+CallEnds node (Err stops.OutOfMemory) (IsCut stops.OutOfMemory) before after es ls = Wants node before after es ls
+CallEnds node (Err stops.WireFault) (IsCut stops.WireFault) before after es ls = Breaks node before after es ls
 CallEnds node _ _ before after es ls = ⊥
 
 -- passes of a call were made and told, and the history of its client is legal
@@ -155,8 +156,8 @@ pub record CallsNothing (result : Result CallEnd Stop) (before after : Told) : T
 abbrev pub CallsBound : Words → List ℕ → Setup → Result CallEnd Stop → Told → Told → Type 0
 CallsBound w request s result before after =
     ((result ≡ Err stops.OutOfMemory) × ((es : List Event) × (ls : List Logged)
-    × begins w (record { history = []; now = before.wire.moment }) es ls Cut × Legal s (after_all es [])
-    × Wants 1 before after es ls))
+    × begins w (record { history = []; now = before.wire.moment }) es ls (Cut stops.OutOfMemory)
+    × Legal s (after_all es []) × Wants 1 before after es ls))
     ⊎ ((name : CallName) × (es : List Event) × (ls : List Logged) × (between : Told)
     × begins w (record { history = []; now = before.wire.moment }) es ls (To name) × Gains 1 before between es ls
     × CallMade (call_terms w s) (caller_for 1 name request)

@@ -1,16 +1,16 @@
 -- What was put of a line. Public clauses cite this module.
-use Rattle.std.specs.Prelude.{◌≡◌, ℕ, List, Option, Some, None}
+use Rattle.std.specs.Prelude.{◌≡◌, ◌≢◌, ℕ, List, [], Option, Some, None}
 use Rattle.rx_base.specs.Sink.{Gained, GainedSome, HasRisen}
 use Rattle.rx_passes.specs.declared.stop.Stop.{Stop}
 use Rattle.rx_passes.specs.declared.stop.Stop.TheVariants as stops
 use Rattle.rx_passes.specs.Tells.{SinkTells}
 
--- it was put whole; or memory was wanted before; or the sink failed, and has the first of its bytes
+-- it was put whole; or memory was wanted before; or the sink failed, has the first of its bytes, and there are some
 abbrev pub PutsLine : SinkTells → SinkTells → List ℕ → Option Stop → Type 0
 PutsLine before after line None = Gained before.put after.put line × (after.faults ≡ before.faults)
 PutsLine before after line (Some stops.OutOfMemory) = after ≡ before
 PutsLine before after line (Some stops.SinkFault) =
-    GainedSome before.put after.put line × HasRisen before.faults after.faults
+    GainedSome before.put after.put line × HasRisen before.faults after.faults × (line ≢ [])
 PutsLine before after line (Some stops.WireFault) = ⊥
 
 -- the same of a text, for which no memory is wanted

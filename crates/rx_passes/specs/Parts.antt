@@ -1,9 +1,11 @@
 -- What a part of the passes of a node makes: events of the node and entries of the wire's log, each list from the first
 -- one on, and what it comes to. Public clauses cite this module.
-use Rattle.std.specs.Prelude.{◌≡◌, ◌⊎◌, ℕ, List, [], ◌∷◌, ◌++◌}
+use Rattle.std.specs.Prelude.{◌≡◌, ℕ, List, [], ◌∷◌, ◌++◌}
 use Rattle.rx_model.specs.declared.event.Event.{Event}
 use Rattle.rx_udp.specs.Wire.{Logged, TookUntil, GaveTo}
 use Rattle.rx_wire.specs.Turns.{after_all}
+use Rattle.rx_passes.specs.declared.stop.Stop.{Stop}
+use Rattle.rx_passes.specs.declared.stop.Stop.TheVariants as stops
 
 -- ---- places
 
@@ -28,23 +30,23 @@ behind es ls p = record { history = after_all es p.history; now = moment_after l
 
 -- ---- parts
 
--- what a part came to: something, or it was cut off
+-- what a part came to: something, or passes end in it for this reason
 pub data Came (A : Type 0) : Type 0 where
   To : (a : A) → Came A
-  Cut : Came A
+  Cut : (stop : Stop) → Came A
 
 -- the events and the entries that a part may make from a place on, with what it then comes to
 abbrev pub Part : Type 0 → Type 1
 Part A = Place → List Event → List Logged → Came A → Type 0
 
--- nothing is made; passes may be cut off there
+-- nothing is made, and this is come to
 abbrev pub ends : {A : Type 0} → Came A → Part A
-ends came p es ls out = (es ≡ []) × (ls ≡ []) × ((out ≡ came) ⊎ (out ≡ Cut))
+ends came p es ls out = (es ≡ []) × (ls ≡ []) × (out ≡ came)
 
--- what follows something that was come to; nothing more is made where it was cut off
+-- what follows something that was come to; where passes end nothing more is made, and the reason stays
 abbrev pub goes_on : {A B : Type 0} → (A → Part B) → Came A → Part B
 goes_on next (To a) = next a
-goes_on next Cut = ends Cut
+goes_on next (Cut stop) = ends (Cut stop)
 
 -- one part and then another
 pub record Then {A B : Type 0} (first : Part A) (next : A → Part B) (p : Place) (es : List Event) (ls : List Logged)
@@ -59,8 +61,8 @@ pub record Then {A B : Type 0} (first : Part A) (next : A → Part B) (p : Place
   pub made : first p early early_log came
   pub goes : goes_on next came (behind early early_log p) late late_log out
 
--- one event of the node; passes may be cut off before it, or behind it
+-- one event of the node; memory may be wanted before it, or behind it
 pub data One (is : Event → Type 0) (p : Place) : List Event → List Logged → Came Event → Type 0 where
-  not_made : One is p [] [] Cut
-  cut_behind : (e : Event) → is e → One is p (e ∷ []) [] Cut
+  not_made : One is p [] [] (Cut stops.OutOfMemory)
+  cut_behind : (e : Event) → is e → One is p (e ∷ []) [] (Cut stops.OutOfMemory)
   makes : (e : Event) → is e → One is p (e ∷ []) [] (To e)

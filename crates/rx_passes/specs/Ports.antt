@@ -1,6 +1,6 @@
 -- What goes between a node and its wire. Public clauses cite this module.
-use Rattle.std.specs.Prelude.{◌≡◌, ◌⊎◌, ◌+◌, ◌-◌, ◌^◌, ◌≤◌, ℕ, min, Bool, true, false, List, [], ◌∷◌, ◌++◌, map, length}
-use Rattle.std.specs.Prelude.{Option, Some, None, IfNone}
+use Rattle.std.specs.Prelude.{◌≡◌, ◌≢◌, ◌⊎◌, ◌+◌, ◌-◌, ◌^◌, ◌≤◌, ℕ, min, Bool, true, false, List, [], ◌∷◌, ◌++◌, map}
+use Rattle.std.specs.Prelude.{length, Option, Some, None, IfNone}
 use Rattle.rx_base.specs.Sink.{HasRisen}
 use Rattle.rx_jumbo.specs.JoinerState.{JoinerState}
 use Rattle.rx_jumbo.specs.Parts.{parts_of}
@@ -64,8 +64,13 @@ pub record PollsOut (most : ℕ) (es : List Event) (ls : List Logged) : Type 0 w
   pub joined : parts_all given ≡ polled
   pub few : AreOfFew most given
 
--- polls that were cut off: a suffix of what they gave may be missing on the wire
-pub record PollsCut (most : ℕ) (es : List Event) (ls : List Logged) : Type 0 where
+-- memory was wanted, or the wire failed
+abbrev pub IsOfWire : Stop → Type 0
+IsOfWire stop = (stop ≡ stops.OutOfMemory) ⊎ (stop ≡ stops.WireFault)
+
+-- polls in which passes ended: a suffix of what they gave may be missing on the wire, and is where the wire failed
+pub record PollsCut (most : ℕ) (stop : Stop) (es : List Event) (ls : List Logged) : Type 0 where
+  pub reason : IsOfWire stop
   pub polled : List (Host × List ℕ)
   pub given : List (Host × List ℕ)
   pub missing : List (Host × List ℕ)
@@ -73,11 +78,13 @@ pub record PollsCut (most : ℕ) (es : List Event) (ls : List Logged) : Type 0 w
   pub log : ls ≡ gave_all given
   pub joined : parts_all given ++ missing ≡ polled
   pub few : AreOfFew most given
+  pub lost : stop ≡ stops.WireFault → missing ≢ []
 
--- one polling, of which at most so many datagrams are given as one
+-- one polling, of which at most so many datagrams are given as one; passes end in it for want of memory or as the wire
+-- fails
 abbrev pub polls : ℕ → Part (Unit {0})
 polls most p es ls (To done) = PollsOut most es ls
-polls most p es ls Cut = PollsCut most es ls
+polls most p es ls (Cut stop) = PollsCut most stop es ls
 
 -- ---- taking
 
@@ -107,15 +114,15 @@ TakesSome from bs [] = Unit {0}
 TakesSome from [] (e ∷ es) = ⊥
 TakesSome from (b ∷ bs) (e ∷ es) = IsTaken from b e × TakesSome from bs es
 
--- the node takes these from a host, one after another
+-- the node takes these from a host, one after another, unless memory is wanted
 abbrev pub takes_parts : Host → List (List ℕ) → Part (Unit {0})
 takes_parts from bs p es ls (To done) = (ls ≡ []) × TakesAll from bs es
-takes_parts from bs p es ls Cut = (ls ≡ []) × TakesSome from bs es
+takes_parts from bs p es ls (Cut stop) = (stop ≡ stops.OutOfMemory) × (ls ≡ []) × TakesSome from bs es
 
 -- the node takes what came, if anything came: the clock is handed in, and then it takes each part
 abbrev pub takes_came : Option Arrived → Part (Unit {0})
 takes_came None p es ls (To done) = (es ≡ []) × (ls ≡ [])
-takes_came None p es ls Cut = ⊥
+takes_came None p es ls (Cut stop) = ⊥
 takes_came (Some came) p es ls out = Then clocks (λ e. takes_parts came.from (parts_of came.bytes)) p es ls out
 
 -- one take up to this moment in the log, by which this came: if nothing came, it waited up to its moment
@@ -125,10 +132,10 @@ pub record Waits (until : ℕ) (p : Place) (ls : List Logged) (came : Option Arr
   pub later : p.now ≤ moment
   pub reached : IfNone came (until ≤ moment)
 
--- the wire is waited on up to this moment, for what comes
+-- the wire is waited on up to this moment, for what comes, unless it fails
 abbrev pub waits : ℕ → Part (Option Arrived)
 waits until p es ls (To came) = (es ≡ []) × Waits until p ls came
-waits until p es ls Cut = (es ≡ []) × (ls ≡ [])
+waits until p es ls (Cut stop) = (stop ≡ stops.WireFault) × (es ≡ []) × (ls ≡ [])
 
 -- one take up to this moment, of which the node takes what came
 abbrev pub takes_until : ℕ → Part (Unit {0})
@@ -165,10 +172,11 @@ Gave before after given (Some stops.WireFault) =
 Gave before after given (Some stops.SinkFault) = ⊥
 Gave before after given (Some stops.OutOfMemory) = ⊥
 
--- what is held back behind these datagrams given: nothing is missing where the wire didn't fail
+-- what is held back behind these datagrams given: nothing is missing where the wire didn't fail, and some where it did
 abbrev pub Behind : List (Host × List ℕ) → List (Host × List ℕ) → JoinerState → Option Stop → Type 0
 Behind all given new None = parts_all given ++ held new ≡ all
-Behind all given new (Some stop) = (missing : List (Host × List ℕ)) × (parts_all given ++ missing ≡ all)
+Behind all given new (Some stop) =
+    (missing : List (Host × List ℕ)) × (missing ≢ []) × (parts_all given ++ missing ≡ all)
 
 -- datagrams were given of these, in order, and the rest of them is held back
 pub record Passes (all : List (Host × List ℕ)) (old new : JoinerState) (before after : WireTells) (stop : Option Stop)
@@ -192,7 +200,7 @@ pub record PollsOne (old new : JoinerState) (es : List Event) (ls : List Logged)
   pub joined : parts_all given ++ held new ≡ held old ++ datagram ∷ []
   pub few : AreOfFew old.most given
 
--- a poll that gave a datagram was cut off
+-- passes ended in a poll that gave a datagram
 pub record CutsOne (old : JoinerState) (es : List Event) (ls : List Logged) : Type 0 where
   pub datagram : Host × List ℕ
   pub given : List (Host × List ℕ)
@@ -201,12 +209,15 @@ pub record CutsOne (old : JoinerState) (es : List Event) (ls : List Logged) : Ty
   pub log : ls ≡ gave_all given
   pub joined : parts_all given ++ missing ≡ held old ++ datagram ∷ []
   pub few : AreOfFew old.most given
+  pub lost : missing ≢ []
 
--- one poll, and whether it gave something
+-- one poll, and whether it gave something; where it gave nothing passes end for want of memory alone
 abbrev pub polls_once : JoinerState → JoinerState → Part Bool
 polls_once old new p es ls (To true) = PollsOne old new es ls
 polls_once old new p es ls (To false) = (es ≡ events.Polled None ∷ []) × (ls ≡ []) × (new ≡ old)
-polls_once old new p es ls Cut = ((es ≡ events.Polled None ∷ []) × (ls ≡ [])) ⊎ CutsOne old es ls
+polls_once old new p es ls (Cut stop) =
+    ((stop ≡ stops.OutOfMemory) × (es ≡ events.Polled None ∷ []) × (ls ≡ []))
+    ⊎ (IsOfWire stop × CutsOne old es ls)
 
 -- an event was noted, or memory was wanted for that
 abbrev pub NotesOne : ℕ → Option (List Noted) → Option (List Noted) → Event → Option Stop → Type 0

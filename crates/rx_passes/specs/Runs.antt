@@ -35,16 +35,20 @@ pub record IsAt (s : Setup) (stands : List Event → Type 0) (t : Told) (p : Pla
   pub now : p.now ≡ t.wire.moment
   pub later : (looks s p.history).now ≤ p.now
 
--- what was come to, how passes go on, and what was told of what was made
+-- what was told of what was made, where passes end for this reason
+abbrev pub Stops : Change → List Event → List Logged → Stop → Type 0
+Stops c es ls stops.OutOfMemory = Wants c.node c.before c.after es ls
+Stops c es ls stops.SinkFault = Fails c.node c.before c.after es ls
+Stops c es ls stops.WireFault = Breaks c.node c.before c.after es ls
+
+-- what was come to, how passes go on, and what was told of what was made: passes end for the part's reason
 abbrev pub Fits : {A : Type 0} → Change → (A → Type 0) → Place → List Event → List Logged → Came A → Option Stop → Type
     0
 Fits c shows p es ls (To a) None =
     shows a × Gains c.node c.before c.after es ls × IsAt c.setup c.stands c.after (behind es ls p)
 Fits c shows p es ls (To a) (Some stop) = ⊥
-Fits c shows p es ls Cut None = ⊥
-Fits c shows p es ls Cut (Some stops.OutOfMemory) = Wants c.node c.before c.after es ls
-Fits c shows p es ls Cut (Some stops.SinkFault) = Fails c.node c.before c.after es ls
-Fits c shows p es ls Cut (Some stops.WireFault) = Breaks c.node c.before c.after es ls
+Fits c shows p es ls (Cut why) None = ⊥
+Fits c shows p es ls (Cut why) (Some stop) = (why ≡ stop) × Stops c es ls stop
 
 -- events and entries that the part may make were made and told, the node stands for its history with them, and what was
 -- come to is shown; or passes end as the part says

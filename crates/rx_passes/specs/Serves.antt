@@ -1,5 +1,5 @@
 -- The passes of a server, and how they go. Public clauses cite this module.
-use Rattle.std.specs.Prelude.{◌≡◌, ◌<◌, ◌≤◌, ℕ, suc, List, [], ◌++◌, Some}
+use Rattle.std.specs.Prelude.{◌≡◌, ◌⊎◌, ◌<◌, ◌≤◌, ℕ, suc, List, [], ◌++◌, Some}
 use Rattle.rx_dispatch.specs.Dispatching.{Turning, accepts, dispatching, over}
 use Rattle.rx_dispatch.specs.Handlers.{Handlers}
 use Rattle.rx_dispatch.specs.Jobs.{JobState}
@@ -7,6 +7,8 @@ use Rattle.rx_model.specs.declared.event.Event.{Event}
 use Rattle.rx_rules.specs.Setup.{Setup}
 use Rattle.rx_udp.specs.Wire.{Logged}
 use Rattle.rx_wire.specs.Turns.{Runs, Turns}
+use Rattle.rx_passes.specs.declared.stop.Stop.{Stop}
+use Rattle.rx_passes.specs.declared.stop.Stop.TheVariants as stops
 use Rattle.rx_passes.specs.Parts.{To, Cut, Part, Place, Then, behind, ends}
 use Rattle.rx_passes.specs.Ports.{clocks, polls, takes}
 
@@ -34,10 +36,12 @@ pub data Passed {V : Type 0} (play : V → Part V) (take : Part (Unit {0})) (goe
 
 -- ---- serving
 
--- a turn of the handlers that have these jobs
+-- a turn of the handlers that have these jobs, unless memory is wanted or the sink fails
 abbrev pub dispatches : Handlers → List JobState → Part (List JobState)
 dispatches g jobs at es ls (To after) = (ls ≡ []) × Turns (dispatching g) (accepts jobs) es (over after)
-dispatches g jobs at es ls Cut = (ls ≡ []) × ((w : Turning) × Runs (dispatching g) (accepts jobs) es w)
+dispatches g jobs at es ls (Cut stop) =
+    ((stop ≡ stops.OutOfMemory) ⊎ (stop ≡ stops.SinkFault)) × (ls ≡ [])
+    × ((w : Turning) × Runs (dispatching g) (accepts jobs) es w)
 
 -- what a server serves by: its handlers, how it is set up, how many datagrams at most are given as one, how many takes
 -- are made at most, and up to which moment it serves
@@ -64,11 +68,11 @@ serve_goes t jobs p = p.now < t.until
 abbrev pub ServePassed : Terms → Place → ℕ → List Event → List Logged → List JobState → Type 0
 ServePassed t p n es ls jobs = Passed (serve_play t) (serve_take t) (serve_goes t) [] p n es ls jobs
 
--- how serving went
+-- how serving went: its time is up, all takes were made before, or passes ended for a reason
 pub data ServeCame : Type 0 where
   IsUp : ServeCame
   IsSpent : ServeCame
-  IsCut : ServeCame
+  IsCut : (stop : Stop) → ServeCame
 
 -- the events and entries of a server that serves, and how that went
 pub data Serves (t : Terms) (p : Place) : List Event → List Logged → ServeCame → Type 0 where
@@ -81,11 +85,11 @@ pub data Serves (t : Terms) (p : Place) : List Event → List Logged → ServeCa
   serves_spent : (es later : List Event) (ls later_log : List Logged) (jobs after : List JobState)
       → ServePassed t p t.turns es ls jobs → serve_play t jobs (behind es ls p) later later_log (To after)
       → Serves t p (es ++ later) (ls ++ later_log) IsSpent
-  -- it was cut off in a pass, or in the last one
-  serves_cut : (n : ℕ) (es later : List Event) (ls later_log : List Logged) (jobs : List JobState)
+  -- it ended in a pass, or in the last one
+  serves_cut : (stop : Stop) (n : ℕ) (es later : List Event) (ls later_log : List Logged) (jobs : List JobState)
       → n < t.turns → ServePassed t p n es ls jobs
-      → pass (serve_play t) (serve_take t) jobs (behind es ls p) later later_log Cut
-      → Serves t p (es ++ later) (ls ++ later_log) IsCut
-  serves_cut_last : (es later : List Event) (ls later_log : List Logged) (jobs : List JobState)
-      → ServePassed t p t.turns es ls jobs → serve_play t jobs (behind es ls p) later later_log Cut
-      → Serves t p (es ++ later) (ls ++ later_log) IsCut
+      → pass (serve_play t) (serve_take t) jobs (behind es ls p) later later_log (Cut stop)
+      → Serves t p (es ++ later) (ls ++ later_log) (IsCut stop)
+  serves_cut_last : (stop : Stop) (es later : List Event) (ls later_log : List Logged) (jobs : List JobState)
+      → ServePassed t p t.turns es ls jobs → serve_play t jobs (behind es ls p) later later_log (Cut stop)
+      → Serves t p (es ++ later) (ls ++ later_log) (IsCut stop)

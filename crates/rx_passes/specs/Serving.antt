@@ -1,5 +1,5 @@
 -- What a server that serves tells. Public clauses cite this module.
-use Rattle.std.specs.Prelude.{◌≡◌, ◌⊎◌, ◌+◌, ℕ, List, [], ◌++◌, Result, Ok, Err}
+use Rattle.std.specs.Prelude.{◌≡◌, ◌⊎◌, ◌+◌, ℕ, List, [], ◌++◌, Option, Result, Ok, Err}
 use Rattle.rx_base.specs.Sink.{Gained, GainedSome, HasRisen}
 use Rattle.rx_dispatch.specs.Handlers.{Handlers}
 use Rattle.rx_model.specs.declared.event.Event.{Event}
@@ -37,22 +37,24 @@ pub record TellsUp (node : ℕ) (before after : Told) (es : List Event) (ls : Li
   pub puts : after.sink.faults ≡ before.sink.faults
   pub calls : after.wire.faults ≡ before.wire.faults
 
--- the sink failed as that was put
+-- the sink failed as that was put, behind its lines
 pub record FailsUp (node : ℕ) (before after : Told) (es : List Event) (ls : List Logged) : Type 0 where
   pub noted : HasNotedAll before.noted after.noted node es
-  pub put : GainedSome before.sink.put after.sink.put (lines es ++ time_up_line)
+  pub between : Option (List ℕ)
+  pub put : Gained before.sink.put between (lines es)
+  pub some : GainedSome between after.sink.put time_up_line
   pub log : HasLoggedAll before.wire.traffic after.wire.traffic ls
   pub puts : HasRisen before.sink.faults after.sink.faults
   pub calls : after.wire.faults ≡ before.wire.faults
 
--- what was told, by how it ended and how it went
+-- what was told, by how it ended and how it went: passes that ended did so for the reason of the result
 abbrev pub ServeEnds : ℕ → Result ServeEnd Stop → ServeCame → Told → Told → List Event → List Logged → Type 0
 ServeEnds node (Ok serve_ends.TimeUp) IsUp before after es ls = TellsUp node before after es ls
 ServeEnds node (Ok serve_ends.TurnsSpent) IsSpent before after es ls = Gains node before after es ls
-ServeEnds node (Err stops.OutOfMemory) IsCut before after es ls = Wants node before after es ls
-ServeEnds node (Err stops.SinkFault) IsCut before after es ls = Fails node before after es ls
+ServeEnds node (Err stops.OutOfMemory) (IsCut stops.OutOfMemory) before after es ls = Wants node before after es ls
+ServeEnds node (Err stops.SinkFault) (IsCut stops.SinkFault) before after es ls = Fails node before after es ls
 ServeEnds node (Err stops.SinkFault) IsUp before after es ls = FailsUp node before after es ls
-ServeEnds node (Err stops.WireFault) IsCut before after es ls = Breaks node before after es ls
+ServeEnds node (Err stops.WireFault) (IsCut stops.WireFault) before after es ls = Breaks node before after es ls
 ServeEnds node _ _ before after es ls = ⊥
 
 -- passes of a server were made and told, and its history is legal

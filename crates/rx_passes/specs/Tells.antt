@@ -1,12 +1,12 @@
 -- What passes tell: the journal of the node's events, the lines put, and the wire's log. Public clauses cite this
 -- module.
-use Rattle.std.specs.Prelude.{◌≡◌, ℕ, List, ◌++◌, Option, Some, None}
+use Rattle.std.specs.Prelude.{◌≡◌, ◌≢◌, ℕ, List, [], ◌∷◌, ◌++◌, Option, Some, None}
 use Rattle.rx_base.specs.Sink.{Gained, GainedSome, HasRisen}
 use Rattle.rx_model.specs.declared.event.Event.{Event}
 use Rattle.rx_model.specs.declared.event.Noted.{Noted}
 use Rattle.rx_udp.specs.Wire.{Logged, Traffic}
-use Rattle.rx_wire.specs.Turns.{HasNotedAll, HasNotedMost}
-use Rattle.rx_passes.specs.Texts.{lines}
+use Rattle.rx_wire.specs.Turns.{HasNotedAll}
+use Rattle.rx_passes.specs.Texts.{event_line, lines}
 
 -- the bytes put, where they are told, and how many puts failed
 pub record SinkTells : Type 0 where
@@ -54,19 +54,35 @@ pub record Gains (node : ℕ) (before after : Told) (es : List Event) (ls : List
   pub puts : after.sink.faults ≡ before.sink.faults
   pub calls : after.wire.faults ≡ before.wire.faults
 
--- the same but that memory was wanted: at the note of the last event, or behind it; the first bytes of the lines were
--- put
+-- where memory was wanted for what is told of these events
+pub data WantsAt (node : ℕ) (before after : Told) : List Event → Type 0 where
+  -- behind them all
+  wants_next : (es : List Event) → HasNotedAll before.noted after.noted node es
+      → Gained before.sink.put after.sink.put (lines es) → WantsAt node before after es
+  -- at the line of the last
+  wants_line : (es : List Event) (e : Event) → HasNotedAll before.noted after.noted node (es ++ e ∷ [])
+      → Gained before.sink.put after.sink.put (lines es) → WantsAt node before after (es ++ e ∷ [])
+  -- at its note
+  wants_note : (es : List Event) (e : Event) → HasNotedAll before.noted after.noted node es
+      → Gained before.sink.put after.sink.put (lines es) → WantsAt node before after (es ++ e ∷ [])
+
+-- the same but that memory was wanted
 pub record Wants (node : ℕ) (before after : Told) (es : List Event) (ls : List Logged) : Type 0 where
-  pub noted : HasNotedMost before.noted after.noted node es
-  pub put : GainedSome before.sink.put after.sink.put (lines es)
+  pub wanted : WantsAt node before after es
   pub log : HasLoggedAll before.wire.traffic after.wire.traffic ls
   pub puts : after.sink.faults ≡ before.sink.faults
   pub calls : after.wire.faults ≡ before.wire.faults
 
--- the same but that the sink failed: the first bytes of the lines were put
+-- the lines of all events but the last were put, and of that of the last, which has one, the first bytes
+abbrev pub GainedLast : Option (List ℕ) → Option (List ℕ) → List Event → Type 0
+GainedLast before after es =
+    (early : List Event) × (last : Event) × (between : Option (List ℕ)) × (es ≡ early ++ last ∷ [])
+    × Gained before between (lines early) × GainedSome between after (event_line last) × (event_line last ≢ [])
+
+-- the same but that the sink failed at the line of the last event
 pub record Fails (node : ℕ) (before after : Told) (es : List Event) (ls : List Logged) : Type 0 where
   pub noted : HasNotedAll before.noted after.noted node es
-  pub put : GainedSome before.sink.put after.sink.put (lines es)
+  pub put : GainedLast before.sink.put after.sink.put es
   pub log : HasLoggedAll before.wire.traffic after.wire.traffic ls
   pub puts : HasRisen before.sink.faults after.sink.faults
   pub calls : after.wire.faults ≡ before.wire.faults

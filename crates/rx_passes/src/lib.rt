@@ -16,7 +16,7 @@ mod stop;
 
 pub use calling::{CallEnd, Calling, call};
 pub use endpoint::Endpoint;
-pub use laws::calls_tell;
+pub use laws::{calls_tell, numbers};
 pub use lines::{CLIENT, SERVER};
 pub use ports::{LAST_MOMENT, LONGEST_WAIT_MS, TAKE_BYTES};
 pub use serving::{ServeEnd, Serving, serve};

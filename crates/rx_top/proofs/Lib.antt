@@ -2,5 +2,4 @@ pub mod TopLemmas
 pub mod SimLemmas
 pub mod JobLemmas
 pub mod WireLemmas
-pub mod DrivingLemmas
 pub mod SilenceLemmas

@@ -53,10 +53,10 @@ ends_count : (node : ℕ) (result : Result ServeEnd Stop) (came : ServeCame) (be
     (ls : List Logged) → ServeEnds node result came before after es ls → ServeCounts result (counts before after)
 ends_count node (Ok serve_ends.TimeUp) IsUp before after es ls told = (told.puts, told.calls)
 ends_count node (Ok serve_ends.TurnsSpent) IsSpent before after es ls told = (told.puts, told.calls)
-ends_count node (Err stops.OutOfMemory) IsCut before after es ls told = (told.puts, told.calls)
-ends_count node (Err stops.SinkFault) IsCut before after es ls told = (told.puts, told.calls)
+ends_count node (Err stops.OutOfMemory) (IsCut stops.OutOfMemory) before after es ls told = (told.puts, told.calls)
+ends_count node (Err stops.SinkFault) (IsCut stops.SinkFault) before after es ls told = (told.puts, told.calls)
 ends_count node (Err stops.SinkFault) IsUp before after es ls told = (told.puts, told.calls)
-ends_count node (Err stops.WireFault) IsCut before after es ls told = (told.puts, told.calls)
+ends_count node (Err stops.WireFault) (IsCut stops.WireFault) before after es ls told = (told.puts, told.calls)
 ends_count node _ _ before after es ls told = absurd told
 
 -- what was counted from one moment on was counted from an earlier one with the same counts on
@@ -145,8 +145,8 @@ call_ends_count : (node : ℕ) (result : Result CallEnd Stop) (came : CallCame) 
     → CallCounts result before.wire.faults after.wire.faults
 call_ends_count node (Ok (call_ends.Ended v)) (IsEnded w) before after es ls told = told.1.calls
 call_ends_count node (Ok call_ends.TurnsSpent) IsCallSpent before after es ls told = told.calls
-call_ends_count node (Err stops.OutOfMemory) IsCallCut before after es ls told = told.calls
-call_ends_count node (Err stops.WireFault) IsCallCut before after es ls told = told.calls
+call_ends_count node (Err stops.OutOfMemory) (IsCallCut stops.OutOfMemory) before after es ls told = told.calls
+call_ends_count node (Err stops.WireFault) (IsCallCut stops.WireFault) before after es ls told = told.calls
 call_ends_count node _ _ before after es ls told = absurd told
 
 call_bound_counts : (w : Calling) (request : List ℕ) (s : Setup) (result : Result CallEnd Stop) (before after : Told)

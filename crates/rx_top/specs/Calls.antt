@@ -17,6 +17,7 @@ use Rattle.rx_passes.specs.declared.stop.Stop.{Stop}
 use Rattle.rx_passes.specs.declared.stop.Stop.TheVariants as stops
 use Rattle.rx_passes.specs.Calls.{CallIs}
 use Rattle.rx_passes.specs.Tells.{SinkTells, Told}
+use Rattle.rx_passes.specs.ToldCalls.{CallTold}
 use Rattle.rx_reply.specs.declared.counted.TheConstants.{MAX_COUNTED_BYTES}
 use Rattle.rx_reply.specs.Replies.{Returned, reply_line, reply_says}
 use Rattle.rx_reply.specs.Sent.{sent_spelling}
@@ -172,12 +173,15 @@ EndsByCall a turns (Err stops.OutOfMemory) outcome before after =
     (outcome ≡ outcomes.OutOfMemory) × (after ≡ before)
 EndsByCall a turns (Err stops.SinkFault) outcome before after = ⊥
 
--- a call was made with this request, and `call` ended as that did; a call that ended in silence was silent for long
+-- a call was made with this request, and `call` ended as that did; of a call that ended, the caller tells by a legal
+-- history of its client, and one that ended in silence was silent for long
 pub record CallsServer (a : CallAsked) (w : Calling) (request : List ℕ) (class : Class) (outcome : WireOutcome)
     (before after : Told) : Type 0 where
   pub result : Result CallEnd Stop
   pub made : CallIs w request class result before (record after { sink = before.sink })
   pub ends : EndsByCall a w.turns result outcome before.sink after.sink
+  pub told : (v : CallerState) → result ≡ Ok (call_ends.Ended v)
+      → CallTold w request class v before (record after { sink = before.sink })
   pub long : (silence : ℕ) → outcome ≡ outcomes.Dead silence → SILENCE_MS ≤ silence
 
 -- ---- the whole command

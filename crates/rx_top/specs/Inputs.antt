@@ -1,4 +1,4 @@
--- What the files that `sim` names give, and how it ends at one that gives nothing. Public clauses cite this module.
+-- What the files that a command names give, and how it ends at one that gives nothing. Public clauses cite this module.
 use Rattle.std.specs.Prelude.{◌≡◌, ◌≢◌, ℕ, List, [], codes, false, Option, Some, None, Result, Ok, Err, ⊤}
 use Rattle.std.specs.Str.{is_utf8}
 use Rattle.rx_base.specs.Files.{HasFile, IsNoted}
@@ -117,7 +117,7 @@ BadLines given bytes line (causes.Xg why) = ⊥
 BadLines given bytes line (causes.Line why) = given bytes ≡ Err (BadLine line why)
 BadLines given bytes line (causes.Run why) = ⊥
 
--- what `sim` refuses of a script, over an interface
+-- what the command refuses of a script, over an interface
 abbrev pub BadScript : Meant → List ℕ → ℕ → Cause → Type 0
 BadScript m = BadLines (script_given m)
 
@@ -125,7 +125,7 @@ BadScript m = BadLines (script_given m)
 abbrev pub BadPlan : Meant → List ℕ → ℕ → Cause → Type 0
 BadPlan m = BadLines (plan_given m)
 
--- `sim` ends at a text of this file that is refused so, or memory was wanted
+-- the command ends at a text of this file that is refused so, or memory was wanted
 abbrev pub RefusesText : SimOutcome → List ℕ → (ℕ → Cause → Type 0) → Type 0
 RefusesText outcomes.Ran name Bad = ⊥
 RefusesText (outcomes.Refused file line cause) name Bad = (file.now ≡ name) × Bad line cause
@@ -133,7 +133,7 @@ RefusesText (outcomes.FileFault file) name Bad = ⊥
 RefusesText outcomes.SinkFault name Bad = ⊥
 RefusesText outcomes.OutOfMemory name Bad = ⊤
 
--- `sim` ends at this file: it can't be read, or its bytes are refused so, or memory was wanted
+-- the command ends at this file: it can't be read, or its bytes are refused so, or memory was wanted
 abbrev pub EndsAt : SimOutcome → List ℕ → (List ℕ → ℕ → Cause → Type 0) → Reads → Type 0
 EndsAt outcomes.Ran name Bad r = ⊥
 EndsAt (outcomes.Refused file line cause) name Bad r =

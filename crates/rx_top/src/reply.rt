@@ -16,7 +16,7 @@ use crate::wire_outcome::WireOutcome;
 use rx_base::Sink;
 use rx_caller::Caller;
 use rx_model::End;
-use rx_passes::{CallEnd, Calling, Stop, call};
+use rx_passes::{CallEnd, Calling, Stop, call, calls_tell};
 use rx_reply::reply_text;
 use rx_token::Chosen;
 use rx_udp::Wire;
@@ -52,6 +52,7 @@ pub fn call_with<'a, O: Sink, W: Wire, J: Journal>(
     ensures wire_fault { wire_status result ≡ Status.WireFault → HasRisen (W.faults wire.old) (W.faults wire.new) }
     ensures no_wire_fault { wire_status result ≢ Status.WireFault → W.faults wire.new ≡ W.faults wire.old }
 {
+    calls_tell();
     let result = call(alloc, request, calling, class, wire, book);
     called(alloc, iface, p, down, result, calling.turns, out)
 }

@@ -10,7 +10,7 @@ pub enum Status {
     Ok,
     /// The words aren't a command.
     Usage,
-    /// A line of a file is refused; its place and cause were said on `err`.
+    /// A file, a line of a plan, the arguments of a call or its reply are refused; the cause was said on `err`.
     Refused,
     /// The call was ended by a code.
     Aborted,
@@ -22,7 +22,7 @@ pub enum Status {
     FileFault,
     /// `out` takes no more bytes.
     SinkFault,
-    /// The wire takes or gives nothing more.
+    /// A bind, a take or a give of the wire failed.
     WireFault,
     /// All takes were made before the end came.
     TurnsSpent,

@@ -68,7 +68,8 @@ fn done(
 }
 
 /// Expects of a command, with a wire on which these datagrams come and whose calls with these numbers fail, this
-/// status, and these bytes on `out` and `err`.
+/// status, these bytes on `out` and `err`, and that the journal agrees with the log. How many datagrams were polled and
+/// not given: none where no call fails, and at most one where one does.
 fn leaves(
     rt: &(impl AllocGlobal + Abort),
     line: &str,
@@ -77,7 +78,7 @@ fn leaves(
     status: u8,
     out_text: &str,
     err_text: &str,
-) -> Result<(), AllocError>
+) -> Result<usize, AllocError>
     requires { All (λ a. a.at < 2 ^ 62) arrivals.items }
 {
     let alloc = rt.alloc();
@@ -98,30 +99,61 @@ fn leaves(
         err.as_slice() == err_text.as_bytes(),
         "{line} says another line than {err_text}"
     );
-    agrees(rt, &wire, &book);
-    Ok(())
+    let lost = agrees(rt, alloc, &wire, &book)?;
+    assert!(rt; lost <= failing.len());
+    Ok(lost)
 }
 
-/// Expects that the journal has a taking for each datagram that the log took, and a poll for each that it gave.
-fn agrees(rt: &impl Abort, wire: &MemWire, book: &MemJournal) {
-    let (mut came, mut given) = (0u64, 0u64);
+/// Datagrams, each with the host that it came from or is for.
+type Datagrams<'a> = Vec<(Host, &'a [u8])>;
+
+/// What a wire took, and what it gave.
+fn logged(alloc: Global, wire: &MemWire) -> Result<(Datagrams<'_>, Datagrams<'_>), AllocError> {
+    let (mut came, mut given) = (Vec::new(alloc), Vec::new(alloc));
     for entry in wire.log() {
         match entry {
-            LogEntry::Came { .. } => came = came.saturating_add(1),
-            LogEntry::Given { .. } => given = given.saturating_add(1),
+            LogEntry::Came { from, bytes, .. } => came.push((from, bytes))?,
+            LogEntry::Given { to, bytes } => given.push((to, bytes))?,
             LogEntry::Waited { .. } => {}
         }
     }
-    let (mut taken, mut polled) = (0u64, 0u64);
+    Ok((came, given))
+}
+
+/// What nodes took, and what they gave, as it was noted.
+fn noted(alloc: Global, book: &MemJournal) -> Result<(Datagrams<'_>, Datagrams<'_>), AllocError> {
+    let (mut taken, mut polled) = (Vec::new(alloc), Vec::new(alloc));
     for noted in book.noted() {
         match &noted.event {
-            Event::Taken { .. } => taken = taken.saturating_add(1),
-            Event::Polled { got: Some(_) } => polled = polled.saturating_add(1),
+            Event::Taken { from, bytes, .. } => taken.push((*from, bytes.as_slice()))?,
+            Event::Polled {
+                got: Some((to, bytes)),
+            } => polled.push((*to, bytes.as_slice()))?,
             _ => {}
         }
     }
-    assert_eq!(rt; taken, came);
-    assert!(rt; given <= polled);
+    Ok((taken, polled))
+}
+
+/// Expects that the datagrams that were noted as taken are those that the wire took, and that those that it gave are the
+/// first that were noted as polled. How many more were polled.
+fn agrees(
+    rt: &impl Abort,
+    alloc: Global,
+    wire: &MemWire,
+    book: &MemJournal,
+) -> Result<usize, AllocError> {
+    let (came, given) = logged(alloc, wire)?;
+    let (taken, polled) = noted(alloc, book)?;
+    assert!(rt;
+        taken.as_slice() == came.as_slice(),
+        "another datagram is noted as taken"
+    );
+    assert!(rt;
+        polled.as_slice().starts_with(given.as_slice()),
+        "another datagram is noted as polled"
+    );
+    Ok(polled.len().saturating_sub(given.len()))
 }
 
 /// The arrival of a datagram, given in hex.
@@ -159,6 +191,12 @@ fn nine_come(alloc: Global) -> Result<Vec<Arrival>, AllocError>
 
 const SERVE: &str = "serve AFS.xg S.txt --at 10.0.0.1:7000 --for 5000";
 
+const READY: &str = "ready 10.0.0.1:7000\n";
+
+const FINISHED: &str = "ready 10.0.0.1:7000\n\
+    accept 10.0.0.2:7001/1/4/0/1\n\
+    finish 10.0.0.2:7001/1/4/0/1 0\n";
+
 const SERVED: &str = "ready 10.0.0.1:7000\n\
     accept 10.0.0.2:7001/1/4/0/1\n\
     finish 10.0.0.2:7001/1/4/0/1 0\n\
@@ -171,22 +209,38 @@ fn serve_one(rt: HostRuntime) -> Result<(), Fail> {
     Ok(())
 }
 
+/// What serving puts where its first bind, take or give fails, or its second, and so on up to its last; and how many
+/// datagrams are polled then that aren't given.
+static CUTS: [(&str, usize); 11] = [
+    // the bind, and the take of the request
+    ("", 0),
+    (READY, 0),
+    // the ACK that the request asks for, before it is accepted, and the reply
+    (READY, 1),
+    (FINISHED, 1),
+    // a take of 100 ms, and the ACK of what was read
+    (FINISHED, 0),
+    (FINISHED, 1),
+    // the reply again after 1,000 ms, and again after 2,000
+    (FINISHED, 0),
+    (FINISHED, 1),
+    (FINISHED, 0),
+    (FINISHED, 1),
+    // the take up to the end
+    (FINISHED, 0),
+];
+
 #[test]
 fn failing_wire(rt: HostRuntime) -> Result<(), Fail> {
     let alloc = rt.alloc();
-    let outs = ["", "ready 10.0.0.1:7000\n"];
-    for k in 1..3 {
-        let arrivals = comes(rt.alloc(), 0, CLIENT, REQUEST)?;
-        leaves(
-            &rt,
-            SERVE,
-            arrivals,
-            &[k],
-            8,
-            outs[k as usize - 1],
-            "rx: network fault\n",
-        )?;
+    for (k, (put, more)) in (1..12).zip(&CUTS) {
+        let arrivals = comes(alloc, 0, CLIENT, REQUEST)?;
+        let lost = leaves(&rt, SERVE, arrivals, &[k], 8, put, "rx: network fault\n")?;
+        assert_eq!(rt; lost, *more, "where {k} fails");
     }
+    let arrivals = comes(alloc, 0, CLIENT, REQUEST)?;
+    let lost = leaves(&rt, SERVE, arrivals, &[12], 0, SERVED, "")?;
+    assert_eq!(rt; lost, 0);
     Ok(())
 }
 
@@ -253,9 +307,9 @@ fn an_abort_ends_a_call(rt: HostRuntime) -> Result<(), Fail> {
 fn wire_faults(rt: HostRuntime) -> Result<(), Fail> {
     let alloc = rt.alloc();
     leaves(&rt, CALL, Vec::new(alloc), &[], 4, "", "rx: dead 12000\n")?;
-    // the bind, the third datagram given, and a take
-    for k in [1, 6, 3] {
-        leaves(
+    // the bind, a take, and the third give
+    for (k, more) in [(1, 0), (3, 0), (6, 1)] {
+        let lost = leaves(
             &rt,
             CALL,
             Vec::new(alloc),
@@ -264,6 +318,7 @@ fn wire_faults(rt: HostRuntime) -> Result<(), Fail> {
             "",
             "rx: network fault\n",
         )?;
+        assert_eq!(rt; lost, more, "where {k} fails");
     }
     leaves(
         &rt,

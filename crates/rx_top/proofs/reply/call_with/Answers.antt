@@ -1,7 +1,11 @@
+use Rattle.std.proofs.Common.{◌≡◌, Ok}
+use Rattle.rx_caller.specs.View.{CallerState}
+use Rattle.rx_passes.specs.declared.calling.CallEnd.TheVariants as call_ends
 use Rattle.rx_passes.specs.Tells.{SinkTells, Told, sink_tells, told, wire_tells}
+use Rattle.rx_passes.specs.ToldCalls.{CallTold}
 use Rattle.rx_token.specs.Chosen.{chosen, secret_of}
 use Rattle.rx_top.specs.Calls.{CallAsked, asked_of}
-use Rattle.rx_top.proofs.SilenceLemmas.{call_long}
+use Rattle.rx_top.proofs.SilenceLemmas.{call_long, ended_told}
 use Rattle.rx_top.proofs.WireLemmas.{call_risen, call_same, no_sink_ends}
 use Rattle.rx_top.proofs.reply.call_with.Goals as goal
 
@@ -26,15 +30,20 @@ returns g c =
     (g.W.Wire.faults c.call-result.new.wire) (g.W.Wire.moment c.call-result.new.wire)) in
     let last : SinkTells = sink_tells (g.O.Sink.told c.called.new.out) (g.O.Sink.faults c.called.new.out) in
     let asked : CallAsked = asked_of c.args.iface.now c.args.p.now c.args.down in
+    let tells : (v : CallerState) → c.call-result.result ≡ Ok (call_ends.Ended v)
+    → CallTold c.args.calling.now c.args.request.items (chosen (secret_of c.args.class)) v before after =
+    ended_told c.args.calling.now c.args.request.items (secret_of c.args.class) c.call-result.result before after
+    c.calls_tell.ensures c.requires.calling (c.call-result.ensures sink) in
     record {
       call =
           record {
             result = c.call-result.result;
             made = c.call-result.ensures sink;
             ends = c.called.ensures.ends;
+            told = tells;
             long = λ n is. call_long asked c.args.calling.now c.args.request.items (secret_of c.args.class)
-                c.call-result.result c.called.result before after sink last n c.requires.calling
-                (c.call-result.ensures sink) c.called.ensures.ends is;
+                c.call-result.result c.called.result before after sink last n c.requires.calling tells
+                c.called.ensures.ends is;
           };
       no_file_fault = c.called.ensures.no_file_fault;
       sink_fault = c.called.ensures.sink_fault;
