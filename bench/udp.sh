@@ -6,12 +6,10 @@
 # OpenAFS's two ends at the same work.
 # All counts as it is used: a client's start and end too; so `rx call`, which makes one call and ends, stands beside a C
 # client that makes one call and ends, and rates of small calls are those of the C client against each server. `rx call`
-# prints a download in hex, here to a file; `rx serve` prints two lines a call, here to a file. An upload is kept whole
-# by `rx serve` and added up by the C server; a download is made before by `rx serve` and as it goes by the C server.
-# Between two ends of the program a stream waits for a delayed acknowledgement at each window where the sender's isn't
-# the larger one, so there the windows are 64 at the server, 128 at a client that sends and 32 at one that receives;
-# "equal windows" are 32 at both ends, one run each, and left out with EQUAL=no in the environment.
-# Wants cc, Debian's libopenafs-dev, the ports 7920 to 7922 of 127.0.0.1, and processors that have nothing else to do.
+# prints a download in hex, here to /dev/null, where the C client adds it up; `rx serve` prints two lines a call, here to
+# a file. An upload is kept whole by `rx serve` and added up by the C server; a download is made before by `rx serve` and
+# as it goes by the C server. All windows are those by default.
+# Wants cc, Debian's libopenafs-dev, the ports 7920 and 7921 of 127.0.0.1, and processors that have nothing else to do.
 set -u
 top=$(cd "$(dirname "$0")/.." && pwd)
 work=$(mktemp -d)
@@ -20,7 +18,7 @@ work=$(mktemp -d)
 trap 'end_all; rm -rf "$work"' EXIT
 trap 'exit 1' INT TERM
 RX=$(program "$@")
-ECHOES=${ECHOES:-20000} BYTES=${BYTES:-16777216} RUNS=${RUNS:-5} EQUAL=${EQUAL:-yes}
+ECHOES=${ECHOES:-20000} BYTES=${BYTES:-16777216} RUNS=${RUNS:-5}
 client=$work/peers/client xg=$top/interop/peer.xg
 
 # The nanoseconds that the threads of a process had a processor.
@@ -30,25 +28,21 @@ used() {
 
 # our_words PORT WORD..: sets `words` to those of `rx call` for the work of these words of the C client.
 our_words() {
-    local port=$1 work_words window=32
+    local port=$1 work_words
     case $2 in
         echo) work_words=(Echo "[\"$(printf '%040d' 0)\"]") ;;
         up) work_words=(Up '[7]' --up "$work/bytes") ;;
         down) work_words=(Down "[$3]" --down yes) ;;
     esac
-    [ "$port $2" != '7922 up' ] || window=128
     words=("$RX" call "$xg" "${work_words[@]:0:2}" --to "127.0.0.1:$port" --service 60 --epoch "$(epoch)"
-        --turns 1000000000 --jumbo "$jumbo" --window "$window" "${work_words[@]:2}")
+        --turns 1000000000 --jumbo "$jumbo" "${work_words[@]:2}")
 }
 
 # run ENDS WORD..: one run, the words being those of the C client. Prints its nanoseconds, the microseconds of the
 # client and the nanoseconds of the server.
 run() {
     local server=theirs port=7920 words before begin end
-    case $1 in
-        'rx call, rx serve') server=wide port=7922 ;;
-        *', rx serve'*) server=ours port=7921 ;;
-    esac
+    [[ $1 != *', rx serve' ]] || server=ours port=7921
     case $1 in
         'rx call'*) our_words "$port" "${@:2}" ;;
         *) words=("$client" "$port" 60 "${@:2}") ;;
@@ -56,9 +50,8 @@ run() {
     before=$(used "$server")
     begin=$(date +%s%N)
     TIMEFORMAT='%U %S'
-    { time "${words[@]}" >"$work/said" 2>"$work/said.err"; } 2>"$work/time"
+    { time "${words[@]}" >/dev/null 2>"$work/said.err"; } 2>"$work/time" || { head -c 200 "$work/said.err" >&2; exit 1; }
     end=$(date +%s%N)
-    [ "$(head -c 3 "$work/said")" = 'ok ' ] || { head -c 200 "$work/said" "$work/said.err" >&2; return 1; }
     echo "$((end - begin)) $(awk '{ printf "%.0f", ($1 + $2) * 1e6 }' "$work/time") $(($(used "$server") - before))"
 }
 
@@ -74,10 +67,6 @@ measure() {
         done
     done
     first=$(sort -n "$work/runs ${pairs[0]}" | awk 'NR == 1 { print $1 }')
-    if [ "$size" != 0 ] && [ "$jumbo" = 1 ] && [ "$EQUAL" = yes ]; then
-        pairs+=('rx call, rx serve, equal windows')
-        run "${pairs[-1]}" "$@" >>"$work/runs ${pairs[-1]}"
-    fi
     for ends in "${pairs[@]}"; do
         told "$what" "$ends" "$calls" "$size"
     done
@@ -107,8 +96,7 @@ printf '%s\n' 'on Echo' 'copy Same Body' 'on Up' up 'count Size' 'on Down' down 
 echo '| work | client, server | ms a call | a second | client, us a call | server, us a call | beside OpenAFS |'
 echo '|---|---|---|---|---|---|---|'
 jumbo=1
-start_ready theirs "$work/peers/server" 7920 && serve ours "$xg" "$work/script" 127.0.0.1:7921 60 &&
-    serve wide "$xg" "$work/script" 127.0.0.1:7922 60 --window 64 || exit
+start_ready theirs "$work/peers/server" 7920 && serve ours "$xg" "$work/script" 127.0.0.1:7921 60 || exit
 measure "$ECHOES echoes, one at a time" "$ECHOES" 0 echo "$ECHOES" 1 20
 measure "$ECHOES echoes, four at a time" "$ECHOES" 0 echo "$ECHOES" 4 20
 one_calls ''
@@ -116,6 +104,5 @@ end_all
 jumbo=4
 export JUMBO=yes
 start_ready theirs "$work/peers/server" 7920 jumbo &&
-    serve ours "$xg" "$work/script" 127.0.0.1:7921 60 --jumbo 4 &&
-    serve wide "$xg" "$work/script" 127.0.0.1:7922 60 --jumbo 4 --window 64 || exit
+    serve ours "$xg" "$work/script" 127.0.0.1:7921 60 --jumbo 4 || exit
 one_calls ', jumbograms'

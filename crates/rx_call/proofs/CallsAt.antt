@@ -17,7 +17,7 @@ use Rattle.rx_pool.proofs.Beside.{holds_left, holds_right, keeps_left, keeps_rig
 use Rattle.rx_rules.specs.CallLooks.{CallLooks}
 use Rattle.rx_call.specs.Standing.{EndOfCall, StandsCall, slots_of}
 use Rattle.rx_call.specs.Kept.{KeptCalls, call_under, with_call_under, live_count, slots_under, slots_of_all}
-use Rattle.rx_call.specs.Kept.{OthersStay, ChangesOne, HasOneWindow}
+use Rattle.rx_call.specs.Kept.{OthersStay, ChangesOne, HasTheirPace}
 use Rattle.rx_call.proofs.Undisturbed.{call_undisturbed}
 
 -- ---- the list of calls by key
@@ -123,28 +123,28 @@ pub of_only_one : (calls : KeptCalls) (key : ℕ) (c : EndOfCall) (P : EndOfCall
     call_under calls key ≡ Some c → P c → ForSome (call_under calls key) P
 of_only_one calls key c P is h = λ e also. subst P (sym (only_one calls key c e is also)) h
 
--- each call has the window of all still
-pub window-with_call_under : (calls : KeptCalls) (key : ℕ) (c d : EndOfCall) → call_under calls key ≡ Some c →
-    d.window ≡ c.window → HasOneWindow calls → HasOneWindow (with_call_under calls key d)
-window-with_call_under calls key c d is same all =
-    λ q e found. (elim (cases_eq q key) as (λ _. e.window ≡ calls.window) [
+-- each call has the pace of all still
+pub pace-with_call_under : (calls : KeptCalls) (key : ℕ) (c d : EndOfCall) → call_under calls key ≡ Some c →
+    d.pace ≡ c.pace → HasTheirPace calls → HasTheirPace (with_call_under calls key d)
+pace-with_call_under calls key c d is same all =
+    λ q e found. (elim (cases_eq q key) as (λ _. e.pace ≡ calls.pace) [
       | inl here ↦ (
           let first = ap (call_under (with_call_under calls key d)) (sym here) ∙ found in
           let this : e ≡ d = (
           only_one (with_call_under calls key d) key d e (call_under-with_same calls key d (ap is_some is)) first) in
-          ap (λ (x : EndOfCall). x.window) this ∙ same ∙ all key c is)
+          ap (λ (x : EndOfCall). x.pace) this ∙ same ∙ all key c is)
       | inr other ↦ all q e (sym (call_under-with_other calls key q d other) ∙ found)
     ])
 
-pub no_window : (calls : KeptCalls) → ((key : ℕ) → call_under calls key ≡ None) → HasOneWindow calls
-no_window calls empty = λ key c is. absurd (let both : None ≡ Some c = sym (empty key) ∙ is in cc)
+pub no_pace : (calls : KeptCalls) → ((key : ℕ) → call_under calls key ≡ None) → HasTheirPace calls
+no_pace calls empty = λ key c is. absurd (let both : None ≡ Some c = sym (empty key) ∙ is in cc)
 
-pub window-kept : (old new : KeptCalls) (key : ℕ) → OthersStay old new key →
-    ForSome (call_under new key) (λ c. c.window ≡ new.window) → HasOneWindow old → HasOneWindow new
-window-kept old new key kept here all =
-    λ q e found. (elim (cases_eq q key) as (λ _. e.window ≡ new.window) [
+pub pace-kept : (old new : KeptCalls) (key : ℕ) → OthersStay old new key →
+    ForSome (call_under new key) (λ c. c.pace ≡ new.pace) → HasTheirPace old → HasTheirPace new
+pace-kept old new key kept here all =
+    λ q e found. (elim (cases_eq q key) as (λ _. e.pace ≡ new.pace) [
       | inl same ↦ here e (ap (call_under new) (sym same) ∙ found)
-      | inr other ↦ all q e (sym (kept.others q other) ∙ found) ∙ sym kept.window
+      | inr other ↦ all q e (sym (kept.others q other) ∙ found) ∙ sym kept.pace
     ])
 
 -- as many keys are there
@@ -217,7 +217,7 @@ changes_one pool after calls key c d is h keeps =
       kept = record {
         others = λ q apart. call_under-with_other calls key q d apart;
         room = refl;
-        window = refl;
+        pace = refl;
       };
       keeps = keeps_at pool after calls key c d is h keeps;
       stands = λ q e k apart other st. stands_at pool after calls key q c d e k is h keeps apart other st;
@@ -242,7 +242,7 @@ changes_then p q r a b c key one next =
       kept = record {
         others = λ n apart. next.kept.others n apart ∙ one.kept.others n apart;
         room = next.kept.room ∙ one.kept.room;
-        window = next.kept.window ∙ one.kept.window;
+        pace = next.kept.pace ∙ one.kept.pace;
       };
       keeps = keeps_then p q r (slots_of_all a) (slots_of_all b) (slots_of_all c) one.keeps next.keeps;
       stands = λ n e k apart is st.

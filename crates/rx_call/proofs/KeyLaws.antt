@@ -16,6 +16,7 @@ use Rattle.rx_call.specs.Kept.{KeptCalls, call_under, with_call_under, slots_und
 use Rattle.rx_call.specs.Keys.{there_from, HasSoundKeys}
 use Rattle.rx_call.proofs.Undisturbed.{idle_slots}
 use Rattle.rx_call.proofs.CallsAt.{key_within, parts_at, count-set, one_if, some_of, some_and}
+use Rattle.rx_call.specs.declared.pace.Pace.{Pace}
 
 -- ---- by index
 
@@ -90,19 +91,19 @@ slots-set xs key v lt same =
     ∙ ap (flat_map slots_under) (set-get_or xs key None)
 
 -- one key, whose call is idle, is free after and wasn't before
-pub record Frees (cs : List (Option EndOfCall)) (window : ℕ) (free after : List ℕ) (key : ℕ) : Type 0 where
+pub record Frees (cs : List (Option EndOfCall)) (pace : Pace) (free after : List ℕ) (key : ℕ) : Type 0 where
   pub absent : get_or (there_from after 0 cs) key None ≡ None
-  pub idle : IsSomeAnd (get_or (there_from free 0 cs) key None) (IsIdleOf window)
+  pub idle : IsSomeAnd (get_or (there_from free 0 cs) key None) (IsIdleOf pace)
   pub others : (q : ℕ) → q ≢ key →
       get_or (there_from after 0 cs) q None ≡ get_or (there_from free 0 cs) q None
   pub live : count_by is_some (there_from after 0 cs) + 1 ≡ count_by is_some (there_from free 0 cs)
   pub slots : flat_map slots_under (there_from after 0 cs) ≡ flat_map slots_under (there_from free 0 cs)
 
-pub frees : (cs : List (Option EndOfCall)) (window : ℕ) (free after : List ℕ) (key : ℕ) →
-    after ≡ free ++ key ∷ [] → has key free ≡ false → IsSomeAnd (get_or cs key None) (IsIdleOf window) →
-    Frees cs window free after key
-frees cs window free after key is apart idle =
-    let found = some_of (get_or cs key None) (IsIdleOf window) idle in
+pub frees : (cs : List (Option EndOfCall)) (pace : Pace) (free after : List ℕ) (key : ℕ) →
+    after ≡ free ++ key ∷ [] → has key free ≡ false → IsSomeAnd (get_or cs key None) (IsIdleOf pace) →
+    Frees cs pace free after key
+frees cs pace free after key is apart idle =
+    let found = some_of (get_or cs key None) (IsIdleOf pace) idle in
     let here : get_or (there_from free 0 cs) key None ≡ Some found.0 = not_free free cs key apart ∙ found.1 in
     let within = key_within cs key (ap is_some found.1) in
     let long : key < length (there_from free 0 cs) = key_within (there_from free 0 cs) key (ap is_some here) in
@@ -120,7 +121,7 @@ frees cs window free after key is apart idle =
     let new = ap (count_by is_some) list in
     record {
       absent = gone;
-      idle = some_and (get_or (there_from free 0 cs) key None) (IsIdleOf window) found.0 here found.2;
+      idle = some_and (get_or (there_from free 0 cs) key None) (IsIdleOf pace) found.0 here found.2;
       others = rest;
       live = omega (arith, count, one, new);
       slots =
@@ -132,36 +133,36 @@ frees cs window free after key is apart idle =
 -- ---- what is kept
 
 -- the calls whose keys aren't free, as a contract sees them
-abbrev pub kept_calls : List (Option EndOfCall) → ℕ → List ℕ → KeptCalls
-kept_calls cs window free = record { room = count_by is_some cs; window = window; by_key = there_from free 0 cs }
+abbrev pub kept_calls : List (Option EndOfCall) → Pace → List ℕ → KeptCalls
+kept_calls cs pace free = record { room = count_by is_some cs; pace = pace; by_key = there_from free 0 cs }
 
 -- a free key is taken from the end
-pub record Enters (cs : List (Option EndOfCall)) (window capacity : ℕ) (free left : List ℕ)
+pub record Enters (cs : List (Option EndOfCall)) (pace : Pace) (capacity : ℕ) (free left : List ℕ)
     (o : Option ℕ) : Type 0 where
-  pub kept : HasSoundKeys cs left window capacity
+  pub kept : HasSoundKeys cs left pace capacity
   pub absent : IfSome o (λ key. get_or (there_from free 0 cs) key None ≡ None)
-  pub idle : IfSome o (λ key. IsSomeAnd (get_or (there_from left 0 cs) key None) (IsIdleOf window))
-  pub others : IfSome o (OthersStay (kept_calls cs window free) (kept_calls cs window left))
+  pub idle : IfSome o (λ key. IsSomeAnd (get_or (there_from left 0 cs) key None) (IsIdleOf pace))
+  pub others : IfSome o (OthersStay (kept_calls cs pace free) (kept_calls cs pace left))
   pub live : OnSome o (count_by is_some (there_from left 0 cs) ≡ count_by is_some (there_from free 0 cs) + 1)
   pub slots : flat_map slots_under (there_from left 0 cs) ≡ flat_map slots_under (there_from free 0 cs)
 
-pub enters : (cs : List (Option EndOfCall)) (window capacity : ℕ) (free left : List ℕ) (o : Option ℕ) →
-    free ≡ left ++ option_to_list o → HasSoundKeys cs free window capacity → Enters cs window capacity free left o
-enters cs window capacity free left None is so =
+pub enters : (cs : List (Option EndOfCall)) (pace : Pace) (capacity : ℕ) (free left : List ℕ) (o : Option ℕ) →
+    free ≡ left ++ option_to_list o → HasSoundKeys cs free pace capacity → Enters cs pace capacity free left o
+enters cs pace capacity free left None is so =
     let same : free ≡ left = is ∙ append-nil left in
     record {
-      kept = subst (λ (fs : List ℕ). HasSoundKeys cs fs window capacity) same so;
+      kept = subst (λ (fs : List ℕ). HasSoundKeys cs fs pace capacity) same so;
       absent = tt;
       idle = tt;
       others = tt;
       live = tt;
       slots = ap (λ (fs : List ℕ). flat_map slots_under (there_from fs 0 cs)) (sym same);
     }
-enters cs window capacity free left (Some key) is so =
+enters cs pace capacity free left (Some key) is so =
     let apart = subst HasNoRepeat is so.apart in
     let last = no_repeat_last key left apart in
     let had : has key free ≡ true = ap (has key) is ∙ has_push key key left ∙ has_first key left in
-    let f = frees cs window left free key is last (so.idle key had) in
+    let f = frees cs pace left free key is last (so.idle key had) in
     let live = f.live in
     let counted = so.counted in
     let size : length free ≡ length left + 1 = ap length is ∙ length_push left key in
@@ -174,7 +175,7 @@ enters cs window capacity free left (Some key) is so =
       };
       absent = f.absent;
       idle = f.idle;
-      others = record { others = λ q other. sym (f.others q other); room = refl; window = refl };
+      others = record { others = λ q other. sym (f.others q other); room = refl; pace = refl };
       live = omega (arith, live);
       slots = sym f.slots;
     }
@@ -187,28 +188,29 @@ enters cs window capacity free left (Some key) is so =
         ]
 
 -- a key that is there, with an idle call, is put at the end of the free ones
-pub record Leaves (cs : List (Option EndOfCall)) (window capacity : ℕ) (free after : List ℕ) (key : ℕ) : Type 0 where
-  pub kept : HasSoundKeys cs after window capacity
-  pub frees : Frees cs window free after key
+pub record Leaves (cs : List (Option EndOfCall)) (pace : Pace) (capacity : ℕ) (free after : List ℕ)
+    (key : ℕ) : Type 0 where
+  pub kept : HasSoundKeys cs after pace capacity
+  pub frees : Frees cs pace free after key
 
-pub leaves : (cs : List (Option EndOfCall)) (window capacity : ℕ) (free after : List ℕ) (key : ℕ) →
-    after ≡ free ++ key ∷ [] → IsSomeAnd (get_or (there_from free 0 cs) key None) (IsIdleOf window) →
-    HasSoundKeys cs free window capacity → Leaves cs window capacity free after key
-leaves cs window capacity free after key is idle so =
-    let found = some_of (get_or (there_from free 0 cs) key None) (IsIdleOf window) idle in
+pub leaves : (cs : List (Option EndOfCall)) (pace : Pace) (capacity : ℕ) (free after : List ℕ) (key : ℕ) →
+    after ≡ free ++ key ∷ [] → IsSomeAnd (get_or (there_from free 0 cs) key None) (IsIdleOf pace) →
+    HasSoundKeys cs free pace capacity → Leaves cs pace capacity free after key
+leaves cs pace capacity free after key is idle so =
+    let found = some_of (get_or (there_from free 0 cs) key None) (IsIdleOf pace) idle in
     let there = ap is_some found.1 in
     let apart = there_not_free free cs key there in
-    let under = some_and (get_or cs key None) (IsIdleOf window) found.0
+    let under = some_and (get_or cs key None) (IsIdleOf pace) found.0
     (sym (some_there free cs key there) ∙ found.1) found.2 in
-    let f = frees cs window free after key is apart under in
+    let f = frees cs pace free after key is apart under in
     let live = f.live in
     let counted = so.counted in
     let size : length after ≡ length free + 1 = ap length is ∙ length_push free key in
     record {
       kept = record {
         apart = subst HasNoRepeat (sym is) (no_repeat_push key free so.apart apart);
-        idle = λ q h. (elim (cases_eq key q) as (λ _. IsSomeAnd (get_or cs q None) (IsIdleOf window)) [
-          | inl e ↦ subst (λ n. IsSomeAnd (get_or cs n None) (IsIdleOf window)) e under
+        idle = λ q h. (elim (cases_eq key q) as (λ _. IsSomeAnd (get_or cs q None) (IsIdleOf pace)) [
+          | inl e ↦ subst (λ n. IsSomeAnd (get_or cs n None) (IsIdleOf pace)) e under
           | inr other ↦
               so.idle q (sym (ap (has q) is ∙ has_push key q free ∙ has_rest key q free other) ∙ h)
         ]);
@@ -220,12 +222,12 @@ leaves cs window capacity free after key is idle so =
 
 -- what is asked of a call whose key leaves
 pub of_calls : (calls : KeptCalls) (key : ℕ) → IsSomeAnd (call_under calls key) IsIdle →
-    ForSome (call_under calls key) (λ c. c.window ≡ calls.window) →
-    IsSomeAnd (call_under calls key) (IsIdleOf calls.window)
-of_calls calls key idle window =
+    ForSome (call_under calls key) (λ c. c.pace ≡ calls.pace) →
+    IsSomeAnd (call_under calls key) (IsIdleOf calls.pace)
+of_calls calls key idle pace =
     let found = some_of (call_under calls key) IsIdle idle in
-    some_and (call_under calls key) (IsIdleOf calls.window) found.0 found.1
-    (record { idle = found.2; window_is = window found.0 found.1 })
+    some_and (call_under calls key) (IsIdleOf calls.pace) found.0 found.1
+    (record { idle = found.2; pace_is = pace found.0 found.1 })
 
 -- a call that is there is lent
 pub lent_list : (cs : List (Option EndOfCall)) (free : List ℕ) (key : ℕ) (w : EndOfCall) →
@@ -247,19 +249,19 @@ lent_count xs key w there =
     let one = ap one_if there in
     omega (arith, more, one)
 
-pub lent_calls : (cs : List (Option EndOfCall)) (window : ℕ) (free : List ℕ) (key : ℕ) (w : EndOfCall) →
+pub lent_calls : (cs : List (Option EndOfCall)) (pace : Pace) (free : List ℕ) (key : ℕ) (w : EndOfCall) →
     IsSome (get_or (there_from free 0 cs) key None) →
-    kept_calls (set cs key (Some w)) window free ≡ with_call_under (kept_calls cs window free) key w
-lent_calls cs window free key w there =
+    kept_calls (set cs key (Some w)) pace free ≡ with_call_under (kept_calls cs pace free) key w
+lent_calls cs pace free key w there =
     let some : IsSome (get_or cs key None) = ap is_some (sym (some_there free cs key there)) ∙ there in
-    ap (λ n. record { room = n; window = window; by_key = there_from free 0 (set cs key (Some w)) })
+    ap (λ n. record { room = n; pace = pace; by_key = there_from free 0 (set cs key (Some w)) })
     (lent_count cs key w some)
-    ∙ ap (λ ks. record { room = count_by is_some cs; window = window; by_key = ks }) (lent_list cs free key w there)
+    ∙ ap (λ ks. record { room = count_by is_some cs; pace = pace; by_key = ks }) (lent_list cs free key w there)
 
-pub lent_kept : (cs : List (Option EndOfCall)) (free : List ℕ) (window capacity key : ℕ) (w : EndOfCall) →
-    IsSome (get_or (there_from free 0 cs) key None) → HasSoundKeys cs free window capacity →
-    HasSoundKeys (set cs key (Some w)) free window capacity
-lent_kept cs free window capacity key w there so =
+pub lent_kept : (cs : List (Option EndOfCall)) (free : List ℕ) (pace : Pace) (capacity key : ℕ) (w : EndOfCall) →
+    IsSome (get_or (there_from free 0 cs) key None) → HasSoundKeys cs free pace capacity →
+    HasSoundKeys (set cs key (Some w)) free pace capacity
+lent_kept cs free pace capacity key w there so =
     let apart = there_not_free free cs key there in
     let some : IsSome (get_or cs key None) = ap is_some (sym (some_there free cs key there)) ∙ there in
     let counted = so.counted in
@@ -270,7 +272,7 @@ lent_kept cs free window capacity key w there so =
       apart = so.apart;
       idle = λ q h. (
           let other : q ≢ key = (λ e. false≢true (sym apart ∙ ap (λ n. has n free) (sym e) ∙ h)) in
-          subst (λ (o : Option EndOfCall). IsSomeAnd o (IsIdleOf window))
+          subst (λ (o : Option EndOfCall). IsSomeAnd o (IsIdleOf pace))
           (sym (get_or-set_other cs key q (Some w) None other)) (so.idle q h));
       counted = omega (arith, counted, all, live);
       room = omega (arith, all, room);

@@ -6,11 +6,12 @@ use Rattle.rx_rules.specs.CallLooks.{CallLooks}
 use Rattle.rx_pool.specs.Pool.{Slots}
 use Rattle.rx_pool.specs.Held.{Keeps}
 use Rattle.rx_call.specs.Standing.{EndOfCall, StandsCall, IsIdle, slots_of, holds_lead}
+use Rattle.rx_call.specs.declared.pace.Pace.{Pace}
 
--- how many calls were made; the window of each; and at each key its call, or none where the key isn't there
+-- how many calls were made; the pace of each; and at each key its call, or none where the key isn't there
 pub record KeptCalls : Type 0 where
   pub room : ℕ
-  pub window : ℕ
+  pub pace : Pace
   pub by_key : List (Option EndOfCall)
 
 -- the call of a key; none where the key isn't there
@@ -46,20 +47,20 @@ beside_under (Some c) = beside_of c
 abbrev pub beside_of_all : KeptCalls → ℕ
 beside_of_all calls = sum_by beside_under calls.by_key
 
--- a call is idle, and has a window
-pub record IsIdleOf (window : ℕ) (c : EndOfCall) : Type 0 where
+-- a call is idle, and has this pace
+pub record IsIdleOf (pace : Pace) (c : EndOfCall) : Type 0 where
   pub idle : IsIdle c
-  pub window_is : c.window ≡ window
+  pub pace_is : c.pace ≡ pace
 
--- each call that is there has the window of all
-abbrev pub HasOneWindow : KeptCalls → Type 0
-HasOneWindow calls = (key : ℕ) (c : EndOfCall) → call_under calls key ≡ Some c → c.window ≡ calls.window
+-- each call that is there has the pace of all
+abbrev pub HasTheirPace : KeptCalls → Type 0
+HasTheirPace calls = (key : ℕ) (c : EndOfCall) → call_under calls key ≡ Some c → c.pace ≡ calls.pace
 
--- every other key has its call still, or isn't there still; and they are as many calls of the same window
+-- every other key has its call still, or isn't there still; and they are as many calls of the same pace
 pub record OthersStay (old new : KeptCalls) (key : ℕ) : Type 0 where
   pub others : (q : ℕ) → q ≢ key → call_under new q ≡ call_under old q
   pub room : new.room ≡ old.room
-  pub window : new.window ≡ old.window
+  pub pace : new.pace ≡ old.pace
 
 -- the call of a key used the pool: what all calls hold is kept as the pool's rules have it, and every other key's call
 -- stands for what it stood for

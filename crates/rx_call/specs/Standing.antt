@@ -22,12 +22,13 @@ use Rattle.rx_call.specs.declared.giving.Giving.TheVariants as givings
 use Rattle.rx_call.specs.declared.owing.OwedAck.{OwedAck}
 use Rattle.rx_call.specs.declared.side.Side.{Side}
 use Rattle.rx_call.specs.declared.side.Side.TheVariants as sides
+use Rattle.rx_call.specs.declared.pace.Pace.{Pace}
 
--- whether it is a client's end; its node's window; what it received and what it said, in slots; its rates; the
+-- whether it is a client's end; its node's pace; what it received and what it said, in slots; its rates; the
 -- acknowledgement that it owes; the moment at which it was last heard, and that at which it last gave a DATA or an ACK
 pub record EndOfCall : Type 0 where
   pub client : Bool
-  pub window : ℕ
+  pub pace : Pace
   pub received : RecvWindow
   pub sent : SendWindow
   pub rtt : Rtt
@@ -75,11 +76,11 @@ pub record IsIdle (c : EndOfCall) : Type 0 where
 -- it stays the same end of the same node
 pub record IsSameEnd (old new : EndOfCall) : Type 0 where
   pub client : new.client ≡ old.client
-  pub window : new.window ≡ old.window
+  pub pace : new.pace ≡ old.pace
 
 -- what its node tells the rules
 abbrev pub view_of : EndOfCall → ℕ → ℕ → NodeView
-view_of c left now = record { client = c.client; window = c.window; left = left; now = now }
+view_of c left now = record { client = c.client; window = c.pace.window; left = left; now = now }
 
 -- ---- slots
 

@@ -8,6 +8,7 @@ ghost use Rattle.rx_call.specs.Standing.{EndOfCall, StandsCall, IsIdle, IsSameEn
 ghost use Rattle.rx_call.specs.Standing.{is_client, leadless};
 
 use crate::owing::OwedAck;
+use crate::pace::Pace;
 use crate::side::Side;
 use rx_model::wire::SILENCE_MS;
 use rx_pool::Pool;
@@ -25,8 +26,8 @@ mod taking;
 #[derive(Debug, Drop)]
 pub struct Call {
     side: Side,
-    /// The window of its node, in packets.
-    window: u32,
+    /// That of its node.
+    pace: Pace,
     received: RecvWin,
     sent: SendWin,
     rtt: Rtt,
@@ -47,7 +48,7 @@ impl Model for Call {
 
     ghost view = { λ c. record {
       client = is_client c.side;
-      window = c.window;
+      pace = c.pace;
       received = c.received;
       sent = c.sent;
       rtt = c.rtt;
@@ -57,30 +58,31 @@ impl Model for Call {
       spoke = c.spoke;
     } };
 
-    ghost invariant = { λ c. (MIN_WINDOW ≤ c.window) × (c.window ≤ MAX_WINDOW) × (c.received.width ≡ c.window)
-        × (c.sent.width ≡ c.window) × (c.heard < 2 ^ 62) × (c.spoke < 2 ^ 62) };
+    ghost invariant = { λ c. (MIN_WINDOW ≤ c.pace.window) × (c.pace.window ≤ MAX_WINDOW)
+        × (c.received.width ≡ c.pace.window) × (c.sent.width ≡ c.pace.window)
+        × (c.heard < 2 ^ 62) × (c.spoke < 2 ^ 62) };
 }
 
 impl Call {
     ghost use Rattle.rx_model.specs.declared.wire.TheConstants.{MIN_WINDOW, MAX_WINDOW, SILENCE_MS};
 
-    /// An idle end of a call at a node with a window of so many packets, with all the memory that it will need.
-    pub fn make(alloc: Global, window: u32) -> Result<Call, AllocError>
-        requires least { MIN_WINDOW ≤ window }
-        requires most { window ≤ MAX_WINDOW }
+    /// An idle end of a call at a node of this pace, with all the memory that it will need.
+    pub fn make(alloc: Global, pace: Pace) -> Result<Call, AllocError>
+        requires least { MIN_WINDOW ≤ pace.window }
+        requires most { pace.window ≤ MAX_WINDOW }
         ensures idle { IfOk result IsIdle }
         ensures slots { IfOk result (λ c. slots_of c ≡ []) }
-        ensures window { IfOk result (λ c. c.window ≡ window) }
+        ensures pace { IfOk result (λ c. c.pace ≡ pace) }
     {
-        let received = RecvWin::make(alloc, window)?;
-        let sent = SendWin::make(alloc, window)?;
+        let received = RecvWin::make(alloc, pace.window)?;
+        let sent = SendWin::make(alloc, pace.window)?;
         Ok(Call {
             side: Side::Server,
-            window,
+            pace,
             received,
             sent,
             rtt: Rtt::new(),
-            cwnd: Cwnd::new(window),
+            cwnd: Cwnd::new(pace.window, pace.prompt),
             owed: None,
             heard: 0,
             spoke: 0,
@@ -161,15 +163,16 @@ impl Call {
     pub fn start(&mut self, side: Side, now: u64)
         requires idle { IsIdle self.old }
         requires now { now < 2 ^ 62 }
-        ensures stands { (pool : Slots) → StandsCall pool self.new (fresh_call self.old.window now) }
+        ensures stands { let pace = self.old.pace in
+            (pool : Slots) → StandsCall pool self.new (fresh_call pace.window pace.prompt now) }
         ensures client { self.new.client ≡ is_client side }
-        ensures window { self.new.window ≡ self.old.window }
+        ensures pace { self.new.pace ≡ self.old.pace }
         ensures slots { slots_of self.new ≡ [] }
         ensures unshut { self.new.sent.shut ≡ false }
     {
         self.side = side;
         self.rtt = Rtt::new();
-        self.cwnd = Cwnd::new(self.window);
+        self.cwnd = Cwnd::new(self.pace.window, self.pace.prompt);
         self.owed = None;
         self.heard = now;
         self.spoke = now;

@@ -8,6 +8,7 @@ ghost use Rattle.rx_call.specs.Standing.{IsIdle};
 ghost use Rattle.rx_call.specs.Lending.{LendsCall};
 
 use crate::call::Call;
+use crate::pace::Pace;
 use rx_due::Steps;
 use slab::Slab;
 use std::alloc::{AllocError, Global};
@@ -20,8 +21,8 @@ pub struct Calls {
     entries: Slab<Call>,
     /// The keys that aren't there, in room for all. The one that left last is the next.
     free: Vec<usize>,
-    /// The window of each call, in packets.
-    window: u32,
+    /// That of each call.
+    pace: Pace,
 }
 
 impl Model for Calls {
@@ -34,36 +35,36 @@ impl Model for Calls {
 
     ghost view = { λ c. record {
       room = slab_len c.entries;
-      window = c.window;
+      pace = c.pace;
       by_key = there_from c.free.items 0 c.entries.slots;
     } };
 
-    ghost invariant = { λ c. HasSoundKeys c.entries.slots c.free.items c.window (vec_capacity c.free) };
+    ghost invariant = { λ c. HasSoundKeys c.entries.slots c.free.items c.pace (vec_capacity c.free) };
 }
 
 impl Calls {
     ghost use Rattle.rx_model.specs.declared.wire.TheConstants.{MIN_WINDOW, MAX_WINDOW};
 
-    /// So many idle calls of a window of so many packets, with all the memory that they will need. No key is there.
-    pub fn make(alloc: Global, calls: u32, window: u32) -> Result<Calls, AllocError>
-        requires least { MIN_WINDOW ≤ window }
-        requires most { window ≤ MAX_WINDOW }
+    /// So many idle calls of this pace, with all the memory that they will need. No key is there.
+    pub fn make(alloc: Global, calls: u32, pace: Pace) -> Result<Calls, AllocError>
+        requires least { MIN_WINDOW ≤ pace.window }
+        requires most { pace.window ≤ MAX_WINDOW }
         ensures empty { IfOk result (λ made. (key : ℕ) → call_under made key ≡ None) }
         ensures room { IfOk result (λ made. made.room ≡ calls) }
-        ensures window { IfOk result (λ made. made.window ≡ window) }
+        ensures pace { IfOk result (λ made. made.pace ≡ pace) }
         ensures live { IfOk result (λ made. live_count made ≡ 0) }
         ensures slots { IfOk result (λ made. slots_of_all made ≡ []) }
     {
         let mut entries = Slab::with_capacity(alloc, calls as usize)?;
         let mut free = Vec::with_capacity(alloc, calls as usize)?;
         for _ in 0..calls {
-            let call = Call::make(alloc, window)?;
+            let call = Call::make(alloc, pace)?;
             free.push_reserved(entries.insert_reserved(call));
         }
         Ok(Calls {
             entries,
             free,
-            window,
+            pace,
         })
     }
 
@@ -72,7 +73,7 @@ impl Calls {
         ensures full { IsNone result ↔ (live_count self.old ≡ self.old.room) }
         ensures room { IsSome result → live_count self.old < self.old.room }
         ensures absent { IfSome result (λ key. call_under self.old key ≡ None) }
-        ensures idle { IfSome result (λ key. IsSomeAnd (call_under self.new key) (IsIdleOf self.old.window)) }
+        ensures idle { IfSome result (λ key. IsSomeAnd (call_under self.new key) (IsIdleOf self.old.pace)) }
         ensures others { IfSome result (OthersStay self.old self.new) }
         ensures live { OnSome result (live_count self.new ≡ live_count self.old + 1) }
         ensures slots { slots_of_all self.new ≡ slots_of_all self.old }
@@ -84,7 +85,7 @@ impl Calls {
     /// A key is there no longer; its call stays idle, for another key to be entered.
     pub fn leave(&mut self, key: usize)
         requires idle { IsSomeAnd (call_under self.old key) IsIdle }
-        requires window { ForSome (call_under self.old key) (λ c. c.window ≡ self.old.window) }
+        requires pace { ForSome (call_under self.old key) (λ c. c.pace ≡ self.old.pace) }
         ensures absent { call_under self.new key ≡ None }
         ensures others { OthersStay self.old self.new key }
         ensures live { live_count self.new + 1 ≡ live_count self.old }

@@ -13,6 +13,7 @@ mod calls;
 mod giving;
 mod laws;
 mod owing;
+mod pace;
 mod side;
 #[cfg(test)]
 mod tests;
@@ -22,5 +23,6 @@ pub use calls::Calls;
 pub use giving::Giving;
 pub use laws::{leads_have_slots, one_call_changes};
 pub use owing::OwedAck;
+pub use pace::Pace;
 pub use rx_recvwin::AckView;
 pub use side::Side;

@@ -2,7 +2,7 @@ ghost use Rattle.std.specs.Prelude.{◌≡◌, ◌≤◌, ◌<◌, ◌^◌, leng
 ghost use Rattle.rx_pool.specs.Held.{Holds};
 ghost use Rattle.rx_call.specs.Standing.{IsIdle, slots_of};
 
-use crate::{Call, Giving, Side};
+use crate::{Call, Giving, Pace, Side};
 use rx_model::{CallRead, Took};
 use rx_packet::{Body, Head};
 use rx_pool::Pool;
@@ -12,6 +12,16 @@ use std::test::*;
 mod acks;
 mod packets;
 mod pieces;
+
+/// The pace of a node with this window that isn't prompt.
+pub fn of_window(window: u32) -> Pace
+    ensures { result ≡ record { window = window; prompt = false } }
+{
+    Pace {
+        window,
+        prompt: false,
+    }
+}
 
 /// The header of a message of call 1 on channel 0.
 pub fn head(seq: u32, serial: u32, flags: u8) -> Head {
@@ -46,7 +56,7 @@ fn take(call: &mut Call, pool: &mut Pool, now: u64, head: &Head, payload: &[u8])
 #[test]
 fn packets_out_of_order_are_acknowledged_and_read_in_order(rt: HostRuntime) -> Result<(), Fail> {
     let mut pool = Pool::make(rt.alloc(), 3)?;
-    let mut call = Call::make(rt.alloc(), 32)?;
+    let mut call = Call::make(rt.alloc(), of_window(32))?;
     call.start(Side::Server, 0);
     assert_eq!(rt;
         take(&mut call, &mut pool, 5, &head(2, 2, 5), b"k"),
@@ -76,7 +86,7 @@ fn packets_out_of_order_are_acknowledged_and_read_in_order(rt: HostRuntime) -> R
 #[test]
 fn what_is_lost_is_given_again_between_pings(rt: HostRuntime) -> Result<(), Fail> {
     let mut pool = Pool::make(rt.alloc(), 2)?;
-    let mut call = Call::make(rt.alloc(), 32)?;
+    let mut call = Call::make(rt.alloc(), of_window(32))?;
     call.start(Side::Client, 0);
     call.shut(&mut pool);
     let piece = Giving::Piece {
@@ -128,7 +138,7 @@ fn shut(call: &mut Call, pool: &mut Pool)
 #[test]
 fn reply_data_acknowledges_the_request(rt: HostRuntime) -> Result<(), Fail> {
     let mut pool = Pool::make(rt.alloc(), 2)?;
-    let mut call = Call::make(rt.alloc(), 32)?;
+    let mut call = Call::make(rt.alloc(), of_window(32))?;
     let mut to = [0; 4];
     call.start(Side::Client, 0);
     assert_eq!(rt;

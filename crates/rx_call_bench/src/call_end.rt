@@ -3,7 +3,7 @@ ghost use Rattle.rx_packet.specs.Seen.{body_of};
 ghost use Rattle.rx_call.specs.Standing.{HasSpare, HoldsPiece, FitsSlot};
 ghost use Rattle.rx_call_bench.specs.Standing.{Stands};
 
-use rx_call::{Call, Giving, Side};
+use rx_call::{Call, Giving, Pace, Side};
 use rx_model::CallRead;
 use rx_model::wire::{LAST_PACKET, PAYLOAD_BYTES, REQUEST_ACK};
 use rx_packet::{AckBody, Body, Head};
@@ -31,7 +31,11 @@ impl CallEnd {
         ensures { IfOk result Stands }
     {
         let slots = Pool::make(alloc, window + 1)?;
-        let mut call = Call::make(alloc, window)?;
+        let pace = Pace {
+            window,
+            prompt: false,
+        };
+        let mut call = Call::make(alloc, pace)?;
         call.start(side, 0);
         Ok(CallEnd {
             call,

@@ -47,7 +47,7 @@ tells-first : (s : Setup) (node cid : ℕ) (c : CallName) (request : List ℕ) (
     → Tells request (caller_for node c request) (after s (events.Called cid (Ok c)) l)
 tells-first s node cid c request l =
     let new : CallRecord =
-    record { name = c; life = lives.Calling; looks = fresh_call s.limits.window l.now } in
+    record { name = c; life = lives.Calling; looks = fresh_call s.limits.window s.prompt l.now } in
     let found : call_at (after s (events.Called cid (Ok c)) l) c ≡ Some new =
     call_at-any c new l refl (call_at l c) refl in
     tells_of request (caller_for node c request) (after s (events.Called cid (Ok c)) l) new found

@@ -148,7 +148,7 @@ pub kept-started : (s : Setup) (life : Life) (c d : CallName) (l : Looks) → sa
     → KeptAt c l (started s life d l)
 kept-started s life c d l other =
     subst (λ (o : Option CallRecord). Kept (call_at l c) o)
-    (sym (call_at-other c (record { name = d; life = life; looks = fresh_call s.limits.window l.now }) l other
+    (sym (call_at-other c (record { name = d; life = life; looks = fresh_call s.limits.window s.prompt l.now }) l other
     (call_at l c) refl)) (kept-refl (call_at l c))
 
 kept-opened : (s : Setup) (c d : CallName) (l : Looks) → StartsNone c d l → KeptAt c l (opened s d l)

@@ -22,7 +22,7 @@ allowed_client class n host epoch l e kind allowed =
 pub kept_setups : (class : List ℕ → Class) (old new : NodeState) → KeepsSetup old new
     → setup_of class new ≡ setup_of class old
 kept_setups class old new kept =
-    λ i. record { kind = kept.kind i; limits = kept.limits i; class = class (kept.secret i) }
+    λ i. record { kind = kept.kind i; limits = kept.limits i; prompt = kept.prompt i; class = class (kept.secret i) }
 
 module _ (class : List ℕ → Class) (old new : NodeState) (e : Event)
     (same : setup_of class new ≡ setup_of class old) where

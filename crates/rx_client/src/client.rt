@@ -1,4 +1,4 @@
-ghost use Rattle.std.specs.Prelude.{◌≡◌, ◌≤◌, ◌<◌, ◌^◌, List, [], IfOk, length, drop};
+ghost use Rattle.std.specs.Prelude.{true, ◌≡◌, ◌≤◌, ◌<◌, ◌^◌, List, [], IfOk, length, drop};
 ghost use Rattle.rx_model.specs.declared.event.Event.{Event};
 ghost use Rattle.rx_model.specs.declared.event.Event.TheVariants as events;
 ghost use Rattle.rx_model.specs.declared.wire.TheConstants.{DATAGRAM_BYTES};
@@ -53,13 +53,32 @@ impl<C: Class> Client<C> {
     ) -> Result<Client<C>, AllocError>
         requires { setups.FitsLimits limits.now }
         ensures stands { IfOk result (λ n. StandsNode C.class_of n []) }
+        ensures setup { IfOk result (λ n. setup_of C.class_of n
+            ≡ setups.unprompted (setups.Client host epoch) limits.now (C.class_of (C.secret class))) }
+    {
+        let node = Node::make(alloc, Kind::Client { host, epoch }, limits, false, class)?;
+        Ok(Client { node, host, epoch })
+    }
+
+    /// The same, but prompt: it asks for an acknowledgement behind the last piece that a call can hold, so that no
+    /// stream waits for a delayed one where the peer's window is no narrower than its own.
+    pub fn make_prompt(
+        alloc: Global,
+        limits: &Limits,
+        host: Host,
+        epoch: u32,
+        class: C,
+    ) -> Result<Client<C>, AllocError>
+        requires { setups.FitsLimits limits.now }
+        ensures stands { IfOk result (λ n. StandsNode C.class_of n []) }
         ensures setup { IfOk result (λ n. setup_of C.class_of n ≡ record {
           kind = setups.Client host epoch;
           limits = limits.now;
+          prompt = true;
           class = C.class_of (C.secret class);
         }) }
     {
-        let node = Node::make(alloc, Kind::Client { host, epoch }, limits, class)?;
+        let node = Node::make(alloc, Kind::Client { host, epoch }, limits, true, class)?;
         Ok(Client { node, host, epoch })
     }
 

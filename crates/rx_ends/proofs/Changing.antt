@@ -1,6 +1,6 @@
 -- One call of a node changes: what the node's ends keep, and what they tell of it.
 use Rattle.std.proofs.Common.{◌≡◌, ◌≢◌, ◌⊎◌, inl, inr, ◌≤◌, ◌+◌, ◌-◌, ℕ, suc, zero, List, ◌∷◌, [], length, get_or}
-use Rattle.std.proofs.Common.{Option, Some, None, is_some, IsSomeAnd, refl, sym, ap, ◌∙◌, subst, arith}
+use Rattle.std.proofs.Common.{false, Option, Some, None, is_some, IsSomeAnd, refl, sym, ap, ◌∙◌, subst, arith}
 use Rattle.std.specs.Prelude.{sum_by}
 use Rattle.std.specs.Option.{ForSome}
 use Rattle.std.proofs.lemmas.Bool.{cases_eq}
@@ -16,8 +16,9 @@ use Rattle.rx_call.specs.Kept.{IsIdleOf, KeptCalls, OthersStay, call_under, with
 use Rattle.rx_call.specs.Kept.{beside_of, beside_under, beside_of_all}
 use Rattle.rx_call.proofs.CallsAt.{call_under-with_same, call_under-with_other, changes_one, holds_at, keeps_at}
 use Rattle.rx_call.proofs.CallsAt.{live_count-with_call_under, of_some_and, only_one, some_and, some_of, stands_at}
-use Rattle.rx_call.proofs.CallsAt.{holds_none, no_window, of_only_one, window-kept, window-with_call_under}
+use Rattle.rx_call.proofs.CallsAt.{holds_none, no_pace, of_only_one, pace-kept, pace-with_call_under}
 use Rattle.rx_call.proofs.Spare.{beside-idle, beside-kept, beside-with_call_under, spare_at}
+use Rattle.rx_call.specs.declared.pace.Pace.{Pace}
 use Rattle.rx_call.proofs.Undisturbed.{idle_slots}
 use Rattle.rx_ends.specs.Ends.{EndsState, KeepsEnds, KeepsSlots, StandsAs, StandsEnd, StepsEnd, beside_looks, view_at}
 
@@ -68,7 +69,7 @@ counted_of e key c ks is =
 pub record Changes (e : EndsState) (key : ℕ) (c d : EndOfCall) (after : Slots) (common : ℕ) : Type 0 where
   pub is : call_under e.calls key ≡ Some c
   pub keeps : Keeps e.pool after (slots_of c) (slots_of d)
-  pub window : d.window ≡ c.window
+  pub pace : d.pace ≡ c.pace
   pub count : common + beside_of c ≡ e.common + beside_of d
 
 abbrev pub changed : EndsState → ℕ → EndOfCall → Slots → ℕ → EndsState
@@ -104,7 +105,7 @@ module _ (e : EndsState) (key : ℕ) (c d : EndOfCall) (after : Slots) (common :
       record {
         looks = λ q. pick q key k ks.looks (cases_eq q key);
         stands = new_stands k st;
-        window = window-with_call_under e.calls key c d ch.is ch.window ks.window;
+        pace = pace-with_call_under e.calls key c d ch.is ch.pace ks.pace;
         holds = all.holds;
         all = all.count ∙ ks.all;
         live = omega (arith, live, ks.live);
@@ -125,7 +126,7 @@ module _ (e : EndsState) (key : ℕ) (c d : EndOfCall) (after : Slots) (common :
             (record {
               stands = one.stands q x.0 k other x.1 x.2.stands;
               client = x.2.client;
-              window = x.2.window;
+              pace = x.2.pace;
             }));
         client = refl;
         shared = refl;
@@ -147,7 +148,7 @@ module _ (e : EndsState) (key : ℕ) (c d : EndOfCall) (after : Slots) (common :
             (record {
               stands = stands k of;
               client = client ∙ of.client;
-              window = ch.window ∙ of.window;
+              pace = ch.pace ∙ of.pace;
             }));
         common = λ k end. count k (of_some_and (call_under e.calls key) (λ y. StandsAs e y k) c ch.is end);
         keeps = change_only;
@@ -186,7 +187,7 @@ pub record Turns (e : EndsState) (calls : KeptCalls) (key : ℕ) (k : CallLooks)
   pub slots : slots_of_all calls ≡ slots_of_all e.calls
   pub live : live_count calls ≤ calls.room
   pub beside : beside_under (call_under calls key) ≡ beside_under (call_under e.calls key)
-  pub window : ForSome (call_under calls key) (λ c. c.window ≡ calls.window)
+  pub pace : ForSome (call_under calls key) (λ c. c.pace ≡ calls.pace)
   pub stands : ForSome (call_under calls key) (λ c. StandsCall e.pool c k)
 
 module _ (e : EndsState) (calls : KeptCalls) (key : ℕ) (k : CallLooks) (ks : KeepsSlots e)
@@ -206,7 +207,7 @@ module _ (e : EndsState) (calls : KeptCalls) (key : ℕ) (k : CallLooks) (ks : K
       record {
         looks = λ q. pick q key k ks.looks (cases_eq q key);
         stands = turn_stands;
-        window = window-kept e.calls calls key t.others t.window ks.window;
+        pace = pace-kept e.calls calls key t.others t.pace ks.pace;
         holds = subst (λ ss. Holds e.pool ss) (sym t.slots) ks.holds;
         all = omega (arith, all, ks.all, t.others.room);
         live = t.live;
@@ -216,7 +217,7 @@ module _ (e : EndsState) (calls : KeptCalls) (key : ℕ) (k : CallLooks) (ks : K
 
 -- an idle call comes to be there
 pub enters : (e : EndsState) (calls : KeptCalls) (key : ℕ) (c : EndOfCall) → call_under e.calls key ≡ None →
-    call_under calls key ≡ Some c → IsIdleOf e.calls.window c → OthersStay e.calls calls key →
+    call_under calls key ≡ Some c → IsIdleOf e.calls.pace c → OthersStay e.calls calls key →
     slots_of_all calls ≡ slots_of_all e.calls → live_count calls ≤ calls.room → Turns e calls key (idle_looks c)
 enters e calls key c absent is idle others slots live =
     record {
@@ -224,7 +225,7 @@ enters e calls key c absent is idle others slots live =
       slots = slots;
       live = live;
       beside = ap beside_under is ∙ beside-idle c idle.idle ∙ sym (ap beside_under absent);
-      window = of_only_one calls key c (λ x. x.window ≡ calls.window) is (idle.window_is ∙ sym others.window);
+      pace = of_only_one calls key c (λ x. x.pace ≡ calls.pace) is (idle.pace_is ∙ sym others.pace);
       stands = of_only_one calls key c (λ x. StandsCall e.pool x (idle_looks c)) is (idle_stands e.pool c idle.idle);
     }
 
@@ -239,52 +240,53 @@ leaves e calls key k ks idle absent others slots live =
       slots = slots;
       live = omega (arith, live, ks.live, others.room);
       beside = ap beside_under absent ∙ sym (ap beside_under x.1 ∙ beside-idle x.0 x.2);
-      window = λ c is. absurd (let both : None ≡ Some c = sym absent ∙ is in cc (both));
+      pace = λ c is. absurd (let both : None ≡ Some c = sym absent ∙ is in cc (both));
       stands = λ c is. absurd (let both : None ≡ Some c = sym absent ∙ is in cc (both));
     }
 
 -- a call that holds the slots that it held
 pub same_slots : (e : EndsState) (key : ℕ) (c d : EndOfCall) → KeepsSlots e → call_under e.calls key ≡ Some c →
-    slots_of d ≡ slots_of c → d.window ≡ c.window → beside_of d ≡ beside_of c → Changes e key c d e.pool e.common
-same_slots e key c d ks is slots window beside =
+    slots_of d ≡ slots_of c → d.pace ≡ c.pace → beside_of d ≡ beside_of c → Changes e key c d e.pool e.common
+same_slots e key c d ks is slots pace beside =
     record {
       is = is;
       keeps = subst (λ ss. Keeps e.pool e.pool (slots_of c) ss) (sym slots)
           (keeps_same e.pool (slots_of c) (holds_of e key c ks is));
-      window = window;
+      pace = pace;
       count = omega (arith, beside);
     }
 
 -- an idle call that starts
 pub starts : (e : EndsState) (key : ℕ) (c d : EndOfCall) → KeepsSlots e → call_under e.calls key ≡ Some c → IsIdle c →
-    slots_of d ≡ [] → d.window ≡ c.window → Changes e key c d e.pool e.common
-starts e key c d ks is idle slots window =
+    slots_of d ≡ [] → d.pace ≡ c.pace → Changes e key c d e.pool e.common
+starts e key c d ks is idle slots pace =
     let none = ap length slots in
     let was = beside-idle c idle in
-    same_slots e key c d ks is (slots ∙ sym (idle_slots c idle)) window (omega (arith, none, was))
+    same_slots e key c d ks is (slots ∙ sym (idle_slots c idle)) pace (omega (arith, none, was))
 
 -- it stands for a call that has just started
-pub start_stands : (e : EndsState) (key : ℕ) (c d : EndOfCall) (window now : ℕ) → call_under e.calls key ≡ Some c →
-    StandsCall e.pool d (fresh_call c.window now) → d.client ≡ e.client → d.window ≡ c.window → c.window ≡ window →
-    e.calls.window ≡ window → StandsEnd (changed e key d e.pool e.common) key (fresh_call window now)
-start_stands e key c d window now is st client same was of =
+pub start_stands : (e : EndsState) (key : ℕ) (c d : EndOfCall) (pace : Pace) (now : ℕ) →
+    call_under e.calls key ≡ Some c → StandsCall e.pool d (fresh_call c.pace.window c.pace.prompt now) →
+    d.client ≡ e.client → d.pace ≡ c.pace → c.pace ≡ pace → e.calls.pace ≡ pace →
+    StandsEnd (changed e key d e.pool e.common) key (fresh_call pace.window pace.prompt now)
+start_stands e key c d pace now is st client same was of =
     some_and (call_under (with_call_under e.calls key d) key)
-    (λ y. StandsAs (changed e key d e.pool e.common) y (fresh_call window now)) d
+    (λ y. StandsAs (changed e key d e.pool e.common) y (fresh_call pace.window pace.prompt now)) d
     (call_under-with_same e.calls key d (ap is_some is))
     (record {
-      stands = subst (λ w. StandsCall e.pool d (fresh_call w now)) was st;
+      stands = subst (λ w. StandsCall e.pool d (fresh_call w.window w.prompt now)) was st;
       client = client;
-      window = same ∙ was ∙ sym of;
+      pace = same ∙ was ∙ sym of;
     })
 
 -- one that becomes idle
 pub clears : (e : EndsState) (key : ℕ) (c d : EndOfCall) (after : Slots) (before : ℕ) → KeepsSlots e →
-    call_under e.calls key ≡ Some c → Keeps e.pool after (slots_of c) (slots_of d) → d.window ≡ c.window → IsIdle d →
+    call_under e.calls key ≡ Some c → Keeps e.pool after (slots_of c) (slots_of d) → d.pace ≡ c.pace → IsIdle d →
     before ≡ beside_of c → Changes e key c d after (e.common - before)
-clears e key c d after before ks is keeps window idle counts =
+clears e key c d after before ks is keeps pace idle counts =
     let low = counted_of e key c ks is in
     let none = beside-idle d idle in
-    record { is = is; keeps = keeps; window = window; count = omega (arith, low, none, counts) }
+    record { is = is; keeps = keeps; pace = pace; count = omega (arith, low, none, counts) }
 
 -- ends with no call
 pub empty_keeps : (e : EndsState) → ((key : ℕ) → call_under e.calls key ≡ None) → slots_of_all e.calls ≡ [] →
@@ -292,11 +294,11 @@ pub empty_keeps : (e : EndsState) → ((key : ℕ) → call_under e.calls key �
 empty_keeps e empty slots live free common =
     let size = ap length slots in
     let beside = beside-kept e.calls (record e.calls { by_key = [] }) 0
-    (record { others = λ q other. sym (empty q); room = refl; window = refl }) (ap beside_under (sym (empty 0))) in
+    (record { others = λ q other. sym (empty q); room = refl; pace = refl }) (ap beside_under (sym (empty 0))) in
     record {
       looks = λ key. idle_record;
       stands = λ key c is. absurd (let both : None ≡ Some c = sym (empty key) ∙ is in cc (both));
-      window = no_window e.calls empty;
+      pace = no_pace e.calls empty;
       holds = subst (λ ss. Holds e.pool ss) (sym slots) (holds_none e.pool);
       all = omega (arith, size, free);
       live = omega (arith, live);
@@ -305,7 +307,7 @@ empty_keeps e empty slots live free common =
     }
   where
     idle_record : CallLooks
-    idle_record = fresh_call 0 0
+    idle_record = fresh_call 0 false 0
 
 -- ---- a call was counted before and behind
 
@@ -323,7 +325,7 @@ module _ (e : EndsState) (key : ℕ) (c d : EndOfCall) (after : Slots) (before b
       record {
         is = is;
         keeps = keeps;
-        window = same.window;
+        pace = same.pace;
         count = omega (arith, counted_low, first, last);
       }
 
@@ -367,4 +369,5 @@ of_end e key c k ks is end = of_some_and (call_under e.calls key) (λ y. StandsA
 -- its view is that of its node
 pub view_same : (e : EndsState) (c : EndOfCall) (k : CallLooks) (left now : ℕ) → StandsAs e c k →
     left ≡ e.shared - e.common → view_of c left now ≡ view_at e now
-view_same e c k left now st is = λ i. record { client = st.client i; window = st.window i; left = is i; now = now }
+view_same e c k left now st is =
+    λ i. record { client = st.client i; window = (st.pace i).window; left = is i; now = now }

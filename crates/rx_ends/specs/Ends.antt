@@ -4,7 +4,7 @@ use Rattle.std.specs.Prelude.{IsSomeAnd}
 use Rattle.rx_rules.specs.CallLooks.{CallLooks, NodeView, held, lead}
 use Rattle.rx_pool.specs.Pool.{Slots}
 use Rattle.rx_pool.specs.Held.{Holds}
-use Rattle.rx_call.specs.Kept.{KeptCalls, HasOneWindow, OthersStay, beside_of_all, call_under, live_count}
+use Rattle.rx_call.specs.Kept.{KeptCalls, HasTheirPace, OthersStay, beside_of_all, call_under, live_count}
 use Rattle.rx_call.specs.Kept.{slots_of_all}
 use Rattle.rx_call.specs.Standing.{EndOfCall, StandsCall, IsIdle, HoldsPiece, HoldsGiven, has_unread}
 use Rattle.rx_call.specs.declared.giving.Giving.{Giving}
@@ -22,7 +22,7 @@ pub record EndsState : Type 0 where
 pub record StandsAs (e : EndsState) (c : EndOfCall) (k : CallLooks) : Type 0 where
   pub stands : StandsCall e.pool c k
   pub client : c.client ≡ e.client
-  pub window : c.window ≡ e.calls.window
+  pub pace : c.pace ≡ e.calls.pace
 
 -- the call of a key does
 abbrev pub StandsEnd : EndsState → ℕ → CallLooks → Type 0
@@ -52,7 +52,7 @@ beside_looks k = held k - lead k
 pub record KeepsSlots (e : EndsState) : Type 0 where
   pub looks : ℕ → CallLooks
   pub stands : (key : ℕ) (c : EndOfCall) → call_under e.calls key ≡ Some c → StandsCall e.pool c (looks key)
-  pub window : HasOneWindow e.calls
+  pub pace : HasTheirPace e.calls
   pub holds : Holds e.pool (slots_of_all e.calls)
   pub all : length e.pool.free + length (slots_of_all e.calls) ≡ e.shared + e.calls.room
   pub live : live_count e.calls ≤ e.calls.room
@@ -64,7 +64,7 @@ pub record KeepsSlots (e : EndsState) : Type 0 where
 -- what a node tells the end of each of its calls
 abbrev pub view_at : EndsState → ℕ → NodeView
 view_at e now =
-    record { client = e.client; window = e.calls.window; left = e.shared - e.common; now = now }
+    record { client = e.client; window = e.calls.pace.window; left = e.shared - e.common; now = now }
 
 -- it stays a node of the same kind, with as many shared slots; what another key has, and for what that stands, stays
 pub record KeepsEnds (old new : EndsState) (key : ℕ) : Type 0 where

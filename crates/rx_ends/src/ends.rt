@@ -14,7 +14,7 @@ ghost use Rattle.rx_ends.specs.Ends.{beside_looks};
 ghost use Rattle.rx_ends.specs.Ends.{GivesAt, HasShutSlot, HoldsAt, view_at};
 
 use crate::counters::call;
-use rx_call::{AckView, Calls, Giving, Side};
+use rx_call::{AckView, Calls, Giving, Pace, Side};
 use rx_due::Steps;
 use rx_model::{CallRead, Limits, Took};
 use rx_packet::{Body, Head};
@@ -66,8 +66,14 @@ impl Model for Ends {
 impl Ends {
     ghost use Rattle.rx_model.specs.declared.wire.TheConstants.{MIN_WINDOW, MAX_WINDOW, SILENCE_MS};
 
-    /// Room for as many calls, slots and packets of a window as the limits say; no key is there.
-    pub fn make(alloc: Global, side: Side, limits: &Limits) -> Result<Ends, AllocError>
+    /// Room for as many calls, slots and packets of a window as the limits say, at a node that is prompt or isn't; no
+    /// key is there.
+    pub fn make(
+        alloc: Global,
+        side: Side,
+        limits: &Limits,
+        prompt: bool,
+    ) -> Result<Ends, AllocError>
         requires least { MIN_WINDOW ≤ limits.now.window }
         requires most { limits.now.window ≤ MAX_WINDOW }
         requires slots { limits.now.calls < limits.now.slots }
@@ -75,12 +81,16 @@ impl Ends {
         ensures empty { IfOk result (λ e. (key : ℕ) → call_under e.calls key ≡ None) }
         ensures live { IfOk result (λ e. live_count e.calls ≡ 0) }
         ensures room { IfOk result (λ e. e.calls.room ≡ limits.now.calls) }
-        ensures window { IfOk result (λ e. e.calls.window ≡ limits.now.window) }
+        ensures pace { IfOk result (λ e. e.calls.pace ≡ record { window = limits.now.window; prompt = prompt }) }
         ensures client { IfOk result (λ e. e.client ≡ is_client side) }
         ensures shared { IfOk result (λ e. e.shared ≡ limits.now.slots - limits.now.calls) }
         ensures common { IfOk result (λ e. e.common ≡ 0) }
     {
-        let calls = Calls::make(alloc, limits.calls, limits.window)?;
+        let pace = Pace {
+            window: limits.window,
+            prompt,
+        };
+        let calls = Calls::make(alloc, limits.calls, pace)?;
         let pool = Pool::make(alloc, limits.slots)?;
         Ok(Ends {
             side,
@@ -104,7 +114,8 @@ impl Ends {
         ensures full { IsNone result ↔ (live_count self.old.calls ≡ self.old.calls.room) }
         ensures none { IfNone result (self.new ≡ self.old) }
         ensures absent { IfSome result (λ key. call_under self.old.calls key ≡ None) }
-        ensures stands { IfSome result (λ key. StandsEnd self.new key (fresh_call self.old.calls.window now)) }
+        ensures stands { let pace = self.old.calls.pace in
+            IfSome result (λ key. StandsEnd self.new key (fresh_call pace.window pace.prompt now)) }
         ensures keeps { IfSome result (KeepsEnds self.old self.new) }
         ensures live { IfSome result (λ key. live_count self.new.calls ≡ live_count self.old.calls + 1) }
         ensures common { self.new.common ≡ self.old.common }
@@ -154,7 +165,7 @@ impl Ends {
     pub fn write(&mut self, key: usize, bytes: &[u8]) -> usize
         requires { IsUnshut self.old key }
         ensures answered { (k : CallLooks) → StandsEnd self.old key k → result ≡ min (length bytes.now)
-            (room_of self.old.calls.window ((self.old.shared - self.old.common) + 1 - lead k) k.sent) }
+            (room_of self.old.calls.pace.window ((self.old.shared - self.old.common) + 1 - lead k) k.sent) }
         ensures steps { StepsEnd self.old self.new key (after_write (take result bytes.now)) }
         ensures within { result ≤ length bytes.now }
         ensures live { live_count self.new.calls ≡ live_count self.old.calls }

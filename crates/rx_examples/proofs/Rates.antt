@@ -1,14 +1,17 @@
 -- Worked examples of round trips, of congestion windows, and of serials.
-use Rattle.std.specs.Prelude.{◌≡◌, ◌-◌, ◌^◌, ℕ, suc, zero, List, [], ◌∷◌, map, Option, Some, option_map, refl}
+use Rattle.std.specs.Prelude.{◌≡◌, ◌-◌, ◌^◌, ℕ, suc, zero, Bool, true, false, List, [], ◌∷◌, map, Option, Some}
+use Rattle.std.specs.Prelude.{option_map, refl}
 use Rattle.rx_model.specs.Names.{connection_of, default_limits}
 use Rattle.rx_model.specs.Body as bodies
+use Rattle.rx_rules.specs.CallItems.{prompts}
 use Rattle.rx_rules.specs.Classes.{null}
 use Rattle.rx_rules.specs.Items.{message_on}
 use Rattle.rx_rules.specs.Looks.{at_start}
 use Rattle.rx_rules.specs.Rates.{Cwnd, Rtt, after_acked, after_backoff, after_sample, after_timeout, first_cwnd}
 use Rattle.rx_rules.specs.Rates.{first_rtt}
 use Rattle.rx_rules.specs.Records.{fresh_conn}
-use Rattle.rx_rules.specs.Setup.{Setup, Server}
+use Rattle.rx_rules.specs.Sent.{nothing_sent}
+use Rattle.rx_rules.specs.Setup.{Setup, Server, unprompted}
 use Rattle.rx_examples.proofs.Told.{at_client, call}
 
 -- the RTO after each of several round trips
@@ -40,12 +43,12 @@ windows [] c = []
 windows (n ∷ ns) c = (after_acked n c).window ∷ windows ns (after_acked n c)
 
 -- from 2 on, acknowledgements of 2 and 4 pieces
-slow_start : windows (2 ∷ 4 ∷ []) (first_cwnd 32) ≡ 4 ∷ 8 ∷ []
+slow_start : windows (2 ∷ 4 ∷ []) (first_cwnd 32 false) ≡ 4 ∷ 8 ∷ []
 slow_start = refl
 
 -- at 8 a timer resend: 1 with the threshold 4, and then acknowledgements of 1, 2 and 4
 abbrev resent : Cwnd
-resent = after_timeout (after_acked 4 (after_acked 2 (first_cwnd 32)))
+resent = after_timeout (after_acked 4 (after_acked 2 (first_cwnd 32 false)))
 
 resent_window : (resent.window ≡ 1) × (resent.ssthresh ≡ 4)
 resent_window = (refl, refl)
@@ -61,10 +64,22 @@ backed_off (suc n) r = after_backoff (backed_off n r)
 backoffs : map (λ (n : ℕ). (backed_off n first_rtt).rto) (1 ∷ 2 ∷ 3 ∷ []) ≡ 2000 ∷ 4000 ∷ 4000 ∷ []
 backoffs = refl
 
+-- ---- prompt nodes
+
+-- behind nothing that is acknowledged, which of the pieces 30, 31 and 32 ask as they are the last that can be held
+abbrev asking : Bool → List Bool
+asking prompt = map (λ (k : ℕ). prompts (first_cwnd 32 prompt) nothing_sent k) (30 ∷ 31 ∷ 32 ∷ [])
+
+prompt_asks : asking true ≡ false ∷ true ∷ false ∷ []
+prompt_asks = refl
+
+unprompted_asks : asking false ≡ false ∷ false ∷ false ∷ []
+unprompted_asks = refl
+
 -- ---- serials
 
 abbrev served : Setup
-served = record { kind = Server 1 0; limits = default_limits; class = null }
+served = unprompted (Server 1 0) default_limits null
 
 -- the serial of a datagram on a connection on which so many were given
 abbrev serial_behind : ℕ → ℕ

@@ -8,7 +8,7 @@ use Rattle.rx_model.specs.Names.{default_limits}
 use Rattle.rx_rules.specs.CallLooks.{CallLooks}
 use Rattle.rx_rules.specs.Classes.{Class, null}
 use Rattle.rx_rules.specs.Looks.{call_at}
-use Rattle.rx_rules.specs.Setup.{Setup, Server, Client}
+use Rattle.rx_rules.specs.Setup.{Setup, Server, Client, unprompted}
 use Rattle.rx_examples.proofs.Story.{Line, Play, played, stages_from, story_from}
 
 -- ---- hosts, names and nodes
@@ -36,20 +36,20 @@ call = name 2 1 4 0 1
 
 -- a server of service 1 at its host with these limits, or of this class
 abbrev pub server_with : Limits → Host × Setup
-server_with limits = (at_server, record { kind = Server 1 0; limits = limits; class = null })
+server_with limits = (at_server, unprompted (Server 1 0) limits null)
 
 abbrev pub server_of : Class → Host × Setup
-server_of class = (at_server, record { kind = Server 1 0; limits = default_limits; class = class })
+server_of class = (at_server, unprompted (Server 1 0) default_limits class)
 
 -- a client of epoch 1 with these limits, of this class, or at this host
 abbrev pub client_with : Limits → Host × Setup
-client_with limits = (at_client, record { kind = Client at_client 1; limits = limits; class = null })
+client_with limits = (at_client, unprompted (Client at_client 1) limits null)
 
 abbrev pub client_of : Class → Host × Setup
-client_of class = (at_client, record { kind = Client at_client 1; limits = default_limits; class = class })
+client_of class = (at_client, unprompted (Client at_client 1) default_limits class)
 
 abbrev pub client_at : Host → Host × Setup
-client_at host = (host, record { kind = Client host 1; limits = default_limits; class = null })
+client_at host = (host, unprompted (Client host 1) default_limits null)
 
 -- the two as they are by default
 abbrev pub server : Host × Setup

@@ -151,7 +151,8 @@ client-conns s host epoch l (events.Finished d code got) kind fits allowed conns
 
 sound-new : (s : Setup) (c : CallName) (l : Looks) → Fresh s l c → Sound l c 0 → Sound (started s lives.Calling c l) c 0
 sound-new s c l f sound =
-    let new : CallRecord = record { name = c; life = lives.Calling; looks = fresh_call s.limits.window l.now } in
+    let new : CallRecord =
+    record { name = c; life = lives.Calling; looks = fresh_call s.limits.window s.prompt l.now } in
     let none = no-record (call_at l c) sound.below f.above in
     let is : call_at (started s lives.Calling c l) c ≡ Some new = call_at-new c new l refl none in
     let top = number-started s lives.Calling c l f.conn f.there f.chan sound.fours in

@@ -15,7 +15,7 @@ use Rattle.rx_model.specs.declared.event.Event.TheVariants as events
 use Rattle.rx_model.specs.declared.names.CallName.{CallName}
 use Rattle.rx_model.specs.declared.names.Host.{Host}
 use Rattle.rx_rules.specs.Classes.{FitsClass, null}
-use Rattle.rx_rules.specs.Setup.{Server, Client, FitsLimits, FitsSetup}
+use Rattle.rx_rules.specs.Setup.{Server, Client, FitsLimits, FitsSetup, unprompted}
 use Rattle.rx_model.specs.Message.{IsBytes}
 use Rattle.rx_law.specs.Sides.{IsClientAt, Node, side}
 use Rattle.rx_law.specs.Worlds.{AreApart, World}
@@ -38,24 +38,14 @@ name addr port epoch cid chan number =
 abbrev server : Node
 server = record {
   host = host 167772161 7000;
-  setup =
-      record {
-        kind = Server 1 0;
-        limits = record { conns = 1024; calls = 64; slots = 2048; window = 32 };
-        class =
-            null;
-      };
+  setup = unprompted (Server 1 0) (record { conns = 1024; calls = 64; slots = 2048; window = 32 }) null;
 }
 
 abbrev client : Node
 client = record {
   host = host 167772162 7001;
-  setup = record {
-    kind = Client
-        (host 167772162 7001) 1;
-    limits = record { conns = 1024; calls = 64; slots = 2048; window = 32 };
-    class = null;
-  };
+  setup =
+      unprompted (Client (host 167772162 7001) 1) (record { conns = 1024; calls = 64; slots = 2048; window = 32 }) null;
 }
 
 abbrev nodes : List Node

@@ -49,9 +49,9 @@ none-said : IsBytes []
 none-said i = omega arith
 
 -- it starts
-pub fresh_fits : (c : CallName) (life : Life) (window now : ℕ) → FitsLife life → 1 ≤ c.number
-    → FitsCall (record { name = c; life = life; looks = fresh_call window now })
-fresh_fits c life window now is some =
+pub fresh_fits : (c : CallName) (life : Life) (window : ℕ) (prompt : Bool) (now : ℕ) → FitsLife life → 1 ≤ c.number
+    → FitsCall (record { name = c; life = life; looks = fresh_call window prompt now })
+fresh_fits c life window prompt now is some =
     record { received = received_none; owed = tt; said = none-said; life = is; number = some }
 
 -- a data packet was judged

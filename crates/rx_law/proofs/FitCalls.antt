@@ -70,12 +70,12 @@ fit_started s life d l is some all c =
     (elim (same_name c d) as (λ b. same_name c d ≡ b → CallFits (call_at (started s life d l) c)) [
       | true ↦ λ same.
           subst CallFits (sym (call_at-any c new l (sym (name_is c d same)) (call_at l c) refl))
-          (fresh_fits d life (sending_window s) l.now is some)
+          (fresh_fits d life (sending_window s) s.prompt l.now is some)
       | false ↦ λ other. subst CallFits (sym (call_at-other c new l other (call_at l c) refl)) (all c)
     ]) refl
   where
     new : CallRecord
-    new = record { name = d; life = life; looks = fresh_call (sending_window s) l.now }
+    new = record { name = d; life = life; looks = fresh_call (sending_window s) s.prompt l.now }
 
 above-none : (a b : ℕ) → nat_lt a b ≡ true → 1 ≤ b
 above-none a b is = (let low : a < b = grind (arith, nat_tests) in omega arith)

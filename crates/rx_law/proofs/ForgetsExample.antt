@@ -9,7 +9,7 @@ use Rattle.rx_model.specs.declared.event.Noted.{Noted}
 use Rattle.rx_rules.proofs.Replay.{unhex}
 use Rattle.rx_rules.specs.After.{looks}
 use Rattle.rx_rules.specs.Classes.{null}
-use Rattle.rx_rules.specs.Setup.{Server, Client, FitsLimits, FitsSetup}
+use Rattle.rx_rules.specs.Setup.{Server, Client, FitsLimits, FitsSetup, unprompted}
 use Rattle.rx_law.specs.Promises.{LawIn}
 use Rattle.rx_law.specs.Sides.{IsClientAt, Node, moment, side}
 use Rattle.rx_law.specs.Times.{Acts, AdvancesAlike, GoAlike, Timely}
@@ -42,19 +42,14 @@ stand-alike server client (e ∷ h) stand = (
 abbrev server : Node
 server = record {
   host = host 167772161 7000;
-  setup =
-      record { kind = Server 1 0; limits = record { conns = 1; calls = 64; slots = 2048; window = 32 }; class = null };
+  setup = unprompted (Server 1 0) (record { conns = 1; calls = 64; slots = 2048; window = 32 }) null;
 }
 
 abbrev client : Node
 client = record {
   host = host 167772162 7001;
-  setup = record {
-    kind = Client
-        (host 167772162 7001) 1;
-    limits = record { conns = 1024; calls = 64; slots = 2048; window = 32 };
-    class = null;
-  };
+  setup =
+      unprompted (Client (host 167772162 7001) 1) (record { conns = 1024; calls = 64; slots = 2048; window = 32 }) null;
 }
 
 abbrev nodes : List Node

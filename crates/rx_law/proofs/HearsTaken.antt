@@ -32,7 +32,7 @@ use Rattle.rx_law.proofs.Hears.{heard_at, heard_by, hears, hears-trans}
 pub hears-started : (s : Setup) (life : Life) (c d : CallName) (l : Looks)
     → Hears l.now (same_name c d ≡ true) (heard_at l c) (heard_at (started s life d l) c)
 hears-started s life c d l =
-    let k : CallRecord = record { name = d; life = life; looks = fresh_call s.limits.window l.now } in
+    let k : CallRecord = record { name = d; life = life; looks = fresh_call s.limits.window s.prompt l.now } in
     (elim (same_name c d) as (λ b. same_name c d ≡ b → Hears l.now (b ≡ true) (heard_at l c)
     (heard_at (started s life d l) c)) [
       | true ↦ λ same. inr (ap heard_by (call_at-any c k l (sym (name_is c d same)) (call_at l c) refl), refl)

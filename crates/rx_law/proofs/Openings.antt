@@ -123,7 +123,7 @@ now-prepared s got x l = of (enters got)
 abbrev pub opened_by : Setup → CallName → ℕ → ℕ → List CallRecord → List CallRecord
 opened_by s c number now ks =
     if nat_lt number c.number then
-    with_call (record { name = c; life = lives.Waiting; looks = fresh_call (sending_window s) now })
+    with_call (record { name = c; life = lives.Waiting; looks = fresh_call (sending_window s) s.prompt now })
     (map (changed_if (call_named (channel_of c) number) (λ k. record k { life = after_later k.life })) ks)
     else ks
 
@@ -133,7 +133,8 @@ pub calls_opened : (s : Setup) (c : CallName) (l : Looks)
 calls_opened s c l = of (nat_lt (channel_at l (channel_of c)).number c.number)
   where
     started : List CallRecord
-    started = with_call (record { name = c; life = lives.Waiting; looks = fresh_call (sending_window s) l.now })
+    started =
+        with_call (record { name = c; life = lives.Waiting; looks = fresh_call (sending_window s) s.prompt l.now })
         (map (changed_if (call_named (channel_of c) (channel_at l (channel_of c)).number)
         (λ k. record k { life = after_later k.life })) l.calls)
 

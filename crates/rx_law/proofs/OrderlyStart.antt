@@ -124,7 +124,7 @@ module _ (s : Setup) (life : Life) (c : CallName) (l : Looks) (r : ConnLooks)
   latest-elsewhere : (d : CallName) → same_name d c ≡ false → LivesAt (started s life c l) d
       → IsLatest (started s life c l) d
   latest-elsewhere d other lives =
-      let new : CallRecord = record { name = c; life = life; looks = fresh_call s.limits.window l.now } in
+      let new : CallRecord = record { name = c; life = life; looks = fresh_call s.limits.window s.prompt l.now } in
       let same : call_at (started s life c l) d ≡ call_at l d = call_at-other d new l other (call_at l d) refl in
       let before : LivesAt l d = ap (λ (q : Option CallRecord). is_call (λ k. is_live k.life) q) (sym same) ∙ lives in
       let is = o.latest d before in
@@ -154,7 +154,7 @@ module _ (s : Setup) (life : Life) (c : CallName) (l : Looks) (r : ConnLooks)
             (λ r. of (same_connection r.connection (connection_of c)) r)) o.conns;
         few = (
             let more = count-started
-            (record { name = c; life = life; looks = fresh_call s.limits.window l.now }) l.calls differ in
+            (record { name = c; life = life; looks = fresh_call s.limits.window s.prompt l.now }) l.calls differ in
             omega arith);
         latest = λ d lives.
             (elim (same_name d c) as (λ b. same_name d c ≡ b → IsLatest (started s life c l) d) [

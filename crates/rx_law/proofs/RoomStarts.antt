@@ -33,14 +33,15 @@ roomy_life s c change l falls r =
 
 -- a call starts
 pub roomy_started : (s : Setup) (life : Life) (c : CallName) (l : Looks)
-    → TightOf (is_client s.kind) (record { name = c; life = life; looks = fresh_call (sending_window s) l.now })
+    → TightOf (is_client s.kind)
+    (record { name = c; life = life; looks = fresh_call (sending_window s) s.prompt l.now })
     → RoomyAt s l → RoomyAt s (started s life c l)
 roomy_started s life c l tight r =
     roomy_starts (is_client s.kind) (shared_slots s)
-    (record { name = c; life = life; looks = fresh_call (sending_window s) l.now }) l.calls
+    (record { name = c; life = life; looks = fresh_call (sending_window s) s.prompt l.now }) l.calls
     tight (none life) r
   where
-    none : (x : Life) → beside (record { name = c; life = x; looks = fresh_call (sending_window s) l.now }) ≡ 0
+    none : (x : Life) → beside (record { name = c; life = x; looks = fresh_call (sending_window s) s.prompt l.now }) ≡ 0
     none x = of (is_active x)
       where
         of : (b : Bool) → ◌≡◌ {A = ℕ} (if b then 0 else 0) 0
@@ -48,10 +49,10 @@ roomy_started s life c l tight r =
         of false = refl
 
 -- as it starts it has what it needs
-pub fresh_tight : (client : Bool) (life : Life) (c : CallName) (window now : ℕ)
+pub fresh_tight : (client : Bool) (life : Life) (c : CallName) (window : ℕ) (prompt : Bool) (now : ℕ)
     → (client ≡ false → is_calling life ≡ false)
-    → TightOf client (record { name = c; life = life; looks = fresh_call window now })
-fresh_tight client life c window now served =
+    → TightOf client (record { name = c; life = life; looks = fresh_call window prompt now })
+fresh_tight client life c window prompt now served =
     record {
       whole = λ live ended. absurd cc;
       first = λ client unshut. refl;
@@ -66,7 +67,7 @@ roomy_opened s c l r =
     (elim (nat_lt (channel_at l (channel_of c)).number c.number) as (λ b. RoomyAt s (cond b (started_later s c l) l)) [
       | true ↦
           roomy_started s lives.Waiting c (on_life (latest_name l (channel_of c)) after_later l)
-          (fresh_tight (is_client s.kind) lives.Waiting c (sending_window s) l.now (λ server. refl))
+          (fresh_tight (is_client s.kind) lives.Waiting c (sending_window s) s.prompt l.now (λ server. refl))
           (roomy_life s (latest_name l (channel_of c)) after_later l later_falls r)
       | false ↦ r
     ])

@@ -136,7 +136,7 @@ client-after s host epoch l (events.Linked to service first (Ok cid)) client all
 client-after s host epoch l (events.Linked to service first (Err full)) client allowed r = r
 client-after s host epoch l (events.Called cid (Ok c)) client allowed r =
     roomy_started s lives.Calling c l
-    (fresh_tight (is_client s.kind) lives.Calling c (sending_window s) l.now
+    (fresh_tight (is_client s.kind) lives.Calling c (sending_window s) s.prompt l.now
     (λ server. absurd (cc (client, server)))) r
 client-after s host epoch l (events.Called cid (Err refused)) client allowed r = r
 client-after s host epoch l (events.Wrote c offered (writers.Client got) bytes) client allowed r =

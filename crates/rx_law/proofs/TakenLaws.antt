@@ -150,7 +150,8 @@ sound-new : (s : Setup) (c : CallName) (l : Looks) (r : ConnLooks) (n : ℕ) →
     → c.chan < 4
     → number_of (conn_at l (connection_of c)) c.chan < c.number → Sound l c n → Sound (started s lives.Waiting c l) c n
 sound-new s c l r n there chan above sound =
-    let new : CallRecord = record { name = c; life = lives.Waiting; looks = fresh_call s.limits.window l.now } in
+    let new : CallRecord =
+    record { name = c; life = lives.Waiting; looks = fresh_call s.limits.window s.prompt l.now } in
     let none = no-record (call_at l c) c.number (number_of (conn_at l (connection_of c)) c.chan) above sound.below in
     let is : call_at (started s lives.Waiting c l) c ≡ Some new = call_at-new c new l refl none in
     let zero : n ≡ 0 = subst (λ (o : Option CallRecord). Counted o n) none sound.counted in

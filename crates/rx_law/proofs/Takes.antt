@@ -117,7 +117,7 @@ module _ (Safe Served Good : Type 0) (Cause : End → Type 0) (Comes : Packet �
       → is_ok_end life ≡ false → end_of_life life ≡ None → (same_name c d ≡ true → (Safe → call_at l d ≡ None) × Good)
       → Still Safe Served Good Cause (call_at l c) (call_at (started s life d l) c)
   start-still s life d l rests lives on new =
-      let k : CallRecord = record { name = d; life = life; looks = fresh_call s.limits.window l.now } in
+      let k : CallRecord = record { name = d; life = life; looks = fresh_call s.limits.window s.prompt l.now } in
       (elim (same_name c d) as (λ b. same_name c d ≡ b → Still Safe Served Good Cause (call_at l c)
       (call_at (started s life d l) c)) [
         | true ↦ λ same. (

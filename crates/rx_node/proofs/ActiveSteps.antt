@@ -136,8 +136,9 @@ module _ (class : List ℕ → Class) (n : NodeState) (l : Looks) (m : Mirrors c
 
   -- the room of a write
   pub room_is : IsSetUp class n → (k : CallLooks)
-      → room_of n.ends.calls.window ((n.ends.shared - n.ends.common) + 1 - lead k) k.sent ≡ room (setup_of class n) l k
-  room_is s k = λ i. room_of (s.window i) ((s.shared i - m.common i) + 1 - lead k) k.sent
+      → room_of n.ends.calls.pace.window ((n.ends.shared - n.ends.common) + 1 - lead k) k.sent
+      ≡ room (setup_of class n) l k
+  room_is s k = λ i. room_of (s.pace i).window ((s.shared i - m.common i) + 1 - lead k) k.sent
 
   unshut-in : (k : CallLooks) → StandsEnd n.ends end k → IsUnshut n.ends end → k.sent.shut ≡ false
   unshut-in k stands unshut = of (call_under n.ends.calls end) stands unshut
@@ -160,7 +161,7 @@ module _ (class : List ℕ → Class) (n : NodeState) (l : Looks) (m : Mirrors c
   -- a write takes no more slots than are left
   pub roomy_write : IsSetUp class n → IsUnshut n.ends end → (bytes : List ℕ) (got : ℕ)
       → ((k : CallLooks) → StandsEnd n.ends end k → got ≡ min (length bytes)
-      (room_of n.ends.calls.window ((n.ends.shared - n.ends.common) + 1 - lead k) k.sent))
+      (room_of n.ends.calls.pace.window ((n.ends.shared - n.ends.common) + 1 - lead k) k.sent))
       → RoomyAt (setup_of class n) (on_looks (latest_name l ch) (after_write (take got bytes)) l)
   roomy_write s unshut bytes got answered =
       roomy_wrote (setup_of class n) (latest_name l ch) (take got bytes) l

@@ -303,11 +303,11 @@ channel_unstarted s life c l d other = channel_stays l (channel_of c) d (λ q. f
 -- its latest call is the one that started
 pub latest_started : (s : Setup) (life : Life) (c : CallName) (l : Looks) → IsThere l (channel_of c)
     → latest (started s life c l) (channel_of c)
-    ≡ Some (record { name = c; life = life; looks = fresh_call (sending_window s) l.now })
+    ≡ Some (record { name = c; life = life; looks = fresh_call (sending_window s) s.prompt l.now })
 latest_started s life c l at =
     ap (λ (q : ChannelLooks). call_at (started s life c l) (call_named (channel_of c) q.number))
     (channel_started s life c l at)
-    ∙ found-new (record { name = c; life = life; looks = fresh_call (sending_window s) l.now }) l.calls
+    ∙ found-new (record { name = c; life = life; looks = fresh_call (sending_window s) s.prompt l.now }) l.calls
 
 -- that of another channel stays
 pub latest_unstarted : (s : Setup) (life : Life) (c : CallName) (l : Looks) (d : Channel)
@@ -316,7 +316,7 @@ latest_unstarted s life c l d other =
     ap (λ (q : ChannelLooks). call_at (started s life c l) (call_named d q.number))
     (channel_unstarted s life c l d other)
     ∙ call_at-other (latest_name l d)
-    (record { name = c; life = life; looks = fresh_call (sending_window s) l.now }) l
+    (record { name = c; life = life; looks = fresh_call (sending_window s) s.prompt l.now }) l
     (refuted (same_name (latest_name l d) c) (λ same. apart same)) (latest l d) refl
   where
     apart : same_name (latest_name l d) c ≡ true → ⊥

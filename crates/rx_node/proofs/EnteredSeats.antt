@@ -130,7 +130,7 @@ module _ (class : List ℕ → Class) (n : NodeState) (s : IsSetUp class n) wher
         lives = s.lives;
         client = s.client;
         calls = s.calls;
-        window = s.window;
+        pace = s.pace;
         shared = s.shared;
         within = s.within;
       }
@@ -147,7 +147,7 @@ module _ (class : List ℕ → Class) (n : NodeState) (s : IsSetUp class n) wher
         lives = s.lives;
         client = s.client;
         calls = s.calls;
-        window = s.window;
+        pace = s.pace;
         shared = s.shared;
         within = s.within;
       }

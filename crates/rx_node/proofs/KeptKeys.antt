@@ -67,6 +67,7 @@ kept_both a b c p q =
     record {
       kind = q.kind ∙ p.kind;
       limits = q.limits ∙ p.limits;
+      prompt = q.prompt ∙ p.prompt;
       secret = q.secret ∙ p.secret;
       moment = q.moment ∙ p.moment;
       names = q.names ∙ p.names;
@@ -76,7 +77,7 @@ kept_both a b c p q =
 pub kept_setup : (class : List ℕ → Class) (old new : NodeState) → KeepsNode old new
     → setup_of class new ≡ setup_of class old
 kept_setup class old new kept =
-    λ i. record { kind = kept.kind i; limits = kept.limits i; class = class (kept.secret i) }
+    λ i. record { kind = kept.kind i; limits = kept.limits i; prompt = kept.prompt i; class = class (kept.secret i) }
 
 -- ---- look-ups that are one
 

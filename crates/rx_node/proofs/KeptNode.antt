@@ -36,7 +36,7 @@ module _ (class : List ℕ → Class) (n : NodeState) (table : Records) (like : 
         lives = s.lives;
         client = s.client;
         calls = s.calls;
-        window = s.window;
+        pace = s.pace;
         shared = s.shared;
         within = s.within;
       }
@@ -63,7 +63,8 @@ module _ (class : List ℕ → Class) (n : NodeState) (table : Records) (like : 
 
   -- it is the node that it was
   pub still_node : KeepsNode n (record n { table = table })
-  still_node = record { kind = refl; limits = refl; secret = refl; moment = refl; names = like.names_same }
+  still_node =
+      record { kind = refl; limits = refl; prompt = refl; secret = refl; moment = refl; names = like.names_same }
 
 -- ---- changes of a table
 

@@ -159,7 +159,7 @@ module _ (class : List ℕ → Class) (n : NodeState) (set_up : IsSetUp class n)
         lives = length-set n.lives key code;
         client = refl;
         calls = refl;
-        window = refl;
+        pace = refl;
         shared = refl;
       }) set_up
 
@@ -204,7 +204,7 @@ module _ (class : List ℕ → Class) (n : NodeState) (set_up : IsSetUp class n)
             lives = length-set n.lives key code;
             client = keeps.client;
             calls = keeps.others.room;
-            window = keeps.others.window;
+            pace = keeps.others.pace;
             shared = keeps.shared;
           }) set_up
 
@@ -247,7 +247,7 @@ module _ (class : List ℕ → Class) (n : NodeState) (set_up : IsSetUp class n)
               lives = length-set n.lives key code;
               client = left.client ∙ keeps.client;
               calls = left.others.room ∙ keeps.others.room;
-              window = left.others.window ∙ keeps.others.window;
+              pace = left.others.pace ∙ keeps.others.pace;
               shared = left.shared ∙ keeps.shared;
             }) set_up
 
@@ -279,6 +279,7 @@ module _ (class : List ℕ → Class) (n : NodeState) (set_up : IsSetUp class n)
             record {
               kind = refl;
               limits = refl;
+              prompt = refl;
               secret = refl;
               moment = refl;
               names = names-changed n.table.conns (key / 4) (seated (key % 4) after) (λ r. refl);

@@ -27,7 +27,7 @@ pub record SetUpAlike (n : NodeState) (table : Records) (ends : EndsState) (code
   pub lives : length codes ≡ length n.lives
   pub client : ends.client ≡ n.ends.client
   pub calls : ends.calls.room ≡ n.ends.calls.room
-  pub window : ends.calls.window ≡ n.ends.calls.window
+  pub pace : ends.calls.pace ≡ n.ends.calls.pace
   pub shared : ends.shared ≡ n.ends.shared
 
 pub set_up_alike : (class : List ℕ → Class) (n : NodeState) (table : Records) (ends : EndsState) (codes : List CodeLife)
@@ -42,7 +42,7 @@ set_up_alike class n table ends codes live a s =
       lives = a.lives ∙ s.lives;
       client = a.client ∙ s.client;
       calls = a.calls ∙ s.calls;
-      window = a.window ∙ s.window;
+      pace = a.pace ∙ s.pace;
       shared = a.shared ∙ s.shared;
       within = s.within;
     }
@@ -159,7 +159,7 @@ module _ (class : List ℕ → Class) (n : NodeState) (key end : ℕ) (active : 
         lives = refl;
         client = steps.keeps.client;
         calls = steps.keeps.others.room;
-        window = steps.keeps.others.window;
+        pace = steps.keeps.others.pace;
         shared = steps.keeps.shared;
       }) s
 

@@ -15,6 +15,7 @@ use Rattle.rx_law.proofs.Orderly.{Orderly}
 use Rattle.rx_law.proofs.RoomStarts.{RoomyAt}
 use Rattle.rx_call.specs.Kept.{call_under, live_count}
 use Rattle.rx_call.specs.Standing.{EndOfCall}
+use Rattle.rx_call.specs.declared.pace.Pace.{Pace}
 use Rattle.rx_ends.specs.Ends.{EndsState, KeepsEnds, StandsAs, StandsEnd}
 use Rattle.rx_table.specs.declared.seat.Seat.{Seat}
 use Rattle.rx_table.specs.Records.{seat_at, with_seat}
@@ -38,7 +39,7 @@ pub record Opens (n : NodeState) (key end : ℕ) (old : Seat) (code before : Cod
   pub kind : is_of (is_client n.kind) (life_of code) ≡ true
   pub absent : call_under n.ends.calls end ≡ None
   pub keeps : KeepsEnds n.ends e end
-  pub stands : StandsEnd e end (fresh_call n.ends.calls.window n.moment)
+  pub stands : StandsEnd e end (fresh_call n.ends.calls.pace.window n.ends.calls.pace.prompt n.moment)
   pub count : live_count e.calls ≡ live_count n.ends.calls + 1
   pub common : e.common ≡ n.ends.common
 
@@ -80,7 +81,7 @@ module _ (class : List ℕ → Class) (n : NodeState) (set_up : IsSetUp class n)
         lives = length-set n.lives key code;
         client = by.keeps.client;
         calls = by.keeps.others.room;
-        window = by.keeps.others.window;
+        pace = by.keeps.others.pace;
         shared = by.keeps.shared;
       }) set_up
 
@@ -96,7 +97,7 @@ module _ (class : List ℕ → Class) (n : NodeState) (set_up : IsSetUp class n)
         names = λ s q is names. (
             let both : Some end ≡ Some q = ap (λ (u : Seat). u.live) (its-seat s is) ∙ names in cc (both));
         there = λ s q is names. stands-there (call_under e.calls end)
-            (fresh_call n.ends.calls.window n.moment) by.stands;
+            (fresh_call n.ends.calls.pace.window n.ends.calls.pace.prompt n.moment) by.stands;
         idle = λ s q is names inactive.
             absurd (false≢true (sym inactive
             ∙ ap (λ (o : Option CodeLife). is_active_life (option_map life_of o)) own-code
@@ -112,6 +113,7 @@ module _ (class : List ℕ → Class) (n : NodeState) (set_up : IsSetUp class n)
       record {
         kind = refl;
         limits = refl;
+        prompt = refl;
         secret = refl;
         moment = refl;
         names = names-changed n.table.conns (key / 4) (seated (key % 4) (started_seat number end)) (λ r. refl);
@@ -131,8 +133,9 @@ module _ (class : List ℕ → Class) (n : NodeState) (set_up : IsSetUp class n)
         living = live_if_active (life_of code) by.active;
         its_life = ap (option_map life_of) own-code;
         others = λ k apart. set-other n.lives key k code apart;
-        stands = subst (λ (w : ℕ). StandsEnd e end (fresh_call w l.now)) set_up.window
-            (subst (λ (t : ℕ). StandsEnd e end (fresh_call n.ends.calls.window t)) m.now by.stands);
+        stands = subst (λ (w : Pace). StandsEnd e end (fresh_call w.window w.prompt l.now)) set_up.pace
+            (subst (λ (t : ℕ). StandsEnd e end (fresh_call n.ends.calls.pace.window n.ends.calls.pace.prompt t)) m.now
+            by.stands);
         aside = λ q looks apart s. by.keeps.stands q looks apart s;
         absent = not-named;
         common = by.common;

@@ -47,7 +47,7 @@ pub record Starts (n : NodeState) (l : Looks) (key number end : ℕ) (life : Lif
   pub living : is_live life ≡ true
   pub its_life : option_map life_of_code (slice_get codes key) ≡ Some life
   pub others : (j : ℕ) → (key ≡ j → ⊥) → slice_get codes j ≡ slice_get n.lives j
-  pub stands : StandsEnd ends end (fresh_call n.limits.window l.now)
+  pub stands : StandsEnd ends end (fresh_call n.limits.window n.prompt l.now)
   pub aside : (q : ℕ) (looks : CallLooks) → (q ≡ end → ⊥) → StandsEnd n.ends q looks → StandsEnd ends q looks
   pub absent : (k : ℕ) (s : Seat) → seat_at n.table k ≡ Some s → s.live ≡ Some end → ⊥
   pub common : ends.common ≡ n.ends.common
@@ -75,7 +75,7 @@ module _ (class : List ℕ → Class) (n : NodeState) (l : Looks) (m : Mirrors c
   change r = record r { channels = changed_at ch.chan (λ q. fresh_channel number) r.channels }
 
   abbrev fresh : CallRecord
-  fresh = record { name = c; life = life; looks = fresh_call (sending_window s) l.now }
+  fresh = record { name = c; life = life; looks = fresh_call (sending_window s) s.prompt l.now }
 
   -- the call of this name, if there was one, doesn't live
   not-live : (o : Option CallRecord) → call_at l c ≡ o → is_call (λ k. is_live k.life) o ≡ false

@@ -107,7 +107,7 @@ module _ (class : List ℕ → Class) (n : NodeState) (l : Looks) (m : Mirrors c
   pub view_same : IsSetUp class n → view_at n.ends n.moment ≡ node_view (setup_of class n) l
   view_same s = λ i. record {
     client = s.client i;
-    window = s.window i;
+    window = (s.pace i).window;
     left = s.shared i - m.common i;
     now = m.now i;
   }

@@ -16,12 +16,13 @@ use Rattle.rx_node.specs.Lives.{life_of, ended_life, is_of}
 use Rattle.rx_node.specs.declared.link.Link.{Link}
 use Rattle.rx_node.specs.declared.life.Life.{Life as CodeLife}
 
--- a node's kind, its limits and its class's secret; its moment; its connections with the seats of their channels, and
--- the peers and services of these; the ends of its calls; by the keys of channels the lives of calls that live; how
--- many do; the stray aborts that it owes
+-- a node's kind, its limits, whether it is prompt, and its class's secret; its moment; its connections with the seats
+-- of their channels, and the peers and services of these; the ends of its calls; by the keys of channels the lives of
+-- calls that live; how many do; the stray aborts that it owes
 pub record NodeState : Type 0 where
   pub kind : Kind
   pub limits : Limits
+  pub prompt : Bool
   pub secret : List ℕ
   pub moment : ℕ
   pub table : Records
@@ -33,7 +34,7 @@ pub record NodeState : Type 0 where
 
 -- how it is set up, with the class that goes with a secret
 abbrev pub setup_of : (List ℕ → Class) → NodeState → Setup
-setup_of class n = record { kind = n.kind; limits = n.limits; class = class n.secret }
+setup_of class n = record { kind = n.kind; limits = n.limits; prompt = n.prompt; class = class n.secret }
 
 -- ---- the life at a seat
 
@@ -66,7 +67,7 @@ pub record IsSetUp (class : List ℕ → Class) (n : NodeState) : Type 0 where
   pub lives : length n.lives ≡ CHANNELS * n.limits.conns
   pub client : n.ends.client ≡ is_client n.kind
   pub calls : n.ends.calls.room ≡ n.limits.calls
-  pub window : n.ends.calls.window ≡ n.limits.window
+  pub pace : n.ends.calls.pace ≡ record { window = n.limits.window; prompt = n.prompt }
   pub shared : n.ends.shared ≡ n.limits.slots - n.limits.calls
   pub within : n.moment < 2 ^ 62
 
@@ -89,6 +90,7 @@ pub record IsSeated (n : NodeState) : Type 0 where
 pub record KeepsSetup (old new : NodeState) : Type 0 where
   pub kind : new.kind ≡ old.kind
   pub limits : new.limits ≡ old.limits
+  pub prompt : new.prompt ≡ old.prompt
   pub secret : new.secret ≡ old.secret
   pub moment : new.moment ≡ old.moment
 
@@ -96,6 +98,7 @@ pub record KeepsSetup (old new : NodeState) : Type 0 where
 pub record KeepsNode (old new : NodeState) : Type 0 where
   pub kind : new.kind ≡ old.kind
   pub limits : new.limits ≡ old.limits
+  pub prompt : new.prompt ≡ old.prompt
   pub secret : new.secret ≡ old.secret
   pub moment : new.moment ≡ old.moment
   pub names : names new.table ≡ names old.table

@@ -47,6 +47,8 @@ pub use taking::is_data;
 pub struct Node<C: Class> {
     kind: Kind,
     limits: Limits,
+    /// Whether it asks for an acknowledgement behind the last piece that a call can hold.
+    prompt: bool,
     class: C,
     /// In milliseconds.
     moment: u64,
@@ -71,6 +73,7 @@ impl<C: Class> Model for Node<C> {
     ghost view = { λ n. record {
       kind = kind_of n.kind;
       limits = n.limits;
+      prompt = n.prompt;
       secret = C.secret n.class;
       moment = n.moment;
       table = n.table;
@@ -84,6 +87,7 @@ impl<C: Class> Model for Node<C> {
     ghost invariant = { λ n. IsSetUp C.class_of (record {
       kind = kind_of n.kind;
       limits = n.limits;
+      prompt = n.prompt;
       secret = C.secret n.class;
       moment = n.moment;
       table = n.table;
@@ -95,6 +99,7 @@ impl<C: Class> Model for Node<C> {
     }) × IsSeated (record {
       kind = kind_of n.kind;
       limits = n.limits;
+      prompt = n.prompt;
       secret = C.secret n.class;
       moment = n.moment;
       table = n.table;
@@ -111,26 +116,36 @@ impl<C: Class> Node<C> {
     ghost use Rattle.rx_table.specs.Lending.{LendsSeat};
     ghost use Rattle.rx_table.specs.declared.seat.TheConstants.{CHANNELS};
 
-    /// A node to which nothing happened yet, with all the memory that it will need.
-    pub fn make(alloc: Global, kind: Kind, limits: &Limits, class: C) -> Result<Node<C>, AllocError>
+    /// A node to which nothing happened yet, with all the memory that it will need; a prompt one asks for
+    /// an acknowledgement behind the last piece that a call can hold.
+    pub fn make(
+        alloc: Global,
+        kind: Kind,
+        limits: &Limits,
+        prompt: bool,
+        class: C,
+    ) -> Result<Node<C>, AllocError>
         requires { FitsSetup (record {
           kind = kind_of kind;
           limits = limits.now;
+          prompt = prompt;
           class = C.class_of (C.secret class);
         }) }
         ensures empty { IfOk result (λ n. Mirrors C.class_of n at_start) }
         ensures kind { IfOk result (λ n. n.kind ≡ kind_of kind) }
         ensures limits { IfOk result (λ n. n.limits ≡ limits.now) }
+        ensures prompt { IfOk result (λ n. n.prompt ≡ prompt) }
         ensures class { IfOk result (λ n. n.secret ≡ C.secret class) }
     {
         let table = Table::make(alloc, limits.conns)?;
         let links = Vec::with_capacity(alloc, limits.conns as usize)?;
-        let ends = Ends::make(alloc, kind.side(), limits)?;
+        let ends = Ends::make(alloc, kind.side(), limits, prompt)?;
         let lives = vec![in alloc; Life::Calling; CHANNELS as usize * limits.conns as usize]?;
         let strays = HeapCircularBuffer::with_capacity(alloc, STRAYS)?;
         Ok(Node {
             kind,
             limits: *limits,
+            prompt,
             class,
             moment: 0,
             table,

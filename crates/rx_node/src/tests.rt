@@ -1,6 +1,6 @@
 ghost use Rattle.std.specs.Prelude.{◌≡◌, ◌<◌};
 ghost use Rattle.rx_rules.specs.Classes.{null};
-ghost use Rattle.rx_rules.specs.Setup.{FitsSetup};
+ghost use Rattle.rx_rules.specs.Setup.{FitsSetup, unprompted};
 ghost use Rattle.rx_node.specs.Kinds.{kind_of};
 
 use crate::kind::Kind;
@@ -60,9 +60,9 @@ const STRAY: [u8; 32] = [
 
 /// A node without security and with the default limits; the default node of a kind.
 fn default_node(alloc: Global, kind: Kind) -> Result<Node<Null>, AllocError>
-    requires { FitsSetup (record { kind = kind_of kind; limits = LIMITS; class = null }) }
+    requires { FitsSetup (unprompted (kind_of kind) LIMITS null) }
 {
-    Node::make(alloc, kind, &LIMITS, Null)
+    Node::make(alloc, kind, &LIMITS, false, Null)
 }
 
 /// A server owes a stray abort, and gives it at the moment to which its clock moved.

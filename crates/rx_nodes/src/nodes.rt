@@ -66,11 +66,7 @@ impl Nodes {
         ensures stands { IfOk result (λ n. Standing n []) }
         ensures nodes { IfOk result (λ n. nodes_of n ≡ record {
           host = host;
-          setup = record {
-            kind = setups.Server service nonces;
-            limits = limits.now;
-            class = chosen (secret_of class);
-          };
+          setup = setups.unprompted (setups.Server service nonces) limits.now (chosen (secret_of class));
         } ∷ []) }
     {
         let server = Server::make(alloc, limits, service, class, nonces)?;
@@ -94,11 +90,7 @@ impl Nodes {
         ensures stands { (h : List Noted) → AreOf (nodes_of self.old) h → Standing self.old h → Standing self.new h }
         ensures nodes { OnOk result (nodes_of self.new ≡ nodes_of self.old ++ record {
           host = host;
-          setup = record {
-            kind = setups.Client host epoch;
-            limits = limits.now;
-            class = chosen (secret_of class);
-          };
+          setup = setups.unprompted (setups.Client host epoch) limits.now (chosen (secret_of class));
         } ∷ []) }
         ensures same { OnErr result (self.new ≡ self.old) }
     {

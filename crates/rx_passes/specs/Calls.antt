@@ -136,9 +136,10 @@ pub record CallMade (t : CallTerms) (v : CallerState) (p : Place) (result : Resu
 
 -- ---- the whole command
 
--- how a client is set up on a host, by what a call is made with and its class
+-- how a client is set up on a host, by what a call is made with and its class: it is prompt
 abbrev pub client_setup : Words → Class → Host → Setup
-client_setup w class host = record { kind = Client host w.epoch; limits = w.limits; class = class }
+client_setup w class host =
+    record { kind = Client host w.epoch; limits = w.limits; prompt = true; class = class }
 
 -- what the call is made by
 abbrev pub call_terms : Words → Setup → CallTerms

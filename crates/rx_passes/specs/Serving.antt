@@ -1,5 +1,5 @@
 -- What a server that serves tells. Public clauses cite this module.
-use Rattle.std.specs.Prelude.{◌≡◌, ◌⊎◌, ◌+◌, ℕ, List, [], ◌++◌, Option, Result, Ok, Err}
+use Rattle.std.specs.Prelude.{◌≡◌, ◌⊎◌, ◌+◌, ℕ, true, List, [], ◌++◌, Option, Result, Ok, Err}
 use Rattle.rx_base.specs.Sink.{Gained, GainedSome, HasRisen}
 use Rattle.rx_dispatch.specs.Handlers.{Handlers}
 use Rattle.rx_model.specs.declared.event.Event.{Event}
@@ -19,9 +19,10 @@ use Rattle.rx_passes.specs.Serves.{IsCut, IsSpent, IsUp, ServeCame, Serves, Term
 use Rattle.rx_passes.specs.Tells.{Breaks, Fails, Gains, HasLoggedAll, Told, Wants}
 use Rattle.rx_passes.specs.Texts.{lines, ready_line, time_up_line}
 
--- how a server is set up, by what it is served with and its class
+-- how a server is set up, by what it is served with and its class: it is prompt
 abbrev pub server_setup : Words → Class → Setup
-server_setup w class = record { kind = Server w.service w.nonce; limits = w.limits; class = class }
+server_setup w class =
+    record { kind = Server w.service w.nonce; limits = w.limits; prompt = true; class = class }
 
 -- what it serves by, where it is set up so and the wire stands at this moment
 abbrev pub terms_of : Words → Handlers → Setup → ℕ → Terms

@@ -86,7 +86,7 @@ fn call_from<C: Class, W: Wire, J: Journal>(
         (told (J.told book.old) sink (wire_tells (W.told wire.old) (W.faults wire.old) (W.moment wire.old)))
         (told (J.told book.new) sink (wire_tells (W.told wire.new) (W.faults wire.new) (W.moment wire.new))) }
 {
-    let mut client = Client::make(alloc, &calling.limits, host, calling.epoch, class)?;
+    let mut client = Client::make_prompt(alloc, &calling.limits, host, calling.epoch, class)?;
     let ports = Ports::make(alloc, CLIENT, calling.jumbo)?;
     let name = begin(calling, &ports, &mut client, wire, book)?;
     let node = CallingNode {

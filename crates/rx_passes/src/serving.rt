@@ -139,7 +139,7 @@ impl<C: Class> ServedNode<C> {
         ensures wanting { IfErr result (λ stop. stop ≡ Stop.OutOfMemory) }
     {
         Ok(ServedNode {
-            server: Server::make(
+            server: Server::make_prompt(
                 alloc,
                 &serving.limits,
                 serving.service,

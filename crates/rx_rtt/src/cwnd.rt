@@ -1,4 +1,4 @@
-ghost use Rattle.std.specs.Prelude.{◌≡◌, ◌≤◌, nat_lt};
+ghost use Rattle.std.specs.Prelude.{◌≡◌, ◌≤◌, ◌+◌, ◌==◌, ◌&&◌, nat_lt, suc};
 ghost use Rattle.rx_rules.specs.Rates.{first_cwnd, after_acked, after_timeout};
 
 use rx_model::wire::{FIRST_CWND, MIN_SSTHRESH};
@@ -12,6 +12,8 @@ pub struct Cwnd {
     ssthresh: u32,
     /// The node's own window, which the window never passes.
     most: u32,
+    /// Whether the node asks behind the last piece that it can hold.
+    prompt: bool,
 }
 
 impl Model for Cwnd {
@@ -21,7 +23,7 @@ impl Model for Cwnd {
 
     ghost Value = { CwndLooks };
 
-    ghost view = { λ c. record { window = c.window; ssthresh = c.ssthresh; most = c.most } };
+    ghost view = { λ c. record { window = c.window; ssthresh = c.ssthresh; most = c.most; prompt = c.prompt } };
 
     ghost invariant = { λ c. (c.window ≤ c.most) × (MIN_WINDOW ≤ c.most) × (c.most ≤ MAX_WINDOW) };
 }
@@ -29,16 +31,17 @@ impl Model for Cwnd {
 impl Cwnd {
     ghost use Rattle.rx_model.specs.declared.wire.TheConstants.{MIN_WINDOW, MAX_WINDOW};
 
-    /// Of a call that starts, at a node with a window of so many packets: slow start from 2 on.
-    pub fn new(window: u32) -> Cwnd
+    /// Of a call that starts, at a node with a window of so many packets that is prompt or isn't: slow start from 2 on.
+    pub fn new(window: u32, prompt: bool) -> Cwnd
         requires least { MIN_WINDOW ≤ window }
         requires most { window ≤ MAX_WINDOW }
-        ensures { result ≡ first_cwnd window }
+        ensures { result ≡ first_cwnd window prompt }
     {
         Cwnd {
             window: FIRST_CWND,
             ssthresh: window,
             most: window,
+            prompt,
         }
     }
 
@@ -69,5 +72,13 @@ impl Cwnd {
         ensures { result ≡ nat_lt in_flight self.now.window }
     {
         in_flight < self.window
+    }
+
+    /// Whether a piece asks as it is the last that a prompt node can hold beside the one that is being filled, where so
+    /// many are acknowledged.
+    pub fn prompts(&self, acked: u32, seq: u32) -> bool
+        ensures { result ≡ (self.now.prompt && (suc seq == acked + self.now.most)) }
+    {
+        self.prompt && seq as u64 + 1 == acked as u64 + self.most as u64
     }
 }

@@ -48,7 +48,7 @@ fn is_wide(cwnd: &Cwnd, window: u32) -> bool {
 
 #[test]
 fn round_trips_widen_the_window_and_a_resend_closes_it(rt: HostRuntime) -> Result<(), Fail> {
-    let mut cwnd = Cwnd::new(32);
+    let mut cwnd = Cwnd::new(32, false);
     assert!(rt; is_wide(&cwnd, 2));
     for (n, window) in [(2, 4), (4, 8)] {
         cwnd.acked(n);
@@ -66,11 +66,28 @@ fn round_trips_widen_the_window_and_a_resend_closes_it(rt: HostRuntime) -> Resul
 #[test]
 fn the_window_ends_at_the_nodes_own(rt: HostRuntime) -> Result<(), Fail> {
     for most in [32, 255] {
-        let mut cwnd = Cwnd::new(most);
+        let mut cwnd = Cwnd::new(most, false);
         cwnd.acked(most);
         assert!(rt; is_wide(&cwnd, most));
         cwnd.acked(u32::MAX);
         assert!(rt; is_wide(&cwnd, most));
+    }
+    Ok(())
+}
+
+#[test]
+fn a_prompt_node_asks_behind_the_last_piece_that_it_can_hold(rt: HostRuntime) -> Result<(), Fail> {
+    let greatest = u32::MAX;
+    for (acked, seq, asks) in [
+        (0, 30, false),
+        (0, 31, true),
+        (0, 32, false),
+        (100, 131, true),
+        (greatest, greatest, false),
+        (greatest - 31, greatest, true),
+    ] {
+        assert_eq!(rt; Cwnd::new(32, true).prompts(acked, seq), asks);
+        assert!(rt; !Cwnd::new(32, false).prompts(acked, seq));
     }
     Ok(())
 }

@@ -122,8 +122,8 @@ keeps-started s life c d l other low =
     record {
       calls =
           subst (λ (o : Option CallRecord). Lives (call_at l c) o)
-          (sym (call_at-other c (record { name = d; life = life; looks = fresh_call s.limits.window l.now }) l other
-          (call_at l c) refl))
+          (sym (call_at-other c (record { name = d; life = life; looks = fresh_call s.limits.window s.prompt l.now }) l
+          other (call_at l c) refl))
           (lives-refl (call_at l c));
       numbers =
           subst (λ (o : Option ConnLooks). number_of (conn_at l (connection_of c)) c.chan ≤ number_of o c.chan) (sym is)

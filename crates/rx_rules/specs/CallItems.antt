@@ -75,9 +75,14 @@ after_sending now (Ack reason serial) k = after_ack_given now k
 
 -- ---- its datagram
 
--- behind its giving a window is full
+-- behind it a node can hold only the piece that is being filled, and it asks then
+abbrev pub prompts : Cwnd → Sent → ℕ → Bool
+prompts c s k = c.prompt && (suc k == s.acked + c.most)
+
+-- behind its giving a window is full: that of congestion, the peer's, or its own
 abbrev pub fills : Cwnd → Sent → ℕ → Bool
-fills c s k = nat_le c.window (in_flight (after_giving 0 k s)) || (k == s.acked + s.peer_window)
+fills c s k =
+    nat_le c.window (in_flight (after_giving 0 k s)) || ((k == s.acked + s.peer_window) || prompts c s k)
 
 -- a piece asks for an acknowledgement where it is the last, is given again, or fills a window
 abbrev pub asks : Cwnd → Sent → ℕ → Bool → Bool

@@ -28,14 +28,14 @@ pub record CallLooks : Type 0 where
   pub heard : ℕ
   pub spoke : ℕ
 
--- a call that starts at a node with this window
-abbrev pub fresh_call : ℕ → ℕ → CallLooks
-fresh_call window now =
+-- a call that starts at a node with this window, which is prompt or isn't
+abbrev pub fresh_call : ℕ → Bool → ℕ → CallLooks
+fresh_call window prompt now =
     record {
       received = nothing_received;
       sent = nothing_sent;
       rtt = first_rtt;
-      cwnd = first_cwnd window;
+      cwnd = first_cwnd window prompt;
       owed_ack = None;
       heard = now;
       spoke = now;

@@ -1,5 +1,5 @@
 -- How fast a call sends: round trips and the congestion window. Public clauses cite this module.
-use Rattle.std.specs.Prelude.{◌==◌, ◌+◌, ◌-◌, ◌*◌, ◌/◌, if◌then◌else◌, min, max, nat_lt, ℕ, Option, Some, None}
+use Rattle.std.specs.Prelude.{◌==◌, ◌+◌, ◌-◌, ◌*◌, ◌/◌, if◌then◌else◌, min, max, nat_lt, ℕ, Bool, Option, Some, None}
 use Rattle.rx_model.specs.declared.wire.TheConstants.{FIRST_RTO_MS, MIN_RTO_MS, MAX_RTO_MS, FIRST_CWND}
 use Rattle.rx_model.specs.declared.wire.TheConstants.{MIN_SSTHRESH, MAX_ROUND_TRIP_MS}
 
@@ -55,15 +55,16 @@ after_backoff r = record r { rto = min (2 * r.rto) MAX_RTO_MS }
 -- ---- the congestion window
 
 -- how many pieces may be in flight, up to which number slow start lasts, and the node's own window, which it never
--- passes
+-- passes; whether the node is prompt
 pub record Cwnd : Type 0 where
   pub window : ℕ
   pub ssthresh : ℕ
   pub most : ℕ
+  pub prompt : Bool
 
 -- of a call that starts
-abbrev pub first_cwnd : ℕ → Cwnd
-first_cwnd most = record { window = FIRST_CWND; ssthresh = most; most = most }
+abbrev pub first_cwnd : ℕ → Bool → Cwnd
+first_cwnd most prompt = record { window = FIRST_CWND; ssthresh = most; most = most; prompt = prompt }
 
 -- by how much n newly acknowledged pieces widen it
 abbrev pub growth : ℕ → Cwnd → ℕ

@@ -88,7 +88,8 @@ with_call new ks =
 abbrev pub started : Setup → Life → CallName → Looks → Looks
 started s life c l =
     record (on_channel (channel_of c) (λ q. fresh_channel c.number) l) {
-      calls = with_call (record { name = c; life = life; looks = fresh_call (sending_window s) l.now }) l.calls;
+      calls =
+          with_call (record { name = c; life = life; looks = fresh_call (sending_window s) s.prompt l.now }) l.calls;
       firsts = filter (λ d. not (same_name d c)) l.firsts;
     }
 

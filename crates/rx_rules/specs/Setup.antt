@@ -13,11 +13,17 @@ pub data Kind : Type 0 where
   Server : (service nonces : ℕ) → Kind
   Client : (host : Host) (epoch : ℕ) → Kind
 
--- a node: its kind, its limits and its security class
+-- a node: its kind, its limits, whether it is prompt and asks for an acknowledgement behind the last piece that it can
+-- hold, and its security class
 pub record Setup : Type 0 where
   pub kind : Kind
   pub limits : Limits
+  pub prompt : Bool
   pub class : Class
+
+-- one that asks where the windows of its peer and of congestion are full, and no earlier
+abbrev pub unprompted : Kind → Limits → Class → Setup
+unprompted kind limits class = record { kind = kind; limits = limits; prompt = false; class = class }
 
 -- whether it is a client
 abbrev pub is_client : Kind → Bool

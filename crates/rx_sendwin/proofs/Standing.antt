@@ -84,7 +84,8 @@ full_is a b = grind (arith, nat_tests)
 pub asks_is : (pool : Slots) (w : SendWindow) (s : Sent) (low flight : ℕ) (c : Cwnd) (last : Bool) →
     StandsSent pool w s →
     IsTied w low flight → last ≡ (piece_at s (w.given + 1)).last →
-    (last || (not (nat_lt (flight + 1) c.window) || ((w.given + 1) == w.acked + w.peer_window)))
+    (last || (not (nat_lt (flight + 1) c.window)
+    || (((w.given + 1) == w.acked + w.peer_window) || (c.prompt && (suc (w.given + 1) == w.acked + c.most)))))
     ≡ asks c s (suc (given_of s)) false
 asks_is pool w s low flight c last st tied is =
     let seq : w.given + 1 ≡ suc (given_of s) = ap (λ n. n + 1) st.given ∙ omega arith in
@@ -95,4 +96,5 @@ asks_is pool w s low flight c last st tied is =
     let full : not (nat_lt (flight + 1) c.window) ≡ nat_le c.window (in_flight (after_giving 0 (suc (given_of s)) s)) =
     (
     full_is (flight + 1) c.window ∙ ap (nat_le c.window) fly) in
-    λ i. (is ∙ ap (λ k. (piece_at s k).last) seq) i || (full i || (seq i == st.acked i + st.peer i))
+    λ i. (is ∙ ap (λ k. (piece_at s k).last) seq) i
+    || (full i || ((seq i == st.acked i + st.peer i) || (c.prompt && (suc (seq i) == st.acked i + c.most))))

@@ -168,11 +168,12 @@ pub fn goes(counts: bool, fits: bool, lets: bool) -> bool
     counts && fits && lets
 }
 
-/// Whether a piece asks for an acknowledgement: it is the last, or fills a window.
-pub fn asks(last: bool, fits: bool, fills: bool) -> bool
-    ensures { result ≡ (last || (not fits || fills)) }
+/// Whether a piece asks for an acknowledgement: it is the last, or fills the window of congestion, the peer's, or that
+/// of a prompt node.
+pub fn asks(last: bool, fits: bool, fills: bool, prompts: bool) -> bool
+    ensures { result ≡ (last || (not fits || (fills || prompts))) }
 {
-    last || !fits || fills
+    last || !fits || fills || prompts
 }
 
 /// The marks become others; of more than a window's, those past it are cut.

@@ -58,7 +58,7 @@ fn newly(count: u32, sample: Option<u64>) -> Option<Newly> {
 
 #[test]
 fn piece_sizes_of_one_and_two_pieces(rt: HostRuntime) -> Result<(), Fail> {
-    let cw = Cwnd::new(32);
+    let cw = Cwnd::new(32, false);
     let mut pool = Pool::make(rt.alloc(), 3)?;
     let mut win = SendWin::make(rt.alloc(), 32)?;
     assert_eq!(rt; say(&mut win, &mut pool, &[0x5a; 1412]), 1412);
@@ -73,7 +73,7 @@ fn piece_sizes_of_one_and_two_pieces(rt: HostRuntime) -> Result<(), Fail> {
 
 #[test]
 fn a_stream_that_is_shut_empty_has_one_empty_piece(rt: HostRuntime) -> Result<(), Fail> {
-    let cw = Cwnd::new(32);
+    let cw = Cwnd::new(32, false);
     let mut pool = Pool::make(rt.alloc(), 1)?;
     let mut win = SendWin::make(rt.alloc(), 32)?;
     assert_eq!(rt; say(&mut win, &mut pool, b""), 0);
@@ -106,7 +106,7 @@ fn acks_of_what_was_never_sent_are_strange(rt: HostRuntime) -> Result<(), Fail> 
     let mut win = SendWin::make(rt.alloc(), 32)?;
     assert_eq!(rt; say(&mut win, &mut pool, b"one"), 3);
     assert_eq!(rt;
-        send(&mut win, &pool, 0, &Cwnd::new(32)),
+        send(&mut win, &pool, 0, &Cwnd::new(32, false)),
         (1, 3, true, true)
     );
     for (first, marks, valid) in [
@@ -127,7 +127,7 @@ fn acks_of_what_was_never_sent_are_strange(rt: HostRuntime) -> Result<(), Fail> 
 
 #[test]
 fn a_piece_that_is_no_longer_marked_is_sent_again(rt: HostRuntime) -> Result<(), Fail> {
-    let cw = Cwnd::new(32);
+    let cw = Cwnd::new(32, false);
     let mut pool = Pool::make(rt.alloc(), 4)?;
     let mut win = SendWin::make(rt.alloc(), 32)?;
     assert_eq!(rt; say(&mut win, &mut pool, &[7; 2825]), 2825);
@@ -149,7 +149,7 @@ fn a_piece_that_is_no_longer_marked_is_sent_again(rt: HostRuntime) -> Result<(),
 
 #[test]
 fn a_peer_window_of_0_lets_one_piece_go(rt: HostRuntime) -> Result<(), Fail> {
-    let cw = Cwnd::new(32);
+    let cw = Cwnd::new(32, false);
     let mut pool = Pool::make(rt.alloc(), 4)?;
     let mut win = SendWin::make(rt.alloc(), 32)?;
     assert_eq!(rt; say(&mut win, &mut pool, &[7; 2825]), 2825);

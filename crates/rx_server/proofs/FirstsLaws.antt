@@ -390,7 +390,8 @@ module _ (s : Setup) (c : CallName) (key : ℕ) (l : Looks) (at : IsChannel l ke
       of true is = sym (ap (waits l) (name_is d c is) ∙ waits-not)
       of false is =
           ap (λ (q : Option CallRecord). is_call (λ k. is_waiting k.life) q)
-          (call_at-other d (record { name = c; life = lives.Waiting; looks = fresh_call (sending_window s) l.now }) l is
+          (call_at-other d
+          (record { name = c; life = lives.Waiting; looks = fresh_call (sending_window s) s.prompt l.now }) l is
           (call_at l d) refl)
 
   -- the channels that are listed stay listed

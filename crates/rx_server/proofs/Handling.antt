@@ -36,7 +36,7 @@ found_latest l c key life f = ap (λ (d : CallName). call_at l d) f.latest ∙ f
 
 -- nothing changes
 pub same_parts : (n : NodeState) → SameParts n n
-same_parts n = record { kind = refl; limits = refl; secret = refl; conns = refl }
+same_parts n = record { kind = refl; limits = refl; prompt = refl; secret = refl; conns = refl }
 
 -- a call without a handler isn't served
 pub refuses : {X : Type 0} (life : Life) (ended : Bool) (done : X) → is_handled life ≡ false

@@ -66,18 +66,18 @@ prepared_enters s got x l enter = rw enter refl
 -- ---- a call that starts
 
 -- its first packet within the window is kept, or has no slot
-pub fresh_row : (s : Setup) (l : Looks) (name : CallName) (life : Life) (window now : ℕ) (m : Message)
-    (payload : List ℕ)
+pub fresh_row : (s : Setup) (l : Looks) (name : CallName) (life : Life) (window : ℕ) (prompt : Bool)
+    (now : ℕ) (m : Message) (payload : List ℕ)
     → is_client s.kind ≡ false → 1 ≤ m.seq → m.seq ≤ receiving_window s → receiving_window s ≤ LAST_SEQ
-    → may_start (end_row s l (record { name = name; life = life; looks = fresh_call window now })
+    → may_start (end_row s l (record { name = name; life = life; looks = fresh_call window prompt now })
     (record m { body = bodies.Chunk payload })) ≡ true
-fresh_row s l name life window now m payload server low high fits = of refl refl refl refl
+fresh_row s l name life window prompt now m payload server low high fits = of refl refl refl refl
   where
     v : NodeView
     v = node_view s l
 
     k : CallLooks
-    k = fresh_call window now
+    k = fresh_call window prompt now
 
     p : Packet
     p = packet_of m payload

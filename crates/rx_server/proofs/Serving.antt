@@ -38,6 +38,7 @@ use Rattle.rx_server.proofs.RestLaws.{Rests, with_rests}
 pub record SameParts (old new : NodeState) : Type 0 where
   pub kind : new.kind ≡ old.kind
   pub limits : new.limits ≡ old.limits
+  pub prompt : new.prompt ≡ old.prompt
   pub secret : new.secret ≡ old.secret
   pub conns : length new.table.conns ≡ length old.table.conns
 
@@ -47,6 +48,7 @@ parts_stay old new same =
     record {
       kind = same.kind;
       limits = same.limits;
+      prompt = same.prompt;
       secret = same.secret;
       conns = sym (length-map new.table.conns (λ (r : ConnRecord). r.connection))
           ∙ ap (λ (xs : List Connection). length xs) same.names
@@ -59,6 +61,7 @@ parts_trans old mid new p q =
     record {
       kind = q.kind ∙ p.kind;
       limits = q.limits ∙ p.limits;
+      prompt = q.prompt ∙ p.prompt;
       secret = q.secret ∙ p.secret;
       conns = q.conns ∙ p.conns;
     }
@@ -69,6 +72,7 @@ pub setup_by : (class : List ℕ → Class) (old new : NodeState) → SameParts 
 setup_by class old new same = (λ i. record {
   kind = same.kind i;
   limits = same.limits i;
+  prompt = same.prompt i;
   class = class (same.secret i);
 })
 

@@ -143,18 +143,18 @@ now-opened s c l = of (nat_lt (channel_at l (channel_of c)).number c.number)
 -- a call that starts answers its first packet by keeping it, or has no slot
 fresh-live : (s : Setup) (l : Looks) (c : CallName) (m : Message) (now : ℕ) → is_client s.kind ≡ false
     → is_data m.body ≡ true → 1 ≤ m.seq → m.seq ≤ receiving_window s → receiving_window s ≤ LAST_SEQ
-    → may_start (live_row s l (record { name = c; life = lives.Waiting; looks = fresh_call (sending_window s) now })
-    m m.body)
+    → may_start (live_row s l
+    (record { name = c; life = lives.Waiting; looks = fresh_call (sending_window s) s.prompt now }) m m.body)
     ≡ true
 fresh-live s l c m now server said low high fits = of m.body refl said
   where
     k : CallRecord
-    k = record { name = c; life = lives.Waiting; looks = fresh_call (sending_window s) now }
+    k = record { name = c; life = lives.Waiting; looks = fresh_call (sending_window s) s.prompt now }
 
     of : (b : Body) → m.body ≡ b → is_data b ≡ true → may_start (live_row s l k m m.body) ≡ true
     of (bodies.Chunk payload) is said =
         ap (λ (b : Body). may_start (live_row s l k (record m { body = b }) b)) is
-        ∙ fresh_row s l c lives.Waiting (sending_window s) now m payload server low high fits
+        ∙ fresh_row s l c lives.Waiting (sending_window s) s.prompt now m payload server low high fits
     of bodies.Busy is said = absurd (cc (said))
     of (bodies.Ack a) is said = absurd (cc (said))
     of (bodies.Abort code) is said = absurd (cc (said))
@@ -271,7 +271,7 @@ module _ (s : Setup) (c : CallName) (m : Message) (l : Looks) (server : IsServer
 
   module _ (at : IsThere ready (channel_of c)) where
     abbrev fresh : CallRecord
-    fresh = record { name = c; life = lives.Waiting; looks = fresh_call (sending_window s) ready.now }
+    fresh = record { name = c; life = lives.Waiting; looks = fresh_call (sending_window s) s.prompt ready.now }
 
     -- a call that starts is there
     pub fresh_there : above ≡ true → call_at its c ≡ Some fresh

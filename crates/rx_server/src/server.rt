@@ -1,4 +1,4 @@
-ghost use Rattle.std.specs.Prelude.{◌≡◌, ◌≤◌, ◌<◌, ◌^◌, List, [], IfOk, length, drop};
+ghost use Rattle.std.specs.Prelude.{true, ◌≡◌, ◌≤◌, ◌<◌, ◌^◌, List, [], IfOk, length, drop};
 ghost use Rattle.rx_model.specs.declared.event.Event.{Event};
 ghost use Rattle.rx_model.specs.declared.event.Event.TheVariants as events;
 ghost use Rattle.rx_model.specs.declared.wire.TheConstants.{DATAGRAM_BYTES};
@@ -60,13 +60,58 @@ impl<C: Class> Server<C> {
     ) -> Result<Server<C>, AllocError>
         requires { setups.FitsLimits limits.now }
         ensures stands { IfOk result (λ s. Stands C.class_of s []) }
+        ensures setup { IfOk result (λ s. setup_of C.class_of s.node
+            ≡ setups.unprompted (setups.Server service nonces) limits.now (C.class_of (C.secret class))) }
+    {
+        Server::make_paced(alloc, limits, false, service, class, nonces)
+    }
+
+    /// The same, but prompt: it asks for an acknowledgement behind the last piece that a call can hold, so that no
+    /// stream waits for a delayed one where the peer's window is no narrower than its own.
+    pub fn make_prompt(
+        alloc: Global,
+        limits: &Limits,
+        service: u16,
+        class: C,
+        nonces: u64,
+    ) -> Result<Server<C>, AllocError>
+        requires { setups.FitsLimits limits.now }
+        ensures stands { IfOk result (λ s. Stands C.class_of s []) }
         ensures setup { IfOk result (λ s. setup_of C.class_of s.node ≡ record {
           kind = setups.Server service nonces;
           limits = limits.now;
+          prompt = true;
           class = C.class_of (C.secret class);
         }) }
     {
-        let node = Node::make(alloc, Kind::Server { service, nonces }, limits, class)?;
+        Server::make_paced(alloc, limits, true, service, class, nonces)
+    }
+
+    /// Either.
+    fn make_paced(
+        alloc: Global,
+        limits: &Limits,
+        prompt: bool,
+        service: u16,
+        class: C,
+        nonces: u64,
+    ) -> Result<Server<C>, AllocError>
+        requires { setups.FitsLimits limits.now }
+        ensures stands { IfOk result (λ s. Stands C.class_of s []) }
+        ensures setup { IfOk result (λ s. setup_of C.class_of s.node ≡ record {
+          kind = setups.Server service nonces;
+          limits = limits.now;
+          prompt = prompt;
+          class = C.class_of (C.secret class);
+        }) }
+    {
+        let node = Node::make(
+            alloc,
+            Kind::Server { service, nonces },
+            limits,
+            prompt,
+            class,
+        )?;
         let firsts = Vec::with_capacity(alloc, CHANNELS as usize * limits.conns as usize)?;
         Ok(Server {
             node,

@@ -16,7 +16,7 @@ use Rattle.rx_law.specs.Worlds.{AreOf}
 use Rattle.rx_nodes.specs.Nodes as nodes
 use Rattle.rx_nodes.specs.Nodes.{NodesState, Standing, nodes_of}
 use Rattle.rx_rules.specs.Classes.{Class}
-use Rattle.rx_rules.specs.Setup.{FitsLimits, Server}
+use Rattle.rx_rules.specs.Setup.{FitsLimits, Server, unprompted}
 use Rattle.rx_script.specs.declared.outcome.PlanWhy.TheVariants as causes
 use Rattle.rx_script.specs.declared.plan.PlanLine.TheVariants as lines
 use Rattle.rx_world.specs.Follows.{Progress, adds, begins, begun, class_of, fits_limits, has_room, made_node}
@@ -115,7 +115,7 @@ pub server_begun : (host : Host) (service : ℕ) (limits : Limits) (key : Option
     (ns : NodesState) (w : WorldState) → has_slots limits 0 ≡ true → class ≡ class_of key → Standing ns []
     → nodes_of ns ≡ record {
       host = host;
-      setup = record { kind = Server service nonce; limits = limits; class = class };
+      setup = unprompted (Server service nonce) limits class;
     } ∷ []
     → w ≡ started ns service w.dispatcher → jobs_of w ≡ []
     → IsBegun (begins (lines.Server host service limits key nonce))
@@ -133,7 +133,7 @@ server_begun host service limits key nonce class ns w room keyed standing one ke
     alone : nodes_of ns ≡ n ∷ []
     alone = one ∙ ap (λ c. record {
       host = host;
-      setup = record { kind = Server service nonce; limits = limits; class = c };
+      setup = unprompted (Server service nonce) limits c;
     } ∷ []) keyed
 
     shown : Shows w (begun n)

@@ -176,7 +176,7 @@ module _ (s : Setup) (host : Host) (epoch : ℕ) (kind : s.kind ≡ Client host 
   step l (events.Called cid (Ok d)) c fits conns sound allowed = of (same_name c d) refl
     where
       new : CallRecord
-      new = record { name = d; life = lives.Calling; looks = fresh_call (sending_window s) l.now }
+      new = record { name = d; life = lives.Calling; looks = fresh_call (sending_window s) s.prompt l.now }
 
       of : (b : Bool) → same_name c d ≡ b → Begins l (after s (events.Called cid (Ok d)) l) c
           ⊎ Onward (call_at l c) (call_at (after s (events.Called cid (Ok d)) l) c)

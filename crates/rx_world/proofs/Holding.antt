@@ -178,7 +178,7 @@ module _ (P : Option CallRecord → Type 0)
   holds-started s life c d l none held = of (same_name c d) refl
     where
       new : CallRecord
-      new = record { name = d; life = life; looks = fresh_call (sending_window s) l.now }
+      new = record { name = d; life = life; looks = fresh_call (sending_window s) s.prompt l.now }
 
       of : (b : Bool) → same_name c d ≡ b → Holds c (started s life d l)
       of true same =

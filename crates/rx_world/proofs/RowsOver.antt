@@ -67,7 +67,8 @@ opened-over : (s : Setup) (l : Looks) (c : CallName) (m : Message)
     → own_row s (opened s c l) c m ≡ tooks.Over → ⊥
 opened-over s l c m above is =
     let ended : Looks = on_life (latest_name l (channel_of c)) after_later l in
-    let new : CallRecord = record { name = c; life = lives.Waiting; looks = fresh_call (sending_window s) l.now } in
+    let new : CallRecord =
+    record { name = c; life = lives.Waiting; looks = fresh_call (sending_window s) s.prompt l.now } in
     let there : call_at (started_later s c l) c ≡ Some new = call_at-any c new ended refl (call_at ended c) refl in
     let opens : opened s c l ≡ started_later s c l = ap (λ (b : Bool). cond b (started_later s c l) l) above in
     let row : own_row s (started_later s c l) c m ≡ tooks.Over = subst

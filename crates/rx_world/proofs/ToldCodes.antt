@@ -107,7 +107,7 @@ module _ (K : ℤ → Type 0) (c : CallName) where
   told-started s life d l none t = of (same_name c d) refl
     where
       new : CallRecord
-      new = record { name = d; life = life; looks = fresh_call (sending_window s) l.now }
+      new = record { name = d; life = life; looks = fresh_call (sending_window s) s.prompt l.now }
 
       of : (b : Bool) → same_name c d ≡ b → Told (started s life d l)
       of true same =

@@ -4,7 +4,7 @@ ghost use Rattle.std.specs.List.{All};
 ghost use Rattle.rx_model.specs.declared.event.Noted.{Noted};
 ghost use Rattle.rx_law.specs.Worlds.{AreOf};
 ghost use Rattle.rx_nodes.specs.Nodes.{Standing, nodes_of};
-ghost use Rattle.rx_rules.specs.Setup.{Client, FitsLimits};
+ghost use Rattle.rx_rules.specs.Setup.{Client, FitsLimits, unprompted};
 ghost use Rattle.rx_script.specs.Saying.{blocks_of};
 ghost use Rattle.rx_dispatch.specs.Handlers.{handlers_of};
 ghost use Rattle.rx_token.specs.Chosen.{chosen, secret_of};
@@ -234,7 +234,7 @@ impl World {
             → Standing self.new.nodes h }
         ensures nodes { OnOk result (nodes_of self.new.nodes ≡ nodes_of self.old.nodes ++ record {
           host = host;
-          setup = record { kind = Client host epoch; limits = limits.now; class = chosen (secret_of class) };
+          setup = unprompted (Client host epoch) limits.now (chosen (secret_of class));
         } ∷ []) }
     {
         self.nodes

@@ -18,7 +18,7 @@ impl Call {
         requires holds { Holds pool.old (slots_of self.old) }
         requires spare { HasSpare pool.old self.old common }
         ensures answered { (k : CallLooks) → StandsCall pool.old self.old k →
-            result ≡ min (length bytes.now) (room_of self.old.window (common + 1 - lead k) k.sent) }
+            result ≡ min (length bytes.now) (room_of self.old.pace.window (common + 1 - lead k) k.sent) }
         ensures stands { (k : CallLooks) → StandsCall pool.old self.old k →
             StandsCall pool.new self.new (after_write (take result bytes.now) k) }
         ensures within { result ≤ length bytes.now }

@@ -116,7 +116,7 @@ impl Call {
         requires spare { HasSpare pool.old self.old left }
         ensures answered { (k : CallLooks) → StandsCall pool.old self.old k →
             let m = message_with_head head.now (bodies.Chunk payload.now) in
-            result ≡ data_row self.old.window left (packet_of m payload.now) k }
+            result ≡ data_row self.old.pace.window left (packet_of m payload.now) k }
         ensures stands { (k : CallLooks) → StandsCall pool.old self.old k →
             StandsCall pool.new self.new (after_data result now
             (message_with_head head.now (bodies.Chunk payload.now)) payload.now k) }

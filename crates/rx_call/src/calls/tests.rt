@@ -5,11 +5,11 @@ ghost use Rattle.rx_rules.specs.CallLooks.{CallLooks, call_row, after_taken};
 ghost use Rattle.rx_pool.specs.Pool.{Slots};
 ghost use Rattle.rx_pool.specs.Held.{Holds};
 ghost use Rattle.rx_call.specs.Standing.{EndOfCall, StandsCall, HasSpare, FitsSlot, view_of};
-ghost use Rattle.rx_call.specs.Kept.{call_under, slots_of_all, HasOneWindow, ChangesOne};
+ghost use Rattle.rx_call.specs.Kept.{call_under, slots_of_all, HasTheirPace, ChangesOne};
 
 use super::*;
 use crate::Side;
-use crate::tests::head;
+use crate::tests::{head, of_window};
 use rx_model::Took;
 use rx_packet::{Body, Head};
 use rx_pool::Pool;
@@ -26,7 +26,7 @@ fn start<L: Ledger>(calls: &mut Calls, steps: &mut Steps<L>) -> Option<usize>
     ensures fresh { IfSome result (λ key. call_under calls.old key ≡ None) }
     ensures there { IfSome result (λ key. IsSome (call_under calls.new key)) }
     ensures still { (q : ℕ) → IsSome (call_under calls.old q) → IsSome (call_under calls.new q) }
-    ensures windows { HasOneWindow calls.old → HasOneWindow calls.new }
+    ensures windows { HasTheirPace calls.old → HasTheirPace calls.new }
     ensures holds { (pool : Slots) → Holds pool (slots_of_all calls.old) → Holds pool (slots_of_all calls.new) }
 {
     let key = calls.enter()?;
@@ -59,7 +59,7 @@ fn take<L: Ledger>(
         (after_taken (view_of c common now) result (message_of head.now body.now) k)) }
     ensures one { ChangesOne pool.old pool.new calls.old calls.new key }
     ensures still { (q : ℕ) → IsSome (call_under calls.old q) → IsSome (call_under calls.new q) }
-    ensures windows { HasOneWindow calls.old → HasOneWindow calls.new }
+    ensures windows { HasTheirPace calls.old → HasTheirPace calls.new }
     ensures steps { steps.new ≡ steps.old + 1 }
 {
     let call = calls.at_mut(key, steps);
@@ -69,11 +69,11 @@ fn take<L: Ledger>(
 /// The call of a key ends: its slots are given back, and its key.
 fn end<L: Ledger>(calls: &mut Calls, pool: &mut Pool, key: usize, steps: &mut Steps<L>)
     requires there { IsSome (call_under calls.old key) }
-    requires windows { HasOneWindow calls.old }
+    requires windows { HasTheirPace calls.old }
     requires holds { Holds pool.old (slots_of_all calls.old) }
     ensures one { ChangesOne pool.old pool.new calls.old calls.new key }
     ensures absent { call_under calls.new key ≡ None }
-    ensures windows { HasOneWindow calls.new }
+    ensures windows { HasTheirPace calls.new }
 {
     let call = calls.at_mut(key, steps);
     call.clear(pool);
@@ -94,7 +94,7 @@ fn data<L: Ledger>(
     requires holds { Holds pool.old (slots_of_all calls.old) }
     ensures holds { Holds pool.new (slots_of_all calls.new) }
     ensures still { (q : ℕ) → IsSome (call_under calls.old q) → IsSome (call_under calls.new q) }
-    ensures windows { HasOneWindow calls.old → HasOneWindow calls.new }
+    ensures windows { HasTheirPace calls.old → HasTheirPace calls.new }
 {
     let free = pool.free();
     if free == 0 {
@@ -127,7 +127,7 @@ fn two_calls<L: Ledger>(rt: &impl Abort, alloc: Global, blank: Blank) -> Result<
 {
     let mut steps = Steps::<L>::new(blank);
     let mut pool = Pool::make(alloc, 4)?;
-    let mut calls = Calls::make(alloc, 2, 32)?;
+    let mut calls = Calls::make(alloc, 2, of_window(32))?;
     let first = start(&mut calls, &mut steps).expect(rt, "room for a first call");
     let second = start(&mut calls, &mut steps).expect(rt, "room for a second call");
     assert!(rt; first != second);

@@ -1,7 +1,7 @@
 ghost use Rattle.rx_pool.specs.Held.{Holds};
 ghost use Rattle.rx_call.specs.Standing.{slots_of};
 
-use super::{head, poll, shut};
+use super::{head, of_window, poll, shut};
 use crate::tests::pieces::{left, piece, say};
 use crate::{Call, Giving, Side};
 use arrayvec::ArrayVec;
@@ -79,7 +79,7 @@ fn ping(first: u32, marks: [bool; 2], window: Option<u32>) -> Ack {
 #[test]
 fn lenient_and_strange_acks(rt: HostRuntime) -> Result<(), Fail> {
     let mut pool = Pool::make(rt.alloc(), 4)?;
-    let mut call = Call::make(rt.alloc(), 32)?;
+    let mut call = Call::make(rt.alloc(), of_window(32))?;
     call.start(Side::Server, 0);
     assert_eq!(rt; say(&mut call, &mut pool, &[7; 2825]), 2825);
     assert_eq!(rt; poll(&mut call, 0), piece(1, false, false));
@@ -112,7 +112,7 @@ fn lenient_and_strange_acks(rt: HostRuntime) -> Result<(), Fail> {
 #[test]
 fn old_marks_and_stale_pings(rt: HostRuntime) -> Result<(), Fail> {
     let mut pool = Pool::make(rt.alloc(), 4)?;
-    let mut call = Call::make(rt.alloc(), 32)?;
+    let mut call = Call::make(rt.alloc(), of_window(32))?;
     call.start(Side::Server, 0);
     assert_eq!(rt; say(&mut call, &mut pool, &[7; 2825]), 2825);
     shut(&mut call, &mut pool);
@@ -150,7 +150,7 @@ fn old_marks_and_stale_pings(rt: HostRuntime) -> Result<(), Fail> {
 #[test]
 fn round_trips(rt: HostRuntime) -> Result<(), Fail> {
     let mut pool = Pool::make(rt.alloc(), 33)?;
-    let mut call = Call::make(rt.alloc(), 32)?;
+    let mut call = Call::make(rt.alloc(), of_window(32))?;
     call.start(Side::Server, 0);
     assert_eq!(rt; say(&mut call, &mut pool, &[7; 45_184]), 45_184);
     shut(&mut call, &mut pool);

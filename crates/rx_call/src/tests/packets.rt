@@ -2,7 +2,7 @@ ghost use Rattle.std.specs.Prelude.{◌≡◌, ◌++◌};
 ghost use Rattle.rx_pool.specs.Held.{Holds};
 ghost use Rattle.rx_call.specs.Standing.{slots_of};
 
-use super::{head, poll, take};
+use super::{head, of_window, poll, take};
 use crate::{Call, Giving, Side};
 use rx_model::{CallRead, Took};
 use rx_packet::Body;
@@ -24,7 +24,7 @@ fn reason_at(call: &mut Call, moment: u32) -> Option<u8>
 #[test]
 fn each_packet_is_acknowledged_by_its_row(rt: HostRuntime) -> Result<(), Fail> {
     let mut pool = Pool::make(rt.alloc(), 6)?;
-    let mut call = Call::make(rt.alloc(), 32)?;
+    let mut call = Call::make(rt.alloc(), of_window(32))?;
     call.start(Side::Server, 0);
     for (seq, flags, took, reason) in [
         (0, 3, Took::Strange, None),
@@ -89,8 +89,8 @@ fn take_of_two(
 #[test]
 fn slots(rt: HostRuntime) -> Result<(), Fail> {
     let mut pool = Pool::make(rt.alloc(), 3)?;
-    let mut first = Call::make(rt.alloc(), 32)?;
-    let mut second = Call::make(rt.alloc(), 32)?;
+    let mut first = Call::make(rt.alloc(), of_window(32))?;
+    let mut second = Call::make(rt.alloc(), of_window(32))?;
     first.start(Side::Server, 0);
     second.start(Side::Server, 0);
     for (to_first, common, seq, took) in [

@@ -2,7 +2,7 @@ ghost use Rattle.std.specs.Prelude.{IfSome};
 ghost use Rattle.rx_pool.specs.Held.{Holds};
 ghost use Rattle.rx_call.specs.Standing.{HasSpare, slots_of};
 
-use super::{poll, shut};
+use super::{of_window, poll, shut};
 use crate::{Call, Giving, Side};
 use rx_pool::Pool;
 use std::process::Abort;
@@ -51,7 +51,7 @@ fn piece_sizes(rt: HostRuntime) -> Result<(), Fail> {
         ),
     ] {
         let mut pool = Pool::make(rt.alloc(), 3)?;
-        let mut call = Call::make(rt.alloc(), 32)?;
+        let mut call = Call::make(rt.alloc(), of_window(32))?;
         call.start(Side::Server, 0);
         let (bytes, _rest) = said.split_at(size);
         assert_eq!(rt; say(&mut call, &mut pool, bytes), size);
@@ -77,7 +77,7 @@ fn full_window(rt: HostRuntime) -> Result<(), Fail> {
         (32, 1, 1412, 0),
     ] {
         let mut pool = Pool::make(rt.alloc(), slots)?;
-        let mut call = Call::make(rt.alloc(), window)?;
+        let mut call = Call::make(rt.alloc(), of_window(window))?;
         call.start(Side::Server, 0);
         assert_eq!(rt; say(&mut call, &mut pool, &said), first);
         assert_eq!(rt; say(&mut call, &mut pool, &[0]), more);

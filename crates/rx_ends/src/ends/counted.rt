@@ -32,7 +32,8 @@ impl Ends {
         ensures full { IsNone result ↔ (live_count self.old.calls ≡ self.old.calls.room) }
         ensures none { IfNone result (self.new ≡ self.old) }
         ensures absent { IfSome result (λ key. call_under self.old.calls key ≡ None) }
-        ensures stands { IfSome result (λ key. StandsEnd self.new key (fresh_call self.old.calls.window now)) }
+        ensures stands { let pace = self.old.calls.pace in
+            IfSome result (λ key. StandsEnd self.new key (fresh_call pace.window pace.prompt now)) }
         ensures keeps { IfSome result (KeepsEnds self.old self.new) }
         ensures live { IfSome result (λ key. live_count self.new.calls ≡ live_count self.old.calls + 1) }
         ensures common { self.new.common ≡ self.old.common }
@@ -105,7 +106,7 @@ impl Ends {
         requires parts { blank.parts ≡ L.parts }
         requires counts { 0 < blank.parts }
         ensures answered { (k : CallLooks) → StandsEnd self.old key k → result ≡ min (length bytes.now)
-            (room_of self.old.calls.window ((self.old.shared - self.old.common) + 1 - lead k) k.sent) }
+            (room_of self.old.calls.pace.window ((self.old.shared - self.old.common) + 1 - lead k) k.sent) }
         ensures steps { StepsEnd self.old self.new key (after_write (take result bytes.now)) }
         ensures within { result ≤ length bytes.now }
         ensures live { live_count self.new.calls ≡ live_count self.old.calls }

@@ -51,7 +51,7 @@ fn what_calls_hold_beside_their_own_slots_is_counted(rt: HostRuntime) -> Result<
         slots: 4,
         window: 32,
     };
-    let mut ends = Ends::make(rt.alloc(), Side::Server, &limits)?;
+    let mut ends = Ends::make(rt.alloc(), Side::Server, &limits, false)?;
     let first = start(&mut ends).expect(&rt, "room for a first call");
     assert_eq!(rt; data(&mut ends, first, 1), (Took::Kept, 0, 2));
     assert_eq!(rt; data(&mut ends, first, 2), (Took::Kept, 1, 1));

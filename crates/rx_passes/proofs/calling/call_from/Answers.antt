@@ -29,7 +29,7 @@ returns-in_err-name g c =
 pub returns : goal.returns
 returns g c =
     λ sink. call_begun c.args.calling.now c.args.request.items _ _ _ _ _ sink _ c.in_ok-client.ensures.stands
-    c.in_ok-name.name _ c.in_ok-ports.ports.joiner.most c.make-3.result c.passes.result _
+    c.in_ok-name.name _ c.in_ok-ports.ports.joiner.most c.make-2.result c.passes.result _
     (plays_at 1 1 _ _ _ _ _ _ (begins c.args.calling.now) (λ (x : CallName). x ≡ c.in_ok-name.name) None refl
     c.in_ok-client.ensures.setup (c.in_ok-name.ensures.plays sink)) (c.begin.ensures.setup
-    ∙ c.in_ok-client.ensures.setup) c.in_ok-ports.ensures.most c.make-3.ensures (λ p at. c.passes.ensures sink p at)
+    ∙ c.in_ok-client.ensures.setup) c.in_ok-ports.ensures.most c.make-2.ensures (λ p at. c.passes.ensures sink p at)

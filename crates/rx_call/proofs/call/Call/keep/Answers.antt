@@ -17,7 +17,7 @@ keep-took-requires-clause-holds c =
 
 pub returns-clause-answered : goal.returns-clause-answered
 returns-clause-answered c =
-    let width = c.self.invariant.2 ∙ ap (λ (e : EndOfCall). e.window) c.self.view_is in
+    let width = c.self.invariant.2 ∙ ap (λ (e : EndOfCall). e.pace.window) c.self.view_is in
     λ k st.
     let here = (rw (← c.self.view_is) at st) in
     let lead = c.lead-leadless.ensures.answered c.args.pool.now k st in

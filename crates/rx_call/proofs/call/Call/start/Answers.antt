@@ -10,7 +10,8 @@ returns-clause-stands c =
       received = idle.received pool;
       sent = idle.sent pool;
       rtt = c.new-self-inside.ensures;
-      cwnd = c.new-self-inside-2.ensures ∙ ap (λ (e : EndOfCall). first_cwnd e.window) c.self.view_is;
+      cwnd = c.new-self-inside-2.ensures
+          ∙ ap (λ (e : EndOfCall). first_cwnd e.pace.window e.pace.prompt) c.self.view_is;
       owed = refl;
       heard = refl;
       spoke = refl;

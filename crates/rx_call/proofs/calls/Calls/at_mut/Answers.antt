@@ -10,7 +10,7 @@ index_mut-requires g c =
 pub invariant_of-self-lent : goal.invariant_of-self-lent
 invariant_of-self-lent g c = λ w.
     let there = (rw (← c.self.view_is) at c.requires) in
-    lent_kept c.self.inside.entries.slots c.self.inside.free.items c.self.inside.window _ c.args.key w there
+    lent_kept c.self.inside.entries.slots c.self.inside.free.items c.self.inside.pace _ c.args.key w there
     c.self.invariant
 
 pub returns : goal.returns
@@ -18,7 +18,7 @@ returns g c =
     let there = (rw (← c.self.view_is) at c.requires) in
     let cs = c.self.inside.entries.slots in
     let free = c.self.inside.free.items in (
-      (refl, λ w. rw (← c.self.view_is) (lent_calls cs c.self.inside.window free c.args.key w there)),
+      (refl, λ w. rw (← c.self.view_is) (lent_calls cs c.self.inside.pace free c.args.key w there)),
       record {
         writes_back = tt;
         call = rw (← c.self.view_is) (some_there free cs c.args.key there ∙ c.index_mut.ensures.value);

@@ -9,5 +9,5 @@ invariant-loop l = record {
   free_room : l.calls ≤ vec_capacity l.free;
   count : slab_len l.entries ≡ l.counter;
   free : length l.free.items ≡ l.counter;
-  all : AllFree l.entries l.free.items l.window;
+  all : AllFree l.entries l.free.items l.pace;
 }

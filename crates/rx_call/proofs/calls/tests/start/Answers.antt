@@ -8,7 +8,7 @@ use Rattle.rx_call.proofs.calls.tests.start.Goals as goal
 pub returns-clause-holds : goal.returns-clause-holds
 returns-clause-holds g c =
     let call = c.at_mut-call.result.now in
-    let idle = of_some_and _ (IsIdleOf c.args.calls.now.window) call c.at_mut-call.ensures.call
+    let idle = of_some_and _ (IsIdleOf c.args.calls.now.pace) call c.at_mut-call.ensures.call
     c.in_ok-key.ensures.idle in
     let same =
     slots-with_call_under c.enter.new.self c.in_ok-key.key call c.start.new.self c.at_mut-call.ensures.call

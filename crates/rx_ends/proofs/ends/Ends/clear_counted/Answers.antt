@@ -13,7 +13,7 @@ invariant_of-self g c =
     change_keeps _ c.args.key c.at_mut-call.result.now c.clear.new.self c.clear.new.pool
     (c.self.inside.common - c.beside.result) c.self.invariant
     (clears _ c.args.key c.at_mut-call.result.now c.clear.new.self c.clear.new.pool c.beside.result c.self.invariant
-    c.at_mut-call.ensures.call c.clear.ensures.keeps c.clear.ensures.same.window c.clear.ensures.idle
+    c.at_mut-call.ensures.call c.clear.ensures.keeps c.clear.ensures.same.pace c.clear.ensures.idle
     c.beside.ensures.value)
     (idle_looks c.clear.new.self) (idle_stands c.clear.new.pool c.clear.new.self c.clear.ensures.idle)
     (omega (arith, none))
@@ -32,5 +32,5 @@ returns-clause-keeps g c =
     rw (← c.self.view_is) (change_only _ c.args.key c.at_mut-call.result.now c.clear.new.self c.clear.new.pool
     (c.self.inside.common - c.beside.result) c.self.invariant
     (clears _ c.args.key c.at_mut-call.result.now c.clear.new.self c.clear.new.pool c.beside.result c.self.invariant
-    c.at_mut-call.ensures.call c.clear.ensures.keeps c.clear.ensures.same.window c.clear.ensures.idle
+    c.at_mut-call.ensures.call c.clear.ensures.keeps c.clear.ensures.same.pace c.clear.ensures.idle
     c.beside.ensures.value))

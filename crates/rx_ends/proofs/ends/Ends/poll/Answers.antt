@@ -21,7 +21,7 @@ invariant_of-self g c =
     poll_beside c.self.inside.pool call c.poll.new.self c.args.now sending was st after c.poll.ensures.slots in
     change_keeps _ c.args.key call c.poll.new.self c.self.inside.pool c.self.inside.common c.self.invariant
     (same_slots _ c.args.key c.at_mut.result.now c.poll.new.self c.self.invariant c.at_mut.ensures.call
-    c.poll.ensures.slots c.poll.ensures.same.window beside)
+    c.poll.ensures.slots c.poll.ensures.same.pace beside)
     (after_given c.args.now sending was) after (omega (arith, beside))
 
 pub returns-clause-answered : goal.returns-clause-answered
@@ -45,14 +45,14 @@ returns-clause-given g c =
     st after c.poll.ensures.slots in
     let view : NodeView = record {
       client = is_client c.self.inside.side;
-      window = c.self.inside.calls.window;
+      window = c.self.inside.calls.pace.window;
       left = left;
       now = c.args.now;
     } in
     rw (← c.self.view_is) (change_steps _ c.args.key call c.poll.new.self c.self.inside.pool c.self.inside.common
     c.self.invariant
     (same_slots _ c.args.key c.at_mut.result.now c.poll.new.self c.self.invariant c.at_mut.ensures.call
-    c.poll.ensures.slots c.poll.ensures.same.window beside)
+    c.poll.ensures.slots c.poll.ensures.same.pace beside)
     (λ k. after_given c.args.now (next_sending view k) k) c.poll.ensures.same.client
     (λ k of. subst (λ (v : NodeView). StandsCall c.self.inside.pool c.poll.new.self
     (after_given c.args.now (next_sending v k) k))

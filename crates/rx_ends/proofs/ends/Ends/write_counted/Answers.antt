@@ -26,7 +26,7 @@ overflow_add-self g c =
     let unshut = (rw (← c.self.view_is) at c.requires.unshut) in
     let open_ = of_some_and _ (λ (e : EndOfCall). e.sent.shut ≡ false) call c.at_mut-call.ensures.call unshut in
     let most =
-    write_most call.window c.left-left.result c.write-count.result c.args.bytes.now was (sym st.sent.shut ∙ open_)
+    write_most call.pace.window c.left-left.result c.write-count.result c.args.bytes.now was (sym st.sent.shut ∙ open_)
     (c.write-count.ensures.answered was st) in
     let fits =
     counted_fits _ c.args.key c.at_mut-call.result.now c.write-count.new.self c.write-count.new.pool
@@ -48,7 +48,7 @@ invariant_of-self g c =
     let unshut = (rw (← c.self.view_is) at c.requires.unshut) in
     let open_ = of_some_and _ (λ (e : EndOfCall). e.sent.shut ≡ false) call c.at_mut-call.ensures.call unshut in
     let most =
-    write_most call.window c.left-left.result c.write-count.result c.args.bytes.now was (sym st.sent.shut ∙ open_)
+    write_most call.pace.window c.left-left.result c.write-count.result c.args.bytes.now was (sym st.sent.shut ∙ open_)
     (c.write-count.ensures.answered was st) in
     counted_keeps _ c.args.key c.at_mut-call.result.now c.write-count.new.self c.write-count.new.pool
     c.beside-before.result

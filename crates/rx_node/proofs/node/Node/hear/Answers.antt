@@ -54,4 +54,5 @@ returns-clause-active g c =
 
 pub returns-clause-same : goal.returns-clause-same
 returns-clause-same g c =
-    rw (← c.self.view_is) (record { kind = refl; limits = refl; secret = refl; moment = refl; names = refl })
+    rw (← c.self.view_is)
+    (record { kind = refl; limits = refl; prompt = refl; secret = refl; moment = refl; names = refl })

@@ -74,6 +74,7 @@ returns-clause-same g c =
     (record {
       kind = same.kind;
       limits = same.limits;
+      prompt = same.prompt;
       secret = same.secret;
       moment = same.moment;
       names = same.names ∙ like.names_same;

@@ -34,6 +34,7 @@ returns-in_err-due-clause-answered g c =
     let setup : Setup = record {
       kind = kind_of c.self.inside.kind;
       limits = c.self.inside.limits;
+      prompt = c.self.inside.prompt;
       class = g.C.Class.class_of (g.C.Class.secret c.self.inside.class);
     } in
     rw c.from_residual.ensures
@@ -59,6 +60,7 @@ returns-then-due-self-clause-answered g c =
     let setup : Setup = record {
       kind = kind_of c.self.inside.kind;
       limits = c.self.inside.limits;
+      prompt = c.self.inside.prompt;
       class = g.C.Class.class_of (g.C.Class.secret c.self.inside.class);
     } in
     λ h stands. (
@@ -85,6 +87,7 @@ returns-clause-answered g c =
     let setup : Setup = record {
       kind = kind_of c.self.inside.kind;
       limits = c.self.inside.limits;
+      prompt = c.self.inside.prompt;
       class = g.C.Class.class_of (g.C.Class.secret c.self.inside.class);
     } in
     λ h stands. (
@@ -133,6 +136,7 @@ returns-clause-dimmed g c =
     let setup : Setup = record {
       kind = kind_of c.self.inside.kind;
       limits = c.self.inside.limits;
+      prompt = c.self.inside.prompt;
       class = g.C.Class.class_of (g.C.Class.secret c.self.inside.class);
     } in
     λ l mirrors. (

@@ -17,7 +17,7 @@ loop-chan-init g c =
       stopped = λ l x m there. among_first g.C.Class.class_of c.args.self.now l m
           (λ k. record k { life = after_code code k.life }) (code_of_live code) (4 * place)
           (4 * place + 0) (omega arith);
-      same = record { kind = refl; limits = refl; secret = refl; moment = refl; names = refl };
+      same = record { kind = refl; limits = refl; prompt = refl; secret = refl; moment = refl; names = refl };
     }
 
 pub overflow_mul-place : goal.overflow_mul-place
@@ -54,6 +54,7 @@ loop-chan-preserved g c =
       same = record {
         kind = new.kind ∙ old.kind;
         limits = new.limits ∙ old.limits;
+        prompt = new.prompt ∙ old.prompt;
         secret = new.secret ∙ old.secret;
         moment = new.moment ∙ old.moment;
         names = new.names ∙ old.names;

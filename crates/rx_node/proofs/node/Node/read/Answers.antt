@@ -98,5 +98,6 @@ returns-in-Got g c =
           (λ k is. read_whole k (length c.args.to.now) result bytes
           (c.read-got.ensures.answered k.looks (active_stands class _ l before key end ch at a k is))))));
       rest = c.read-got.ensures.rest;
-      same = rw (← c.self.view_is) (record { kind = refl; limits = refl; secret = refl; moment = refl; names = refl });
+      same = rw (← c.self.view_is)
+          (record { kind = refl; limits = refl; prompt = refl; secret = refl; moment = refl; names = refl });
     }

@@ -12,7 +12,7 @@ loop-key-init g c =
     record {
       silenced = λ l m. among_first g.C.Class.class_of c.args.self.now l m (unless_silent l.now)
           (silence_of_live l.now) 0 0 refl;
-      same = record { kind = refl; limits = refl; secret = refl; moment = refl; names = refl };
+      same = record { kind = refl; limits = refl; prompt = refl; secret = refl; moment = refl; names = refl };
     }
 
 pub loop-key-preserved : goal.loop-key-preserved
@@ -29,6 +29,7 @@ loop-key-preserved g c =
       same = record {
         kind = new.kind ∙ old.kind;
         limits = new.limits ∙ old.limits;
+        prompt = new.prompt ∙ old.prompt;
         secret = new.secret ∙ old.secret;
         moment = new.moment ∙ old.moment;
         names = new.names ∙ old.names;

@@ -15,6 +15,7 @@ same old new now is =
     record {
       kind = ap (λ (n : NodeState). n.kind) is;
       limits = ap (λ (n : NodeState). n.limits) is;
+      prompt = ap (λ (n : NodeState). n.prompt) is;
       secret = ap (λ (n : NodeState). n.secret) is;
       conns = ap (λ (n : NodeState). length n.table.conns) is;
     }

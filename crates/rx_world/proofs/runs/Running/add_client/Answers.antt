@@ -1,6 +1,6 @@
 use Rattle.std.proofs.Common.{◌∙◌, ◌++◌, ◌∷◌, ◌+◌, [], None, ap, sym, subst}
 use Rattle.rx_nodes.specs.Nodes.{nodes_of}
-use Rattle.rx_rules.specs.Setup.{Client}
+use Rattle.rx_rules.specs.Setup.{Client, unprompted}
 use Rattle.rx_world.specs.Follows.{client_node}
 use Rattle.rx_world.specs.Showing.{AddsNode, IsCounted, has_client_room}
 use Rattle.rx_world.proofs.Beginning.{client_added, client_counted, client_late, client_refused, client_wants}
@@ -36,7 +36,7 @@ returns-clause-added c =
     c.add_client.ensures.stands
     (c.in_ok-add_client.ensures.nodes ∙ ap (λ class. nodes_of old.world.nodes ++ record {
       host = c.args.host;
-      setup = record { kind = Client c.args.host c.args.epoch; limits = c.args.limits.now; class = class };
+      setup = unprompted (Client c.args.host c.args.epoch) c.args.limits.now class;
     } ∷ []) c.class_of.ensures))
 
 pub returns-clause-counted : goal.returns-clause-counted
@@ -50,5 +50,5 @@ returns-clause-counted c =
     (ap (has_client_room c.args.limits.now old.slots) (sym c.clients.ensures) ∙ sym c.if-not-has_room.ensures)
     (c.in_ok-add_client.ensures.nodes ∙ ap (λ class. nodes_of old.world.nodes ++ record {
       host = c.args.host;
-      setup = record { kind = Client c.args.host c.args.epoch; limits = c.args.limits.now; class = class };
+      setup = unprompted (Client c.args.host c.args.epoch) c.args.limits.now class;
     } ∷ []) c.class_of.ensures))

@@ -1,0 +1,7 @@
+/// How a node sends and takes in: the window of each of its calls, in packets, and whether it is prompt. A prompt node
+/// asks for an acknowledgement behind the last piece that it can hold (`rx.c`, `rxi_SendList`, asks far more often).
+#[derive(Clone, Copy, Debug, PartialEq, Eq)]
+pub struct Pace {
+    pub window: u32,
+    pub prompt: bool,
+}
