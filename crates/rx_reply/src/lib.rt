@@ -1,7 +1,8 @@
 //! What a whole reply says as text, and the bytes of a whole request.
 //!
-//! `reply_text` gives what is printed of a reply: the INOUT and OUT values as one JSON array, and the
-//! download. `request_bytes` gives what a caller sends: the request, and the upload behind it.
+//! `reply_parts` gives what is printed of a reply: the INOUT and OUT values as one JSON array, and the
+//! download, which isn't copied; `reply_text` has both in one line. `request_bytes` gives what a caller
+//! sends: the request, and the upload behind it.
 //! A contract sees the bytes of a reply as what they say (`reply_says` of `specs/`), which
 //! `reply_line` has as text. The laws say that what is spelled is said again.
 //! Whether a stream goes with a call is said by the caller and not by the interface.
@@ -17,7 +18,7 @@ mod values;
 pub use counted::MAX_COUNTED_BYTES;
 pub use laws::{array_returns, numbers, said_reply_is_spelled, spelled_reply_is_said};
 pub use procs::proc_named;
-pub use replies::reply_text;
+pub use replies::{ReplyParts, reply_parts, reply_text};
 pub use requests::request_bytes;
 
 #[cfg(test)]

@@ -2,7 +2,7 @@
 
 mod afs;
 
-use crate::{proc_named, reply_text, request_bytes};
+use crate::{proc_named, reply_parts, reply_text, request_bytes};
 use afs::{bytes_of, fid, interface};
 use std::alloc::{AllocError, Global};
 use std::process::Abort;
@@ -64,6 +64,33 @@ fn replies_are_printed(rt: HostRuntime) -> Result<(), AllocError> {
         let given = replied(rt.alloc(), name, *down, hex)?;
         assert!(rt; given.as_str() == *wanted, "{name} {hex} says {given}");
     }
+    Ok(())
+}
+
+// The values that a reply of FetchData says and its download, `none` where none is asked for.
+fn parted(alloc: Global, down: bool, hex: &str) -> Result<String, AllocError> {
+    let iface = interface(alloc)?;
+    let reply = bytes_of(alloc, hex)?;
+    let Some(p) = proc_named(&iface.procs, "FetchData") else {
+        return Err(AllocError);
+    };
+    match reply_parts(alloc, &iface, p, down, &reply) {
+        Ok(Some(parts)) => match parts.download {
+            Some(download) => format!(in alloc; "{} {:?}", parts.values, download),
+            None => format!(in alloc; "{} none", parts.values),
+        },
+        Ok(None) | Err(AllocError) => Err(AllocError),
+    }
+}
+
+#[test]
+fn replies_have_their_downloads_beside_the_values(rt: HostRuntime) -> Result<(), AllocError> {
+    let given = parted(rt.alloc(), true, "00000003 616263 00000007")?;
+    assert_eq!(rt; given.as_str(), "[7] [97, 98, 99]");
+    let empty = parted(rt.alloc(), true, "00000000 00000007")?;
+    assert_eq!(rt; empty.as_str(), "[7] []");
+    let without = parted(rt.alloc(), false, "00000007")?;
+    assert_eq!(rt; without.as_str(), "[7] none");
     Ok(())
 }
 

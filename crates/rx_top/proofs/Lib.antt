@@ -1,4 +1,5 @@
 pub mod TopLemmas
+pub mod PutLemmas
 pub mod SimLemmas
 pub mod JobLemmas
 pub mod WireLemmas

@@ -4,6 +4,7 @@ pub mod Commands
 pub mod Inputs
 pub mod Sims
 pub mod Wires
+pub mod Puts
 pub mod Serves
 pub mod Calls
 pub mod Jobs

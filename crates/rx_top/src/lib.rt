@@ -8,6 +8,7 @@ mod compile;
 mod inputs;
 mod job;
 mod keys;
+mod ok_line;
 mod outcome;
 mod reply;
 mod request;

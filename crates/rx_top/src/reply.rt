@@ -1,28 +1,28 @@
 //! The call itself, and what is put of its reply.
 
-ghost use Rattle.std.specs.Prelude.{◌≡◌, ◌≢◌, ◌++◌, codes, IfOk, Err};
+ghost use Rattle.std.specs.Prelude.{◌≡◌, ◌≢◌, ◌++◌, codes, Err};
 ghost use Rattle.std.specs.List.{Contains};
-ghost use Rattle.std.specs.String.{string_bytes};
 ghost use Rattle.rx_base.specs.Sink.{HasRisen};
 ghost use Rattle.rx_passes.specs.Tells.{sink_tells, told, wire_tells};
+ghost use Rattle.rx_reply.specs.Replies.{printed_line, printed_of};
 ghost use Rattle.rx_token.specs.Chosen.{chosen, secret_of};
 ghost use Rattle.xdr_value.specs.View.{proc_of, procs_of};
 ghost use Rattle.xg_check.specs.Meaning.{interface_of};
 ghost use Rattle.rx_top.specs.Calls.{CallsServer, CanCall, EndsByCall, EndsByCaller, EndsByPut, EndsByReply, asked_of};
 ghost use Rattle.rx_top.specs.Wires.{wire_status};
 
+use crate::ok_line::put_ok_line;
 use crate::status::Status;
 use crate::wire_outcome::WireOutcome;
-use rx_base::Sink;
+use rx_base::{Failed, Sink};
 use rx_caller::Caller;
 use rx_model::End;
 use rx_passes::{CallEnd, Calling, Stop, call, calls_tell};
-use rx_reply::reply_text;
+use rx_reply::{ReplyParts, reply_parts};
 use rx_token::Chosen;
 use rx_udp::Wire;
 use rx_wire::Journal;
 use std::alloc::{AllocError, Global};
-use std::fmt::Write;
 use xdr_value::{Interface, Proc};
 
 /// Makes the call with this request.
@@ -132,46 +132,24 @@ fn put_reply<'a, O: Sink>(
     ensures no_sink_fault { wire_status result ≢ Status.SinkFault → O.faults out.new ≡ O.faults out.old }
     ensures no_wire_fault { wire_status result ≢ Status.WireFault }
 {
-    match reply_text(alloc, iface, p, down, reply) {
-        Ok(Some(text)) => put_line(alloc, text.as_str(), out),
+    match reply_parts(alloc, iface, p, down, reply) {
+        Ok(Some(parts)) => put_line(&parts, out),
         Ok(None) => WireOutcome::BadReply,
         Err(AllocError) => WireOutcome::OutOfMemory,
     }
 }
 
-/// Puts the line of a reply.
-fn put_line<'a, O: Sink>(alloc: Global, text: &str, out: &mut O) -> WireOutcome<'a>
-    ensures put { EndsByPut result (codes "ok " ++ text.now ++ codes "\n")
+/// Puts the line of a reply with these parts.
+fn put_line<'a, O: Sink>(parts: &ReplyParts<'_>, out: &mut O) -> WireOutcome<'a>
+    ensures put { EndsByPut result (codes "ok " ++ printed_line (printed_of parts.now) ++ codes "\n")
         (sink_tells (O.told out.old) (O.faults out.old)) (sink_tells (O.told out.new) (O.faults out.new)) }
     ensures no_file_fault { wire_status result ≢ Status.FileFault }
     ensures sink_fault { wire_status result ≡ Status.SinkFault → HasRisen (O.faults out.old) (O.faults out.new) }
     ensures no_sink_fault { wire_status result ≢ Status.SinkFault → O.faults out.new ≡ O.faults out.old }
     ensures no_wire_fault { wire_status result ≢ Status.WireFault }
 {
-    match ok_line(alloc, text) {
-        Ok(line) => put(line.as_str(), out),
-        Err(AllocError) => WireOutcome::OutOfMemory,
-    }
-}
-
-fn ok_line(alloc: Global, text: &str) -> Result<String, AllocError>
-    ensures { IfOk result (λ line. string_bytes line ≡ codes "ok " ++ text.now ++ codes "\n") }
-{
-    let mut line = String::new(alloc);
-    write!(line, "ok {text}\n")?;
-    Ok(line)
-}
-
-fn put<'a, O: Sink>(text: &str, out: &mut O) -> WireOutcome<'a>
-    ensures put { EndsByPut result text.now
-        (sink_tells (O.told out.old) (O.faults out.old)) (sink_tells (O.told out.new) (O.faults out.new)) }
-    ensures no_file_fault { wire_status result ≢ Status.FileFault }
-    ensures sink_fault { wire_status result ≡ Status.SinkFault → HasRisen (O.faults out.old) (O.faults out.new) }
-    ensures no_sink_fault { wire_status result ≢ Status.SinkFault → O.faults out.new ≡ O.faults out.old }
-    ensures no_wire_fault { wire_status result ≢ Status.WireFault }
-{
-    match out.put(text.as_bytes()) {
+    match put_ok_line(parts, out) {
         Ok(()) => WireOutcome::Done,
-        Err(_) => WireOutcome::SinkFault,
+        Err(Failed) => WireOutcome::SinkFault,
     }
 }

@@ -290,6 +290,23 @@ fn a_call_is_answered(rt: HostRuntime) -> Result<(), Fail> {
     Ok(())
 }
 
+/// A call of a procedure whose reply begins with a download.
+const FETCH: &str =
+    "call AFS.xg FetchData [{\"Volume\":1,\"Vnode\":2,\"Unique\":3},0,3] --down yes \
+    --to 10.0.0.1:7000 --epoch 1 --from 10.0.0.2:7001";
+
+/// Its whole reply in one datagram.
+static FETCHED: &str = "0000000100000004000000010000000100000001\
+    0106000000000001\
+    00000003 616263 00000007";
+
+#[test]
+fn a_download_is_printed(rt: HostRuntime) -> Result<(), Fail> {
+    let arrivals = comes(rt.alloc(), 7, SERVER, FETCHED)?;
+    leaves(&rt, FETCH, arrivals, &[], 0, "ok [7] down 616263\n", "")?;
+    Ok(())
+}
+
 /// An ABORT of the call with -5.
 static ABORT: &str = "0000000100000004000000010000000000000001\
     0400000000000001\
