@@ -141,9 +141,9 @@ serve_fits parts =
     record { limits = fits.limits; some = fits.jumbo.0; few = fits.jumbo.1; span = fits.span.1 }))
 
 client_fits : (window : ℕ) → Within 32 255 window → FitsLimits (record {
-  conns = 1024;
-  calls = 64;
-  slots = 2048;
+  conns = 1;
+  calls = 1;
+  slots = 511;
   window = window;
 })
 client_fits window wide =

@@ -1,5 +1,5 @@
 -- What `call` does and leaves, by how it ended. Public clauses cite this module.
-use Rattle.std.specs.Prelude.{◌≡◌, ◌⊎◌, ◌≤◌, ◌<◌, ◌^◌, ◌||◌, ◌++◌, ℕ, ℤ, Bool, true, false, List, codes}
+use Rattle.std.specs.Prelude.{◌≡◌, ◌⊎◌, ◌≤◌, ◌<◌, ◌^◌, ◌||◌, ◌++◌, ◌+◌, ◌*◌, ℕ, ℤ, Bool, true, false, List, codes}
 use Rattle.std.specs.Prelude.{is_some, length, Option, Some, None, Result, Ok, Err, IsSomeAnd, ⊤}
 use Rattle.std.specs.String.{string_bytes}
 use Rattle.rx_base.specs.Files.{IsNoted}
@@ -9,7 +9,7 @@ use Rattle.rx_jumbo.specs.declared.sizes.TheConstants.{JUMBO_PARTS}
 use Rattle.rx_model.specs.declared.answers.End.{End}
 use Rattle.rx_model.specs.declared.answers.End.TheVariants as ends
 use Rattle.rx_model.specs.declared.names.Limits.{Limits}
-use Rattle.rx_model.specs.declared.wire.TheConstants.{DEFAULT_CALLS, DEFAULT_CONNS, DEFAULT_SLOTS, SILENCE_MS}
+use Rattle.rx_model.specs.declared.wire.TheConstants.{MAX_WINDOW, SILENCE_MS}
 use Rattle.rx_passes.specs.declared.calling.CallEnd.{CallEnd}
 use Rattle.rx_passes.specs.declared.calling.CallEnd.TheVariants as call_ends
 use Rattle.rx_passes.specs.declared.calling.Calling.{Calling}
@@ -45,10 +45,10 @@ use Rattle.rx_top.specs.Wires.{EndsAtInput, EndsAtKey, IsClass, wire_said, wire_
 
 -- ---- the words
 
--- the limits of a client with this window
+-- the limits of a client with this window, which makes one call: its slots are the widest windows of both its streams,
+-- beside one for the call
 abbrev pub client_limits : ℕ → Limits
-client_limits window =
-    record { conns = DEFAULT_CONNS; calls = DEFAULT_CALLS; slots = DEFAULT_SLOTS; window = window }
+client_limits window = record { conns = 1; calls = 1; slots = 2 * MAX_WINDOW + 1; window = window }
 
 -- a client can be set up with these words
 pub record CanCall (w : Calling) : Type 0 where

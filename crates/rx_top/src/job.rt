@@ -7,7 +7,7 @@ ghost use Rattle.rx_top.specs.Jobs.{call_job, job_of, serve_job};
 use crate::call::CallWords;
 use crate::serve::ServeFiles;
 use crate::sim::SimFiles;
-use rx_model::wire::{DEFAULT_CALLS, DEFAULT_CONNS, DEFAULT_SLOTS};
+use rx_model::wire::MAX_WINDOW;
 use rx_model::{Host, Limits};
 use rx_passes::{Calling, Serving};
 use rx_words::Command;
@@ -129,14 +129,14 @@ fn call_job(
     Job::Call(asked, calling)
 }
 
-/// The limits of a client with this window.
+/// The limits of a client with this window, which makes one call and needs no room for others.
 fn limits_with(window: u32) -> Limits
     ensures { result ≡ client_limits window }
 {
     Limits {
-        conns: DEFAULT_CONNS,
-        calls: DEFAULT_CALLS,
-        slots: DEFAULT_SLOTS,
+        conns: 1,
+        calls: 1,
+        slots: 2 * MAX_WINDOW + 1,
         window,
     }
 }
