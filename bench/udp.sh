@@ -56,11 +56,14 @@ run() {
 }
 
 # measure WHAT CALLS SIZE WORD..: a line of the table for each pair of ends. They run in turns, so that all have the
-# machine as it is at the time. Many calls of one client are those of the C client alone.
+# machine as it is at the time, with servers that begin with the work: a poll of `rx serve` goes over each client that it
+# has seen. Many calls of one client are those of the C client alone.
 measure() {
     local what=$1 calls=$2 size=$3 pairs=('OpenAFS, OpenAFS' 'OpenAFS, rx serve') ends i first
     shift 3
     [ "$calls" != 1 ] || pairs+=('rx call, OpenAFS' 'rx call, rx serve')
+    start_ready theirs "$work/peers/server" 7920 ${JUMBO:+"jumbo"} &&
+        serve ours "$xg" "$work/script" 127.0.0.1:7921 60 --jumbo "$jumbo" || exit
     for ((i = 0; i < RUNS; i++)); do
         for ends in "${pairs[@]}"; do
             run "$ends" "$@" >>"$work/runs $ends"
@@ -71,6 +74,7 @@ measure() {
         told "$what" "$ends" "$calls" "$size"
     done
     rm "$work/runs"*
+    end_all
 }
 
 # told WHAT ENDS CALLS SIZE: the line of the table of the fastest of the runs of these ends.
@@ -95,14 +99,10 @@ printf '%s\n' 'on Echo' 'copy Same Body' 'on Up' up 'count Size' 'on Down' down 
 
 echo '| work | client, server | ms a call | a second | client, us a call | server, us a call | beside OpenAFS |'
 echo '|---|---|---|---|---|---|---|'
-jumbo=1
-start_ready theirs "$work/peers/server" 7920 && serve ours "$xg" "$work/script" 127.0.0.1:7921 60 || exit
+jumbo=1 JUMBO=
 measure "$ECHOES echoes, one at a time" "$ECHOES" 0 echo "$ECHOES" 1 20
 measure "$ECHOES echoes, four at a time" "$ECHOES" 0 echo "$ECHOES" 4 20
 one_calls ''
-end_all
 jumbo=4
 export JUMBO=yes
-start_ready theirs "$work/peers/server" 7920 jumbo &&
-    serve ours "$xg" "$work/script" 127.0.0.1:7921 60 --jumbo 4 || exit
 one_calls ', jumbograms'
