@@ -1,11 +1,12 @@
 //! The files of the system.
-ghost use Rattle.std.specs.Prelude.{◌≡◌, ◌≢◌, ◌<◌, ◌≤◌, ◌-◌, ◌^◌, ℕ, IfOk, IfErr, IfSome, vec_len};
+ghost use Rattle.std.specs.Prelude.{◌≡◌, ◌≢◌, ◌<◌, ◌≤◌, ◌+◌, ◌-◌, ◌^◌, ◌++◌, ℕ, IfOk, IfErr, IfSome, vec_len};
+ghost use Rattle.std.specs.Prelude.{drop};
+ghost use Rattle.std.specs.Io.{StartsWith};
 ghost use Rattle.std.specs.IoError.{error_kind};
 ghost use Rattle.rx_base.specs.Files.{HasFile, IsNoted, OnFailed, UnlessFailed, untold_contents, untold_name};
 ghost use Rattle.rx_base.specs.Sink.{HasRisen};
 
 use crate::files::{Files, ReadFault};
-use std::alloc::Global;
 use std::fs::File;
 use std::io::{ErrorKind, Read};
 use std::marker::Model;
@@ -45,9 +46,10 @@ impl<'a, R: rt::Files> Files for DiskFiles<'a, R> {
     ghost faults = { λ faults. faults };
 
     /// A file longer than `MAX_FILE_BYTES` is Failed.
-    fn read(&mut self, alloc: Global, name: &str) -> Result<Vec<u8>, ReadFault>
+    fn read_behind(&mut self, front: Vec<u8>, name: &str) -> Result<Vec<u8>, ReadFault>
         // The trait's clauses, where nothing is told of names and bytes.
-        ensures ok { IfOk result (λ bytes. HasFile untold_contents name.now bytes.items) }
+        ensures front { IfOk result (λ bytes. StartsWith bytes.items front.items) }
+        ensures ok { IfOk result (λ bytes. HasFile untold_contents name.now (drop (vec_len front) bytes.items)) }
         ensures same_contents { untold_contents ≡ untold_contents }
         ensures failed { OnFailed result (IsNoted untold_name untold_name name.now) }
         ensures counted { OnFailed result (HasRisen self.old self.new) }
@@ -55,10 +57,10 @@ impl<'a, R: rt::Files> Files for DiskFiles<'a, R> {
         ensures same_failed_last { UnlessFailed result (untold_name ≡ untold_name) }
 
         // What these files add to the trait's clauses.
-        ensures within { IfOk result (λ bytes. vec_len bytes ≤ MAX_FILE_BYTES) }
+        ensures within { IfOk result (λ bytes. vec_len bytes ≤ vec_len front + MAX_FILE_BYTES) }
     {
         // No clause can say what a file of the system has: tests read some.
-        match read_file(self.rt, alloc, name) {
+        match read_file(self.rt, front, name) {
             Ok(bytes) => Ok(bytes),
             Err(ReadFault::OutOfMemory) => Err(ReadFault::OutOfMemory),
             Err(ReadFault::Failed) => {
@@ -69,33 +71,38 @@ impl<'a, R: rt::Files> Files for DiskFiles<'a, R> {
     }
 }
 
-fn read_file<R: rt::Files>(rt: &R, alloc: Global, name: &str) -> Result<Vec<u8>, ReadFault>
-    ensures { IfOk result (λ bytes. vec_len bytes ≤ MAX_FILE_BYTES) }
+fn read_file<R: rt::Files>(rt: &R, front: Vec<u8>, name: &str) -> Result<Vec<u8>, ReadFault>
+    ensures front { IfOk result (λ bytes. StartsWith bytes.items front.items) }
+    ensures within { IfOk result (λ bytes. vec_len bytes ≤ vec_len front + MAX_FILE_BYTES) }
 {
     let file = File::open(rt, name).map_err(fault_of)?;
-    read_within(alloc, file, MAX_FILE_BYTES)
+    read_within(front, file, MAX_FILE_BYTES)
 }
 
-/// All the bytes that a reader has left, of which there are at most so many.
-fn read_within<R: Read + Drop>(alloc: Global, reader: R, most: u64) -> Result<Vec<u8>, ReadFault>
+/// The bytes that are there, and behind them all that a reader has left, of which there are at most so many.
+fn read_within<R: Read + Drop>(
+    mut bytes: Vec<u8>,
+    reader: R,
+    most: u64,
+) -> Result<Vec<u8>, ReadFault>
     requires { most < 2 ^ 64 - 1 }
-    ensures all { IfOk result (λ bytes. IfSome (R.remaining reader) (λ left. bytes.items ≡ left)) }
-    ensures within { IfOk result (λ bytes. vec_len bytes ≤ most) }
+    ensures front { IfOk result (λ read. StartsWith read.items bytes.items) }
+    ensures all { IfOk result (λ read. IfSome (R.remaining reader) (λ left. read.items ≡ bytes.items ++ left)) }
+    ensures within { IfOk result (λ read. vec_len read ≤ vec_len bytes + most) }
 {
-    let mut bytes = Vec::new(alloc);
     match reader.take(most + 1).read_to_end(&mut bytes) {
-        Ok(_) => bounded(bytes, most),
+        Ok(read) => bounded(bytes, read, most),
         Err(error) => Err(fault_of(error)),
     }
 }
 
-/// The same bytes, unless there are more than so many.
-fn bounded(bytes: Vec<u8>, most: u64) -> Result<Vec<u8>, ReadFault>
+/// The same bytes, unless more than so many of them were read.
+fn bounded(bytes: Vec<u8>, read: usize, most: u64) -> Result<Vec<u8>, ReadFault>
     ensures ok { IfOk result (λ same. same ≡ bytes) }
-    ensures within { IfOk result (λ _. vec_len bytes ≤ most) }
-    ensures over { IfErr result (λ fault. (fault ≡ ReadFault.Failed) × (most < vec_len bytes)) }
+    ensures within { IfOk result (λ _. read ≤ most) }
+    ensures over { IfErr result (λ fault. (fault ≡ ReadFault.Failed) × (most < read)) }
 {
-    if bytes.len() as u64 > most {
+    if read as u64 > most {
         return Err(ReadFault::Failed);
     }
     Ok(bytes)

@@ -1,5 +1,6 @@
 //! Where files are read.
-ghost use Rattle.std.specs.Prelude.{◌≡◌, ℕ, List, Option, IfOk};
+ghost use Rattle.std.specs.Prelude.{◌≡◌, ℕ, List, Option, IfOk, drop, vec_len};
+ghost use Rattle.std.specs.Io.{StartsWith};
 ghost use Rattle.rx_base.specs.Sink.{HasRisen};
 ghost use Rattle.rx_base.specs.Files.{HasFile, IsNoted, OnFailed, UnlessFailed};
 ghost use Rattle.rx_base.specs.declared.files.ReadFault.TheVariants.{OutOfMemory};
@@ -48,8 +49,25 @@ pub trait Files {
     ghost faults: { Self → ℕ };
 
     /// The bytes of the whole file of that name.
-    fn read(&mut self, alloc: Global, name: &str) -> Result<Vec<u8>, ReadFault>
+    final fn read(&mut self, alloc: Global, name: &str) -> Result<Vec<u8>, ReadFault>
         ensures ok { IfOk result (λ bytes. HasFile (contents self.old) name.now bytes.items) }
+        ensures same_contents { contents self.new ≡ contents self.old }
+
+        ensures failed { OnFailed result
+            (IsNoted (failed_last self.old) (failed_last self.new) name.now) }
+        ensures counted { OnFailed result (HasRisen (faults self.old) (faults self.new)) }
+
+        ensures same { UnlessFailed result (faults self.new ≡ faults self.old) }
+        ensures same_failed_last { UnlessFailed result
+            (failed_last self.new ≡ failed_last self.old) }
+    {
+        self.read_behind(Vec::new(alloc), name)
+    }
+
+    /// The bytes that are there, and behind them those of the whole file of that name.
+    fn read_behind(&mut self, front: Vec<u8>, name: &str) -> Result<Vec<u8>, ReadFault>
+        ensures front { IfOk result (λ bytes. StartsWith bytes.items front.items) }
+        ensures ok { IfOk result (λ bytes. HasFile (contents self.old) name.now (drop (vec_len front) bytes.items)) }
         ensures same_contents { contents self.new ≡ contents self.old }
 
         ensures failed { OnFailed result

@@ -1,5 +1,7 @@
 //! Files in memory, for tests.
-ghost use Rattle.std.specs.Prelude.{◌≡◌, ◌⊎◌, ℕ, List, Option, Some, None, Contains, IfOk, IsErr, option_map};
+ghost use Rattle.std.specs.Prelude.{◌≡◌, ◌⊎◌, ℕ, List, Option, Some, None, Contains, IfOk, IsErr, option_map, drop};
+ghost use Rattle.std.specs.Prelude.{vec_len};
+ghost use Rattle.std.specs.Io.{StartsWith};
 ghost use Rattle.std.specs.Option.{option_copied};
 ghost use Rattle.std.specs.String.{string_bytes};
 ghost use Rattle.rx_base.specs.Count.{one_more};
@@ -74,8 +76,9 @@ impl Files for MemFiles {
 
     ghost faults = { λ s. s.faults };
 
-    fn read(&mut self, alloc: Global, name: &str) -> Result<Vec<u8>, ReadFault>
-        ensures ok { IfOk result (λ bytes. HasFile (Some self.old.files) name.now bytes.items) }
+    fn read_behind(&mut self, mut front: Vec<u8>, name: &str) -> Result<Vec<u8>, ReadFault>
+        ensures front { IfOk result (λ bytes. StartsWith bytes.items front.items) }
+        ensures ok { IfOk result (λ bytes. HasFile (Some self.old.files) name.now (drop (vec_len front) bytes.items)) }
         ensures same_contents { Some self.new.files ≡ Some self.old.files }
         ensures failed { OnFailed result
             (IsNoted (Some self.old.failed_last) (Some self.new.failed_last) name.now) }
@@ -94,10 +97,11 @@ impl Files for MemFiles {
         self.reads = self.reads.saturating_add(1);
         let is_planned = self.failing.contains(&self.reads);
         if !is_planned && let Some(bytes) = find(&self.files, name) {
-            return Ok(Vec::from_slice(alloc, bytes)?);
+            front.extend_from_slice(bytes)?;
+            return Ok(front);
         }
         // What can fail for want of memory comes before the count.
-        self.failed_last = Some(String::from_str(alloc, name)?);
+        self.failed_last = Some(String::from_str(*front.allocator(), name)?);
         self.faults = self.faults.saturating_add(1);
         Err(ReadFault::Failed)
     }

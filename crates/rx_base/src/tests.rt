@@ -34,6 +34,20 @@ fn memory_gives_the_first_file_of_a_name(rt: HostRuntime) -> Result<(), Fail> {
 }
 
 #[test]
+fn memory_gives_a_file_behind_what_is_there(rt: HostRuntime) -> Result<(), Fail> {
+    let alloc = rt.alloc();
+    let named: [(&str, &[u8]); 2] = [("a", &[1, 2]), ("b", &[])];
+    let mut files = MemFiles::make(files_named(alloc, &named)?, Vec::new(alloc));
+    let front = Vec::from_slice(alloc, &[8, 9])?;
+    let both = files.read_behind(front, "a")?;
+    assert_eq!(rt; both.as_slice(), [8, 9, 1, 2].as_slice());
+    let same = files.read_behind(both, "b")?;
+    assert_eq!(rt; same.as_slice(), [8, 9, 1, 2].as_slice());
+    assert!(rt; matches!(files.read_behind(same, "c"), Err(ReadFault::Failed)));
+    Ok(())
+}
+
+#[test]
 fn memory_fails_the_reads_that_are_listed(rt: HostRuntime) -> Result<(), Fail> {
     let alloc = rt.alloc();
     let named: [(&str, &[u8]); 1] = [("a", &[7])];

@@ -1,5 +1,5 @@
 /// How a node sends and takes in: the window of each of its calls, in packets, and whether it is prompt. A prompt node
-/// asks for an acknowledgement behind the last piece that it can hold (`rx.c`, `rxi_SendList`, asks far more often).
+/// asks for an acknowledgement behind each half of its window (`rx.c`, `rxi_SendList`, asks far more often).
 #[derive(Clone, Copy, Debug, PartialEq, Eq)]
 pub struct Pace {
     pub window: u32,

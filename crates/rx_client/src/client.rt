@@ -60,8 +60,9 @@ impl<C: Class> Client<C> {
         Ok(Client { node, host, epoch })
     }
 
-    /// The same, but prompt: it asks for an acknowledgement behind the last piece that a call can hold, so that no
-    /// stream waits for a delayed one where the peer's window is no narrower than its own.
+    /// The same, but prompt: it asks for an acknowledgement behind each half of a call's window, so that no stream waits
+    /// for a delayed one where the peer's window is no narrower than its own, and one half is on its way while the other
+    /// is acknowledged.
     pub fn make_prompt(
         alloc: Global,
         limits: &Limits,

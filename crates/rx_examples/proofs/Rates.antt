@@ -10,7 +10,6 @@ use Rattle.rx_rules.specs.Looks.{at_start}
 use Rattle.rx_rules.specs.Rates.{Cwnd, Rtt, after_acked, after_backoff, after_sample, after_timeout, first_cwnd}
 use Rattle.rx_rules.specs.Rates.{first_rtt}
 use Rattle.rx_rules.specs.Records.{fresh_conn}
-use Rattle.rx_rules.specs.Sent.{nothing_sent}
 use Rattle.rx_rules.specs.Setup.{Setup, Server, unprompted}
 use Rattle.rx_examples.proofs.Told.{at_client, call}
 
@@ -66,14 +65,14 @@ backoffs = refl
 
 -- ---- prompt nodes
 
--- behind nothing that is acknowledged, which of the pieces 30, 31 and 32 ask as they are the last that can be held
+-- which of the pieces 15, 16, 17 and 32 end half of a window of 32
 abbrev asking : Bool → List Bool
-asking prompt = map (λ (k : ℕ). prompts (first_cwnd 32 prompt) nothing_sent k) (30 ∷ 31 ∷ 32 ∷ [])
+asking prompt = map (λ (k : ℕ). prompts (first_cwnd 32 prompt) k) (15 ∷ 16 ∷ 17 ∷ 32 ∷ [])
 
-prompt_asks : asking true ≡ false ∷ true ∷ false ∷ []
+prompt_asks : asking true ≡ false ∷ true ∷ false ∷ true ∷ []
 prompt_asks = refl
 
-unprompted_asks : asking false ≡ false ∷ false ∷ false ∷ []
+unprompted_asks : asking false ≡ false ∷ false ∷ false ∷ false ∷ []
 unprompted_asks = refl
 
 -- ---- serials

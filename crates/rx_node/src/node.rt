@@ -117,7 +117,7 @@ impl<C: Class> Node<C> {
     ghost use Rattle.rx_table.specs.declared.seat.TheConstants.{CHANNELS};
 
     /// A node to which nothing happened yet, with all the memory that it will need; a prompt one asks for
-    /// an acknowledgement behind the last piece that a call can hold.
+    /// an acknowledgement behind each half of a call's window.
     pub fn make(
         alloc: Global,
         kind: Kind,

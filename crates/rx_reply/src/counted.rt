@@ -1,7 +1,7 @@
 //! Counted streams: four bytes of length, then the bytes, without padding.
 
-ghost use Rattle.std.specs.Prelude.{◌≡◌, option_map};
-ghost use Rattle.rx_script.specs.Served.{counted};
+ghost use Rattle.std.specs.Prelude.{◌≡◌, ◌≤◌, ◌+◌, ◌++◌, drop, length, option_map, take};
+ghost use Rattle.rx_script.specs.Served.{as_counted, counted};
 ghost use Rattle.rx_reply.specs.Replies.{with_rest, counted_front, download_front};
 
 /// Bytes of a counted stream at most, without those of its length.
@@ -39,4 +39,16 @@ pub fn download_front(down: bool, reply: &[u8]) -> Option<(&[u8], &[u8])>
     } else {
         Some((&[], reply))
     }
+}
+
+/// Writes into the four bytes at this place how many are behind them, of which there are at most `MAX_COUNTED_BYTES`: what
+/// is from there on becomes a counted stream.
+pub fn set_count(bytes: &mut [u8], at: usize)
+    requires room { at + 4 ≤ length bytes.old }
+    requires fits { length bytes.old ≤ at + 4 + MAX_COUNTED_BYTES }
+    ensures { bytes.new ≡ take at bytes.old ++ as_counted (drop (at + 4) bytes.old) }
+{
+    let end = at + 4;
+    let count = (bytes.len() - end) as u32;
+    bytes[at..end].copy_from_slice(&count.to_be_bytes());
 }

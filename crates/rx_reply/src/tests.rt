@@ -2,7 +2,7 @@
 
 mod afs;
 
-use crate::{proc_named, reply_parts, reply_text, request_bytes};
+use crate::{proc_named, reply_parts, reply_text, request_bytes, set_count};
 use afs::{bytes_of, fid, interface};
 use std::alloc::{AllocError, Global};
 use std::process::Abort;
@@ -140,4 +140,13 @@ fn requests_are_sent_with_their_uploads(rt: HostRuntime) -> Result<(), AllocErro
     let none = asked(alloc, &[], Some(b"abc"))?;
     assert_eq!(rt; none.as_str(), "-450");
     Ok(())
+}
+
+#[test]
+fn a_count_stands_in_front_of_what_it_counts(rt: HostRuntime) {
+    let mut bytes = [9, 9, 1, 2, 3, 4, 5, 6, 7];
+    set_count(&mut bytes, 2);
+    assert_eq!(rt; bytes, [9, 9, 0, 0, 0, 3, 5, 6, 7]);
+    set_count(&mut bytes, 5);
+    assert_eq!(rt; bytes, [9, 9, 0, 0, 0, 0, 0, 0, 0]);
 }

@@ -1,5 +1,6 @@
-ghost use Rattle.std.specs.Prelude.{◌≡◌, ◌≤◌, ◌+◌, ◌==◌, ◌&&◌, nat_lt, suc};
+ghost use Rattle.std.specs.Prelude.{◌≡◌, ◌≤◌, nat_lt};
 ghost use Rattle.rx_rules.specs.Rates.{first_cwnd, after_acked, after_timeout};
+ghost use Rattle.rx_rules.specs.CallItems.{prompts};
 
 use rx_model::wire::{FIRST_CWND, MIN_SSTHRESH};
 use std::marker::Model;
@@ -12,7 +13,7 @@ pub struct Cwnd {
     ssthresh: u32,
     /// The node's own window, which the window never passes.
     most: u32,
-    /// Whether the node asks behind the last piece that it can hold.
+    /// Whether the node asks behind each half of its own window.
     prompt: bool,
 }
 
@@ -74,11 +75,10 @@ impl Cwnd {
         in_flight < self.window
     }
 
-    /// Whether a piece asks as it is the last that a prompt node can hold beside the one that is being filled, where so
-    /// many are acknowledged.
-    pub fn prompts(&self, acked: u32, seq: u32) -> bool
-        ensures { result ≡ (self.now.prompt && (suc seq == acked + self.now.most)) }
+    /// Whether a piece asks as it ends half of a prompt node's own window.
+    pub fn prompts(&self, seq: u32) -> bool
+        ensures { result ≡ prompts self.now seq }
     {
-        self.prompt && seq as u64 + 1 == acked as u64 + self.most as u64
+        self.prompt && seq % (self.most / 2) == 0
     }
 }

@@ -76,18 +76,21 @@ fn the_window_ends_at_the_nodes_own(rt: HostRuntime) -> Result<(), Fail> {
 }
 
 #[test]
-fn a_prompt_node_asks_behind_the_last_piece_that_it_can_hold(rt: HostRuntime) -> Result<(), Fail> {
-    let greatest = u32::MAX;
-    for (acked, seq, asks) in [
-        (0, 30, false),
-        (0, 31, true),
-        (0, 32, false),
-        (100, 131, true),
-        (greatest, greatest, false),
-        (greatest - 31, greatest, true),
+fn a_prompt_node_asks_behind_each_half_of_its_window(rt: HostRuntime) -> Result<(), Fail> {
+    for (most, seq, asks) in [
+        (32, 1, false),
+        (32, 15, false),
+        (32, 16, true),
+        (32, 17, false),
+        (32, 32, true),
+        (32, u32::MAX - 15, true),
+        (255, 126, false),
+        (255, 127, true),
+        (255, 254, true),
+        (255, 255, false),
     ] {
-        assert_eq!(rt; Cwnd::new(32, true).prompts(acked, seq), asks);
-        assert!(rt; !Cwnd::new(32, false).prompts(acked, seq));
+        assert_eq!(rt; Cwnd::new(most, true).prompts(seq), asks);
+        assert!(rt; !Cwnd::new(most, false).prompts(seq));
     }
     Ok(())
 }

@@ -1,6 +1,6 @@
 -- What one end of a call owes. Public clauses cite this module.
-use Rattle.std.specs.Prelude.{◌==◌, ◌&&◌, ◌||◌, ◌+◌, if◌then◌else◌, nat_lt, nat_le, ℕ, suc, Bool, true, false, List, []}
-use Rattle.std.specs.Prelude.{◌∷◌, ◌++◌, filter, Option, Some, None, option_map}
+use Rattle.std.specs.Prelude.{◌==◌, ◌&&◌, ◌||◌, ◌+◌, ◌/◌, ◌%◌, if◌then◌else◌, nat_lt, nat_le, ℕ, suc, Bool, true, false, List}
+use Rattle.std.specs.Prelude.{[], ◌∷◌, ◌++◌, filter, Option, Some, None, option_map}
 use Rattle.rx_model.specs.declared.wire.TheConstants.{REQUEST_ACK, LAST_PACKET, ACK_PING, PING_MS}
 use Rattle.rx_model.specs.Body.{Body, AckBody}
 use Rattle.rx_model.specs.Body as bodies
@@ -75,18 +75,18 @@ after_sending now (Ack reason serial) k = after_ack_given now k
 
 -- ---- its datagram
 
--- behind it a node can hold only the piece that is being filled, and it asks then
-abbrev pub prompts : Cwnd → Sent → ℕ → Bool
-prompts c s k = c.prompt && (suc k == s.acked + c.most)
-
--- behind its giving a window is full: that of congestion, the peer's, or its own
+-- behind its giving a window is full: that of congestion, or the peer's
 abbrev pub fills : Cwnd → Sent → ℕ → Bool
-fills c s k =
-    nat_le c.window (in_flight (after_giving 0 k s)) || ((k == s.acked + s.peer_window) || prompts c s k)
+fills c s k = nat_le c.window (in_flight (after_giving 0 k s)) || (k == s.acked + s.peer_window)
 
--- a piece asks for an acknowledgement where it is the last, is given again, or fills a window
+-- it ends half of a prompt node's own window
+abbrev pub prompts : Cwnd → ℕ → Bool
+prompts c k = c.prompt && (k % (c.most / 2) == 0)
+
+-- a piece asks for an acknowledgement where it is the last, is given again, fills a window, or ends half of the own one
+-- of a prompt node
 abbrev pub asks : Cwnd → Sent → ℕ → Bool → Bool
-asks c s seq again = (piece_at s seq).last || (again || fills c s seq)
+asks c s seq again = (piece_at s seq).last || (again || (fills c s seq || prompts c seq))
 
 -- REQUEST_ACK where it asks, LAST_PACKET where it is the last
 abbrev pub flags_of : Bool → Bool → ℕ

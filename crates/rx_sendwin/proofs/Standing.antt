@@ -6,7 +6,7 @@ use Rattle.std.proofs.Common.{sym, ap, ◌∙◌, arith}
 use Rattle.std.proofs.lemmas.Bool.Decides.{nat_tests}
 use Rattle.std.proofs.lemmas.Bool.{cases_lt}
 use Rattle.rx_model.specs.declared.wire.TheConstants.{LAST_SEQ}
-use Rattle.rx_rules.specs.CallItems.{can_give, asks}
+use Rattle.rx_rules.specs.CallItems.{can_give, asks, prompts}
 use Rattle.rx_rules.specs.Rates.{Cwnd}
 use Rattle.rx_rules.specs.Sent.{Sent, pieces_by, counting_by, pieces_of, counting_of}
 use Rattle.rx_rules.specs.Sent.{piece_at}
@@ -84,8 +84,8 @@ full_is a b = grind (arith, nat_tests)
 pub asks_is : (pool : Slots) (w : SendWindow) (s : Sent) (low flight : ℕ) (c : Cwnd) (last : Bool) →
     StandsSent pool w s →
     IsTied w low flight → last ≡ (piece_at s (w.given + 1)).last →
-    (last || (not (nat_lt (flight + 1) c.window)
-    || (((w.given + 1) == w.acked + w.peer_window) || (c.prompt && (suc (w.given + 1) == w.acked + c.most)))))
+    (last || ((not (nat_lt (flight + 1) c.window)
+    || ((w.given + 1) == w.acked + w.peer_window)) || prompts c (w.given + 1)))
     ≡ asks c s (suc (given_of s)) false
 asks_is pool w s low flight c last st tied is =
     let seq : w.given + 1 ≡ suc (given_of s) = ap (λ n. n + 1) st.given ∙ omega arith in
@@ -97,4 +97,4 @@ asks_is pool w s low flight c last st tied is =
     (
     full_is (flight + 1) c.window ∙ ap (nat_le c.window) fly) in
     λ i. (is ∙ ap (λ k. (piece_at s k).last) seq) i
-    || (full i || ((seq i == st.acked i + st.peer i) || (c.prompt && (suc (seq i) == st.acked i + c.most))))
+    || ((full i || (seq i == st.acked i + st.peer i)) || prompts c (seq i))

@@ -168,10 +168,10 @@ pub fn goes(counts: bool, fits: bool, lets: bool) -> bool
     counts && fits && lets
 }
 
-/// Whether a piece asks for an acknowledgement: it is the last, or fills the window of congestion, the peer's, or that
-/// of a prompt node.
+/// Whether a piece asks for an acknowledgement: it is the last, or fills the window of congestion or the peer's, or ends
+/// half of a prompt node's own.
 pub fn asks(last: bool, fits: bool, fills: bool, prompts: bool) -> bool
-    ensures { result ≡ (last || (not fits || (fills || prompts))) }
+    ensures { result ≡ (last || ((not fits || fills) || prompts)) }
 {
     last || !fits || fills || prompts
 }

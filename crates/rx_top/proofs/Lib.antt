@@ -4,3 +4,4 @@ pub mod SimLemmas
 pub mod JobLemmas
 pub mod WireLemmas
 pub mod SilenceLemmas
+pub mod UploadLemmas

@@ -24,6 +24,7 @@ use Rattle.rx_reply.specs.Sent.{sent_spelling}
 use Rattle.rx_rules.specs.Classes.{Class}
 use Rattle.rx_rules.specs.Setup.{FitsLimits}
 use Rattle.rx_script.specs.Procs.{proc_named}
+use Rattle.rx_script.specs.Served.{as_counted}
 use Rattle.serde_json.specs.Read.{read}
 use Rattle.stub_table.specs.Answers.{CanRequest}
 use Rattle.stub_table.specs.declared.codes.TheConstants.{CC_MARSHAL}
@@ -73,10 +74,12 @@ AsksStream words p = (p.split ≡ false) × ((is_some words.up || words.down) �
 
 -- ---- values
 
--- a text says these values, and they are those of a request
-pub record SaysRequest (t : Types) (p : Procedure) (text : List ℕ) (vs : Data) : Type 0 where
-  pub says : args_in t p.params text ≡ Some (Ok vs)
-  pub can : CanRequest t p vs
+-- a text says values, and these are the bytes of their request, without an upload
+pub record SaysRequest (t : Types) (p : Procedure) (text request : List ℕ) : Type 0 where
+  pub values : Data
+  pub says : args_in t p.params text ≡ Some (Ok values)
+  pub can : CanRequest t p values
+  pub spelled : request ≡ sent_spelling t p values None
 
 -- a text says values that are none of a request, for which there is this code
 pub record SaysNoRequest (t : Types) (p : Procedure) (text : List ℕ) (code : ℤ) : Type 0 where
@@ -111,15 +114,14 @@ RefusesUpload (outcomes.BadArgs faults.Number) upload = MAX_COUNTED_BYTES < leng
 RefusesUpload outcomes.OutOfMemory upload = ⊤
 RefusesUpload _ upload = ⊥
 
--- the bytes of the request of these values, with this upload behind it, which isn't too long
-abbrev pub IsUploaded : Types → Procedure → Data → List ℕ → List ℕ → Type 0
-IsUploaded t p vs request upload =
-    (length upload ≤ MAX_COUNTED_BYTES) × (request ≡ sent_spelling t p vs (Some upload))
+-- an upload isn't too long, and stands behind a request as a counted stream
+abbrev pub HasUpload : List ℕ → List ℕ → List ℕ → Type 0
+HasUpload request upload bytes = (length upload ≤ MAX_COUNTED_BYTES) × (bytes ≡ request ++ as_counted upload)
 
--- the bytes of the request of these values, with the upload behind it that the named file is, if one is named
-abbrev pub IsSent : Option (List (List ℕ × List ℕ)) → Option (List ℕ) → Types → Procedure → Data → List ℕ → Type 0
-IsSent contents None t p vs request = request ≡ sent_spelling t p vs None
-IsSent contents (Some name) t p vs request = Gives contents name (IsUploaded t p vs request)
+-- a request, with the upload behind it that the named file is, if one is named
+abbrev pub IsSent : Option (List (List ℕ × List ℕ)) → Option (List ℕ) → List ℕ → List ℕ → Type 0
+IsSent contents None request bytes = bytes ≡ request
+IsSent contents (Some name) request bytes = Gives contents name (λ upload. HasUpload request upload bytes)
 
 -- ---- the reply
 
@@ -186,25 +188,26 @@ pub record CallsServer (a : CallAsked) (w : Calling) (request : List ℕ) (class
 
 -- ---- the whole command
 
--- with a request, `call` ends at the key file, and nothing was told; or it went on with the class
+-- with what is sent, `call` ends at the key file, and nothing was told; or it went on with the class
 abbrev pub CallsAtKey : CallAsked → CallWords → Calling → List ℕ → WireOutcome → Reads → Told → Told → Type 0
 CallsAtKey a words w request outcome r before after =
     (IsSomeAnd words.key (λ name. EndsAtKey outcome name r) × (after ≡ before))
     ⊎ ((class : Class) × IsClass r.contents words.key class × CallsServer a w request class outcome before after)
 
--- with the values of a request, it ends at the file of the upload, and nothing was told; or it went on with the request
-abbrev pub CallsAtUpload : CallAsked → CallWords → Calling → Data → WireOutcome → Reads → Told → Told → Type 0
-CallsAtUpload a words w vs outcome r before after =
+-- with a request, it ends at the file of the upload, and nothing was told; or it went on with what is sent
+abbrev pub CallsAtUpload : CallAsked → CallWords → Calling → List ℕ → WireOutcome → Reads → Told → Told → Type 0
+CallsAtUpload a words w request outcome r before after =
     (IsSomeAnd words.up (λ name. EndsAtUpload outcome name r) × (after ≡ before))
-    ⊎ ((request : List ℕ) × IsSent r.contents words.up a.meant.types a.proc vs request
-    × CallsAtKey a words w request outcome r before after)
+    ⊎ ((sent : List ℕ) × IsSent r.contents words.up request sent
+    × CallsAtKey a words w sent outcome r before after)
 
 -- of a procedure with the streams that are asked for, it ends at the text of the values, and nothing was told; or it
--- went on with the values
+-- went on with their request
 abbrev pub CallsAtValues : CallAsked → CallWords → Calling → WireOutcome → Reads → Told → Told → Type 0
 CallsAtValues a words w outcome r before after =
     (EndsAtValues outcome a.meant.types a.proc words.args × (after ≡ before))
-    ⊎ ((vs : Data) × SaysRequest a.meant.types a.proc words.args vs × CallsAtUpload a words w vs outcome r before after)
+    ⊎ ((request : List ℕ) × SaysRequest a.meant.types a.proc words.args request
+    × CallsAtUpload a words w request outcome r before after)
 
 -- of a procedure, it ends at its streams, and nothing was told; or it has those that are asked for
 abbrev pub CallsAtStreams : CallAsked → CallWords → Calling → WireOutcome → Reads → Told → Told → Type 0

@@ -4,9 +4,7 @@ ghost use Rattle.std.specs.Prelude.{◌≡◌, ◌≢◌, List, ℕ};
 ghost use Rattle.std.specs.List.{Contains};
 ghost use Rattle.rx_base.specs.Sink.{HasRisen};
 ghost use Rattle.rx_passes.specs.Tells.{sink_tells, told, wire_tells};
-ghost use Rattle.stub_table.specs.Answers.{CanRequest};
-ghost use Rattle.rx_reply.specs.Sent.{sent_spelling};
-ghost use Rattle.xdr_value.specs.View.{proc_of, procs_of, types_of, values_of};
+ghost use Rattle.xdr_value.specs.View.{proc_of, procs_of};
 ghost use Rattle.xg_check.specs.Meaning.{interface_of};
 ghost use Rattle.rx_top.specs.Calls.{CallsAtKey, CallsAtProc, CallsAtStreams, CallsAtUpload, CallsAtValues, CallsAtXg};
 ghost use Rattle.rx_top.specs.Calls.{CanCall, asked_of};
@@ -16,7 +14,7 @@ ghost use Rattle.rx_top.specs.Wires.{wire_status};
 use crate::inputs::read_interface;
 use crate::keys::named_class;
 use crate::reply::call_with;
-use crate::request::{Said, said_by, sent_with};
+use crate::request::{said_by, sent_with};
 use crate::status::Status;
 use crate::wire_outcome::{ArgsFault, WireOutcome};
 use rx_base::{Files, Sink};
@@ -173,19 +171,19 @@ fn call_streams<'a, F: Files, O: Sink, W: Wire, J: Journal>(
         → F.failed_last files.new ≡ F.failed_last files.old }
 {
     match said_by(alloc, iface, p, asked.args.as_str()) {
-        Ok(said) => call_values(
-            alloc, iface, p, said, asked, calling, files, out, wire, book,
+        Ok(request) => call_said(
+            alloc, iface, p, request, asked, calling, files, out, wire, book,
         ),
         Err(outcome) => outcome,
     }
 }
 
-/// Goes on with the values of a request.
-fn call_values<'a, F: Files, O: Sink, W: Wire, J: Journal>(
+/// Goes on with the request of the values.
+fn call_said<'a, F: Files, O: Sink, W: Wire, J: Journal>(
     alloc: Global,
     iface: &Interface,
     p: &Proc,
-    said: Said,
+    request: Vec<u8>,
     asked: &'a CallWords,
     calling: &Calling,
     files: &mut F,
@@ -195,11 +193,8 @@ fn call_values<'a, F: Files, O: Sink, W: Wire, J: Journal>(
 ) -> WireOutcome<'a>
     requires calling { CanCall calling.now }
     requires one { Contains (procs_of iface.now.procs.items) (proc_of p.now) }
-    requires can { CanRequest (types_of iface.now.types.items) (proc_of p.now) (values_of said.values.items) }
-    requires spelled { said.request.items
-        ≡ sent_spelling (types_of iface.now.types.items) (proc_of p.now) (values_of said.values.items) None }
     ensures call { CallsAtUpload (asked_of iface.now p.now asked.now.down)
-        asked.now calling.now (values_of said.values.items) result
+        asked.now calling.now request.items result
         (reads_by F.contents F.failed_last files.old files.new)
         (told (J.told book.old) (sink_tells (O.told out.old) (O.faults out.old))
         (wire_tells (W.told wire.old) (W.faults wire.old) (W.moment wire.old)))
@@ -215,20 +210,20 @@ fn call_values<'a, F: Files, O: Sink, W: Wire, J: Journal>(
     ensures same_failed_last { wire_status result ≢ Status.FileFault
         → F.failed_last files.new ≡ F.failed_last files.old }
 {
-    match sent_with(alloc, iface, p, said, &asked.up, files) {
-        Ok(request) => call_request(
-            alloc, iface, p, request, asked, calling, files, out, wire, book,
+    match sent_with(request, &asked.up, files) {
+        Ok(sent) => call_sent(
+            alloc, iface, p, sent, asked, calling, files, out, wire, book,
         ),
         Err(outcome) => outcome,
     }
 }
 
-/// Goes on with the bytes of a request.
-fn call_request<'a, F: Files, O: Sink, W: Wire, J: Journal>(
+/// Goes on with the bytes that are sent.
+fn call_sent<'a, F: Files, O: Sink, W: Wire, J: Journal>(
     alloc: Global,
     iface: &Interface,
     p: &Proc,
-    request: Vec<u8>,
+    sent: Vec<u8>,
     asked: &'a CallWords,
     calling: &Calling,
     files: &mut F,
@@ -239,7 +234,7 @@ fn call_request<'a, F: Files, O: Sink, W: Wire, J: Journal>(
     requires calling { CanCall calling.now }
     requires one { Contains (procs_of iface.now.procs.items) (proc_of p.now) }
     ensures call { CallsAtKey (asked_of iface.now p.now asked.now.down)
-        asked.now calling.now request.items result (reads_by F.contents F.failed_last files.old files.new)
+        asked.now calling.now sent.items result (reads_by F.contents F.failed_last files.old files.new)
         (told (J.told book.old) (sink_tells (O.told out.old) (O.faults out.old))
         (wire_tells (W.told wire.old) (W.faults wire.old) (W.moment wire.old)))
         (told (J.told book.new) (sink_tells (O.told out.new) (O.faults out.new))
@@ -256,7 +251,7 @@ fn call_request<'a, F: Files, O: Sink, W: Wire, J: Journal>(
 {
     match named_class(alloc, &asked.key, files) {
         Ok(class) => call_with(
-            alloc, iface, p, asked.down, request, calling, class, out, wire, book,
+            alloc, iface, p, asked.down, sent, calling, class, out, wire, book,
         ),
         Err(outcome) => outcome,
     }

@@ -1,54 +1,44 @@
 //! The request of a call: the values that a text says, and the upload behind them.
 
-ghost use Rattle.std.specs.Prelude.{◌≡◌, ◌≢◌, List, ℕ, IfErr, IfOk, IsSomeAnd, Ok, Err};
+ghost use Rattle.std.specs.Prelude.{◌≡◌, ◌≢◌, ◌≤◌, ◌+◌, List, ℕ, IfErr, IfOk, IsSomeAnd, None, Ok, Err, drop, take};
+ghost use Rattle.std.specs.Prelude.{vec_len};
 ghost use Rattle.std.specs.List.{Contains};
 ghost use Rattle.rx_base.specs.Sink.{HasRisen};
-ghost use Rattle.rx_reply.specs.Sent.{sent_spelling};
-ghost use Rattle.stub_table.specs.Answers.{CanRequest};
 ghost use Rattle.xdr_json.specs.Args.{AreArgs, args_in};
 ghost use Rattle.xdr_value.specs.Data.{Procedure, Types};
-ghost use Rattle.xdr_value.specs.View.{param_of, proc_of, procs_of, types_of, values_of};
-ghost use Rattle.rx_top.specs.Calls.{EndsAtUpload, EndsAtValues, IsSent, IsUploaded, RefusesUpload, SaysRequest};
-ghost use Rattle.rx_top.specs.Inputs.{reads_by};
+ghost use Rattle.xdr_value.specs.View.{proc_of, procs_of, types_of, values_of};
+ghost use Rattle.rx_top.specs.Calls.{EndsAtUpload, EndsAtValues, HasUpload, IsSent, RefusesUpload, SaysRequest};
+ghost use Rattle.rx_top.specs.Inputs.{Gives, reads_by};
 ghost use Rattle.rx_top.specs.Wires.{wire_status, wire_status_in};
 
 use crate::outcome::SimOutcome;
 use crate::status::Status;
 use crate::wire_outcome::{ArgsFault, WireOutcome};
 use rx_base::{Files, ReadFault};
-use rx_reply::{MAX_COUNTED_BYTES, request_bytes};
+use rx_reply::{MAX_COUNTED_BYTES, request_bytes, set_count};
 use std::alloc::Global;
 use stub_table::StubFault;
 use xdr_json::{JsonFault, args_from_json};
 use xdr_value::{Interface, Proc, Value};
 use xg_lex::Text;
 
-/// The values of a request, and its bytes without an upload.
-#[derive(Debug, Drop)]
-pub struct Said {
-    pub values: Vec<Value>,
-    pub request: Vec<u8>,
-}
-
-/// The values that a text says for a procedure, where they are those of a request.
+/// The request of the values that a text says for a procedure, without an upload, where they are those of a request.
 pub fn said_by<'a>(
     alloc: Global,
     iface: &Interface,
     p: &Proc,
     text: &str,
-) -> Result<Said, WireOutcome<'a>>
+) -> Result<Vec<u8>, WireOutcome<'a>>
     requires { Contains (procs_of iface.now.procs.items) (proc_of p.now) }
-    ensures ok { IfOk result (λ said. SaysRequest (types_of iface.now.types.items) (proc_of p.now) text.now
-        (values_of said.values.items)) }
-    ensures spelled { IfOk result (λ said. said.request.items
-        ≡ sent_spelling (types_of iface.now.types.items) (proc_of p.now) (values_of said.values.items) None) }
+    ensures ok { IfOk result (λ request. SaysRequest (types_of iface.now.types.items) (proc_of p.now) text.now
+        request.items) }
     ensures err { IfErr result (λ o. EndsAtValues o (types_of iface.now.types.items) (proc_of p.now) text.now) }
     ensures no_file_fault { wire_status_in result ≢ Status.FileFault }
     ensures no_sink_fault { wire_status_in result ≢ Status.SinkFault }
     ensures no_wire_fault { wire_status_in result ≢ Status.WireFault }
 {
     match args_from_json(alloc, iface, &p.args, text) {
-        Ok(values) => spelled(alloc, iface, p, values),
+        Ok(values) => spelled(alloc, iface, p, &values),
         Err(fault) => Err(misfit(fault)),
     }
 }
@@ -58,24 +48,21 @@ fn spelled<'a>(
     alloc: Global,
     iface: &Interface,
     p: &Proc,
-    values: Vec<Value>,
-) -> Result<Said, WireOutcome<'a>>
+    values: &[Value],
+) -> Result<Vec<u8>, WireOutcome<'a>>
     requires { Contains (procs_of iface.now.procs.items) (proc_of p.now) }
     ensures ok { (text : List ℕ)
-        → args_in (types_of iface.now.types.items) (proc_of p.now).params text ≡ Some (Ok (values_of values.items))
-        → IfOk result (λ said. SaysRequest (types_of iface.now.types.items) (proc_of p.now) text
-        (values_of said.values.items)) }
-    ensures spelled { IfOk result (λ said. said.request.items
-        ≡ sent_spelling (types_of iface.now.types.items) (proc_of p.now) (values_of said.values.items) None) }
+        → args_in (types_of iface.now.types.items) (proc_of p.now).params text ≡ Some (Ok (values_of values.now))
+        → IfOk result (λ request. SaysRequest (types_of iface.now.types.items) (proc_of p.now) text request.items) }
     ensures err { (text : List ℕ)
-        → args_in (types_of iface.now.types.items) (proc_of p.now).params text ≡ Some (Ok (values_of values.items))
+        → args_in (types_of iface.now.types.items) (proc_of p.now).params text ≡ Some (Ok (values_of values.now))
         → IfErr result (λ o. EndsAtValues o (types_of iface.now.types.items) (proc_of p.now) text) }
     ensures no_file_fault { wire_status_in result ≢ Status.FileFault }
     ensures no_sink_fault { wire_status_in result ≢ Status.SinkFault }
     ensures no_wire_fault { wire_status_in result ≢ Status.WireFault }
 {
-    match request_bytes(alloc, iface, p, &values, None) {
-        Ok(request) => Ok(Said { values, request }),
+    match request_bytes(alloc, iface, p, values, None) {
+        Ok(request) => Ok(request),
         Err(StubFault::Code(code)) => Err(WireOutcome::BadArgs(ArgsFault::Code(code))),
         Err(StubFault::OutOfMemory) => Err(WireOutcome::OutOfMemory),
     }
@@ -101,19 +88,11 @@ fn misfit<'a>(fault: JsonFault) -> WireOutcome<'a>
 
 /// The bytes of a request, with the upload behind it that the named file is, if one is named.
 pub fn sent_with<'a, F: Files>(
-    alloc: Global,
-    iface: &Interface,
-    p: &Proc,
-    said: Said,
+    request: Vec<u8>,
     up: &'a Option<Text>,
     files: &mut F,
 ) -> Result<Vec<u8>, WireOutcome<'a>>
-    requires one { Contains (procs_of iface.now.procs.items) (proc_of p.now) }
-    requires can { CanRequest (types_of iface.now.types.items) (proc_of p.now) (values_of said.values.items) }
-    requires spelled { said.request.items
-        ≡ sent_spelling (types_of iface.now.types.items) (proc_of p.now) (values_of said.values.items) None }
-    ensures ok { IfOk result (λ bytes. IsSent (F.contents files.old) up.now (types_of iface.now.types.items)
-        (proc_of p.now) (values_of said.values.items) bytes.items) }
+    ensures ok { IfOk result (λ bytes. IsSent (F.contents files.old) up.now request.items bytes.items) }
     ensures err { IfErr result (λ o. IsSomeAnd up.now (λ name. EndsAtUpload o name
         (reads_by F.contents F.failed_last files.old files.new))) }
     ensures file_fault { wire_status_in result ≡ Status.FileFault → HasRisen (F.faults files.old) (F.faults files.new) }
@@ -125,24 +104,19 @@ pub fn sent_with<'a, F: Files>(
         → F.failed_last files.new ≡ F.failed_last files.old }
 {
     match up {
-        None => Ok(said.request),
-        Some(name) => upload_file(alloc, iface, p, &said.values, name.as_str(), files),
+        None => Ok(request),
+        Some(name) => upload_file(request, name.as_str(), files),
     }
 }
 
-/// The bytes of the request of these values, with the upload behind it that this file is.
+/// The bytes of a request, with the upload behind it that this file is.
 fn upload_file<'a, F: Files>(
-    alloc: Global,
-    iface: &Interface,
-    p: &Proc,
-    values: &[Value],
+    mut request: Vec<u8>,
     name: &'a str,
     files: &mut F,
 ) -> Result<Vec<u8>, WireOutcome<'a>>
-    requires one { Contains (procs_of iface.now.procs.items) (proc_of p.now) }
-    requires can { CanRequest (types_of iface.now.types.items) (proc_of p.now) (values_of values.now) }
-    ensures ok { IfOk result (λ bytes. IsSent (F.contents files.old) (Some name.now) (types_of iface.now.types.items)
-        (proc_of p.now) (values_of values.now) bytes.items) }
+    ensures ok { IfOk result (λ bytes. Gives (F.contents files.old) name.now
+        (λ upload. HasUpload request.items upload bytes.items)) }
     ensures err { IfErr result (λ o. EndsAtUpload o name.now (reads_by F.contents F.failed_last files.old files.new)) }
     ensures file_fault { wire_status_in result ≡ Status.FileFault → HasRisen (F.faults files.old) (F.faults files.new) }
     ensures no_file_fault { wire_status_in result ≢ Status.FileFault → F.faults files.new ≡ F.faults files.old }
@@ -152,36 +126,30 @@ fn upload_file<'a, F: Files>(
     ensures same_failed_last { wire_status_in result ≢ Status.FileFault
         → F.failed_last files.new ≡ F.failed_last files.old }
 {
-    match files.read(alloc, name) {
-        Ok(upload) => uploaded(alloc, iface, p, values, upload.as_slice()),
+    let at = request.len();
+    // Room for the upload's count, which is known once it is read: so it is read to where it is sent from.
+    if request.extend_from_slice(&[0; 4]).is_err() {
+        return Err(WireOutcome::OutOfMemory);
+    }
+    match files.read_behind(request, name) {
+        Ok(bytes) => uploaded(bytes, at),
         Err(ReadFault::Failed) => Err(WireOutcome::Input(SimOutcome::FileFault { file: name })),
         Err(ReadFault::OutOfMemory) => Err(WireOutcome::OutOfMemory),
     }
 }
 
-/// The same with the upload that these bytes are.
-fn uploaded<'a>(
-    alloc: Global,
-    iface: &Interface,
-    p: &Proc,
-    values: &[Value],
-    upload: &[u8],
-) -> Result<Vec<u8>, WireOutcome<'a>>
-    requires one { Contains (procs_of iface.now.procs.items) (proc_of p.now) }
-    requires can { CanRequest (types_of iface.now.types.items) (proc_of p.now) (values_of values.now) }
-    ensures ok { IfOk result (λ bytes. IsUploaded (types_of iface.now.types.items) (proc_of p.now)
-        (values_of values.now) bytes.items upload.now) }
-    ensures err { IfErr result (λ o. RefusesUpload o upload.now) }
+/// The same bytes, the upload behind room for its count from this place on.
+fn uploaded<'a>(mut bytes: Vec<u8>, at: usize) -> Result<Vec<u8>, WireOutcome<'a>>
+    requires { at + 4 ≤ vec_len bytes }
+    ensures ok { IfOk result (λ sent. HasUpload (take at bytes.items) (drop (at + 4) bytes.items) sent.items) }
+    ensures err { IfErr result (λ o. RefusesUpload o (drop (at + 4) bytes.items)) }
     ensures no_file_fault { wire_status_in result ≢ Status.FileFault }
     ensures no_sink_fault { wire_status_in result ≢ Status.SinkFault }
     ensures no_wire_fault { wire_status_in result ≢ Status.WireFault }
 {
-    if upload.len() > MAX_COUNTED_BYTES as usize {
+    if bytes.len() - (at + 4) > MAX_COUNTED_BYTES as usize {
         return Err(WireOutcome::BadArgs(ArgsFault::Number));
     }
-    match request_bytes(alloc, iface, p, values, Some(upload)) {
-        Ok(bytes) => Ok(bytes),
-        Err(StubFault::Code(_)) => unreachable!(),
-        Err(StubFault::OutOfMemory) => Err(WireOutcome::OutOfMemory),
-    }
+    set_count(bytes.as_mut_slice(), at);
+    Ok(bytes)
 }

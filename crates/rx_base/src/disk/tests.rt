@@ -38,6 +38,10 @@ fn the_disk_gives_whole_files(rt: HostRuntime) -> Result<(), Fail> {
         let got = files.read(alloc, path.as_str())?;
         assert_eq!(rt; got.len(), len);
         assert!(rt; got.as_slice() == bytes.as_slice(), "a file of {len} bytes");
+        let behind = files.read_behind(Vec::from_slice(alloc, &[7; 5])?, path.as_str())?;
+        let (front, rest) = behind.as_slice().split_at(5);
+        assert_eq!(rt; front, [7; 5].as_slice());
+        assert!(rt; rest == bytes.as_slice(), "{len} bytes behind five");
     }
     fs::remove_dir_all(&rt, &folder)?;
     Ok(())
@@ -97,9 +101,11 @@ fn a_bound_is_the_most_bytes_that_are_read(rt: HostRuntime) -> Result<(), Fail> 
     for (len, most, want) in rows {
         let path = format!(in alloc; "{folder}/{len}")?;
         fs::write(&rt, &path, counting(alloc, len)?.as_slice())?;
-        let got = read_within(alloc, File::open(&rt, &path)?, most);
+        // What is there before doesn't count.
+        let front = Vec::from_slice(alloc, &[7; 3])?;
+        let got = read_within(front, File::open(&rt, &path)?, most);
         assert_eq!(rt;
-            got.map(|bytes| bytes.len()),
+            got.map(|bytes| bytes.len() - 3),
             want,
             "{len} bytes, at most {most}"
         );
@@ -138,7 +144,7 @@ fn a_read_that_fails_has_the_fault_of_its_error(rt: HostRuntime) {
     ];
     for (kind, fault) in rows {
         for bytes in [0, 3, 5_000] {
-            let got = read_within(rt.alloc(), Broken { bytes, kind }, 10_000);
+            let got = read_within(Vec::new(rt.alloc()), Broken { bytes, kind }, 10_000);
             assert_eq!(rt; got.map(|bytes| bytes.len()), Err(fault));
         }
     }

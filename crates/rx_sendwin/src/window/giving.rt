@@ -71,7 +71,7 @@ impl SendWin {
         let last = self.is_last(seq);
         let fits = cw.room(self.flight + 1);
         let fills = seq as u64 == self.acked as u64 + self.peer_window as u64;
-        asks(last, fits, fills, cw.prompts(self.acked, seq))
+        asks(last, fits, fills, cw.prompts(seq))
     }
 
     /// The lowest piece that isn't acknowledged, with its last giving; none where it was never given.

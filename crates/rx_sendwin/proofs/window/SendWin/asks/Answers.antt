@@ -1,4 +1,5 @@
-use Rattle.std.proofs.Common.{◌≡◌, ◌+◌, ◌∙◌, ◌||◌, ◌&&◌, ◌==◌, not, nat_lt, suc, ap, subst, arith}
+use Rattle.std.proofs.Common.{◌≡◌, ◌+◌, ◌∙◌, ◌||◌, ◌==◌, not, nat_lt, ap, subst, arith}
+use Rattle.rx_rules.specs.CallItems.{prompts}
 use Rattle.rx_rules.specs.Sent.{piece_at}
 use Rattle.rx_sendwin.specs.Marks.{is_acked_by, flight_by}
 use Rattle.rx_sendwin.specs.Window.{SendWindow, IsTied}
@@ -21,13 +22,13 @@ returns c =
     let cw = c.args.cw.now in
     let last = c.is_last-last.result in
     let seq : c.self.inside.given + 1 ≡ w.given + 1 = ap (λ (v : SendWindow). v.given + 1) c.self.view_is in
-    let value : c.asks.result ≡ (last || (not (nat_lt (flight + 1) cw.window)
-    || (((w.given + 1) == w.acked + w.peer_window) || (cw.prompt && (suc (w.given + 1) == w.acked + cw.most))))) = (
+    let value : c.asks.result ≡ (last || ((not (nat_lt (flight + 1) cw.window)
+    || ((w.given + 1) == w.acked + w.peer_window)) || prompts cw (w.given + 1))) = (
     c.asks.ensures
-    ∙ (λ i. last || (not (c.room-fits.ensures i)
-    || (((c.self.inside.given + 1) == c.self.inside.acked + c.self.inside.peer_window) || c.prompts.ensures i)))
-    ∙ ap (λ (v : SendWindow). last || (not (nat_lt (flight + 1) cw.window)
-    || (((v.given + 1) == v.acked + v.peer_window) || (cw.prompt && (suc (v.given + 1) == v.acked + cw.most)))))
+    ∙ (λ i. last || ((not (c.room-fits.ensures i)
+    || ((c.self.inside.given + 1) == c.self.inside.acked + c.self.inside.peer_window)) || c.prompts.ensures i))
+    ∙ ap (λ (v : SendWindow). last || ((not (nat_lt (flight + 1) cw.window)
+    || ((v.given + 1) == v.acked + v.peer_window)) || prompts cw (v.given + 1)))
     c.self.view_is) in
     let tied = subst (λ (v : SendWindow). IsTied v c.self.inside.low flight) c.self.view_is c.self.invariant.1 in
     λ pool s st. value ∙ asks_is pool w s c.self.inside.low flight cw last st tied
