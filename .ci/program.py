@@ -240,14 +240,16 @@ def wires():
         expect("a call with another key", run("call", *words, "--key", "other"), "Aborted", CODE="-5")
         expect("a call without a key", run("call", *words), "Aborted", CODE="-2")
         lines.append(f"accept {at}/1/4/0/1\nfinish {at}/1/4/0/1 0\ntime up\n")
-    # the server would end before, if the streams waited for a delayed acknowledgement at each window
-    with served("Ok", xg, script, "--at", "127.0.0.1:0", "--for", "5000") as (host, lines):
-        long = bytes(range(250)) * 16_000
-        at = f"127.0.0.1:{20_000 + os.getpid() % 10_000}"
-        words = [xg, "Q", "[1]", "--up", write("stream", long), "--down", "yes", "--to", host, "--epoch", "1"]
-        text = f"ok [{len(long)}] down {long.hex()}\n"
-        expect("long streams", run("call", *words, "--from", at), "Ok", text.encode())
-        lines.append(f"accept {at}/1/4/0/1\nfinish {at}/1/4/0/1 0\ntime up\n")
+    # the server would end before, if the streams waited for a delayed acknowledgement again and again
+    for jumbo in ("1", "4", "16"):
+        with served("Ok", xg, script, "--at", "127.0.0.1:0", "--for", "4000", "--jumbo", jumbo) as (host, lines):
+            long = bytes(range(250)) * 64_000
+            at = f"127.0.0.1:{20_000 + os.getpid() % 10_000}"
+            words = [xg, "Q", "[1]", "--up", write("stream", long), "--down", "yes", "--to", host, "--epoch", "1"]
+            text = f"ok [{len(long)}] down {long.hex()}\n"
+            got = run("call", *words, "--from", at, "--jumbo", jumbo)
+            expect(f"long streams, up to {jumbo} pieces a datagram", got, "Ok", text.encode())
+            lines.append(f"accept {at}/1/4/0/1\nfinish {at}/1/4/0/1 0\ntime up\n")
     # the example of README.md
     example = [str(top / "examples" / f"fetch-status.{it}") for it in ("xg", "script")]
     with served("Ok", *example, "--at", "127.0.0.1:0", "--for", "1000") as (host, lines):

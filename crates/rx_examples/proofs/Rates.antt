@@ -65,9 +65,9 @@ backoffs = refl
 
 -- ---- prompt nodes
 
--- which of the pieces 15, 16, 17 and 32 end half of a window of 32
+-- which of the pieces 14, 15, 16 and 30 end half of a window of 32
 abbrev asking : Bool → List Bool
-asking prompt = map (λ (k : ℕ). prompts (first_cwnd 32 prompt) k) (15 ∷ 16 ∷ 17 ∷ 32 ∷ [])
+asking prompt = map (λ (k : ℕ). prompts (first_cwnd 32 prompt) k) (14 ∷ 15 ∷ 16 ∷ 30 ∷ [])
 
 prompt_asks : asking true ≡ false ∷ true ∷ false ∷ true ∷ []
 prompt_asks = refl

@@ -75,10 +75,11 @@ impl Cwnd {
         in_flight < self.window
     }
 
-    /// Whether a piece asks as it ends half of a prompt node's own window.
+    /// Whether a piece asks as it ends half of what a prompt node can send of its own window, all but the piece that is
+    /// being filled.
     pub fn prompts(&self, seq: u32) -> bool
         ensures { result ≡ prompts self.now seq }
     {
-        self.prompt && seq % (self.most / 2) == 0
+        self.prompt && seq % ((self.most - 1) / 2) == 0
     }
 }

@@ -79,11 +79,13 @@ fn the_window_ends_at_the_nodes_own(rt: HostRuntime) -> Result<(), Fail> {
 fn a_prompt_node_asks_behind_each_half_of_its_window(rt: HostRuntime) -> Result<(), Fail> {
     for (most, seq, asks) in [
         (32, 1, false),
-        (32, 15, false),
-        (32, 16, true),
-        (32, 17, false),
-        (32, 32, true),
-        (32, u32::MAX - 15, true),
+        (32, 14, false),
+        (32, 15, true),
+        (32, 16, false),
+        (32, 30, true),
+        (32, u32::MAX, true),
+        (33, 15, false),
+        (33, 16, true),
         (255, 126, false),
         (255, 127, true),
         (255, 254, true),

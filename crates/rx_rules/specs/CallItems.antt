@@ -1,6 +1,6 @@
 -- What one end of a call owes. Public clauses cite this module.
-use Rattle.std.specs.Prelude.{◌==◌, ◌&&◌, ◌||◌, ◌+◌, ◌/◌, ◌%◌, if◌then◌else◌, nat_lt, nat_le, ℕ, suc, Bool, true, false, List}
-use Rattle.std.specs.Prelude.{[], ◌∷◌, ◌++◌, filter, Option, Some, None, option_map}
+use Rattle.std.specs.Prelude.{◌==◌, ◌&&◌, ◌||◌, ◌+◌, ◌-◌, ◌/◌, ◌%◌, if◌then◌else◌, nat_lt, nat_le, ℕ, suc, Bool, true, false}
+use Rattle.std.specs.Prelude.{List, [], ◌∷◌, ◌++◌, filter, Option, Some, None, option_map}
 use Rattle.rx_model.specs.declared.wire.TheConstants.{REQUEST_ACK, LAST_PACKET, ACK_PING, PING_MS}
 use Rattle.rx_model.specs.Body.{Body, AckBody}
 use Rattle.rx_model.specs.Body as bodies
@@ -79,9 +79,9 @@ after_sending now (Ack reason serial) k = after_ack_given now k
 abbrev pub fills : Cwnd → Sent → ℕ → Bool
 fills c s k = nat_le c.window (in_flight (after_giving 0 k s)) || (k == s.acked + s.peer_window)
 
--- it ends half of a prompt node's own window
+-- it ends half of what a prompt node can give of its own window, all but the piece that is being filled
 abbrev pub prompts : Cwnd → ℕ → Bool
-prompts c k = c.prompt && (k % (c.most / 2) == 0)
+prompts c k = c.prompt && (k % ((c.most - 1) / 2) == 0)
 
 -- a piece asks for an acknowledgement where it is the last, is given again, fills a window, or ends half of the own one
 -- of a prompt node
