@@ -77,22 +77,20 @@ fn the_window_ends_at_the_nodes_own(rt: HostRuntime) -> Result<(), Fail> {
 
 #[test]
 fn a_prompt_node_asks_behind_each_half_of_its_window(rt: HostRuntime) -> Result<(), Fail> {
-    for (most, seq, asks) in [
-        (32, 1, false),
-        (32, 14, false),
-        (32, 15, true),
-        (32, 16, false),
-        (32, 30, true),
-        (32, u32::MAX, true),
-        (33, 15, false),
-        (33, 16, true),
-        (255, 126, false),
-        (255, 127, true),
-        (255, 254, true),
-        (255, 255, false),
+    for (seq, asks) in [
+        (1, false),
+        (14, false),
+        (15, true),
+        (16, false),
+        (30, true),
+        (u32::MAX, true),
     ] {
-        assert_eq!(rt; Cwnd::new(most, true).prompts(seq), asks);
-        assert!(rt; !Cwnd::new(most, false).prompts(seq));
+        assert_eq!(rt; Cwnd::new(32, true).prompts(seq), asks);
+        assert!(rt; !Cwnd::new(32, false).prompts(seq));
+    }
+    for (seq, asks) in [(126, false), (127, true), (254, true), (255, false)] {
+        assert_eq!(rt; Cwnd::new(255, true).prompts(seq), asks);
+        assert!(rt; !Cwnd::new(255, false).prompts(seq));
     }
     Ok(())
 }
