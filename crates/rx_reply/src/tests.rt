@@ -147,6 +147,7 @@ fn a_count_stands_in_front_of_what_it_counts(rt: HostRuntime) {
     let mut bytes = [9, 9, 1, 2, 3, 4, 5, 6, 7];
     set_count(&mut bytes, 2);
     assert_eq!(rt; bytes, [9, 9, 0, 0, 0, 3, 5, 6, 7]);
-    set_count(&mut bytes, 5);
-    assert_eq!(rt; bytes, [9, 9, 0, 0, 0, 0, 0, 0, 0]);
+    let mut last = [9, 9, 1, 2, 3, 4];
+    set_count(&mut last, 2);
+    assert_eq!(rt; last, [9, 9, 0, 0, 0, 0]);
 }
