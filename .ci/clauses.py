@@ -1,6 +1,5 @@
 #!/usr/bin/env python3
-"""Looks in crates/*/src for each clause that the tables of README.md name: a function and its label, or a function alone;
-and whether the table of wrong bodies names those under crates/*/must-fail, and no others."""
+"""Looks in crates/*/src for each clause that the tables of README.md name: a function and its label, or a function alone."""
 import pathlib
 import re
 import sys
@@ -37,19 +36,7 @@ def named():
                 yield crate, function, label
 
 
-def wrong_bodies():
-    """The crate and name of each wrong body that the table of README.md names."""
-    text = (top / "README.md").read_text().split("\n### Wrong bodies\n")[1].split("\n## ")[0]
-    for crate, names in re.findall(r"^\| `(\w+)` \| (.*) \|$", text, flags=re.M):
-        for name in re.findall(r"`(\w+)`", names):
-            yield crate, name
-
-
-edits = {(path.parts[-3], path.stem) for path in top.glob("crates/*/must-fail/*.edit")}
-unlike = sorted(edits ^ set(wrong_bodies()))
-for crate, name in unlike:
-    print(f"README.md: {crate} has " + (f"the wrong body {name}, which isn't named" if (crate, name) in edits else f"no wrong body {name}"))
 lost = [it for it in named() if (it[1].split("::")[-1], it[2]) not in clauses_of(it[0])]
 for crate, function, label in lost:
     print(f"README.md: {crate} has no {function} with the clause {label}" if label else f"README.md: {crate} has no {function}")
-sys.exit(bool(lost or unlike))
+sys.exit(bool(lost))
