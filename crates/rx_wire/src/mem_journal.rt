@@ -2,7 +2,7 @@
 ghost use Rattle.std.specs.Prelude.{◌≡◌, ℕ, List, [], ◌∷◌, ◌++◌, Some, OnOk, OnErr, IfOk};
 
 use crate::journal::Journal;
-use rx_model::{Bytes, Event, Host, Noted};
+use rx_model::{Bytes, Event, Host, Noted, Took};
 use std::alloc::{AllocError, Global};
 use std::marker::Model;
 
@@ -40,12 +40,36 @@ impl MemJournal {
 }
 
 impl Journal for MemJournal {
-    ghost use Rattle.std.specs.Prelude.{Some};
+    ghost use Rattle.std.specs.Prelude.{Some, true};
 
     ghost told = { λ s. Some s };
 
+    ghost may_want = { true };
+
     fn note(&mut self, node: u32, event: &Event) -> Result<(), AllocError> {
         let event = copied(*self.noted.allocator(), event)?;
+        self.noted.push(Noted { node, event })?;
+        Ok(())
+    }
+
+    fn note_taken(
+        &mut self,
+        node: u32,
+        from: Host,
+        bytes: &[u8],
+        got: Took,
+    ) -> Result<(), AllocError> {
+        let bytes = Bytes::copied(*self.noted.allocator(), bytes)?;
+        let event = Event::Taken { from, bytes, got };
+        self.noted.push(Noted { node, event })?;
+        Ok(())
+    }
+
+    fn note_polled(&mut self, node: u32, to: Host, bytes: &[u8]) -> Result<(), AllocError> {
+        let bytes = Bytes::copied(*self.noted.allocator(), bytes)?;
+        let event = Event::Polled {
+            got: Some((to, bytes)),
+        };
         self.noted.push(Noted { node, event })?;
         Ok(())
     }

@@ -95,6 +95,18 @@ static LINES: [&str; 13] = [
     "c2 clock 8",
 ];
 
+/// The lines of a datagram that is noted from a slice.
+static SLICE_LINES: [&str; 2] = [
+    "c2 take 10.0.0.2:7001 6465 -> kept",
+    "c2 poll -> 10.0.0.2:7001 66",
+];
+
+/// Notes for a node that a datagram was taken, and that one was polled.
+fn note_slices<J: Journal>(book: &mut J, node: u32) -> Result<(), AllocError> {
+    book.note_taken(node, HOST, b"de", Took::Kept)?;
+    book.note_polled(node, HOST, b"f")
+}
+
 /// Notes them for a node.
 fn note_all<J: Journal>(book: &mut J, node: u32, events: &[Event]) -> Result<(), AllocError> {
     for event in events {
@@ -117,7 +129,21 @@ fn keeps_each_event_in_order(rt: HostRuntime) -> Result<(), Fail> {
 }
 
 #[test]
+fn keeps_datagrams_from_slices(rt: HostRuntime) -> Result<(), Fail> {
+    let mut book = MemJournal::make(rt.alloc());
+    note_slices(&mut book, 2)?;
+    assert_eq!(rt; book.noted().len(), SLICE_LINES.len());
+    for (noted, line) in book.noted().iter().zip(&SLICE_LINES) {
+        assert_eq!(rt; noted.node, 2);
+        let printed = event_line(rt.alloc(), "c2", &noted.event)?;
+        assert_eq!(rt; printed.as_str(), *line);
+    }
+    Ok(())
+}
+
+#[test]
 fn forgets(rt: HostRuntime) -> Result<(), Fail> {
     note_all(&mut Forgetting, 2, &events(rt.alloc())?)?;
+    note_slices(&mut Forgetting, 2)?;
     Ok(())
 }
