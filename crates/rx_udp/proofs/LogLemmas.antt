@@ -17,8 +17,8 @@ length-logged_of (one ∷ kept) bytes =
 -- an entry with so many bytes as it is to have has so many
 entry_bytes-with : (one : Kept) (bytes : List ℕ) → length bytes ≡ kept_count one
     → length (entry_bytes (kept_with one bytes)) ≡ kept_count one
-entry_bytes-with (kepts.Came until from count moment) bytes h = h
-entry_bytes-with (kepts.Waited until moment) bytes h = refl
+entry_bytes-with (kepts.Came room until from count moment) bytes h = h
+entry_bytes-with (kepts.Waited room until moment) bytes h = refl
 entry_bytes-with (kepts.Given to count) bytes h = h
 
 -- the entries have all the bytes

@@ -87,7 +87,7 @@ after_take w until len = record w {
   calls = one_more w.calls;
   arrivals = left_by w.arrivals until;
   moment = moment_by w until;
-  traffic = logged w.traffic (TookUntil until (came_by w until len) (moment_by w until));
+  traffic = logged w.traffic (TookUntil len until (came_by w until len) (moment_by w until));
 }
 
 -- a wire after a datagram given

@@ -8,9 +8,10 @@ pub record Came : Type 0 where
   pub from : Host
   pub bytes : List ℕ
 
--- what a log has of a call: a take up to a moment, with what came and the moment after it; or the bytes given to a host
+-- what a log has of a call: a take into a buffer of so many bytes, up to a moment, with what came and the moment after
+-- it; or the bytes given to a host
 pub data Logged : Type 0 where
-  TookUntil : ℕ → Option Came → ℕ → Logged
+  TookUntil : ℕ → ℕ → Option Came → ℕ → Logged
   GaveTo : Host → List ℕ → Logged
 
 -- what a wire tells: the last bind that answered, if there was one, and its log, the first entry first

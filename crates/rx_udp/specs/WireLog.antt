@@ -14,8 +14,8 @@ pub record LogState : Type 0 where
 
 -- the bytes of an entry
 abbrev pub entry_bytes : Logged → List ℕ
-entry_bytes (TookUntil until None moment) = []
-entry_bytes (TookUntil until (Some came) moment) = came.bytes
+entry_bytes (TookUntil room until None moment) = []
+entry_bytes (TookUntil room until (Some came) moment) = came.bytes
 entry_bytes (GaveTo to bytes) = bytes
 
 -- how many bytes all entries have
@@ -29,15 +29,15 @@ HasRoom log room count = (length log < room) × (log_bytes log + count ≤ room)
 
 -- how many bytes an entry has
 abbrev pub kept_count : Kept → ℕ
-kept_count (kepts.Came until from count moment) = count
-kept_count (kepts.Waited until moment) = 0
+kept_count (kepts.Came room until from count moment) = count
+kept_count (kepts.Waited room until moment) = 0
 kept_count (kepts.Given to count) = count
 
 -- an entry with its bytes
 abbrev pub kept_with : Kept → List ℕ → Logged
-kept_with (kepts.Came until from count moment) bytes =
-    TookUntil until (Some (record { from = from; bytes = bytes })) moment
-kept_with (kepts.Waited until moment) bytes = TookUntil until None moment
+kept_with (kepts.Came room until from count moment) bytes =
+    TookUntil room until (Some (record { from = from; bytes = bytes })) moment
+kept_with (kepts.Waited room until moment) bytes = TookUntil room until None moment
 kept_with (kepts.Given to count) bytes = GaveTo to bytes
 
 -- the entries with their bytes, which stand behind one another
@@ -53,7 +53,7 @@ kept_bytes (one ∷ kept) = kept_count one + kept_bytes kept
 
 -- what an entry that is looked at says
 abbrev pub said_by : LogEntry → Logged
-said_by (entries.Came until from bytes moment) =
-    TookUntil until (Some (record { from = from; bytes = bytes.now })) moment
-said_by (entries.Waited until moment) = TookUntil until None moment
+said_by (entries.Came room until from bytes moment) =
+    TookUntil room until (Some (record { from = from; bytes = bytes.now })) moment
+said_by (entries.Waited room until moment) = TookUntil room until None moment
 said_by (entries.Given to bytes) = GaveTo to bytes.now

@@ -139,18 +139,25 @@ impl MemWire {
         self.arrivals.pop_front()
     }
 
-    // Waits, up to this moment.
-    fn wait(&mut self, until: u64)
+    // Waits, up to this moment, for what would have come into a buffer of so many bytes.
+    fn wait(&mut self, room: usize, until: u64)
         requires until { until < 2 ^ 62 }
         requires room { Takes self.old 0 }
         ensures { self.new ≡ record self.old {
           moment = max self.old.moment until;
-          traffic = logged self.old.traffic (TookUntil until None (max self.old.moment until));
+          traffic = logged self.old.traffic (TookUntil room until None (max self.old.moment until));
         } }
     {
         self.moment = self.moment.max(until);
         let moment = self.moment;
-        self.log.push(Kept::Waited { until, moment }, &[]);
+        self.log.push(
+            Kept::Waited {
+                room,
+                until,
+                moment,
+            },
+            &[],
+        );
     }
 
     // Puts what comes at the front of the buffer.
@@ -159,7 +166,7 @@ impl MemWire {
         requires room { Takes self.old (length (cut_to (length to.old) (coming_of arrival.now)).bytes) }
         ensures after { self.new ≡ record self.old {
           moment = max self.old.moment arrival.now.at;
-          traffic = logged self.old.traffic (TookUntil until
+          traffic = logged self.old.traffic (TookUntil (length to.old) until
               (Some (cut_to (length to.old) (coming_of arrival.now)))
               (max self.old.moment arrival.now.at));
         } }
@@ -176,6 +183,7 @@ impl MemWire {
         let moment = self.moment;
         self.log.push(
             Kept::Came {
+                room: to.len(),
                 until,
                 from,
                 count,
@@ -194,7 +202,8 @@ impl MemWire {
           arrivals = left_by self.old.arrivals until;
           moment = moment_by self.old until;
           traffic = logged self.old.traffic
-              (TookUntil until (came_by self.old until (length to.old)) (moment_by self.old until));
+              (TookUntil (length to.old) until (came_by self.old until (length to.old))
+              (moment_by self.old until));
         } }
         ensures came { came_in result to.new ≡ came_by self.old until (length to.old) }
         ensures within { IfSome result (λ one. one.1 ≤ length to.new) }
@@ -204,7 +213,7 @@ impl MemWire {
         match self.next_by(until) {
             Some(arrival) => Some(self.receive(until, &arrival, to)),
             None => {
-                self.wait(until);
+                self.wait(to.len(), until);
                 None
             }
         }
@@ -249,7 +258,8 @@ impl Wire for MemWire {
     fn take(&mut self, until: u64, to: &mut [u8]) -> Result<Option<(Host, usize)>, Failed>
         requires { until < 2 ^ 62 }
         ensures ok { IfOk result (λ came. HasLogged (Some self.old.traffic) (Some self.new.traffic)
-            (TookUntil until (came_in came to.new) self.new.moment)) }
+            (TookUntil (length to.old) until (came_in came to.new) self.new.moment)) }
+        ensures same_room { length to.new ≡ length to.old }
         ensures within { IfOk result (λ came. IfSome came (λ one. one.1 ≤ length to.new)) }
         ensures reached { IfOk result (λ came. IfNone came (until ≤ self.new.moment)) }
         ensures same { OnOk result (self.new.faults ≡ self.old.faults) }

@@ -67,7 +67,7 @@ fn the_log_tells_takes_and_gives(rt: HostRuntime) -> Result<(), Fail> {
     assert_eq!(rt; wire.bound(), None);
     assert_eq!(rt; wire.bind(SERVER)?, SERVER);
     wire.take(6, &mut to)?;
-    wire.take(6, &mut to)?;
+    wire.take(6, &mut [0; 3])?;
     let bound = LastBind {
         asked: SERVER,
         answered: SERVER,
@@ -79,12 +79,14 @@ fn the_log_tells_takes_and_gives(rt: HostRuntime) -> Result<(), Fail> {
         bytes: b"x",
     };
     let came = LogEntry::Came {
+        room: 2,
         until: 6,
         from: CLIENT,
         bytes: b"ab",
         moment: 0,
     };
     let waited = LogEntry::Waited {
+        room: 3,
         until: 6,
         moment: 6,
     };

@@ -45,7 +45,8 @@ pub trait Wire {
     fn take(&mut self, until: u64, to: &mut [u8]) -> Result<Option<(Host, usize)>, Failed>
         requires { until < 2 ^ 62 }
         ensures ok { IfOk result (λ came. HasLogged (told self.old) (told self.new)
-            (TookUntil until (came_in came to.new) (moment self.new))) }
+            (TookUntil (length to.old) until (came_in came to.new) (moment self.new))) }
+        ensures same_room { length to.new ≡ length to.old }
         ensures within { IfOk result (λ came. IfSome came (λ one. one.1 ≤ length to.new)) }
         ensures reached { IfOk result (λ came. IfNone came (until ≤ moment self.new)) }
         ensures same { OnOk result (faults self.new ≡ faults self.old) }

@@ -8,17 +8,19 @@ use rx_model::Host;
 use std::alloc::{AllocError, Global};
 use std::marker::Model;
 
-/// An entry of a log: a take up to a moment, with the moment after it, that answered with a datagram or with none; or a
-/// datagram given. Moments are in milliseconds.
+/// An entry of a log: a take into a buffer of `room` bytes, up to a moment, with the moment after it, that answered with
+/// a datagram or with none; or a datagram given. Moments are in milliseconds.
 #[derive(Clone, Copy, Debug, PartialEq, Eq)]
 pub enum LogEntry<'a> {
     Came {
+        room: usize,
         until: u64,
         from: Host,
         bytes: &'a [u8],
         moment: u64,
     },
     Waited {
+        room: usize,
         until: u64,
         moment: u64,
     },
@@ -32,12 +34,14 @@ pub enum LogEntry<'a> {
 #[derive(Clone, Copy, Debug)]
 pub enum Kept {
     Came {
+        room: usize,
         until: u64,
         from: Host,
         count: usize,
         moment: u64,
     },
     Waited {
+        room: usize,
         until: u64,
         moment: u64,
     },
@@ -63,17 +67,27 @@ impl Kept {
     {
         match *self {
             Kept::Came {
+                room,
                 until,
                 from,
                 moment,
                 ..
             } => LogEntry::Came {
+                room,
                 until,
                 from,
                 bytes,
                 moment,
             },
-            Kept::Waited { until, moment } => LogEntry::Waited { until, moment },
+            Kept::Waited {
+                room,
+                until,
+                moment,
+            } => LogEntry::Waited {
+                room,
+                until,
+                moment,
+            },
             Kept::Given { to, .. } => LogEntry::Given { to, bytes },
         }
     }
