@@ -1,7 +1,26 @@
 -- What a contract sees of a `UdpWire`. Public clauses cite this module.
-use Rattle.std.specs.Prelude.{ℕ}
+use Rattle.std.specs.Prelude.{ℕ, ◌≤◌, ◌+◌, ◌-◌, ◌*◌, ◌/◌, ⊤, Option, None}
+use Rattle.rx_udp.specs.declared.udp_wire.Got.{Got}
+use Rattle.rx_udp.specs.declared.udp_wire.Got.TheVariants as gots
+use Rattle.rx_udp.specs.Wire.{Traffic}
 
--- a wire over a socket: the moment, and how many calls failed
+-- a wire over a socket: the moment, how many calls failed, and how long the socket's reads wait, in milliseconds, or 0
+-- where that isn't set yet
 pub record UdpWireState : Type 0 where
   pub moment : ℕ
   pub faults : ℕ
+  pub timeout : ℕ
+
+-- what a wire tells that tells nothing of what it carries
+abbrev pub untold : Option Traffic
+untold = None
+
+-- how long to wait from a moment for another, in whole steps of 4 milliseconds
+abbrev pub wait_of : ℕ → ℕ → ℕ
+wait_of moment until = ((until - moment) / 4 + 1) * 4
+
+-- what came, if anything did, has at most so many bytes
+abbrev pub IsWithin : ℕ → Got → Type 0
+IsWithin most (gots.Came from count) = count ≤ most
+IsWithin most gots.Late = ⊤
+IsWithin most gots.Again = ⊤

@@ -5,6 +5,7 @@
 #![tactic(auto)]
 
 mod mem_wire;
+mod refusal;
 #[cfg(test)]
 mod tests;
 mod udp_wire;

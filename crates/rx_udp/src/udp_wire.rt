@@ -1,9 +1,16 @@
 //! A wire over a UDP socket of the system.
 //! No clause can say what a socket carries: tests over loopback look at it.
-ghost use Rattle.std.specs.Prelude.{◌≡◌, ◌+◌, ◌-◌, ◌<◌, ◌≤◌, ◌^◌, None, IfOk, IfSome, IfNone, length};
+ghost use Rattle.std.specs.Prelude.{◌≡◌, ◌⊎◌, ◌+◌, ◌-◌, ◌/◌, ◌<◌, ◌≤◌, ◌^◌, length, min};
+ghost use Rattle.std.specs.Prelude.{IfOk, IfSome, IfNone, OnOk, OnErr};
+ghost use Rattle.std.specs.Net.Addr.{IsIpv4OfBits, ipv4_bits};
+ghost use Rattle.std.specs.Net.Socket.{v4_ip, v4_port};
+ghost use Rattle.std.specs.Time.{instant_nanos};
 ghost use Rattle.rx_base.specs.Count.{one_more};
-ghost use Rattle.rx_udp.specs.UdpWire.{UdpWireState};
+ghost use Rattle.rx_base.specs.Sink.{HasRisen};
+ghost use Rattle.rx_udp.specs.Wire.{HasBound, HasLogged, GaveTo, TookUntil, came_in};
+ghost use Rattle.rx_udp.specs.UdpWire.{IsWithin, UdpWireState, untold, wait_of};
 
+use crate::refusal::Refusal;
 use crate::wire::Wire;
 use rx_base::Failed;
 use rx_model::Host;
@@ -20,13 +27,44 @@ pub const WAIT_STEP_MS: u64 = 4;
 /// The last moment, in milliseconds.
 const LAST_MOMENT: u64 = (1 << 62) - 1;
 
+/// What a wait of the socket came to.
+#[derive(Clone, Copy, Debug)]
+pub enum Got {
+    /// So many bytes from a host.
+    Came(Host, usize),
+    /// The wait is over, and nothing came.
+    Late,
+    /// It ended early, and nothing came that is to be taken.
+    Again,
+}
+
+/// What became of a datagram that was handed to the system.
+#[derive(Clone, Copy, Debug, PartialEq, Eq)]
+enum Sent {
+    /// The system took it whole.
+    Given,
+    /// It is lost, as a network loses.
+    Lost,
+    /// No way leads to its host.
+    NoRoute,
+    /// A signal came first.
+    Again,
+    /// The socket fails.
+    Fault,
+}
+
 /// A wire over a UDP socket, on which hosts are IPv4 addresses with ports. Its moment is in milliseconds since it was
 /// made, and it tells nothing of what it carries. Before a bind that answers, takes and gives fail.
+///
+/// A datagram that the system doesn't take, for its destination or for the moment, is lost as the network loses: `give`
+/// answers Ok. Where no way leads to its host it fails as long as nothing has gone through the socket.
 #[derive(Debug, Drop)]
 pub struct UdpWire<'a, R: Net + Clock> {
     rt: &'a R,
     made: Option<Instant>,
     socket: Option<UdpSocket>,
+    // Whether the system took a datagram, or one came.
+    has_passed: bool,
     timeout_ms: u64,
     moment: u64,
     faults: u64,
@@ -35,7 +73,7 @@ pub struct UdpWire<'a, R: Net + Clock> {
 impl<'a, R: Net + Clock> Model for UdpWire<'a, R> {
     ghost Value = { UdpWireState };
 
-    ghost view = { λ s. record { moment = s.moment; faults = s.faults } };
+    ghost view = { λ s. record { moment = s.moment; faults = s.faults; timeout = s.timeout_ms } };
 
     ghost invariant = { λ s. s.moment < 2 ^ 62 };
 }
@@ -44,12 +82,13 @@ impl<'a, R: Net + Clock> UdpWire<'a, R> {
     /// A wire over the runtime's network and clock, at moment 0 and with no socket yet. Where the clock can't be read,
     /// takes fail.
     pub fn make(rt: &'a R) -> UdpWire<'a, R>
-        ensures empty { result ≡ record { moment = 0; faults = 0 } }
+        ensures empty { result ≡ record { moment = 0; faults = 0; timeout = 0 } }
     {
         UdpWire {
             rt,
             made: Instant::now(rt).ok(),
             socket: None,
+            has_passed: false,
             timeout_ms: 0,
             moment: 0,
             faults: 0,
@@ -66,22 +105,22 @@ impl<'a, R: Net + Clock> UdpWire<'a, R> {
 
     // Moves the moment to what the clock reads, unless it is past that.
     fn read_clock(&mut self) -> io::Result<()>
-        ensures same_faults { self.new.faults ≡ self.old.faults }
+        ensures same { self.new ≡ record self.old { moment = self.new.moment } }
         ensures no_earlier { self.old.moment ≤ self.new.moment }
     {
         let Some(made) = self.made else {
             return Err(io::Error::from(ErrorKind::Unsupported));
         };
-        let elapsed = made.elapsed(self.rt)?;
-        let reading = u64::try_from(elapsed.as_millis()).unwrap_or(LAST_MOMENT);
-        self.moment = self.moment.max(reading.min(LAST_MOMENT));
+        let now = Instant::now(self.rt)?;
+        self.moment = self.moment.max(reading(made, now));
         Ok(())
     }
 
     // Has the next read wait up to this moment.
     fn wait_until(&mut self, until: u64) -> io::Result<()>
         requires { until < 2 ^ 62 }
-        ensures { self.new ≡ self.old }
+        ensures same { self.new ≡ record self.old { timeout = self.new.timeout } }
+        ensures set { OnOk result (self.new.timeout ≡ wait_of self.old.moment until) }
     {
         let Some(socket) = &self.socket else {
             return Err(io::Error::from(ErrorKind::NotConnected));
@@ -95,52 +134,112 @@ impl<'a, R: Net + Clock> UdpWire<'a, R> {
     }
 
     // What the socket receives.
-    fn receive(&self, to: &mut [u8]) -> io::Result<Option<(Host, usize)>>
-        ensures { IfOk result (λ came. IfSome came (λ one. one.1 ≤ length to.new)) }
+    fn receive(&self, to: &mut [u8]) -> io::Result<Got>
+        ensures { IfOk result (IsWithin (length to.new)) }
     {
         let Some(socket) = &self.socket else {
             return Err(io::Error::from(ErrorKind::NotConnected));
         };
         match socket.recv_from(to) {
-            Ok((count, SocketAddr::V4(from))) => Ok(Some((host_of(&from), count))),
-            Ok((_, SocketAddr::V6(_))) => Err(io::Error::from(ErrorKind::InvalidData)),
-            Err(error) if error.kind() == ErrorKind::WouldBlock => Ok(None),
-            Err(error) => Err(error),
+            // Nothing can be given back to port 0.
+            Ok((_, SocketAddr::V4(from))) if from.port() == 0 => Ok(Got::Again),
+            Ok((count, SocketAddr::V4(from))) => Ok(Got::Came(host_of(&from), count)),
+            Ok((_, SocketAddr::V6(_))) => Ok(Got::Again),
+            Err(error) => got_of(error),
         }
     }
 
+    // One wait up to this moment, with the clock read before it and behind it.
+    fn wait_once(&mut self, until: u64, to: &mut [u8]) -> io::Result<Got>
+        requires { until < 2 ^ 62 }
+        ensures same_faults { self.new.faults ≡ self.old.faults }
+        ensures no_earlier { self.old.moment ≤ self.new.moment }
+        ensures within { IfOk result (IsWithin (length to.new)) }
+        ensures enough { OnOk result (until < self.new.moment + self.new.timeout) }
+        ensures no_longer { OnOk result (self.new.timeout ≤ (until - self.old.moment) + 4) }
+    {
+        self.read_clock()?;
+        self.wait_until(until)?;
+        let got = self.receive(to)?;
+        self.read_clock()?;
+        Ok(got)
+    }
+
+    // Waits up to this moment, anew behind each wait that ended early.
     fn take_until(&mut self, until: u64, to: &mut [u8]) -> io::Result<Option<(Host, usize)>>
         requires { until < 2 ^ 62 }
         ensures same_faults { self.new.faults ≡ self.old.faults }
         ensures no_earlier { self.old.moment ≤ self.new.moment }
         ensures within { IfOk result (λ came. IfSome came (λ one. one.1 ≤ length to.new)) }
         ensures reached { IfOk result (λ came. IfNone came (until ≤ self.new.moment)) }
+        ensures enough { OnOk result (until < self.new.moment + self.new.timeout) }
+        ensures no_longer { OnOk result (self.new.timeout ≤ (until - self.old.moment) + 4) }
     {
-        self.read_clock()?;
-        self.wait_until(until)?;
-        let came = self.receive(to)?;
-        self.read_clock()?;
-        if came.is_none() {
-            self.moment = self.moment.max(until);
+        'waits: for _ in 0..u64::MAX {
+            match self.wait_once(until, to)? {
+                Got::Came(from, count) => return Ok(Some((from, count))),
+                Got::Late => {
+                    self.moment = self.moment.max(until);
+                    return Ok(None);
+                }
+                Got::Again if self.moment >= until => return Ok(None),
+                Got::Again => {}
+            }
         }
-        Ok(came)
+        // This can't come: no clock and no machine lasts for 2^64 - 1 calls of the system.
+        Err(io::Error::from(ErrorKind::TimedOut))
+    }
+
+    // Hands a datagram to the system, again where a signal came first.
+    fn send(&self, to: Host, bytes: &[u8]) -> Sent {
+        let Some(socket) = &self.socket else {
+            return Sent::Fault;
+        };
+        if to.port == 0 {
+            return Sent::Lost;
+        }
+        for _ in 0..u64::MAX {
+            match send_once(socket, to, bytes) {
+                Sent::Again => {}
+                sent => return sent,
+            }
+        }
+        // This can't come, and the datagram wasn't sent.
+        Sent::Lost
     }
 }
 
 // How long to wait from a moment for another, in whole steps. No timeout may be 0.
 fn wait_ms(moment: u64, until: u64) -> u64
     requires { until < 2 ^ 62 }
+    ensures exact { result ≡ wait_of moment until }
     ensures enough { until < moment + result }
-    ensures within { result ≤ (until - moment) + WAIT_STEP_MS }
+    ensures within { result ≤ (until - moment) + 4 }
 {
     (until.saturating_sub(moment) / WAIT_STEP_MS + 1) * WAIT_STEP_MS
 }
 
-fn address_of(host: Host) -> SocketAddr {
-    SocketAddr::V4(SocketAddrV4::new(Ipv4Addr::from_bits(host.addr), host.port))
+// What a clock that reads this now has counted since it read that, in milliseconds.
+fn reading(made: Instant, now: Instant) -> u64
+    ensures { result ≡ min ((instant_nanos now - instant_nanos made) / 1_000_000) (2 ^ 62 - 1) }
+{
+    let elapsed = now.duration_since(made);
+    u64::try_from(elapsed.as_millis())
+        .unwrap_or(LAST_MOMENT)
+        .min(LAST_MOMENT)
 }
 
-fn host_of(address: &SocketAddrV4) -> Host {
+fn v4_of(host: Host) -> SocketAddrV4
+    ensures ip { IsIpv4OfBits (v4_ip result) host.addr }
+    ensures port { v4_port result ≡ host.port }
+{
+    SocketAddrV4::new(Ipv4Addr::from_bits(host.addr), host.port)
+}
+
+fn host_of(address: &SocketAddrV4) -> Host
+    ensures addr { result.addr ≡ ipv4_bits (v4_ip address.now) }
+    ensures port { result.port ≡ v4_port address.now }
+{
     Host {
         addr: address.ip().to_bits(),
         port: address.port(),
@@ -148,36 +247,75 @@ fn host_of(address: &SocketAddrV4) -> Host {
 }
 
 // A socket that is bound to this host, and the host that it got.
-fn open<R: Net>(rt: &R, at: Host) -> io::Result<(UdpSocket, Host)> {
-    let socket = UdpSocket::bind(rt, address_of(at))?;
-    match socket.local_addr()? {
-        SocketAddr::V4(bound) => Ok((socket, host_of(&bound))),
-        SocketAddr::V6(_) => Err(io::Error::from(ErrorKind::InvalidData)),
+fn open<R: Net>(rt: &R, at: Host) -> io::Result<(UdpSocket, Host)>
+    ensures addr { IfOk result (λ got. got.1.addr ≡ at.addr) }
+    ensures port { IfOk result (λ got. (at.port ≡ 0) ⊎ (got.1.port ≡ at.port)) }
+{
+    let socket = UdpSocket::bind(rt, v4_of(at))?;
+    if let SocketAddr::V4(bound) = socket.local_addr()? {
+        let got = host_of(&bound);
+        if got.addr == at.addr && (at.port == 0 || got.port == at.port) {
+            return Ok((socket, got));
+        }
+    }
+    // The system binds to what is asked for, or not at all.
+    Err(io::Error::from(ErrorKind::InvalidData))
+}
+
+// What an error of a receive came to: of an earlier datagram, or of a wait that a signal ended, it says nothing of what
+// is to come.
+fn got_of(error: io::Error) -> io::Result<Got>
+    ensures { IfOk result (IsWithin 0) }
+{
+    match Refusal::of(&error) {
+        Refusal::NotNow => Ok(Got::Late),
+        Refusal::Interrupted | Refusal::NoRoute | Refusal::NotTaken => Ok(Got::Again),
+        Refusal::NotFromHere | Refusal::Forbidden | Refusal::Socket => Err(error),
     }
 }
 
-// Whether the socket gave all the bytes to this host.
-fn send(socket: &Option<UdpSocket>, to: Host, bytes: &[u8]) -> bool {
-    match socket {
-        Some(socket) => match socket.send_to(bytes, address_of(to)) {
-            Ok(count) => count == bytes.len(),
-            Err(_) => false,
-        },
-        None => false,
+fn send_once(socket: &UdpSocket, to: Host, bytes: &[u8]) -> Sent {
+    match socket.send_to(bytes, v4_of(to)) {
+        Ok(count) if count == bytes.len() => Sent::Given,
+        // The system cuts no datagram.
+        Ok(_) => Sent::Fault,
+        Err(error) => sent_of(Refusal::of(&error)),
+    }
+}
+
+fn sent_of(refusal: Refusal) -> Sent {
+    match refusal {
+        Refusal::Interrupted => Sent::Again,
+        Refusal::NotNow | Refusal::Forbidden | Refusal::NotTaken => Sent::Lost,
+        Refusal::NoRoute | Refusal::NotFromHere => Sent::NoRoute,
+        Refusal::Socket => Sent::Fault,
     }
 }
 
 impl<'a, R: Net + Clock> Wire for UdpWire<'a, R> {
-    ghost told = { λ _. None };
+    ghost told = { λ _. untold };
 
     ghost moment = { λ w. w.moment };
 
     ghost faults = { λ w. w.faults };
 
-    fn bind(&mut self, at: Host) -> Result<Host, Failed> {
+    fn bind(&mut self, at: Host) -> Result<Host, Failed>
+        // The trait's clauses, where nothing is told.
+        ensures ok { IfOk result (λ host. HasBound untold untold at host) }
+        ensures same { OnOk result (self.new.faults ≡ self.old.faults) }
+        ensures err { OnErr result (untold ≡ untold) }
+        ensures counted { OnErr result (HasRisen self.old.faults self.new.faults) }
+        ensures same_moment { self.new.moment ≡ self.old.moment }
+
+        // What this wire adds to the trait's clauses.
+        ensures addr { IfOk result (λ host. host.addr ≡ at.addr) }
+        ensures port { IfOk result (λ host. (at.port ≡ 0) ⊎ (host.port ≡ at.port)) }
+        ensures failed { OnErr result (self.new ≡ record self.old { faults = one_more self.old.faults }) }
+    {
         match open(self.rt, at) {
             Ok((socket, host)) => {
                 self.socket = Some(socket);
+                self.has_passed = false;
                 self.timeout_ms = 0;
                 Ok(host)
             }
@@ -189,18 +327,58 @@ impl<'a, R: Net + Clock> Wire for UdpWire<'a, R> {
         self.moment
     }
 
-    /// The buffer behind what came may be changed.
-    fn take(&mut self, until: u64, to: &mut [u8]) -> Result<Option<(Host, usize)>, Failed> {
+    /// The buffer may be changed behind what came, and where nothing came.
+    fn take(&mut self, until: u64, to: &mut [u8]) -> Result<Option<(Host, usize)>, Failed>
+        requires { until < 2 ^ 62 }
+        // The trait's clauses, where nothing is told.
+        ensures ok { IfOk result (λ came. HasLogged untold untold
+            (TookUntil (length to.old) until (came_in came to.new) self.new.moment)) }
+        ensures same_room { length to.new ≡ length to.old }
+        ensures within { IfOk result (λ came. IfSome came (λ one. one.1 ≤ length to.new)) }
+        ensures reached { IfOk result (λ came. IfNone came (until ≤ self.new.moment)) }
+        ensures same { OnOk result (self.new.faults ≡ self.old.faults) }
+        ensures err { OnErr result (untold ≡ untold) }
+        ensures counted { OnErr result (HasRisen self.old.faults self.new.faults) }
+        ensures no_earlier { self.old.moment ≤ self.new.moment }
+
+        // What this wire adds to the trait's clauses: the socket waits past `until`, by the clock's reading, and at most
+        // 4 ms longer than up to it.
+        ensures enough { OnOk result (until < self.new.moment + self.new.timeout) }
+        ensures no_longer { OnOk result (self.new.timeout ≤ (until - self.old.moment) + 4) }
+        ensures failed { OnErr result (self.new.faults ≡ one_more self.old.faults) }
+    {
         match self.take_until(until, to) {
-            Ok(came) => Ok(came),
+            Ok(came) => {
+                self.has_passed |= came.is_some();
+                Ok(came)
+            }
             Err(_) => Err(self.fault()),
         }
     }
 
-    fn give(&mut self, to: Host, bytes: &[u8]) -> Result<(), Failed> {
-        if send(&self.socket, to, bytes) {
-            return Ok(());
+    fn give(&mut self, to: Host, bytes: &[u8]) -> Result<(), Failed>
+        // The trait's clauses, where nothing is told.
+        ensures ok { OnOk result (HasLogged untold untold (GaveTo to bytes.now)) }
+        ensures same { OnOk result (self.new.faults ≡ self.old.faults) }
+        ensures err { OnErr result (untold ≡ untold) }
+        ensures counted { OnErr result (HasRisen self.old.faults self.new.faults) }
+        ensures same_moment { self.new.moment ≡ self.old.moment }
+
+        // What this wire adds to the trait's clauses.
+        ensures given { OnOk result (self.new ≡ self.old) }
+        ensures failed { OnErr result (self.new ≡ record self.old { faults = one_more self.old.faults }) }
+    {
+        match self.send(to, bytes) {
+            Sent::Given => {
+                self.has_passed = true;
+                Ok(())
+            }
+            Sent::NoRoute if !self.has_passed => Err(self.fault()),
+            Sent::Lost | Sent::NoRoute => Ok(()),
+            Sent::Again | Sent::Fault => Err(self.fault()),
         }
-        Err(self.fault())
     }
 }
+
+#[cfg(test)]
+mod tests;
