@@ -1,4 +1,5 @@
 pub mod Count
+pub mod DiskFiles
 pub mod Files
 pub mod MemFiles
 pub mod MemSink

@@ -1,8 +1,10 @@
 //! The files of the system.
-ghost use Rattle.std.specs.Prelude.{◌≡◌, ◌≢◌, ◌<◌, ◌≤◌, ◌+◌, ◌-◌, ◌^◌, ◌++◌, ℕ, IfOk, IfErr, IfSome, vec_len};
+ghost use Rattle.std.specs.Prelude.{◌≡◌, ◌≢◌, ◌<◌, ◌≤◌, ◌+◌, ◌-◌, ◌^◌, ◌++◌, IfOk, IfErr, IfSome, vec_len};
 ghost use Rattle.std.specs.Prelude.{drop};
 ghost use Rattle.std.specs.Io.{StartsWith};
 ghost use Rattle.std.specs.IoError.{error_kind};
+ghost use Rattle.rx_base.specs.Count.{one_more};
+ghost use Rattle.rx_base.specs.DiskFiles.{DiskFilesState};
 ghost use Rattle.rx_base.specs.Files.{HasFile, IsNoted, OnFailed, UnlessFailed, untold_contents, untold_name};
 ghost use Rattle.rx_base.specs.Sink.{HasRisen};
 
@@ -19,22 +21,26 @@ pub const MAX_FILE_BYTES: u64 = 1 << 30;
 #[derive(Debug, Drop)]
 pub struct DiskFiles<'a, R: rt::Files> {
     rt: &'a R,
+    reads: u64,
     faults: u64,
 }
 
-// A contract sees how many reads failed.
 impl<'a, R: rt::Files> Model for DiskFiles<'a, R> {
-    ghost Value = { ℕ };
+    ghost Value = { DiskFilesState };
 
-    ghost view = { λ s. s.faults };
+    ghost view = { λ s. record { reads = s.reads; faults = s.faults } };
 }
 
 impl<'a, R: rt::Files> DiskFiles<'a, R> {
-    /// The files that the runtime reaches, with no fault counted yet.
+    /// The files that the runtime reaches, with no read and no fault counted yet.
     pub fn make(rt: &'a R) -> DiskFiles<'a, R>
-        ensures empty { result ≡ 0 }
+        ensures empty { result ≡ record { reads = 0; faults = 0 } }
     {
-        DiskFiles { rt, faults: 0 }
+        DiskFiles {
+            rt,
+            reads: 0,
+            faults: 0,
+        }
     }
 }
 
@@ -43,7 +49,9 @@ impl<'a, R: rt::Files> Files for DiskFiles<'a, R> {
 
     ghost failed_last = { λ _. untold_name };
 
-    ghost faults = { λ faults. faults };
+    ghost faults = { λ s. s.faults };
+
+    ghost reads = { λ s. s.reads };
 
     /// A file longer than `MAX_FILE_BYTES` is Failed.
     fn read_behind(&mut self, front: Vec<u8>, name: &str) -> Result<Vec<u8>, ReadFault>
@@ -51,14 +59,16 @@ impl<'a, R: rt::Files> Files for DiskFiles<'a, R> {
         ensures front { IfOk result (λ bytes. StartsWith bytes.items front.items) }
         ensures ok { IfOk result (λ bytes. HasFile untold_contents name.now (drop (vec_len front) bytes.items)) }
         ensures same_contents { untold_contents ≡ untold_contents }
+        ensures numbered { self.new.reads ≡ one_more self.old.reads }
         ensures failed { OnFailed result (IsNoted untold_name untold_name name.now) }
-        ensures counted { OnFailed result (HasRisen self.old self.new) }
-        ensures same { UnlessFailed result (self.new ≡ self.old) }
+        ensures counted { OnFailed result (HasRisen self.old.faults self.new.faults) }
+        ensures same { UnlessFailed result (self.new.faults ≡ self.old.faults) }
         ensures same_failed_last { UnlessFailed result (untold_name ≡ untold_name) }
 
         // What these files add to the trait's clauses.
         ensures within { IfOk result (λ bytes. vec_len bytes ≤ vec_len front + MAX_FILE_BYTES) }
     {
+        self.reads = self.reads.saturating_add(1);
         // No clause can say what a file of the system has: tests read some.
         match read_file(self.rt, front, name) {
             Ok(bytes) => Ok(bytes),

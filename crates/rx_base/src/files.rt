@@ -1,6 +1,7 @@
 //! Where files are read.
 ghost use Rattle.std.specs.Prelude.{◌≡◌, ℕ, List, Option, IfOk, drop, vec_len};
 ghost use Rattle.std.specs.Io.{StartsWith};
+ghost use Rattle.rx_base.specs.Count.{one_more};
 ghost use Rattle.rx_base.specs.Sink.{HasRisen};
 ghost use Rattle.rx_base.specs.Files.{HasFile, IsNoted, OnFailed, UnlessFailed};
 ghost use Rattle.rx_base.specs.declared.files.ReadFault.TheVariants.{OutOfMemory};
@@ -37,7 +38,7 @@ impl From<AllocError> for ReadFault {
     }
 }
 
-/// Where files are read by name.
+/// Where files are read by name, each read whole and counted. A count stands still at 2^64-1.
 pub trait Files {
     /// The files by name, where they are told. Of two with one name the first counts.
     ghost contents: { Self → Option (List (List ℕ × List ℕ)) };
@@ -48,10 +49,14 @@ pub trait Files {
     /// How many reads failed.
     ghost faults: { Self → ℕ };
 
+    /// How many reads there were, whatever they answered.
+    ghost reads: { Self → ℕ };
+
     /// The bytes of the whole file of that name.
     final fn read(&mut self, alloc: Global, name: &str) -> Result<Vec<u8>, ReadFault>
         ensures ok { IfOk result (λ bytes. HasFile (contents self.old) name.now bytes.items) }
         ensures same_contents { contents self.new ≡ contents self.old }
+        ensures numbered { reads self.new ≡ one_more (reads self.old) }
 
         ensures failed { OnFailed result
             (IsNoted (failed_last self.old) (failed_last self.new) name.now) }
@@ -69,6 +74,7 @@ pub trait Files {
         ensures front { IfOk result (λ bytes. StartsWith bytes.items front.items) }
         ensures ok { IfOk result (λ bytes. HasFile (contents self.old) name.now (drop (vec_len front) bytes.items)) }
         ensures same_contents { contents self.new ≡ contents self.old }
+        ensures numbered { reads self.new ≡ one_more (reads self.old) }
 
         ensures failed { OnFailed result
             (IsNoted (failed_last self.old) (failed_last self.new) name.now) }

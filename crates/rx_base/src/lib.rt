@@ -1,4 +1,4 @@
-//! Files to read and sinks to put bytes in, each with a count of its faults.
+//! Files to read and sinks to put bytes in, each with a count of its faults, and of files one of their reads.
 //! A contract sees that count and what is told: the files by name, the bytes put, or nothing.
 //! A caller is generic over `Files` and `Sink`; programs pass the system's, tests those in memory.
 //! A count stands still at 2^64-1, and there it passes for one that rose.

@@ -76,10 +76,13 @@ impl Files for MemFiles {
 
     ghost faults = { λ s. s.faults };
 
+    ghost reads = { λ s. s.reads };
+
     fn read_behind(&mut self, mut front: Vec<u8>, name: &str) -> Result<Vec<u8>, ReadFault>
         ensures front { IfOk result (λ bytes. StartsWith bytes.items front.items) }
         ensures ok { IfOk result (λ bytes. HasFile (Some self.old.files) name.now (drop (vec_len front) bytes.items)) }
         ensures same_contents { Some self.new.files ≡ Some self.old.files }
+        ensures numbered { self.new.reads ≡ one_more self.old.reads }
         ensures failed { OnFailed result
             (IsNoted (Some self.old.failed_last) (Some self.new.failed_last) name.now) }
         ensures counted { OnFailed result (HasRisen self.old.faults self.new.faults) }
@@ -88,7 +91,6 @@ impl Files for MemFiles {
             (Some self.new.failed_last ≡ Some self.old.failed_last) }
 
         // What these files add to the trait's clauses.
-        ensures numbered { self.new.reads ≡ one_more self.old.reads }
         ensures same_plan { self.new.failing ≡ self.old.failing }
         ensures planned { Contains self.old.failing self.new.reads → IsErr result }
         ensures cause { OnFailed result (Contains self.old.failing self.new.reads

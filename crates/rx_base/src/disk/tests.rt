@@ -132,6 +132,38 @@ impl Read for Broken {
     }
 }
 
+/// A reader that a signal interrupts before each byte.
+#[derive(Drop)]
+struct Interrupted {
+    bytes: usize,
+    is_next: bool,
+}
+
+impl Read for Interrupted {
+    fn read(&mut self, buf: &mut [u8]) -> io::Result<usize> {
+        self.is_next = !self.is_next;
+        if !self.is_next {
+            return Err(io::Error::from(ErrorKind::Interrupted));
+        }
+        if self.bytes == 0 || buf.is_empty() {
+            return Ok(0);
+        }
+        self.bytes -= 1;
+        buf[0] = 7;
+        Ok(1)
+    }
+}
+
+#[test]
+fn a_read_that_a_signal_interrupts_goes_on(rt: HostRuntime) -> Result<(), Fail> {
+    for is_next in [false, true] {
+        let reader = Interrupted { bytes: 3, is_next };
+        let got = read_within(Vec::from_slice(rt.alloc(), &[8])?, reader, 9)?;
+        assert_eq!(rt; got.as_slice(), [8, 7, 7, 7].as_slice());
+    }
+    Ok(())
+}
+
 #[test]
 fn a_read_that_fails_has_the_fault_of_its_error(rt: HostRuntime) {
     let rows = [
