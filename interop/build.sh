@@ -14,4 +14,6 @@ for peer in client.cs server.ss; do
     cc -O3 -w -DAFS_PTHREAD_ENV -I. -I"$from" "$from/${peer%.*}.c" "peer.${peer#*.}.c" peer.xdr.c -o "${peer%.*}" \
         -lafsrpc -lpthread -lresolv
 done
-cc -O2 -Wall -Wextra "$from/proxy.c" -o proxy
+for tool in proxy flood endless; do
+    cc -O2 -Wall -Wextra "$from/$tool.c" -o "$tool"
+done

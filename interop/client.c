@@ -4,6 +4,10 @@
      slow SECONDS                a call whose handler takes that long
      fail CODE                   a call that the server answers with a code
      opcode NUMBER               a call without arguments of this opcode
+     steady SECONDS BYTES        for so long, echoes of 20 bytes on three channels and such streams, up and down, on the
+                                 fourth; it goes on behind a call that fails. Each 100 ms it prints the milliseconds
+                                 until then, and how many echoes and streams were done, how many calls failed, and how
+                                 many answers were wrong
      bytes BYTES                 no call: prints the bytes of a stream, and their sum on standard error
    Prints `ok` and what came, or `code` and the code with which the call ended; then the milliseconds that passed and
    those of the processor that this end took. With JUMBO in the environment it takes and sends jumbograms. */
@@ -103,29 +107,42 @@ static int take_counted(struct rx_call *call, afs_uint32 *size, afs_uint32 *sum)
     return 0;
 }
 
-static int up(afs_uint32 bytes)
+/* A stream in one direction: how many bytes the server and this end counted or asked for, and the sums of both. */
+struct stream { afs_uint32 size, asked, sum, seen; };
+
+static int sent_up(struct stream *s)
 {
-    afs_uint32 sent = 0, size = 0, sum = 0;
     struct rx_call *call = rx_NewCall(conn);
     int code = StartPEER_Up(call, 7);
-    code = code ? code : send_counted(call, bytes, &sent);
-    code = code ? code : EndPEER_Up(call, &size, &sum);
-    code = rx_EndCall(call, code);
+    code = code ? code : send_counted(call, s->asked, &s->seen);
+    code = code ? code : EndPEER_Up(call, &s->size, &s->sum);
+    return rx_EndCall(call, code);
+}
+
+static int taken_down(struct stream *s)
+{
+    struct rx_call *call = rx_NewCall(conn);
+    int code = StartPEER_Down(call, s->asked);
+    code = code ? code : take_counted(call, &s->size, &s->seen);
+    code = code ? code : EndPEER_Down(call, &s->sum);
+    return rx_EndCall(call, code);
+}
+
+static int up(afs_uint32 bytes)
+{
+    struct stream s = { .asked = bytes };
+    int code = sent_up(&s);
     if (!code)
-        printf("ok up %u, sum %u of %u", size, sum, sent);
+        printf("ok up %u, sum %u of %u", s.size, s.sum, s.seen);
     return code;
 }
 
 static int down(afs_uint32 bytes)
 {
-    afs_uint32 size = 0, seen = 0, sum = 0;
-    struct rx_call *call = rx_NewCall(conn);
-    int code = StartPEER_Down(call, bytes);
-    code = code ? code : take_counted(call, &size, &seen);
-    code = code ? code : EndPEER_Down(call, &sum);
-    code = rx_EndCall(call, code);
+    struct stream s = { .asked = bytes };
+    int code = taken_down(&s);
     if (!code)
-        printf("ok down %u, sum %u of %u", size, seen, sum);
+        printf("ok down %u, sum %u of %u", s.size, s.seen, s.sum);
     return code;
 }
 
@@ -159,6 +176,69 @@ static int opcode(afs_uint32 number)
     rx_Write(call, (char *)&word, 4);
     rx_Read(call, (char *)&answer, 4);
     return rx_EndCall(call, 0);
+}
+
+/* What steady work is asked for, and what it has done. */
+static struct { pthread_mutex_t lock; double until; afs_uint32 bytes; long echoes, streams, failed, wrong; } work =
+    { .lock = PTHREAD_MUTEX_INITIALIZER };
+
+/* Counts a call that ended with a code; behind one that failed it waits, so that refusals don't come too fast. */
+static void count_call(long *done, int code, int is_right)
+{
+    pthread_mutex_lock(&work.lock);
+    if (code)
+        work.failed++;
+    else
+        ++*(is_right ? done : &work.wrong);
+    pthread_mutex_unlock(&work.lock);
+    if (code)
+        usleep(20000);
+}
+
+static void *steady_echoes(void *unused)
+{
+    unsigned char bytes[20];
+    for (afs_uint32 i = 0; now() < work.until; i++) {
+        PeerBody body = { sizeof bytes, (char *)bytes }, same = { 0, NULL };
+        int code;
+        fill(bytes, i, sizeof bytes);
+        code = PEER_Echo(conn, &body, &same);
+        count_call(&work.echoes, code,
+                   same.PeerBody_len == sizeof bytes && !memcmp(same.PeerBody_val, bytes, sizeof bytes));
+        free(same.PeerBody_val);
+    }
+    return unused;
+}
+
+static void *steady_streams(void *unused)
+{
+    for (int i = 0; now() < work.until; i++) {
+        struct stream s = { .asked = work.bytes };
+        int code = i % 2 ? taken_down(&s) : sent_up(&s);
+        count_call(&work.streams, code, s.size == s.asked && s.sum == s.seen);
+    }
+    return unused;
+}
+
+static int steady(int seconds, afs_uint32 bytes)
+{
+    pthread_t threads[RX_MAXCALLS];
+    double began = now();
+    work.until = began + seconds * 1e3;
+    work.bytes = bytes;
+    for (int i = 0; i < RX_MAXCALLS; i++)
+        pthread_create(&threads[i], NULL, i ? steady_echoes : steady_streams, NULL);
+    while (now() < work.until) {
+        usleep(100000);
+        pthread_mutex_lock(&work.lock);
+        printf("%.0f %ld %ld %ld %ld\n", now() - began, work.echoes, work.streams, work.failed, work.wrong);
+        pthread_mutex_unlock(&work.lock);
+        fflush(stdout);
+    }
+    for (int i = 0; i < RX_MAXCALLS; i++)
+        pthread_join(threads[i], NULL);
+    printf("%s steady, %ld wrong", work.wrong ? "not" : "ok", work.wrong);
+    return 0;
 }
 
 /* The bytes of a stream of that size, for a program that isn't of these peers. */
@@ -204,6 +284,8 @@ int main(int count, char **words)
         code = both(numbers[0]);
     else if (!strcmp(what, "slow"))
         code = slow(numbers[0]);
+    else if (!strcmp(what, "steady"))
+        code = steady(numbers[0], numbers[1]);
     else if (!strcmp(what, "fail"))
         code = PEER_Fail(conn, numbers[0]);
     else if (!strcmp(what, "opcode"))

@@ -14,7 +14,7 @@
 #include <time.h>
 #include <unistd.h>
 
-enum { CLIENTS = 64, HELD = 64, LONGEST = 65536, HELD_MS = 50 };
+enum { CLIENTS = 512, HELD = 64, LONGEST = 65536, HELD_MS = 50 };
 
 static struct client { int socket; struct sockaddr_in at; } clients[CLIENTS];
 static struct held { int socket, left, size; struct sockaddr_in to; double until; unsigned char *bytes; } held[HELD];

@@ -1,5 +1,5 @@
-# What interop/openafs.sh and bench/udp.sh share: processes that are started under a name and ended by their id. To be
-# sourced by a script of bash that has set top, the folder of the repository, and work, a folder of its own.
+# What the scripts of interop/ and bench/udp.sh share: processes that are started under a name and ended by their id. To
+# be sourced by a script of bash that has set top, the folder of the repository, and work, a folder of its own.
 # shellcheck shell=bash disable=SC2154
 declare -A pid_of
 
@@ -26,12 +26,22 @@ start() {
 # start_ready NAME COMMAND..: the same, and waits for its line `ready`.
 start_ready() {
     start "$@"
+    ready "$1"
+}
+
+# Waits for the line `ready` of what was started under a name.
+ready() {
     for _ in {1..100}; do
         grep -qs '^ready' "$work/$1.out" && return
         sleep 0.1
     done
     echo "$1 does not start: $(tail -n 1 "$work/$1.out")"
     return 1
+}
+
+# Whether what was started under a name runs still.
+stands() {
+    kill -0 "${pid_of[$1]}" 2>/dev/null
 }
 
 # Ends what was started under a name, and waits for its end.
@@ -59,10 +69,44 @@ epoch() {
     od -An -N4 -tu4 /dev/urandom | tr -d ' '
 }
 
-# serve NAME XG SCRIPT HOST SERVICE [OPTION..]: the program's server under a name, for an hour at most.
+# serve NAME XG SCRIPT HOST SERVICE [OPTION..]: the program's server under a name, for SERVE_MS milliseconds at most, or
+# where that isn't set for an hour.
 serve() {
     local name=$1 xg=$2 script=$3 at=$4 service=$5
     shift 5
     start_ready "$name" "$RX" serve "$xg" "$script" --at "$at" --service "$service" \
-        --for 3600000 --turns 1000000000 "$@"
+        --for "${SERVE_MS:-3600000}" --turns 1000000000 "$@"
+}
+
+# serve_quietly NAME XG SCRIPT HOST SERVICE [OPTION..]: the same for very many calls, whose lines are not kept.
+serve_quietly() {
+    local name=$1 xg=$2 script=$3 at=$4 service=$5
+    shift 5
+    : >"$work/$name.out"
+    "$RX" serve "$xg" "$script" --at "$at" --service "$service" --for "${SERVE_MS:-3600000}" --turns 1000000000 "$@" \
+        > >(grep --line-buffered -vE '^(accept|finish) ' >"$work/$name.out") 2>&1 </dev/null &
+    pid_of[$name]=$!
+    ready "$name"
+}
+
+sleep_ms() {
+    sleep "$(printf '%d.%03d' $(($1 / 1000)) $(($1 % 1000)))"
+}
+
+# The kilobytes that a process under a name has in memory.
+memory() {
+    awk '$1 == "VmRSS:" { print $2 }' "/proc/${pid_of[$1]}/status"
+}
+
+# own_network WORD..: has the script run anew, with the words --inside WORD.., in a network namespace of its own, where
+# nothing but this machine is spoken to. Ends with 1 where something is missing that it needs.
+own_network() {
+    local tool
+    for tool in cc ip unshare rxgen; do
+        command -v "$tool" >/dev/null || { echo "failed: $tool is not there"; exit 1; }
+    done
+    unshare -n true 2>/dev/null || { echo 'failed: no network namespace can be made'; exit 1; }
+    RX=$(program ${RX:+"$RX"})
+    export RX
+    exec unshare -n "$BASH" "$0" --inside "$@"
 }
