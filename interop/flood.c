@@ -9,8 +9,8 @@
      nowhere    DATA from where no answer goes: the port 0, a broadcast address, a network without a route
      data       DATA of valid form for the service 60: whole requests, first packets, later ones, and uploads
    Sends COUNT of them, RATE a second, as a generator with this seed draws, from many hosts of 127.0.0.0/8, and one of
-   64 from the server's own host and port. Wants a raw socket: without one it says so, and sends from 64 sockets, but none
-   of the kind `nowhere`. Prints what it sent. */
+   64 from the server's own host and port. Wants a raw socket: without one it says so, and sends from 64 sockets, none
+   of the kind `nowhere` among them. Prints what it sent. */
 #include "packet.h"
 #include <netinet/ip.h>
 #include <netinet/udp.h>
