@@ -4,7 +4,7 @@
 Compares the bytes of standard output and standard error and the exit status of each, in pipes and in files, with
 NAME.trace and, where a line is refused, NAME.err. A plan that names an interface or a script says so in a comment "# Run
 as: rx sim NAME.plan .."; its words are those of the run, in the folder examples/. Traces that are too large to stand
-there have their sums here. PROGRAM is the one that the gate built, or else the one that ./rx built."""
+there have their sums here. PROGRAM is the one that the gate built, or else the one that ./rx --prove built."""
 import hashlib
 import pathlib
 import re
@@ -18,10 +18,10 @@ OK, REFUSED = 0, 2
 
 
 def program():
-    """The path of the program that the gate built, or else of the one that ./rx built, or None where there is none."""
+    """The path of the program that the gate built, or else of the one that ./rx --prove built, or None."""
     if len(sys.argv) > 1:
         return pathlib.Path(sys.argv[1]).resolve()
-    return next((it for it in (top / "crates/rx/out/rx", *top.glob(".rx/*.d/rx")) if it.exists()), None)
+    return next((it for it in (top / "crates/rx/out/rx", *top.glob(".rx/*.proved/rx")) if it.exists()), None)
 
 
 def say(plan, what):

@@ -2,14 +2,13 @@
 """Runs the program as its callers do: .ci/program.py [PROGRAM]
 
 Compares the exit status and the bytes that arrive from standard output and standard error with the table of statuses of
-README.md, with docs/FORMATS.md and with examples/afs/*.table, and the statuses of the script ./rx with what is said
-there. PROGRAM is the one that the gate built, or else the one that ./rx builds."""
+README.md, with docs/FORMATS.md and with examples/afs/*.table. PROGRAM is the one that the gate built, or else the one
+that ./rx --prove builds."""
 import contextlib
 import os
 import pathlib
 import re
 import resource
-import shutil
 import subprocess
 import sys
 import tempfile
@@ -26,13 +25,13 @@ def statuses():
 
 
 def program():
-    """The path of the program that the gate built, or else of the one that ./rx builds."""
+    """The path of the program that the gate built, or else of the one that ./rx --prove builds."""
     built = top / "crates" / "rx" / "out" / "rx"
     if len(sys.argv) > 1:
         built = pathlib.Path(sys.argv[1]).resolve()
     elif not built.exists():
-        subprocess.run([top / "rx"], stdout=subprocess.DEVNULL)
-        built = next(top.glob(".rx/*.d/rx"))
+        subprocess.run([top / "rx", "--prove"])
+        built = next(top.glob(".rx/*.proved/rx"))
     return str(built)
 
 
@@ -325,51 +324,9 @@ def memory():
             print(f"{what}: with more and more memory the statuses are {seen}")
 
 
-def script():
-    """The statuses of ./rx: without rt on PATH, with one that proves or builds nothing, and with one that builds a program."""
-    for crate in ("low", "beside", "rx", "other"):
-        os.makedirs(f"repo/crates/{crate}/src")
-        write(f"repo/crates/{crate}/src/main.rt", "")
-    shutil.copy(top / "rx", "repo/rx")
-    write("repo/crates.txt", "other:\nlow: hex # of the kit\nbeside:\nrx: beside low\n")
-    os.mkdir("bin")
-    for name in "awk bash cat chmod cp cut dirname find flock mkdir mv nproc readlink rm sha256sum sort xargs".split():
-        os.symlink(shutil.which(name), f"bin/{name}")
-
-    def tried(what, status, out, err):
-        where = {"PATH": f"{os.getcwd()}/bin"}
-        got = subprocess.run(["repo/rx", "a", "b c"], env=where, capture_output=True, timeout=100)
-        if (got.returncode, got.stdout) != (status, out) or not re.fullmatch(err, got.stderr.decode(), flags=re.S):
-            failed.append(what)
-            print(f"./rx {what}: {got.returncode}, {got.stdout[:200]}, {got.stderr[:500]}")
-
-    def toolchain(library, program="exit 1"):
-        write("bin/rt", f"#!/bin/sh\nif [ $1 = lib ]; then {library}; else {program}; fi\n")
-        os.chmod("bin/rt", 0o755)
-
-    says = "rx: proving and building[^\n]*\n"
-    ends = "rx: the program was not built[^\n]*\n"
-    builds = """mkdir -p out; printf '#!/bin/sh\\nprintf "%%s," "$@"; exit 4\\n' >out/rx; chmod +x out/rx"""
-    tried("without a toolchain", 127, b"", "rx: [^\n]*not on PATH\n")
-    toolchain("echo no proof; exit 1")
-    tried("where a library isn't proved", 125, b"", f"{says}no proof\nno proof\n{ends}")
-    toolchain("true", "echo no program; exit 1")
-    tried("where the program isn't built", 125, b"", f"{says}no program\n{ends}")
-    toolchain('echo "crate ${PWD##*/}: whole"', builds)
-    tried("that builds", 4, b"a,b c,", f"{says}(rx: (low|beside) is proved\n){{2}}")
-    toolchain("exit 1")
-    tried("that has built", 4, b"a,b c,", "")
-    write("repo/crates/rx/src/main.rt~", "a copy of an editor's")
-    write("repo/crates/rx/src/.#main.rt", "another")
-    write("repo/crates/other/src/main.rt", "a crate that the program doesn't stand on")
-    tried("beside other files", 4, b"a,b c,", "")
-    write("repo/crates/low/src/main.rt", "changed")
-    tried("with other sources", 125, b"", f"{says}{ends}")
-
-
 with tempfile.TemporaryDirectory() as folder:
     os.chdir(folder)
-    for part in (usage, plans, interfaces, refused_calls, wires, files, streams, memory, script):
+    for part in (usage, plans, interfaces, refused_calls, wires, files, streams, memory):
         part()
     os.chdir(top)
 print(f"the program: {len(failed)} runs failed" if failed else "the program: each run ended and printed as it is to")
