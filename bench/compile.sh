@@ -10,9 +10,10 @@ trap 'rm -rf "$work"' EXIT
 for blocks in 100 1000; do
     awk -v blocks=$blocks -f bench/interface.awk >"$work/$blocks.xg"
 done
+./rx --prove
 ./rx compile "$work/100.xg" >"$work/table"
 [ "$(grep -c '^proc ' "$work/table")" = 100 ] || { echo "the table hasn't each procedure"; exit 1; }
-ours=$(echo .rx/*.d/rx)
+ours=$(echo .rx/*.proved/rx)
 
 # COMMAND: seconds of a run, the best of five.
 seconds() {

@@ -2,7 +2,7 @@
 # Plans that grow tenfold, of 10,000 and 100,000 poll and deliver lines, and plans that double, of 1,600 and 3,200 calls in
 # turn by invoke and rounds lines: rx sim of each. Prints the seconds of each, the best of three, and the microseconds and
 # the instructions for each line of the trace: where they stay the same, the cost is linear.
-# The program is the one that ./rx builds, or else the one that is named; valgrind where it is there. The root of the
+# The program is the one that ./rx --prove builds, or else the one that is named; valgrind where it is there. The root of the
 # repository is the working folder: bench/plans.sh [PROGRAM]
 set -eu
 work=$(mktemp -d)
@@ -10,8 +10,8 @@ trap 'rm -rf "$work"' EXIT
 if [ $# -gt 0 ]; then
     program=$1
 else
-    ./rx sim /dev/null
-    program=$(echo .rx/*.d/rx)
+    ./rx --prove
+    program=$(echo .rx/*.proved/rx)
 fi
 
 # PLAN: a run of it, with the interface and the script of the examples.

@@ -3,15 +3,15 @@
 # shellcheck shell=bash disable=SC2154
 declare -A pid_of
 
-# The program: the one that is named, the one that the gate built, or the one that ./rx builds.
+# The program: the one that is named, the one that the gate built, or the one that ./rx --prove builds.
 program() {
     if [ $# -gt 0 ]; then
         realpath "$1"
     elif [ -x "$top/crates/rx/out/rx" ]; then
         echo "$top/crates/rx/out/rx"
     else
-        "$top/rx" >/dev/null 2>&1
-        ls "$top"/.rx/*.d/rx
+        "$top/rx" --prove >/dev/null 2>&1
+        ls "$top"/.rx/*.proved/rx
     fi
 }
 
