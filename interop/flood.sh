@@ -2,7 +2,7 @@
 # Datagrams that no good client sends, at `rx serve`, beside an OpenAFS client at work: interop/flood.sh SECONDS
 # 1. Each kind of interop/flood.c alone: what a datagram costs the server of the processor.
 # 2. Each kind beside echoes and streams of an OpenAFS client, and its rates without them, with them and behind them.
-# 3. A request that never ends (interop/endless.c): what it leaves the server of memory.
+# 3. A request that never ends (interop/endless.c): how much memory the server has at most.
 # Prints a line for each, and at the end one that begins with `passed` and has figures, or with `failed` and says what
 # failed. It passes where the server stands to the end, no answer was wrong, the client has a tenth of its rate or more
 # again within 30 s behind the flood, and the server's resident memory is within 4 MB of what it was.
@@ -139,8 +139,8 @@ beside() {
 
 # within WHAT BEFORE BEHIND: the server's memory grew by no more than it may.
 within() {
-    told_memory+=", $2 KB in memory before $1 and $3 KB behind"
-    (($3 <= $2 + MOST_KB)) || fault "the server has $3 KB in memory behind $1, and had $2 KB before"
+    told_memory+=", $2 KB in memory before $1 and then $3 KB"
+    (($3 <= $2 + MOST_KB)) || fault "the server had $2 KB in memory before $1, and then $3 KB"
 }
 
 # One hundred echoes and a stream.
@@ -150,16 +150,18 @@ good_calls() {
     fault "calls fail: $(<"$work/good")"
 }
 
+# A request that never ends, beside nothing else. The server's memory is the most that it had meanwhile.
 never_ends() {
     local before said
     new_server || exit
     good_calls
     before=$(memory ours)
+    forget_most ours
     said=$("$work/peers/endless" "$PORT" "$BYTES" $((4 * part / 1000 + 1)))
     survives endless || return
     echo "a request that never ends: $said"
     [[ $said != *silence* ]] || fault 'the server was silent on a request that never ends'
-    within 'a request that never ends' "$before" "$(memory ours)"
+    within "${said%% *} bytes of a request that never ends" "$before" "$(most_memory ours)"
     good_calls
 }
 

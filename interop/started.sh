@@ -98,6 +98,15 @@ memory() {
     awk '$1 == "VmRSS:" { print $2 }' "/proc/${pid_of[$1]}/status"
 }
 
+# The kilobytes that it had at most since that was last forgotten.
+most_memory() {
+    awk '$1 == "VmHWM:" { print $2 }' "/proc/${pid_of[$1]}/status"
+}
+
+forget_most() {
+    echo 5 >"/proc/${pid_of[$1]}/clear_refs"
+}
+
 # own_network WORD..: has the script run anew, with the words --inside WORD.., in a network namespace of its own, where
 # nothing but this machine is spoken to. Ends with 1 where something is missing that it needs.
 own_network() {
