@@ -7,7 +7,8 @@
      jumbo      jumbograms that are cut short
      long       a header with odd fields and up to 60,000 bytes
      nowhere    DATA from where no answer goes: the port 0, a broadcast address, a network without a route
-     data       DATA of valid form for the service 60: whole requests, first packets, later ones, and uploads
+     data       DATA of valid form for the service 60: whole requests, also of downloads, first packets, later ones, and
+                uploads
    Sends COUNT of them, RATE a second, as a generator with this seed draws, from many hosts of 127.0.0.0/8, and one of
    64 from the server's own host and port. Wants a raw socket: without one it says so, and sends from 64 sockets, none
    of the kind `nowhere` among them. Prints what it sent. */
@@ -96,15 +97,20 @@ static void make_data(struct datagram *d)
     struct link link = new_link();
     uint32_t call = draw(8) ? 1 + draw(4) : any();
     link.cid |= draw(4);
-    switch (draw(4)) {
+    switch (draw(5)) {
     case 0:
         whole_call(d, &link, call, SERVICE);
         return;
     case 1:
+        head(d, &link, call, 1, DATA, CLIENT_INITIATED | LAST, SERVICE);
+        add(d, DOWN_CALL);
+        add(d, any());
+        return;
+    case 2:
         head(d, &link, call, 1, DATA, CLIENT_INITIATED | (draw(2) ? ASKS : 0), SERVICE);
         add(d, 1 + draw(7));
         break;
-    case 2:
+    case 3:
         head(d, &link, call, 2 + draw(WINDOW), DATA, CLIENT_INITIATED, SERVICE);
         break;
     default:

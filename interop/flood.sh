@@ -5,7 +5,7 @@
 # 3. A request that never ends (interop/endless.c): how much memory the server has at most.
 # Prints a line for each, and at the end one that begins with `passed` and has figures, or with `failed` and says what
 # failed. It passes where the server stands to the end, no answer was wrong, the client has a tenth of its rate or more
-# again within 30 s behind the flood, and the server's resident memory is within 4 MB of what it was.
+# again within 30 s behind the flood, and the server's resident memory is within 4 MB again of what it was.
 # Set in the environment: RX, the program, or else that of the gate or of ./rx; RATE, forged datagrams a second; KINDS,
 # those of flood.c that are sent; BYTES, how long the request gets that never ends; SERVE, options of `rx serve`.
 # Wants root, cc, ip, and Debian's libopenafs-dev. It runs in a network namespace of its own.
@@ -126,6 +126,7 @@ beside() {
     sleep 0.5
     worked 'no flood' sleep_ms $((2 * part))
     echoes_without=$echoes ms_without=$ms before=$(memory ours)
+    forget_most ours
     for kind in $KINDS; do
         worked "with $kind" forge "$kind"
         survives "$kind" || return
@@ -133,8 +134,18 @@ beside() {
     done
     come_back
     survives "$kind" || return
+    echo "the server's memory beside the flood: $(most_memory ours) KB at most"
+    await_memory $((before + MOST_KB))
     within 'the flood' "$before" "$(memory ours)"
     [ "$(done_until_now | cut -d ' ' -f 5)" = 0 ] || fault 'the client had wrong answers'
+}
+
+# Waits until the server has so many kilobytes or less: calls that were forged end in 12 s of silence.
+await_memory() {
+    local until=$((SECONDS + BACK_SECONDS))
+    while (($(memory ours) > $1 && SECONDS < until)); do
+        sleep 0.5
+    done
 }
 
 # within WHAT BEFORE BEHIND: the server's memory grew by no more than it may.

@@ -10,7 +10,7 @@
 
 enum { DATA = 1, ACK, BUSY, ABORT, ACKALL, CHALLENGE, RESPONSE };
 enum { CLIENT_INITIATED = 1, ASKS = 2, LAST = 4, JUMBO = 32 };
-enum { SERVICE = 60, ECHO_CALL = 1, UP_CALL = 2, HEADER = 28, PIECE = 1412, WINDOW = 32 };
+enum { SERVICE = 60, ECHO_CALL = 1, UP_CALL, DOWN_CALL, HEADER = 28, PIECE = 1412, WINDOW = 32 };
 
 /* A client as it shows: where it sends from, and its connection. */
 struct link { uint32_t host, epoch, cid; uint16_t port; };
