@@ -1,15 +1,21 @@
 -- What a contract sees of a `UdpWire`. Public clauses cite this module.
-use Rattle.std.specs.Prelude.{ℕ, ◌≤◌, ◌+◌, ◌-◌, ◌*◌, ◌/◌, ⊤, Option, None}
+use Rattle.std.specs.Prelude.{ℕ, ◌≤◌, ◌+◌, ◌-◌, ◌*◌, ◌/◌, ⊤, Bool, true, false, Option, Some, None}
 use Rattle.rx_udp.specs.declared.udp_wire.Got.{Got}
 use Rattle.rx_udp.specs.declared.udp_wire.Got.TheVariants as gots
 use Rattle.rx_udp.specs.Wire.{Traffic}
 
--- a wire over a socket: the moment, how many calls failed, and how long the socket's reads wait, in milliseconds, or 0
--- where that isn't set yet
+-- a wire over a socket: whether it has one, the moment, how many calls failed, and how long the socket's reads wait, in
+-- milliseconds, or 0 where that isn't set yet
 pub record UdpWireState : Type 0 where
+  pub is_bound : Bool
   pub moment : ℕ
   pub faults : ℕ
   pub timeout : ℕ
+
+-- whether there is one
+abbrev pub is_there : {T : Type 0} → Option T → Bool
+is_there None = false
+is_there (Some one) = true
 
 -- what a wire tells that tells nothing of what it carries
 abbrev pub untold : Option Traffic

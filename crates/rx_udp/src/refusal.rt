@@ -1,4 +1,4 @@
-//! What the system's errors say of a call on a UDP socket, by their numbers on Linux: errno(3), ip(7), udp(7), socket(7).
+//! What the system's errors say of a call on a UDP socket, by their numbers on Linux: errno(3), ip(7), udp(7).
 
 use std::io;
 

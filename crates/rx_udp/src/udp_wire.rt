@@ -1,14 +1,14 @@
 //! A wire over a UDP socket of the system.
 //! No clause can say what a socket carries: tests over loopback look at it.
-ghost use Rattle.std.specs.Prelude.{◌≡◌, ◌⊎◌, ◌+◌, ◌-◌, ◌/◌, ◌<◌, ◌≤◌, ◌^◌, length, min};
-ghost use Rattle.std.specs.Prelude.{IfOk, IfSome, IfNone, OnOk, OnErr};
+ghost use Rattle.std.specs.Prelude.{◌≡◌, ◌≢◌, ◌⊎◌, ◌+◌, ◌-◌, ◌/◌, ◌<◌, ◌≤◌, ◌^◌, length, min};
+ghost use Rattle.std.specs.Prelude.{IfOk, IfSome, IfNone, OnOk, OnErr, IsTrue, true, false};
 ghost use Rattle.std.specs.Net.Addr.{IsIpv4OfBits, ipv4_bits};
 ghost use Rattle.std.specs.Net.Socket.{v4_ip, v4_port};
 ghost use Rattle.std.specs.Time.{instant_nanos};
 ghost use Rattle.rx_base.specs.Count.{one_more};
 ghost use Rattle.rx_base.specs.Sink.{HasRisen};
 ghost use Rattle.rx_udp.specs.Wire.{HasBound, HasLogged, GaveTo, TookUntil, came_in};
-ghost use Rattle.rx_udp.specs.UdpWire.{IsWithin, UdpWireState, untold, wait_of};
+ghost use Rattle.rx_udp.specs.UdpWire.{IsWithin, UdpWireState, is_there, untold, wait_of};
 
 use crate::refusal::Refusal;
 use crate::wire::Wire;
@@ -20,8 +20,8 @@ use std::marker::Model;
 use std::net::{Ipv4Addr, Net, SocketAddr, SocketAddrV4, UdpSocket};
 use std::time::{Clock, Duration, Instant};
 
-/// The steps in which the socket's read timeout is set, in milliseconds. The system rounds a timeout up to its own
-/// ticks of 1 to 10 ms in any case, and with steps it rarely has to be set anew.
+/// The steps in which the socket's read timeout is set, in milliseconds. The system rounds a timeout up in any case, to
+/// its own ticks of 1 to 10 ms and a long one by up to an eighth, and with steps it rarely has to be set anew.
 pub const WAIT_STEP_MS: u64 = 4;
 
 /// The last moment, in milliseconds.
@@ -73,7 +73,12 @@ pub struct UdpWire<'a, R: Net + Clock> {
 impl<'a, R: Net + Clock> Model for UdpWire<'a, R> {
     ghost Value = { UdpWireState };
 
-    ghost view = { λ s. record { moment = s.moment; faults = s.faults; timeout = s.timeout_ms } };
+    ghost view = { λ s. record {
+      is_bound = is_there s.socket;
+      moment = s.moment;
+      faults = s.faults;
+      timeout = s.timeout_ms;
+    } };
 
     ghost invariant = { λ s. s.moment < 2 ^ 62 };
 }
@@ -82,7 +87,7 @@ impl<'a, R: Net + Clock> UdpWire<'a, R> {
     /// A wire over the runtime's network and clock, at moment 0 and with no socket yet. Where the clock can't be read,
     /// takes fail.
     pub fn make(rt: &'a R) -> UdpWire<'a, R>
-        ensures empty { result ≡ record { moment = 0; faults = 0; timeout = 0 } }
+        ensures empty { result ≡ record { is_bound = false; moment = 0; faults = 0; timeout = 0 } }
     {
         UdpWire {
             rt,
@@ -152,6 +157,7 @@ impl<'a, R: Net + Clock> UdpWire<'a, R> {
     // One wait up to this moment, with the clock read before it and behind it.
     fn wait_once(&mut self, until: u64, to: &mut [u8]) -> io::Result<Got>
         requires { until < 2 ^ 62 }
+        ensures same_bound { self.new.is_bound ≡ self.old.is_bound }
         ensures same_faults { self.new.faults ≡ self.old.faults }
         ensures no_earlier { self.old.moment ≤ self.new.moment }
         ensures within { IfOk result (IsWithin (length to.new)) }
@@ -168,6 +174,7 @@ impl<'a, R: Net + Clock> UdpWire<'a, R> {
     // Waits up to this moment, anew behind each wait that ended early.
     fn take_until(&mut self, until: u64, to: &mut [u8]) -> io::Result<Option<(Host, usize)>>
         requires { until < 2 ^ 62 }
+        ensures same_bound { self.new.is_bound ≡ self.old.is_bound }
         ensures same_faults { self.new.faults ≡ self.old.faults }
         ensures no_earlier { self.old.moment ≤ self.new.moment }
         ensures within { IfOk result (λ came. IfSome came (λ one. one.1 ≤ length to.new)) }
@@ -188,24 +195,6 @@ impl<'a, R: Net + Clock> UdpWire<'a, R> {
         }
         // This can't come: no clock and no machine lasts for 2^64 - 1 calls of the system.
         Err(io::Error::from(ErrorKind::TimedOut))
-    }
-
-    // Hands a datagram to the system, again where a signal came first.
-    fn send(&self, to: Host, bytes: &[u8]) -> Sent {
-        let Some(socket) = &self.socket else {
-            return Sent::Fault;
-        };
-        if to.port == 0 {
-            return Sent::Lost;
-        }
-        for _ in 0..u64::MAX {
-            match send_once(socket, to, bytes) {
-                Sent::Again => {}
-                sent => return sent,
-            }
-        }
-        // This can't come, and the datagram wasn't sent.
-        Sent::Lost
     }
 }
 
@@ -250,11 +239,12 @@ fn host_of(address: &SocketAddrV4) -> Host
 fn open<R: Net>(rt: &R, at: Host) -> io::Result<(UdpSocket, Host)>
     ensures addr { IfOk result (λ got. got.1.addr ≡ at.addr) }
     ensures port { IfOk result (λ got. (at.port ≡ 0) ⊎ (got.1.port ≡ at.port)) }
+    ensures some_port { IfOk result (λ got. got.1.port ≢ 0) }
 {
     let socket = UdpSocket::bind(rt, v4_of(at))?;
     if let SocketAddr::V4(bound) = socket.local_addr()? {
         let got = host_of(&bound);
-        if got.addr == at.addr && (at.port == 0 || got.port == at.port) {
+        if got.addr == at.addr && got.port != 0 && (at.port == 0 || got.port == at.port) {
             return Ok((socket, got));
         }
     }
@@ -272,6 +262,21 @@ fn got_of(error: io::Error) -> io::Result<Got>
         Refusal::Interrupted | Refusal::NoRoute | Refusal::NotTaken => Ok(Got::Again),
         Refusal::NotFromHere | Refusal::Forbidden | Refusal::Socket => Err(error),
     }
+}
+
+// Hands a datagram to the system, again where a signal came first.
+fn send(socket: &UdpSocket, to: Host, bytes: &[u8]) -> Sent {
+    if to.port == 0 {
+        return Sent::Lost;
+    }
+    for _ in 0..u64::MAX {
+        match send_once(socket, to, bytes) {
+            Sent::Again => {}
+            sent => return sent,
+        }
+    }
+    // This can't come, and the datagram wasn't sent.
+    Sent::Lost
 }
 
 fn send_once(socket: &UdpSocket, to: Host, bytes: &[u8]) -> Sent {
@@ -310,6 +315,8 @@ impl<'a, R: Net + Clock> Wire for UdpWire<'a, R> {
         // What this wire adds to the trait's clauses.
         ensures addr { IfOk result (λ host. host.addr ≡ at.addr) }
         ensures port { IfOk result (λ host. (at.port ≡ 0) ⊎ (host.port ≡ at.port)) }
+        ensures some_port { IfOk result (λ host. host.port ≢ 0) }
+        ensures bound { OnOk result (self.new ≡ record self.old { is_bound = true; timeout = 0 }) }
         ensures failed { OnErr result (self.new ≡ record self.old { faults = one_more self.old.faults }) }
     {
         match open(self.rt, at) {
@@ -341,12 +348,17 @@ impl<'a, R: Net + Clock> Wire for UdpWire<'a, R> {
         ensures counted { OnErr result (HasRisen self.old.faults self.new.faults) }
         ensures no_earlier { self.old.moment ≤ self.new.moment }
 
-        // What this wire adds to the trait's clauses: the socket waits past `until`, by the clock's reading, and at most
-        // 4 ms longer than up to it.
+        // What this wire adds to the trait's clauses: the socket's reads wait past `until`, by the clock's reading, and
+        // at most 4 ms longer than up to it.
         ensures enough { OnOk result (until < self.new.moment + self.new.timeout) }
         ensures no_longer { OnOk result (self.new.timeout ≤ (until - self.old.moment) + 4) }
+        ensures bound { OnOk result (IsTrue self.old.is_bound) }
+        ensures same_bound { self.new.is_bound ≡ self.old.is_bound }
         ensures failed { OnErr result (self.new.faults ≡ one_more self.old.faults) }
     {
+        if self.socket.is_none() {
+            return Err(self.fault());
+        }
         match self.take_until(until, to) {
             Ok(came) => {
                 self.has_passed |= came.is_some();
@@ -365,10 +377,14 @@ impl<'a, R: Net + Clock> Wire for UdpWire<'a, R> {
         ensures same_moment { self.new.moment ≡ self.old.moment }
 
         // What this wire adds to the trait's clauses.
+        ensures bound { OnOk result (IsTrue self.old.is_bound) }
         ensures given { OnOk result (self.new ≡ self.old) }
         ensures failed { OnErr result (self.new ≡ record self.old { faults = one_more self.old.faults }) }
     {
-        match self.send(to, bytes) {
+        let Some(socket) = &self.socket else {
+            return Err(self.fault());
+        };
+        match send(socket, to, bytes) {
             Sent::Given => {
                 self.has_passed = true;
                 Ok(())

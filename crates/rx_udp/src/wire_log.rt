@@ -8,8 +8,8 @@ use rx_model::Host;
 use std::alloc::{AllocError, Global};
 use std::marker::Model;
 
-/// An entry of a log: a take into a buffer of `room` bytes, up to a moment, with the moment after it, that answered with
-/// a datagram or with none; or a datagram given. Moments are in milliseconds.
+/// An entry of a log: a take into a buffer of `room` bytes, up to a moment, with the moment after it, that answered
+/// with a datagram or with none; or a datagram given. Moments are in milliseconds.
 #[derive(Clone, Copy, Debug, PartialEq, Eq)]
 pub enum LogEntry<'a> {
     Came {

@@ -3,6 +3,7 @@ use Rattle.rx_udp.proofs.udp_wire.UdpWire.take_until.Given as goal
 
 abbrev pub invariant-waits : goal.invariant-waits
 invariant-waits g l = record {
+  bound : l.self.is_bound ≡ l.fn.self.is_bound;
   faults : l.self.faults ≡ l.fn.self.faults;
   later : l.fn.self.moment ≤ l.self.moment;
 }
