@@ -43,7 +43,7 @@ none_came request came none =
 
 -- it knows what it was told
 pub read_heard : (g : Handlers) (j : JobState) (got : ServeRead) (came : List ℕ) → length came ≤ handler_count got
-    → resolved g (next_after got) (behind_read j got came) ≡ heard_read g j got came
+    → resolved g (next_after got (length j.request)) (behind_read j got came) ≡ heard_read g j got came
 read_heard g j (reads.Got n) came few = refl
 read_heard g j reads.End came few =
     ap (λ (q : List ℕ). record { job = settled g 0 (record j { request = q; ended = true }); phase = phases.Moves })
@@ -57,14 +57,16 @@ read_heard g j reads.NotOpen came few =
 
 module _ (class : List ℕ → Class) (j : JobState) (old new : ServerState) where
   -- a read was called
-  pub read_called : (got : ServeRead) (bytes came request : List ℕ) (ended : Bool) (next : Next)
+  pub read_called : (got : ServeRead) (bytes came request : List ℕ) (ended : Bool) (before : ℕ) (next : Next)
       → length bytes ≤ handler_count got → IsBytes bytes
       → Answered class old new (events.HasRead j.call OFFER_BYTES (readers.Server got) bytes)
-      → came ≡ bytes → request ≡ j.request ++ bytes → ended ≡ ended_after got j.ended → next ≡ next_after got
+      → came ≡ bytes → request ≡ j.request ++ bytes → ended ≡ ended_after got j.ended
+      → before ≡ length j.request → next ≡ next_after got before
       → Called class j wants.Read (record j { request = request; ended = ended }) next old new
       (events.HasRead j.call OFFER_BYTES (readers.Server got) came)
-  read_called got bytes came request ended next few fits answered came_is request_is ended_is next_is =
-      let base : Called class j wants.Read (behind_read j got bytes) (next_after got) old new
+  read_called got bytes came request ended before next few fits answered came_is request_is ended_is before_is next_is =
+      let after : Next = next_after got (length j.request) in
+      let base : Called class j wants.Read (behind_read j got bytes) after old new
       (events.HasRead j.call OFFER_BYTES (readers.Server got) bytes) =
       record {
         is = (got, bytes, refl);
@@ -75,11 +77,11 @@ module _ (class : List ℕ → Class) (j : JobState) (old new : ServerState) whe
       subst (λ (x : List ℕ). Called class j wants.Read (record j { request = request; ended = ended }) next old new
       (events.HasRead j.call OFFER_BYTES (readers.Server got) x)) (sym came_is)
       (subst (λ (n : Next). Called class j wants.Read (record j { request = request; ended = ended }) n old new
-      (events.HasRead j.call OFFER_BYTES (readers.Server got) bytes)) (sym next_is)
-      (subst (λ (b : Bool). Called class j wants.Read (record j { request = request; ended = b }) (next_after got)
-      old new (events.HasRead j.call OFFER_BYTES (readers.Server got) bytes)) (sym ended_is)
+      (events.HasRead j.call OFFER_BYTES (readers.Server got) bytes)) (sym (next_is ∙ ap (next_after got) before_is))
+      (subst (λ (b : Bool). Called class j wants.Read (record j { request = request; ended = b }) after old new
+      (events.HasRead j.call OFFER_BYTES (readers.Server got) bytes)) (sym ended_is)
       (subst (λ (q : List ℕ). Called class j wants.Read (record j { request = q; ended = ended_after got j.ended })
-      (next_after got) old new (events.HasRead j.call OFFER_BYTES (readers.Server got) bytes)) (sym request_is) base)))
+      after old new (events.HasRead j.call OFFER_BYTES (readers.Server got) bytes)) (sym request_is) base)))
 
   -- nothing more of a request
   same_request : (k : JobState) (phase : Phase) (offered : ℕ) (got : Result ℕ ServeRefused)

@@ -5,6 +5,7 @@ pub mod RoundLaws
 pub mod NoteLaws
 pub mod RequestStays
 pub mod EarlyLaws
+pub mod KeptLaws
 pub mod LifeKeeps
 pub mod LifeLaws
 pub mod Driving

@@ -21,12 +21,14 @@ use Rattle.rx_dispatch.specs.declared.job.Want.{Want}
 use Rattle.rx_dispatch.specs.declared.job.Want.TheVariants as wants
 use Rattle.rx_dispatch.specs.declared.job.TheConstants.{OFFER_BYTES}
 use Rattle.rx_dispatch.specs.Handlers.{Handlers, early_code, served_for, wait_of}
+use Rattle.rx_dispatch.specs.Keeping.{kept_of}
 use Rattle.rx_dispatch.specs.Jobs.{JobState, Moving, begun, stepped, settled, settled_by, waits, decided, maybe_coded}
 use Rattle.rx_dispatch.specs.Jobs.{next_want, want_in, Ask, ask_of, accepted, IsCall, heard_read, heard_write, heard}
-use Rattle.rx_dispatch.specs.Jobs.{serving}
+use Rattle.rx_dispatch.specs.Jobs.{judged, serving}
 use Rattle.rx_dispatch.specs.Lives.{bytes_read, bytes_written, has_end, has_gone, HasCount, Lives, begins, calls, steps}
 use Rattle.rx_dispatch.specs.Lives.{CodeIs}
 use Rattle.rx_dispatch.proofs.EarlyLaws.{begun_served, early_served}
+use Rattle.rx_dispatch.proofs.KeptLaws.{kept_early, kept_more, kept_served}
 
 -- ---- what a job keeps
 
@@ -41,9 +43,9 @@ Coded g request said reply ended (Some c) =
 -- a job keeps true of the events behind it
 pub record Keeps (g : Handlers) (c : CallName) (h : List Event) (j : JobState) : Type 0 where
   pub own : j.call ≡ c
-  pub read : j.request ≡ bytes_read h
+  pub read : j.request ≡ kept_of g (bytes_read h)
   pub ended : j.ended ≡ has_end h
-  pub coded : Coded g j.request (bytes_written h) j.reply j.ended j.code
+  pub coded : Coded g (bytes_read h) (bytes_written h) j.reply j.ended j.code
 
 -- a job that quits was told that its call broke
 abbrev pub Told : Phase → Bool → Type 0
@@ -63,25 +65,34 @@ none_coded : (g : Handlers) (request said reply : List ℕ) (ended : Bool) (o : 
 none_coded g request said reply ended None is x = x
 none_coded g request said reply ended (Some c) is x = cc
 
+-- what is served for the bytes read is what is served for what is kept of them
+read_served : (g : Handlers) (c : CallName) (h : List Event) (j : JobState) → Keeps g c h j
+    → served_for g (bytes_read h) ≡ served_for g j.request
+read_served g c h j k = sym (ap (served_for g) k.read ∙ kept_served g (bytes_read h))
+
 decided_keeps : (g : Handlers) (c : CallName) (h : List Event) (j : JobState) → Keeps g c h j → j.code ≡ None
     → j.ended ≡ true → (s : Served) → served_for g j.request ≡ s → Keeps g c h (decided s j)
 decided_keeps g c h j k none all (refusal d) is =
     let nil : (bytes_written h ≡ []) × (j.reply ≡ []) =
-    none_coded g j.request (bytes_written h) j.reply j.ended j.code none k.coded in
+    none_coded g (bytes_read h) (bytes_written h) j.reply j.ended j.code none k.coded in
     record {
       own = k.own;
       read = k.read;
       ended = k.ended;
-      coded = inl (nil.0, nil.1, subst (λ (b : Bool). CodeIs g j.request b d) (sym all) is);
+      coded = inl (
+        nil.0,
+        nil.1,
+        subst (λ (b : Bool). CodeIs g (bytes_read h) b d) (sym all) (read_served g c h j k ∙ is),
+      );
     }
 decided_keeps g c h j k none all (bytes out) is =
     let nil : (bytes_written h ≡ []) × (j.reply ≡ []) =
-    none_coded g j.request (bytes_written h) j.reply j.ended j.code none k.coded in
+    none_coded g (bytes_read h) (bytes_written h) j.reply j.ended j.code none k.coded in
     record {
       own = k.own;
       read = k.read;
       ended = k.ended;
-      coded = inr (refl, all, is ∙ ap (λ (s : List ℕ). bytes (s ++ out)) (sym nil.0));
+      coded = inr (refl, all, read_served g c h j k ∙ is ∙ ap (λ (s : List ℕ). bytes (s ++ out)) (sym nil.0));
     }
 
 waited_keeps : (g : Handlers) (c : CallName) (h : List Event) (j : JobState) (n : ℕ) → Keeps g c h j → j.code ≡ None
@@ -97,7 +108,7 @@ settled_keeps_by : (g : Handlers) (c : CallName) (h : List Event) (j : JobState)
     → Keeps g c h (settled_by g n j o)
 settled_keeps_by g c h j n k none all (Some d) is =
     let nil : (bytes_written h ≡ []) × (j.reply ≡ []) =
-    none_coded g j.request (bytes_written h) j.reply j.ended j.code none k.coded in
+    none_coded g (bytes_read h) (bytes_written h) j.reply j.ended j.code none k.coded in
     record {
       own = k.own;
       read = k.read;
@@ -105,7 +116,8 @@ settled_keeps_by g c h j n k none all (Some d) is =
       coded = inl (
         nil.0,
         nil.1,
-        subst (λ (b : Bool). CodeIs g j.request b d) (sym all) (early_served g j.request d is),
+        subst (λ (b : Bool). CodeIs g (bytes_read h) b d) (sym all)
+            (read_served g c h j k ∙ early_served g j.request d is),
       );
     }
 settled_keeps_by g c h j n k none all None is =
@@ -188,48 +200,87 @@ writes_when j phases.Gone is = cc
 -- an event that reads, writes and ends nothing
 record Still (g : Handlers) (c : CallName) (h : List Event) (j : JobState) : Type 0 where
   own : j.call ≡ c
-  read : j.request ≡ bytes_read h ++ []
+  read : j.request ≡ kept_of g (bytes_read h ++ [])
   ended : j.ended ≡ has_end h
-  coded : Coded g j.request (bytes_written h ++ []) j.reply j.ended j.code
+  coded : Coded g (bytes_read h ++ []) (bytes_written h ++ []) j.reply j.ended j.code
+
+still_read : (g : Handlers) (c : CallName) (h : List Event) (j : JobState) → Keeps g c h j
+    → j.request ≡ kept_of g (bytes_read h ++ [])
+still_read g c h j k = k.read ∙ ap (kept_of g) (sym (append-nil (bytes_read h)))
+
+-- of no more bytes the same is true
+still_coded : (g : Handlers) (request said reply : List ℕ) (ended : Bool) (o : Option ℤ)
+    → Coded g request said reply ended o → Coded g (request ++ []) said reply ended o
+still_coded g request said reply ended o is =
+    subst (λ (q : List ℕ). Coded g q said reply ended o) (sym (append-nil request)) is
 
 still : (g : Handlers) (c : CallName) (h : List Event) (j : JobState) → Keeps g c h j → Still g c h j
 still g c h j k = record {
   own = k.own;
-  read = k.read ∙ sym (append-nil (bytes_read h));
+  read = still_read g c h j k;
   ended = k.ended;
-  coded = subst (λ (s : List ℕ). Coded g j.request s j.reply j.ended j.code) (sym (append-nil (bytes_written h)))
-      k.coded;
+  coded = still_coded g (bytes_read h) (bytes_written h ++ []) j.reply j.ended j.code
+      (subst (λ (s : List ℕ). Coded g (bytes_read h) s j.reply j.ended j.code) (sym (append-nil (bytes_written h)))
+      k.coded);
 }
 
--- bytes came
-came_keeps : (g : Handlers) (c : CallName) (h : List Event) (j : JobState) (max n : ℕ) (came : List ℕ)
-    → Keeps g c h j → j.code ≡ None → j.ended ≡ false → (o : Option ℤ)
-    → early_code g (j.request ++ came) false ≡ o
-    → Keeps g c (events.HasRead c max (readers.Server (reads.Got n)) came ∷ h)
-    (maybe_coded o (record j { request = j.request ++ came }))
-came_keeps g c h j max n came k none more None is =
-    let nil : (bytes_written h ≡ []) × (j.reply ≡ []) =
-    none_coded g j.request (bytes_written h) j.reply j.ended j.code none k.coded in
-    let said : bytes_written h ++ [] ≡ [] = append-nil (bytes_written h) ∙ nil.0 in
-    record {
-      own = k.own;
-      read = ap (λ (q : List ℕ). q ++ came) k.read;
-      ended = k.ended;
-      coded = subst (λ (o : Option ℤ). Coded g (j.request ++ came) (bytes_written h ++ []) j.reply j.ended o) (sym none)
-          (said, nil.1);
-    }
-came_keeps g c h j max n came k none more (Some d) is =
-    let nil : (bytes_written h ≡ []) × (j.reply ≡ []) =
-    none_coded g j.request (bytes_written h) j.reply j.ended j.code none k.coded in
-    let said : bytes_written h ++ [] ≡ [] = append-nil (bytes_written h) ∙ nil.0 in
-    let code : CodeIs g (j.request ++ came) false d =
-    λ y fits. begun_served g (j.request ++ came) y d fits is in
-    record {
-      own = k.own;
-      read = ap (λ (q : List ℕ). q ++ came) k.read;
-      ended = k.ended;
-      coded = inl (said, nil.1, subst (λ (b : Bool). CodeIs g (j.request ++ came) b d) (sym more) code);
-    }
+-- bytes came to a job that decided nothing
+module _ (g : Handlers) (c : CallName) (h : List Event) (j : JobState) (max n : ℕ) (came : List ℕ)
+    (k : Keeps g c h j) (none : j.code ≡ None) (more : j.ended ≡ false) where
+  -- it keeps of them all what it keeps of what it kept and these
+  came_read : kept_of g (j.request ++ came) ≡ kept_of g (bytes_read h ++ came)
+  came_read = ap (λ (q : List ℕ). kept_of g (q ++ came)) k.read ∙ kept_more g (bytes_read h) came
+
+  came_keeps_by : (o : Option ℤ) → early_code g (kept_of g (j.request ++ came)) false ≡ o
+      → Keeps g c (events.HasRead c max (readers.Server (reads.Got n)) came ∷ h)
+      (maybe_coded o (record j { request = kept_of g (j.request ++ came) }))
+  came_keeps_by None is =
+      let nil : (bytes_written h ≡ []) × (j.reply ≡ []) =
+      none_coded g (bytes_read h) (bytes_written h) j.reply j.ended j.code none k.coded in
+      let said : bytes_written h ++ [] ≡ [] = append-nil (bytes_written h) ∙ nil.0 in
+      record {
+        own = k.own;
+        read = came_read;
+        ended = k.ended;
+        coded = subst (λ (o : Option ℤ).
+            Coded g (bytes_read h ++ came) (bytes_written h ++ []) j.reply j.ended o) (sym none) (said, nil.1);
+      }
+  came_keeps_by (Some d) is =
+      let nil : (bytes_written h ≡ []) × (j.reply ≡ []) =
+      none_coded g (bytes_read h) (bytes_written h) j.reply j.ended j.code none k.coded in
+      let said : bytes_written h ++ [] ≡ [] = append-nil (bytes_written h) ∙ nil.0 in
+      let early : early_code g (bytes_read h ++ came) false ≡ Some d =
+      sym (ap (λ (q : List ℕ). early_code g q false) came_read ∙ kept_early g (bytes_read h ++ came) false) ∙ is in
+      let code : CodeIs g (bytes_read h ++ came) false d =
+      λ y fits. begun_served g (bytes_read h ++ came) y d fits early in
+      record {
+        own = k.own;
+        read = came_read;
+        ended = k.ended;
+        coded = inl (said, nil.1, subst (λ (b : Bool). CodeIs g (bytes_read h ++ came) b d) (sym more) code);
+      }
+
+  -- where it keeps none of them it decides nothing
+  came_keeps_none : Keeps g c (events.HasRead c max (readers.Server (reads.Got n)) came ∷ h)
+      (record j { request = kept_of g (j.request ++ came) })
+  came_keeps_none =
+      let nil : (bytes_written h ≡ []) × (j.reply ≡ []) =
+      none_coded g (bytes_read h) (bytes_written h) j.reply j.ended j.code none k.coded in
+      let said : bytes_written h ++ [] ≡ [] = append-nil (bytes_written h) ∙ nil.0 in
+      record {
+        own = k.own;
+        read = came_read;
+        ended = k.ended;
+        coded = subst (λ (o : Option ℤ).
+            Coded g (bytes_read h ++ came) (bytes_written h ++ []) j.reply j.ended o) (sym none) (said, nil.1);
+      }
+
+  came_keeps : (b : Bool)
+      → Keeps g c (events.HasRead c max (readers.Server (reads.Got n)) came ∷ h)
+      (cond b (judged g (record j { request = kept_of g (j.request ++ came) }))
+      (record j { request = kept_of g (j.request ++ came) }))
+  came_keeps true = came_keeps_by (early_code g (kept_of g (j.request ++ came)) false) refl
+  came_keeps false = came_keeps_none
 
 -- the end came
 end_keeps : (g : Handlers) (c : CallName) (h : List Event) (j : JobState) (max : ℕ) (came : List ℕ)
@@ -237,13 +288,13 @@ end_keeps : (g : Handlers) (c : CallName) (h : List Event) (j : JobState) (max :
     → Keeps g c (events.HasRead c max (readers.Server reads.End) came ∷ h) (settled g 0 (record j { ended = true }))
 end_keeps g c h j max came k none =
     let nil : (bytes_written h ≡ []) × (j.reply ≡ []) =
-    none_coded g j.request (bytes_written h) j.reply j.ended j.code none k.coded in
+    none_coded g (bytes_read h) (bytes_written h) j.reply j.ended j.code none k.coded in
     let said : bytes_written h ++ [] ≡ [] = append-nil (bytes_written h) ∙ nil.0 in
     settled_keeps g c (events.HasRead c max (readers.Server reads.End) came ∷ h) (record j { ended = true }) 0 (record {
       own = k.own;
-      read = k.read ∙ sym (append-nil (bytes_read h));
+      read = still_read g c h j k;
       ended = refl;
-      coded = subst (λ (o : Option ℤ). Coded g j.request (bytes_written h ++ []) j.reply true o) (sym none)
+      coded = subst (λ (o : Option ℤ). Coded g (bytes_read h ++ []) (bytes_written h ++ []) j.reply true o) (sym none)
           (said, nil.1);
     }) none refl
 
@@ -252,7 +303,8 @@ read_keeps : (g : Handlers) (c : CallName) (h : List Event) (j : JobState) (max 
     → Keeps g c h j → j.code ≡ None → j.ended ≡ false
     → KeepsAt g c (events.HasRead c max (readers.Server got) came ∷ h) (heard_read g j got came)
 read_keeps g c h j max (reads.Got n) came k none more = record {
-  keeps = came_keeps g c h j max n came k none more (early_code g (j.request ++ came) false) refl;
+  keeps = came_keeps g c h j max n came k none more
+      (ltb (length j.request) (length (kept_of g (j.request ++ came))));
   told = tt;
 }
 read_keeps g c h j max reads.End came k none more = record { keeps = end_keeps g c h j max came k none; told = tt }
@@ -305,9 +357,10 @@ write_keeps : (g : Handlers) (c : CallName) (h : List Event) (j : JobState) (off
 write_keeps g c h j offered (Ok n) d k is some count = record {
   keeps = record {
     own = k.own;
-    read = k.read ∙ sym (append-nil (bytes_read h));
+    read = still_read g c h j k;
     ended = k.ended;
-    coded = said_coded g j.request (bytes_written h) j.reply j.ended j.code d n is some count k.coded;
+    coded = still_coded g (bytes_read h) (bytes_written h ++ take n (take OFFER_BYTES j.reply)) (drop n j.reply) j.ended
+        j.code (said_coded g (bytes_read h) (bytes_written h) j.reply j.ended j.code d n is some count k.coded);
   };
   told = written_told (n == offered) (has_gone h);
 }

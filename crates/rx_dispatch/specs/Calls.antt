@@ -13,13 +13,13 @@ use Rattle.rx_dispatch.specs.declared.job.Next.TheVariants as nexts
 use Rattle.rx_dispatch.specs.declared.job.Phase.TheVariants as phases
 use Rattle.rx_dispatch.specs.declared.job.Want.{Want}
 
--- what a job still has to do behind a read
-abbrev pub next_after : ServeRead → Next
-next_after (reads.Got n) = nexts.Judge
-next_after reads.End = nexts.Settle
-next_after reads.NotYet = nexts.Go phases.Rests
-next_after (reads.Gone c) = nexts.Go phases.Quits
-next_after reads.NotOpen = nexts.Go phases.Gone
+-- what a job that had so many bytes of its request still has to do behind a read
+abbrev pub next_after : ServeRead → ℕ → Next
+next_after (reads.Got n) before = nexts.Judge before
+next_after reads.End before = nexts.Settle
+next_after reads.NotYet before = nexts.Go phases.Rests
+next_after (reads.Gone c) before = nexts.Go phases.Quits
+next_after reads.NotOpen before = nexts.Go phases.Gone
 
 -- whether the request was read to its end behind a read
 abbrev pub ended_after : ServeRead → Bool → Bool

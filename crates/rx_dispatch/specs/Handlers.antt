@@ -37,6 +37,10 @@ answer_to g request ended = request_answer g.types g.procs request ended
 unfoldable pub served_for : Handlers → List ℕ → Served
 served_for g request = served_of g.types g.procs g.script request
 
+-- whether requests of a procedure end with an upload
+abbrev pub takes_upload : Handlers → Procedure → Bool
+takes_upload g p = block_has is_up (block_named p.name g.script)
+
 -- ---- codes that are decided while a request is read
 
 -- the code of an upload that is too long or, where no more comes, cut short
@@ -49,8 +53,7 @@ upload_code ended rest =
 -- the code of what stands behind the arguments of a procedure
 abbrev pub behind_code : Handlers → Bool → List ℕ → Option Procedure → Option ℤ
 behind_code g ended rest None = Some OPCODE
-behind_code g ended rest (Some p) =
-    if block_has is_up (block_named p.name g.script) then upload_code ended rest else None
+behind_code g ended rest (Some p) = if takes_upload g p then upload_code ended rest else None
 
 -- the code of a request that was found to be so
 abbrev pub early_from : Handlers → List ℕ → Bool → RequestAnswer → Option ℤ

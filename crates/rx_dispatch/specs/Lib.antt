@@ -1,4 +1,5 @@
 pub mod Handlers
+pub mod Keeping
 pub mod Jobs
 pub mod Calls
 pub mod Dispatching

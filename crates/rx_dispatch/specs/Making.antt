@@ -1,14 +1,16 @@
 -- What the calls of a dispatcher change. Public clauses cite this module.
-use Rattle.std.specs.Prelude.{◌≡◌, ◌<◌, ◌≤◌, ℕ, Bool, true, false, List, [], ◌∷◌, length, drop, Option, Some, None}
+use Rattle.std.specs.Prelude.{◌≡◌, ◌-◌, ◌^◌, ◌<◌, ◌≤◌, ℕ, Bool, true, false, List, [], ◌∷◌, length, drop, Option, Some, None}
 use Rattle.rx_model.specs.declared.event.Event.{Event}
 use Rattle.rx_model.specs.declared.event.Noted.{Noted}
 use Rattle.rx_model.specs.declared.names.CallName.{CallName}
 use Rattle.rx_rules.specs.Classes.{Class}
 use Rattle.rx_server.specs.Server.{Answered, ServerState}
-use Rattle.rx_wire.specs.Advances.{Advances}
+use Rattle.rx_wire.specs.Advances.{Advances, Stops}
 use Rattle.rx_dispatch.specs.Handlers.{Handlers, IsRemembered}
 use Rattle.rx_dispatch.specs.Jobs.{Ask, IsCall, JobState, want_in}
 use Rattle.rx_dispatch.specs.Dispatching.{RoundState, Turning, dispatching, heard_accept, over, turning_of}
+use Rattle.rx_dispatch.specs.declared.fault.TurnFault.{TurnFault}
+use Rattle.rx_dispatch.specs.declared.fault.TurnFault.TheVariants as faults
 use Rattle.rx_dispatch.specs.declared.job.Next.TheVariants as nexts
 use Rattle.rx_dispatch.specs.declared.job.Phase.{Phase}
 use Rattle.rx_dispatch.specs.declared.job.Want.{Want}
@@ -34,13 +36,27 @@ abbrev pub NextCall : (List ℕ → Class) → Handlers → Turning → Turning 
 NextCall class g old new jobs before after None = (old ≡ over jobs) × Kept old new before after
 NextCall class g old new jobs before after (Some e) = MakesCall class g old new before after e
 
+-- so many calls were made and noted
+pub record AdvancesBy (calls : ℕ) (g : Handlers) (node : ℕ) (old new : Turning) (stood stands : List Event → Type 0)
+    (before after : Option (List Noted)) : Type 0 where
+  pub made : Advances (dispatching g) node old new stood stands before after
+  pub count : length made.events ≡ calls
+
 -- whether there was a next call, which was made and noted; or the turn is over, with these jobs
 abbrev pub NotesCall : Handlers → ℕ → Turning → Turning → List JobState → (List Event → Type 0)
     → (List Event → Type 0) → Option (List Noted) → Option (List Noted) → Bool → Type 0
 NotesCall g node old new jobs stood stands before after true =
-    Advances (dispatching g) node old new stood stands before after
+    AdvancesBy 1 g node old new stood stands before after
 NotesCall g node old new jobs stood stands before after false =
     (new ≡ over jobs) × Advances (dispatching g) node old new stood stands before after
+
+-- a turn that stops early made its first calls, and where it has no end at least 2^64 - 1
+abbrev pub StopsBy : Handlers → ℕ → Turning → (List Event → Type 0) → (List Event → Type 0) → Option (List Noted)
+    → Option (List Noted) → TurnFault → Type 0
+StopsBy g node v stood stands before after faults.OutOfMemory =
+    Stops (dispatching g) node v stood stands before after
+StopsBy g node v stood stands before after faults.Endless =
+    (s : Stops (dispatching g) node v stood stands before after) × (2 ^ 64 - 1 ≤ length s.events)
 
 -- ---- what is remembered
 

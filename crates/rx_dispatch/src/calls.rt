@@ -56,12 +56,12 @@ pub fn ended_after(got: ServeRead, before: bool) -> bool
     }
 }
 
-/// What a job still has to do behind a read.
-pub fn next_after(got: ServeRead) -> Next
-    ensures { result ≡ rules.next_after got }
+/// What a job that had so many bytes of its request still has to do behind a read.
+pub fn next_after(got: ServeRead, before: usize) -> Next
+    ensures { result ≡ rules.next_after got before }
 {
     match got {
-        ServeRead::Got(_) => Next::Judge,
+        ServeRead::Got(_) => Next::Judge(before),
         ServeRead::End => Next::Settle,
         ServeRead::NotYet => Next::Go(Phase::Rests),
         ServeRead::Gone(_) => Next::Go(Phase::Quits),

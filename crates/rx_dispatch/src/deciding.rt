@@ -6,10 +6,10 @@ ghost use Rattle.xdr_value.specs.View.{proc_of, procs_of};
 ghost use Rattle.stub_table.specs.Requests.{IsRequestAnswer};
 ghost use Rattle.rx_script.specs.Answers.{block_named, first_given};
 ghost use Rattle.rx_script.specs.Saying.{block_of, saying_of};
-ghost use Rattle.rx_script.specs.ScriptRows.{is_up};
-ghost use Rattle.rx_script.specs.Served.{IsServed, block_has};
+ghost use Rattle.rx_script.specs.Served.{IsServed};
 ghost use Rattle.rx_dispatch.specs.Handlers.{AreArguments, IsRemembered, answer_to, behind_code, block_wait};
-ghost use Rattle.rx_dispatch.specs.Handlers.{early_code, handlers_at, proc_wait, served_for, turns_of, upload_code};
+ghost use Rattle.rx_dispatch.specs.Handlers.{early_code, handlers_at, proc_wait, served_for, takes_upload, turns_of};
+ghost use Rattle.rx_dispatch.specs.Handlers.{upload_code};
 
 use crate::desk::Desk;
 use rx_script::{Block, ScriptLine, Served};
@@ -18,7 +18,7 @@ use stub_table::{OPCODE, Request, SS_UNMARSHAL, read_request};
 use xdr_value::{Interface, Proc};
 
 /// Bytes of an upload at most.
-const MAX_UPLOAD_BYTES: u32 = 16_777_216;
+pub const MAX_UPLOAD_BYTES: u32 = 16_777_216;
 
 /// Arguments that are whole: their procedure's index, and the place where they end.
 #[derive(Clone, Copy, Debug, PartialEq, Eq)]
@@ -107,8 +107,8 @@ pub fn whole_code(desk: &Desk<'_>, request: &[u8], ended: bool, found: Found) ->
 }
 
 /// Whether requests of a procedure end with an upload.
-fn takes_upload(desk: &Desk<'_>, p: &Proc) -> bool
-    ensures { result ≡ block_has is_up (block_named (proc_of p.now).name (handlers_at desk.now).script) }
+pub fn takes_upload(desk: &Desk<'_>, p: &Proc) -> bool
+    ensures { result ≡ takes_upload (handlers_at desk.now) (proc_of p.now) }
 {
     match desk.script.block(p.name.as_str()) {
         None => false,

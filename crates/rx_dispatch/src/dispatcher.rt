@@ -1,16 +1,17 @@
 //! The dispatcher and its turns.
 
-ghost use Rattle.std.specs.Prelude.{◌≡◌, [], length, IfOk, OnOk, OnErr};
+ghost use Rattle.std.specs.Prelude.{◌≡◌, [], length, IfErr, IfOk, OnOk, OnErr};
 ghost use Rattle.rx_node.specs.Node.{setup_of};
 ghost use Rattle.rx_script.specs.Saying.{blocks_of};
 ghost use Rattle.rx_server.specs.Server.{Stands};
 ghost use Rattle.rx_wire.specs.Advances.{Stops, Turned};
 ghost use Rattle.rx_dispatch.specs.Dispatching.{accepts, begun_turn, dispatching, over, resting, turning_of};
-ghost use Rattle.rx_dispatch.specs.Making.{Kept, NextCall, NotesCall, Remembers};
+ghost use Rattle.rx_dispatch.specs.Making.{Kept, NextCall, NotesCall, Remembers, StopsBy};
 ghost use Rattle.rx_dispatch.specs.States.{state_of};
 ghost use Rattle.rx_dispatch.specs.Handlers.{handlers_of};
 
 use crate::desk::Desk;
+use crate::fault::TurnFault;
 use crate::round::Round;
 use rx_class::Class;
 use rx_model::Event;
@@ -51,17 +52,18 @@ impl Dispatcher {
     }
 
     /// One turn: accepts until no call waits, and then gives each job, in the order of acceptance, one step. Each call
-    /// is noted. Where memory is wanted, the calls made so far are those of the turn's beginning.
+    /// is noted. Where memory is wanted, the calls made so far are those of the turn's beginning; so they are where
+    /// 2^64 - 1 were made and the turn isn't over.
     pub fn turn<C: Class, J: Journal>(
         &mut self,
         iface: &Interface,
         server: &mut Server<C>,
         book: &mut J,
-    ) -> Result<(), AllocError>
+    ) -> Result<(), TurnFault>
         ensures turned { OnOk result (Turned (dispatching (handlers_of iface.now (state_of self.old).script))
             (state_of self.old).node (accepts (state_of self.old).round.jobs) (over (state_of self.new).round.jobs)
             (Stands C.class_of server.old) (Stands C.class_of server.new) (J.told book.old) (J.told book.new)) }
-        ensures wanting { OnErr result (Stops (dispatching (handlers_of iface.now (state_of self.old).script))
+        ensures stops { IfErr result (StopsBy (handlers_of iface.now (state_of self.old).script)
             (state_of self.old).node (accepts (state_of self.old).round.jobs)
             (Stands C.class_of server.old) (Stands C.class_of server.new) (J.told book.old) (J.told book.new)) }
         ensures node { (state_of self.new).node ≡ (state_of self.old).node }
@@ -69,12 +71,12 @@ impl Dispatcher {
         ensures setup { setup_of C.class_of server.new.node ≡ setup_of C.class_of server.old.node }
     {
         self.begin();
-        'calls: for _ in 0..u64::MAX {
+        'calls: for made in 0..u64::MAX {
             if !self.note_step(iface, server, book)? {
                 return Ok(());
             }
         }
-        Err(AllocError)
+        Err(TurnFault::Endless)
     }
 
     /// Makes the next call of its turn and notes it. Whether there was one.

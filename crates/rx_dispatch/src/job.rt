@@ -1,16 +1,17 @@
 //! A call that was accepted and isn't finished.
 
-ghost use Rattle.std.specs.Prelude.{◌≡◌, true, IfOk, OnOk, OnErr, take, drop};
+ghost use Rattle.std.specs.Prelude.{◌≡◌, true, IfOk, OnOk, OnErr, drop, length, take};
 ghost use Rattle.rx_node.specs.Node.{setup_of};
 ghost use Rattle.rx_dispatch.specs.Calls.{Called};
 ghost use Rattle.rx_dispatch.specs.Handlers.{IsFound, IsRemembered, handlers_at, served_for};
-ghost use Rattle.rx_dispatch.specs.Jobs.{begun, coded_want, decided, heard_write, judged, next_want, resolved};
+ghost use Rattle.rx_dispatch.specs.Jobs.{begun, coded_want, decided, grown, heard_write, next_want, resolved};
 ghost use Rattle.rx_dispatch.specs.Jobs.{settled, stepped, waited, waits, want_in};
 ghost use Rattle.rx_dispatch.specs.declared.job.Want.TheVariants as wants;
 
 use crate::calls::{append, ended_after, front, next_after, read, write};
 use crate::deciding::{Arguments, Found, early_code, find_arguments, serve, wait_at, whole_code};
 use crate::desk::Desk;
+use crate::keeping::kept_of;
 use rx_class::Class;
 use rx_model::{Bytes, CallName, Event, ReadGot, ServeRefused, WroteGot};
 use rx_script::Served;
@@ -39,8 +40,8 @@ pub enum Phase {
 pub enum Next {
     /// Its step begins.
     Begin,
-    /// Bytes of its request came, and may have a code.
-    Judge,
+    /// Bytes of its request came behind so many, and may have a code.
+    Judge(usize),
     /// The end of its request came, and it decides or waits.
     Settle,
     /// Nothing, at this place of its step.
@@ -55,7 +56,7 @@ pub enum Want {
     Finish(i32),
 }
 
-/// A job: what was read of its request, and what is to be written.
+/// A job: what is kept of its request, and what is to be written.
 #[derive(Debug, Drop)]
 pub struct Job {
     call: CallName,
@@ -103,6 +104,13 @@ impl Job {
             reply: Vec::new(alloc),
             said: 0,
         }
+    }
+
+    /// How many bytes of its request it has.
+    pub fn held(&self) -> usize
+        ensures { result ≡ length self.now.request }
+    {
+        self.request.len()
     }
 
     // ---- what it asks
@@ -169,8 +177,8 @@ impl Job {
                 self.begin(desk)?;
                 Ok(Phase::Moves)
             }
-            Next::Judge => {
-                self.judge(desk, found)?;
+            Next::Judge(before) => {
+                self.judge(desk, before, found)?;
                 Ok(Phase::Moves)
             }
             Next::Settle => {
@@ -193,16 +201,27 @@ impl Job {
         Ok(())
     }
 
-    /// The bytes of its request that came have a code, or none yet.
-    fn judge(&mut self, desk: &Desk<'_>, found: &mut Option<Found>) -> Result<(), AllocError>
+    /// Bytes of its request came behind so many. Those that can't change what is served are dropped; where others
+    /// came they have a code, or none yet.
+    fn judge(
+        &mut self,
+        desk: &Desk<'_>,
+        before: usize,
+        found: &mut Option<Found>,
+    ) -> Result<(), AllocError>
         requires { IsRemembered (handlers_at desk.now) self.old.request found.old }
-        ensures judged { OnOk result (self.new ≡ judged (handlers_at desk.now) self.old) }
+        ensures grown { OnOk result (self.new ≡ grown (handlers_at desk.now) before self.old) }
         ensures wanting { OnErr result (self.new ≡ self.old) }
         ensures remembered { IsRemembered (handlers_at desk.now) self.new.request found.new }
     {
-        if let Some(code) = early_code(desk, &self.request, found)? {
-            self.code = Some(code);
+        let kept = kept_of(desk, &self.request);
+        let count = kept.len();
+        if before < count {
+            if let Some(code) = early_code(desk, kept, found)? {
+                self.code = Some(code);
+            }
         }
+        self.request.truncate(count);
         Ok(())
     }
 
@@ -309,6 +328,7 @@ impl Job {
         ensures wanting { OnErr result (server.new ≡ server.old) }
         ensures setup { setup_of C.class_of server.new.node ≡ setup_of C.class_of server.old.node }
     {
+        let before = self.request.len();
         self.request.reserve(OFFER_BYTES)?;
         let (got, bytes) = read(alloc, server, &self.call)?;
         append(&mut self.request, bytes.as_slice());
@@ -319,7 +339,7 @@ impl Job {
             got: ReadGot::Server(got),
             bytes: Bytes::of(bytes),
         };
-        Ok((event, next_after(got)))
+        Ok((event, next_after(got, before)))
     }
 
     /// Offers the next bytes of its reply.

@@ -8,12 +8,18 @@ mod calls;
 mod deciding;
 mod desk;
 mod dispatcher;
+mod fault;
 mod job;
+mod keeping;
 mod laws;
 mod round;
 
 pub use dispatcher::Dispatcher;
-pub use laws::{early_codes_are_served, lives_are_exact, numbers, turns_are_exact};
+pub use fault::TurnFault;
+pub use laws::{
+    early_codes_are_served, kept_requests_serve, lives_are_exact, lives_keep_what_counts, numbers,
+    turns_are_exact,
+};
 
 #[cfg(test)]
 mod tests;

@@ -1,4 +1,5 @@
 //! A dispatcher beside a server and a client.
 
 mod cases;
+mod kept;
 mod scene;

@@ -1,7 +1,8 @@
 //! What handlers do for requests.
 ghost use Rattle.std.specs.Prelude.{◌≡◌, ◌<◌};
 
-use super::scene::{Scene, make_scene};
+use super::scene::{Scene, make_scene, serve};
+use crate::TurnFault;
 use rx_due::Steps;
 use rx_model::{End, Event, ReadAns};
 use std::alloc::{AllocError, Global};
@@ -116,33 +117,8 @@ static CASES: [Case; 9] = [
     },
 ];
 
-/// Turns while a client says a request. How its reading ends, and the bytes that it read.
-fn serve<L: Ledger>(
-    rt: &impl Abort,
-    alloc: Global,
-    scene: &mut Scene,
-    request: &[u8],
-    turns: u8,
-    blank: Blank,
-) -> Result<(ReadAns, Vec<u8>), AllocError>
-    requires name { blank.name ≡ L.name }
-    requires parts { blank.parts ≡ L.parts }
-    requires some { 0 < blank.parts }
-{
-    let mut steps = Steps::<L>::new(blank);
-    let mut left = request;
-    let mut end = ReadAns::NotYet;
-    let mut reply = Vec::new(alloc);
-    for _ in 0..turns {
-        left = scene.say(rt, left);
-        scene.turn(rt, &mut steps)?;
-        end = scene.hear(rt, &mut reply)?;
-    }
-    Ok((end, reply))
-}
-
 /// A case goes as it is told.
-fn check(rt: &impl Abort, alloc: Global, case: &Case) -> Result<(), AllocError> {
+fn check(rt: &impl Abort, alloc: Global, case: &Case) -> Result<(), TurnFault> {
     let mut scene = make_scene(rt, alloc, case.script)?;
     let (end, reply) = serve::<Brand>(
         rt,
@@ -203,7 +179,7 @@ fn a_long_reply_goes_in_pieces(rt: HostRuntime) -> Result<(), Fail> {
 
 /// Two turns behind a cancel: while it waits the job makes no call; then its write is told that the call broke, and it
 /// finishes.
-fn cancel<L: Ledger>(rt: &impl Abort, scene: &mut Scene, blank: Blank) -> Result<(), AllocError>
+fn cancel<L: Ledger>(rt: &impl Abort, scene: &mut Scene, blank: Blank) -> Result<(), TurnFault>
     requires name { blank.name ≡ L.name }
     requires parts { blank.parts ≡ L.parts }
     requires some { 0 < blank.parts }

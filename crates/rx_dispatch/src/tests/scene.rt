@@ -1,6 +1,7 @@
 //! A client and a server with a dispatcher, joined in memory.
+ghost use Rattle.std.specs.Prelude.{◌≡◌, ◌<◌};
 
-use crate::Dispatcher;
+use crate::{Dispatcher, TurnFault};
 use rx_class::Null;
 use rx_client::Client;
 use rx_due::Steps;
@@ -11,13 +12,16 @@ use rx_server::Server;
 use rx_wire::MemJournal;
 use std::alloc::{AllocError, Global};
 use std::process::Abort;
-use std::sync::ledger::Ledger;
+use std::sync::ledger::{Blank, Ledger};
 use xdr_value::{Arg, Interface, Mode, Proc, Ty, sound};
 
 const SERVER: Host = Host {
     addr: 0x0a00_0001,
     port: 7000,
 };
+
+/// The first moment that no clock has.
+const END: u64 = 1 << 62;
 
 const CLIENT: Host = Host {
     addr: 0x0a00_0002,
@@ -86,6 +90,15 @@ pub fn make_scene(rt: &impl Abort, alloc: Global, script: &str) -> Result<Scene,
 }
 
 impl Scene {
+    /// 100 milliseconds pass.
+    pub fn tick(&mut self) {
+        let now = self.client.moment().saturating_add(100);
+        if now < END && self.server.moment() <= now {
+            self.client.clock(now);
+            self.server.clock(now);
+        }
+    }
+
     /// The client offers what is left of its request, and shuts where it all was accepted. What is left then.
     pub fn say<'a>(&mut self, rt: &impl Abort, left: &'a [u8]) -> &'a [u8] {
         let count = self.client.write(&self.call, left).unwrap_or(0);
@@ -101,7 +114,7 @@ impl Scene {
         &mut self,
         rt: &impl Abort,
         steps: &mut Steps<L>,
-    ) -> Result<(), AllocError> {
+    ) -> Result<(), TurnFault> {
         self.take_all(rt, steps);
         self.dispatcher
             .turn(&self.iface, &mut self.server, &mut self.book)?;
@@ -110,7 +123,7 @@ impl Scene {
     }
 
     /// The client's datagrams reach the server.
-    fn take_all<L: Ledger>(&mut self, rt: &impl Abort, steps: &mut Steps<L>) {
+    pub fn take_all<L: Ledger>(&mut self, rt: &impl Abort, steps: &mut Steps<L>) {
         let mut to = [0; DATAGRAM_BYTES];
         for _ in 0..64 {
             let Some((_host, count)) = self.client.poll(&mut to, steps) else {
@@ -122,7 +135,7 @@ impl Scene {
     }
 
     /// The server's datagrams reach the client.
-    fn give_all<L: Ledger>(&mut self, rt: &impl Abort, steps: &mut Steps<L>) {
+    pub fn give_all<L: Ledger>(&mut self, rt: &impl Abort, steps: &mut Steps<L>) {
         let mut to = [0; DATAGRAM_BYTES];
         for _ in 0..64 {
             let Some((_host, count)) = self.server.poll(&mut to, steps) else {
@@ -146,4 +159,30 @@ impl Scene {
         }
         Ok(ReadAns::NotYet)
     }
+}
+
+/// Turns while a client says a request. How its reading ends, and the bytes that it read.
+pub fn serve<L: Ledger>(
+    rt: &impl Abort,
+    alloc: Global,
+    scene: &mut Scene,
+    request: &[u8],
+    turns: u8,
+    blank: Blank,
+) -> Result<(ReadAns, Vec<u8>), TurnFault>
+    requires name { blank.name ≡ L.name }
+    requires parts { blank.parts ≡ L.parts }
+    requires some { 0 < blank.parts }
+{
+    let mut steps = Steps::<L>::new(blank);
+    let mut left = request;
+    let mut end = ReadAns::NotYet;
+    let mut reply = Vec::new(alloc);
+    for _ in 0..turns {
+        left = scene.say(rt, left);
+        scene.turn(rt, &mut steps)?;
+        end = scene.hear(rt, &mut reply)?;
+        scene.tick();
+    }
+    Ok((end, reply))
 }

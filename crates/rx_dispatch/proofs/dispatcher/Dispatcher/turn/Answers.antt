@@ -1,13 +1,11 @@
-use Rattle.std.proofs.Common.{rules, ◌≡◌, ◌∙◌, ap, false, refl, subst, sym, true}
+use Rattle.std.proofs.Common.{arith, rules, ◌≡◌, ◌∙◌, ap, false, refl, subst, sym, true}
 use Rattle.rx_server.specs.Server.{Stands}
-use Rattle.rx_wire.specs.Advances.{Advances}
-use Rattle.rx_wire.proofs.AdvanceLaws.{Advances-none, Stops-after}
-use Rattle.rx_dispatch.specs.Dispatching.{DispatcherState, accepts, dispatching, turning_of}
+use Rattle.rx_dispatch.specs.Dispatching.{DispatcherState, accepts, turning_of}
 use Rattle.rx_dispatch.specs.Handlers.{Handlers, handlers_of}
-use Rattle.rx_dispatch.specs.Making.{Remembers}
+use Rattle.rx_dispatch.specs.Making.{AdvancesBy, Remembers}
 use Rattle.rx_dispatch.specs.States.{state_of}
-use Rattle.rx_dispatch.proofs.Errors.{on_err}
-use Rattle.rx_dispatch.proofs.NoteLaws.{turn_more, turn_over, turn_stops}
+use Rattle.rx_dispatch.proofs.Errors.{wanting_err}
+use Rattle.rx_dispatch.proofs.NoteLaws.{AdvancesBy-none, turn_endless, turn_more, turn_over, turn_stops}
 use Rattle.rx_dispatch.proofs.dispatcher.Dispatcher.turn.Goals as goal
 
 pub calls-init : goal.calls-init
@@ -15,10 +13,10 @@ calls-init g c =
     let old : DispatcherState = state_of c.args.self.now in
     let by : Handlers = handlers_of c.args.iface.now old.script in
     record {
-      advances = subst (λ (s : DispatcherState). Advances (dispatching by) old.node (accepts old.round.jobs)
+      advances = subst (λ (s : DispatcherState). AdvancesBy 0 by old.node (accepts old.round.jobs)
           (turning_of by s.round) (Stands g.C.Class.class_of c.args.server.now)
           (Stands g.C.Class.class_of c.args.server.now) (g.J.Journal.told c.args.book.now)
-          (g.J.Journal.told c.args.book.now)) (sym c.begin.ensures) (Advances-none _ _ _ _ _);
+          (g.J.Journal.told c.args.book.now)) (sym c.begin.ensures) (AdvancesBy-none _ _ _ _ _);
       remembered = subst (λ (s : DispatcherState). Remembers (handlers_of c.args.iface.now s.script) s.round)
           (sym c.begin.ensures) tt;
       node = ap (λ (s : DispatcherState). s.node) c.begin.ensures;
@@ -26,20 +24,12 @@ calls-init g c =
       setup = refl;
     }
 
-pub returns-in_err-note_step-clause-wanting : goal.returns-in_err-note_step-clause-wanting
-returns-in_err-note_step-clause-wanting g c =
-    on_err c.from_residual.result
-    (turn_stops (handlers_of c.args.iface.now) (state_of c.args.self.now).script (state_of c.calls.self).script
-    (state_of c.args.self.now).node (state_of c.calls.self).node c.calls.invariant.script c.calls.invariant.node _
-    (state_of c.calls.self).round (state_of c.note_step.new.self).round _ _ _ _ _ _ c.calls.invariant.advances
-    c.in_err-note_step.ensures.wanting)
-
 pub returns-then-not-branch-clause-turned : goal.returns-then-not-branch-clause-turned
 returns-then-not-branch-clause-turned g c =
     let none : c.in_ok-note_step.field-0 ≡ false = search rules in
     turn_over (handlers_of c.args.iface.now) (state_of c.args.self.now).script (state_of c.calls.self).script
-    (state_of c.args.self.now).node (state_of c.calls.self).node c.calls.invariant.script c.calls.invariant.node _
-    (state_of c.calls.self).round (state_of c.note_step.new.self).round _ _ _ _ _ _ c.calls.invariant.advances
+    (state_of c.args.self.now).node (state_of c.calls.self).node c.calls.invariant.script c.calls.invariant.node
+    c.calls.made _ (state_of c.calls.self).round (state_of c.note_step.new.self).round _ _ _ _ _ _ c.calls.invariant.advances
     c.in_ok-note_step.field-0 none c.in_ok-note_step.ensures.noted
 
 pub calls-preserved : goal.calls-preserved
@@ -48,7 +38,7 @@ calls-preserved g c =
     record {
       advances = turn_more (handlers_of c.args.iface.now) (state_of c.args.self.now).script
           (state_of c.calls.self).script (state_of c.args.self.now).node (state_of c.calls.self).node
-          c.calls.invariant.script c.calls.invariant.node _ (state_of c.calls.self).round
+          c.calls.invariant.script c.calls.invariant.node c.calls.made _ (state_of c.calls.self).round
           (state_of c.note_step.new.self).round _ _ _ _ _ _ c.calls.invariant.advances c.in_ok-note_step.field-0 some
           c.in_ok-note_step.ensures.noted;
       remembered = c.note_step.ensures.remembered;
@@ -57,5 +47,14 @@ calls-preserved g c =
       setup = c.note_step.ensures.setup ∙ c.calls.invariant.setup;
     }
 
-pub returns-clause-wanting : goal.returns-clause-wanting
-returns-clause-wanting g c = Stops-after _ _ _ _ _ _ _ _ c.calls.invariant.advances
+pub returns-in_err-note_step-clause-stops : goal.returns-in_err-note_step-clause-stops
+returns-in_err-note_step-clause-stops g c =
+    wanting_err _ c.from_residual.result c.from_residual.ensures.1
+    (turn_stops (handlers_of c.args.iface.now) (state_of c.args.self.now).script (state_of c.calls.self).script
+    (state_of c.args.self.now).node (state_of c.calls.self).node c.calls.invariant.script c.calls.invariant.node
+    c.calls.made _ (state_of c.calls.self).round (state_of c.note_step.new.self).round _ _ _ _ _ _
+    c.calls.invariant.advances c.in_err-note_step.ensures.wanting)
+
+pub returns-clause-stops : goal.returns-clause-stops
+returns-clause-stops g c =
+    turn_endless _ _ c.calls.made _ _ _ _ _ _ c.calls.invariant.advances (omega (arith, c.calls-test.false))

@@ -26,9 +26,10 @@ returns-clause-called g c =
     c.args.server.now c.read.new.server
     (events.HasRead i.call OFFER_BYTES (readers.Server c.in_ok-got.got) c.of.result)) c.self.view_is
     (read_called class j c.args.server.now c.read.new.server c.in_ok-got.got c.in_ok-got.bytes.items c.of.result
-    c.append.new.to.items c.ended_after-self-inside.result c.next_after.result c.in_ok-got.ensures.none
+    c.append.new.to.items c.ended_after-self-inside.result c.len-before.result c.next_after.result
+    c.in_ok-got.ensures.none
     (subst IsBytes c.as_slice.ensures.value c.append.ensures.fits)
     c.in_ok-got.ensures.answered c.of.ensures
     (c.append.ensures.items ∙ ap (λ (q : List ℕ). q ++ c.as_slice.result.now) c.in_ok-reserve.ensures.items
     ∙ ap (λ (b : List ℕ). i.request.items ++ b) c.as_slice.ensures.value)
-    c.ended_after-self-inside.ensures c.next_after.ensures)
+    c.ended_after-self-inside.ensures (c.len-before.ensures ∙ i.request.ok.0) c.next_after.ensures)
