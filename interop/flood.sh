@@ -1,6 +1,7 @@
 #!/usr/bin/env bash
 # Datagrams that no good client sends, at `rx serve`, beside an OpenAFS client at work: interop/flood.sh SECONDS
-# 1. Each kind of interop/flood.c alone: what a datagram costs the server of the processor.
+# 1. Each kind of interop/flood.c alone: what a datagram costs the server of the processor, the work that follows from
+#    it included.
 # 2. Each kind beside echoes and streams of an OpenAFS client, and its rates without them, with them and behind them.
 # 3. A request that never ends (interop/endless.c): how much memory the server has at most.
 # Prints a line for each, and at the end one that begins with `passed` and has figures, or with `failed` and says what
@@ -22,11 +23,11 @@ fi
 
 RATE=${RATE:-2000} KINDS=${KINDS:-random cut unserved acks control jumbo long nowhere data} BYTES=${BYTES:-1000000000}
 read -ra OPTIONS <<<"${SERVE:-}"
-STREAM=1000000 MOST_KB=4096 BACK_SECONDS=30 PORT=7910 xg=$here/peer.xg script=$here/peer.script
+STREAM=1000000 MOST_KB=4096 BACK_SECONDS=30 CALLS_END_SECONDS=14 PORT=7910 xg=$here/peer.xg script=$here/peer.script
 # A part of the time: 10 of them go to floods alone, 11 to the client's work, and 4 to the request that never ends.
 span=$2
 part=$((span * 1000 / 25))
-SERVE_MS=$(((span + 2 * BACK_SECONDS) * 1000))
+SERVE_MS=$(((span + 4 * BACK_SECONDS) * 1000))
 work=$(mktemp -d)
 faults=() all_us=0 all_taken=0 echoes=0 ms=0 echoes_without=0 ms_without=0 echoes_with=0 ms_with=0 told_memory=
 trap 'end_all; rm -rf "$work"' EXIT
@@ -48,7 +49,7 @@ dropped() {
 }
 
 new_server() {
-    serve_quietly ours "$xg" "$script" "127.0.0.1:$PORT" 60 "${OPTIONS[@]}"
+    serve_quietly ours "$xg" "$script" "127.0.0.1:$PORT" 60 "${OPTIONS[@]}" || give_up 'no server starts'
 }
 
 # Whether the server stands behind datagrams of this kind.
@@ -63,12 +64,17 @@ forge() {
     timeout $((2 * part / 1000 + 5)) "$work/peers/flood" "$PORT" "$1" 1 "$RATE" $((RATE * part / 1000)) >"$work/forged"
 }
 
-# Each kind alone, at a server of its own; behind the last, calls that were forged, the first again.
+# Each kind alone, at a server of its own; behind forged calls, when these are over and their connections are still
+# known, bytes of chance again.
 alone() {
     local kind
     for kind in $KINDS; do
-        new_server || exit
-        cost_of "$kind" "$kind" && { [ "$kind" != data ] || cost_of random 'random behind data'; }
+        new_server
+        cost_of "$kind" "$kind"
+        if [ "$kind" = data ] && stands ours; then
+            sleep "$CALLS_END_SECONDS"
+            cost_of random 'random behind data'
+        fi
         end ours
     done
 }
@@ -121,8 +127,8 @@ come_back() {
 # The client's work without the flood, with each kind, and behind it. It goes on in one process on one connection.
 beside() {
     local kind before
-    new_server || exit
-    start client "$work/peers/client" "$PORT" 60 steady $((span + 2 * BACK_SECONDS)) "$STREAM"
+    new_server
+    start client "$work/peers/client" "$PORT" 60 steady $((span + 4 * BACK_SECONDS)) "$STREAM"
     sleep 0.5
     worked 'no flood' sleep_ms $((2 * part))
     echoes_without=$echoes ms_without=$ms before=$(memory ours)
@@ -164,7 +170,7 @@ good_calls() {
 # A request that never ends, beside nothing else. The server's memory is the most that it had meanwhile.
 never_ends() {
     local before said
-    new_server || exit
+    new_server
     good_calls
     before=$(memory ours)
     forget_most ours
@@ -176,8 +182,7 @@ never_ends() {
     good_calls
 }
 
-"$here/build.sh" "$work/peers" >"$work/build" 2>&1 || { cat "$work/build"; exit 1; }
-ip link set lo up || exit
+prepare
 alone
 beside
 end_all

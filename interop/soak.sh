@@ -26,9 +26,16 @@ CONNS=$(((PACE * 43 + 3) / 4)) MOST_CALLS=32 CALL_SECONDS=150 MOST_KB=8192 STREA
 SERVE_MS=$(((minutes * 60 + CALL_SECONDS + 60) * 1000))
 xg=$here/peer.xg work=$(mktemp -d) drawn=0 asked=0 told=0 wrong=0 figures='' faults=()
 declare -A before
-trap 'end_all; rm -rf "$work"' EXIT
+trap finish EXIT
 trap 'exit 1' INT TERM
 RANDOM=$SEED
+
+finish() {
+    end_all
+    # shellcheck disable=SC2046
+    kill $(jobs -p) 2>/dev/null
+    rm -rf "$work"
+}
 
 # draw N: sets `drawn` to a number below N.
 draw() {
@@ -202,8 +209,9 @@ judge() {
     figures+=", $came connections at a server that knows $CONNS, ${before[$1]} KB at first and $behind KB at last"
 }
 
-"$here/build.sh" "$work/peers" >"$work/build" 2>&1 || { cat "$work/build"; exit 1; }
-ip link set lo up && make_files && start_servers || exit
+prepare
+make_files
+start_servers || give_up 'a server does not start'
 SECONDS=0
 ask_all
 tell 'in all'

@@ -1,5 +1,6 @@
 # What the scripts of interop/ and bench/udp.sh share: processes that are started under a name and ended by their id. To
-# be sourced by a script of bash that has set top, the folder of the repository, and work, a folder of its own.
+# be sourced by a script of bash that has set top, the folder of the repository, and work, a folder of its own; for
+# floods and long runs also here, the folder of this file.
 # shellcheck shell=bash disable=SC2154
 declare -A pid_of
 
@@ -107,14 +108,26 @@ forget_most() {
     echo 5 >"/proc/${pid_of[$1]}/clear_refs"
 }
 
+# Says what is missing for a run, and ends it.
+give_up() {
+    echo "failed: $1"
+    exit 1
+}
+
+# Builds the peers, and has the network namespace speak with itself.
+prepare() {
+    "$here/build.sh" "$work/peers" >"$work/build" 2>&1 || { cat "$work/build"; give_up 'the peers are not built'; }
+    ip link set lo up || give_up 'there is no loopback'
+}
+
 # own_network WORD..: has the script run anew, with the words --inside WORD.., in a network namespace of its own, where
 # nothing but this machine is spoken to. Ends with 1 where something is missing that it needs.
 own_network() {
     local tool
     for tool in cc ip unshare rxgen; do
-        command -v "$tool" >/dev/null || { echo "failed: $tool is not there"; exit 1; }
+        command -v "$tool" >/dev/null || give_up "$tool is not there"
     done
-    unshare -n true 2>/dev/null || { echo 'failed: no network namespace can be made'; exit 1; }
+    unshare -n true 2>/dev/null || give_up 'no network namespace can be made'
     RX=$(program ${RX:+"$RX"})
     export RX
     exec unshare -n "$BASH" "$0" --inside "$@"
