@@ -1,5 +1,5 @@
 -- Lines that make a node.
-use Rattle.std.proofs.Common.{◌≡◌, ◌<◌, ◌≤◌, ◌+◌, ◌∙◌, ◌&&◌, ℕ, suc, Bool, true, false, List, [], ◌∷◌, ◌++◌, Option}
+use Rattle.std.proofs.Common.{◌≡◌, ◌<◌, ◌≤◌, ◌+◌, ◌^◌, ◌∙◌, ◌&&◌, ℕ, suc, Bool, true, false, List, [], ◌∷◌, ◌++◌, Option}
 use Rattle.std.proofs.Common.{Some, None, Ok, Err}
 use Rattle.std.proofs.Common.{refl, sym, subst, ap, length, arith, nat_le, nat_lt, slice_get}
 use Rattle.std.proofs.Common.{if◌then◌else◌}
@@ -143,6 +143,7 @@ server_begun host service limits key nonce class ns w room keyed standing one ke
           standing = subst (λ (v : WorldState). Standing v.nodes []) (sym kept) standing;
           service = ap (λ (v : WorldState). v.service) kept;
           of_nodes = tt;
+          few = omega arith;
         }
 
     counted : limits.slots ≡ slots_of (nodes_of w.nodes)
@@ -171,6 +172,14 @@ first_same ns n m ms are =
 -- so many nodes
 pub nodes_count : (ns : NodesState) → length (nodes_of ns) ≡ suc (length ns.clients)
 nodes_count ns = ap suc (length-map ns.clients nodes.client_node)
+
+-- one more where there is room for a client: each has a number
+few_more : (l : Limits) (slots clients : ℕ) (ns : List Node) (n : Node) → has_client_room l slots clients ≡ true
+    → length ns ≡ suc clients → length (ns ++ n ∷ []) < 2 ^ 32
+few_more l slots clients ns n room many =
+    (let test : nat_lt clients 64 ≡ true = rest_holds (has_slots l slots) (nat_lt clients MAX_CLIENTS) room in
+    let low : clients < 64 = grind (arith, nat_tests) in
+    omega (arith, length_push ns n, many, low))
 
 -- a line that made no node came before
 pub client_late : (n : Node) (r : Running) → r.late ≡ true → AddsNode n r r (Some (stops.Refused causes.Late))
@@ -241,6 +250,8 @@ client_added n r ns early counted room stands added place t p shows =
               shows.stage.standing;
           service = shows.stage.service ∙ sym (first_same p.stage.nodes n _ _ same);
           of_nodes = of_more p.stage.nodes n p.stage.history shows.stage.of_nodes;
+          few = few_more n.setup.limits r.slots (length r.world.nodes.clients) p.stage.nodes n room
+              (ap (λ ns. length ns) same ∙ nodes_count r.world.nodes);
         }
 
 pub client_counted : (n : Node) (r : Running) (ns : NodesState) → IsCounted r

@@ -182,7 +182,3 @@ pub clocks_more : (now k : ℕ) (w m new : WorldState) (a b c : Told) → 1 ≤ 
 clocks_more now k w m new a b c some so_far next =
     subst (λ ns. Plays (each (sets now) ns) w new None a c) (sym (clients_one k some))
     (each_one (sets now) (drop 1 (below k)) k w m new None a b c so_far next)
-
--- memory was wanted first
-pub clocks_cut : (now : ℕ) (s : Stage) → sets_clocks now s [] Cut
-clocks_cut now s = each_cut (sets now) (λ node t. event_cut node (IsClocked now) t) (clients_first s) s

@@ -18,8 +18,8 @@ use Rattle.rx_rules.specs.Classes.{Class}
 use Rattle.rx_wire.specs.Turns.{Program}
 use Rattle.rx_world.specs.Done.{KeepsDone, LeavesOut, StaysDone, has_both, is_done_at, is_done_if, leaves, no_more}
 use Rattle.rx_world.specs.Network.{below}
-use Rattle.rx_world.specs.Parts.{Came, Cut, Part, Refused, To, by_test, each, ends, goes_on}
-use Rattle.rx_world.specs.Programs.{Turn, cut_there, goes, is_over}
+use Rattle.rx_world.specs.Parts.{Came, Cut, Endless, Part, Refused, To, by_test, each, ends, goes_on}
+use Rattle.rx_world.specs.Programs.{Turn, cut_there, goes, is_endless, is_over}
 use Rattle.rx_world.specs.Stages.{InvokedState, Stage, is_client}
 use Rattle.rx_world.specs.Turned.{is_of, turns_at, turns_for, turns_of, turns_where}
 use Rattle.rx_world.proofs.Callers.{one_is}
@@ -55,10 +55,12 @@ abbrev Leaves : {View : Type 0} → View → Came (View × Stage) → Type 0
 Leaves v (To r) = r.0 ≡ v
 Leaves v (Refused why) = Unit {0}
 Leaves v Cut = Unit {0}
+Leaves v Endless = Unit {0}
 
 turn_over : {View Ask : Type 0} (p : Program View Ask) (node : ℕ) (v : View) (s : Stage) (es : List Noted)
     (out : Came (View × Stage)) → Turn p node v s es out → p.asks v ≡ None → Leaves v out
 turn_over p node v s es out (cut_there x y) over = tt
+turn_over p node v s es out (is_endless x y fs turn long) over = tt
 turn_over p node v s es out (is_over x y none) over = refl
 turn_over {View} {Ask} p node v s es out (goes x y a e fs came asked allowed rest) over =
     (let no : Some a ≡ None = sym asked ∙ over in absurd cc)
@@ -170,6 +172,8 @@ of_keeps place i s t es at m = by m.front m.rest m.came m.made m.goes
     by front rest (Refused why) made (none, inr same) p is = absurd cc
     by front rest Cut made (none, inl same) p is = absurd cc
     by front rest Cut made (none, inr same) p is = absurd cc
+    by front rest Endless made (none, inl same) p is = absurd cc
+    by front rest Endless made (none, inr same) p is = absurd cc
 
 pub keeps_at : (place : ℕ) (s : Stage) (es : List Noted) (t : Stage) → turns_at place s es (To t)
     → KeepsDone s.callers t.callers
@@ -304,6 +308,7 @@ each_whole part rests keeps T xs ys (has_both x us vs left) s es out so made =
     on front rest (To t) first next again = again t front rest first next
     on front rest (Refused why) first next again = next
     on front rest Cut first next again = next
+    on front rest Endless first next again = next
 each_whole part rests keeps T xs ys (leaves y us vs is left) s es out so made =
     record {
       front = [];

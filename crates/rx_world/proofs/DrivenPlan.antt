@@ -20,7 +20,7 @@ use Rattle.rx_script.specs.declared.plan.PlanLine.{PlanLine}
 use Rattle.rx_script.specs.declared.plan.PlanLine.TheVariants as lines
 use Rattle.rx_world.specs.Answering.{AreDriven, IsDriven, invoked_at, invoked_by}
 use Rattle.rx_world.specs.Follows.{Goes, Progress, Went, Whole, adds, all, begins, begun, client_node, cut, goes_from}
-use Rattle.rx_world.specs.Follows.{has_room, made_node, next, next_part, plan_goes, refused, server_node}
+use Rattle.rx_world.specs.Follows.{endless, has_room, made_node, next, next_part, plan_goes, refused, server_node}
 use Rattle.rx_world.specs.Lines.{IsWell, TakesArguments, bytes_of, line_part}
 use Rattle.rx_world.specs.Parts.{To, Refused, Cut, Then, ends}
 use Rattle.rx_world.specs.Stages.{Stage}
@@ -165,6 +165,7 @@ module _ (g : Handlers) (ls : List Numbered) where
       (All-tail (λ k. IsWell g k.what) l rest well) (All-tail (λ k. IsDriven k.what) l rest driven) n.going
   lines_follow (refused l rest p es why one) front are place well driven i = tt
   lines_follow (cut l rest p es one) front are place well driven i = tt
+  lines_follow (endless l rest p es one) front are place well driven i = tt
 
 -- ---- a whole plan
 

@@ -2,8 +2,8 @@
 use Rattle.std.proofs.Common.{◌≡◌, ◌⊎◌, List, [], ◌∷◌, ◌++◌, Option, Some, None, refl, inl, inr, sym, subst, ap}
 use Rattle.rx_model.specs.declared.event.Noted.{Noted}
 use Rattle.rx_world.specs.declared.stop.Stop.{Stop}
-use Rattle.rx_world.specs.Parts.{Came, To, Refused, Cut, Fits, Part, Ran, Then, each, ends, goes_on}
-use Rattle.rx_world.specs.Parts.{fits_to}
+use Rattle.rx_world.specs.Parts.{Came, To, Refused, Cut, Endless, Fits, Part, Ran, Then, each, ends, fits_to}
+use Rattle.rx_world.specs.Parts.{goes_on}
 use Rattle.rx_world.specs.Tells.{Gains, Told, gains_none}
 use Rattle.rx_world.proofs.Running.{both, ran_stops, ran_then, ran_to}
 use Rattle.rx_world.proofs.Telling.{Split, split}
@@ -41,11 +41,13 @@ abbrev IsTo : {A : Type 0} → Came A → Type 0
 IsTo (To x) = Unit {0}
 IsTo (Refused why) = ⊥
 IsTo Cut = ⊥
+IsTo Endless = ⊥
 
 abbrev to_or : {A : Type 0} → A → Came A → A
 to_or x (To y) = y
 to_or x (Refused why) = x
 to_or x Cut = x
+to_or x Endless = x
 
 is_to : {A : Type 0} (x : A) (came : Came A) → To x ≡ came → IsTo came
 is_to x came same = subst IsTo same tt
@@ -74,6 +76,8 @@ each_then {A} {X} part xs more s shows after stop a b c r next = of xs s a (whol
     behind y ys s a es (Refused why) made rest t (none, inr same) there told onward = elim (is_to t Cut same) [ ]
     behind y ys s a es Cut made rest t (none, inl same) there told onward = elim (is_to t Cut same) [ ]
     behind y ys s a es Cut made rest t (none, inr same) there told onward = elim (is_to t Cut same) [ ]
+    behind y ys s a es Endless made rest t (none, inl same) there told onward = elim (is_to t Endless same) [ ]
+    behind y ys s a es Endless made rest t (none, inr same) there told onward = elim (is_to t Cut same) [ ]
 
     -- behind none
     first : (s : A) (a : Told) (es : List Noted) (t : A) → es ≡ [] → (To t ≡ To s) ⊎ (To t ≡ Cut)

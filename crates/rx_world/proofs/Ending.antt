@@ -9,7 +9,8 @@ use Rattle.rx_script.specs.declared.outcome.Outcome.{Outcome}
 use Rattle.rx_script.specs.declared.outcome.Outcome.TheVariants as outcomes
 use Rattle.rx_script.specs.declared.plan.Numbered.{Numbered}
 use Rattle.rx_world.specs.Answers.{answer_lines}
-use Rattle.rx_world.specs.Follows.{CutOff, Empty, Goes, Progress, RefusedAt, Went, Whole, begins, goes_from}
+use Rattle.rx_world.specs.Follows.{CutOff, Empty, EndlessIn, Goes, Progress, RefusedAt, Went, Whole, begins}
+use Rattle.rx_world.specs.Follows.{goes_from}
 use Rattle.rx_world.specs.Runs.{RunIs, Tells}
 use Rattle.rx_world.specs.Showing.{Ends, IsBegun, Made, PutsBy, RunsOn, ShowsRun, ended_at, outcome_of}
 use Rattle.rx_world.specs.Stages.{Shows, Stage, WorldState}
@@ -25,16 +26,20 @@ stopped_tells : (g : Handlers) (plan : List Numbered) (shows : Stage → Type 0)
 stopped_tells g plan shows (outcomes.Refused line why) (RefusedAt its cause) a b es ends = ends
 stopped_tells g plan shows outcomes.SinkFault CutOff a b es ends = ends
 stopped_tells g plan shows outcomes.OutOfMemory CutOff a b es ends = ends
+stopped_tells g plan shows outcomes.OutOfMemory EndlessIn a b es ends = ends
 stopped_tells g plan shows outcomes.Ran Empty a b es ends = elim ends [ ]
 stopped_tells g plan shows outcomes.Ran (Whole s) a b es ends = elim ends [ ]
 stopped_tells g plan shows outcomes.Ran (RefusedAt its cause) a b es ends = elim ends [ ]
 stopped_tells g plan shows outcomes.Ran CutOff a b es ends = elim ends [ ]
+stopped_tells g plan shows outcomes.Ran EndlessIn a b es ends = elim ends [ ]
 stopped_tells g plan shows (outcomes.Refused line why) Empty a b es ends = elim ends [ ]
 stopped_tells g plan shows (outcomes.Refused line why) (Whole s) a b es ends = elim ends [ ]
 stopped_tells g plan shows (outcomes.Refused line why) CutOff a b es ends = elim ends [ ]
+stopped_tells g plan shows (outcomes.Refused line why) EndlessIn a b es ends = elim ends [ ]
 stopped_tells g plan shows outcomes.SinkFault Empty a b es ends = elim ends [ ]
 stopped_tells g plan shows outcomes.SinkFault (Whole s) a b es ends = elim ends [ ]
 stopped_tells g plan shows outcomes.SinkFault (RefusedAt its cause) a b es ends = elim ends [ ]
+stopped_tells g plan shows outcomes.SinkFault EndlessIn a b es ends = elim ends [ ]
 stopped_tells g plan shows outcomes.OutOfMemory Empty a b es ends = elim ends [ ]
 stopped_tells g plan shows outcomes.OutOfMemory (Whole s) a b es ends = elim ends [ ]
 stopped_tells g plan shows outcomes.OutOfMemory (RefusedAt its cause) a b es ends = elim ends [ ]
@@ -81,6 +86,7 @@ runs_answered g plan rest p w result a b c m puts = of m.went m.goes m.ends
     of Empty goes ends = elim ends [ ]
     of (RefusedAt its cause) goes ends = elim ends [ ]
     of CutOff goes ends = elim ends [ ]
+    of EndlessIn goes ends = elim ends [ ]
     of (Whole s) goes (there, told) =
         record {
           events = m.events;
@@ -134,3 +140,4 @@ run_refused g first rest (stops.Refused why) a begun =
 run_refused g first rest stops.OutOfMemory a begun =
     record { events = []; went = CutOff; goes = inr (refl, refl); tells = wants_more a }
 run_refused g first rest stops.SinkFault a none = elim none [ ]
+run_refused g first rest stops.Endless a none = elim none [ ]

@@ -10,8 +10,8 @@ use Rattle.rx_world.specs.declared.stop.Stop.{Stop}
 use Rattle.rx_world.specs.declared.lossy.Fate.{Fate}
 use Rattle.rx_world.specs.Lossy.{comes, drawn, fate_of, fated, gathered, stays}
 use Rattle.rx_world.specs.Network.{delivers}
-use Rattle.rx_world.specs.Parts.{Came, To, Refused, Cut, Fits, Part, Ran, each, goes_on, stop_of}
-use Rattle.rx_world.specs.Parts.{fits_to, fits_refused, fits_wants, fits_fails}
+use Rattle.rx_world.specs.Parts.{Came, To, Refused, Cut, Endless, Fits, Part, Ran, each, goes_on, stop_of}
+use Rattle.rx_world.specs.Parts.{fits_endless, fits_to, fits_refused, fits_wants, fits_fails}
 use Rattle.rx_world.specs.Stages.{Plays, Shows, Stage, WorldState}
 use Rattle.rx_world.specs.Tells.{Told}
 use Rattle.rx_world.proofs.Delivering.{delivers_cut, front_around}
@@ -32,6 +32,7 @@ abbrev IsEnd : Came Stage → Type 0
 IsEnd (To s) = ⊥
 IsEnd (Refused why) = Unit {0}
 IsEnd Cut = Unit {0}
+IsEnd Endless = Unit {0}
 
 -- what ended a front of them ended them all, where each can be cut off before it begins
 front_ends : {X : Type 0} (part : X → Stage → Part Stage) (cut : (x : X) (s : Stage) → part x s [] Cut)
@@ -71,6 +72,8 @@ front_ends {X} part cut (x ∷ xs) more s es came end made =
         record { front = made.front; rest = made.rest; are = made.are; came = Refused why; made = first; goes = goes }
     of Cut first goes onward =
         record { front = made.front; rest = made.rest; are = made.are; came = Cut; made = first; goes = goes }
+    of Endless first goes onward =
+        record { front = made.front; rest = made.rest; are = made.are; came = Endless; made = first; goes = goes }
 
 -- the same of what is played
 pub front_stops : {X : Type 0} (part : X → Stage → Part Stage) (cut : (x : X) (s : Stage) → part x s [] Cut)
@@ -102,6 +105,13 @@ front_stops {X} part cut xs more w new stop a b plays s shown =
           came = came;
           made = front_ends part cut xs more s es came tt made;
           fits = fits_fails a b es told;
+        }
+    of es came why made (fits_endless old now them told) same =
+        record {
+          events = es;
+          came = came;
+          made = front_ends part cut xs more s es came tt made;
+          fits = fits_endless a b es told;
         }
     of es came why made (fits_to x old now them there told) same = elim (none_is_some same) [ ]
       where

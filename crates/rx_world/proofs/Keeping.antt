@@ -35,6 +35,7 @@ shown_accepted w s names e shown kept =
       standing = shown.standing;
       service = shown.service;
       of_nodes = shown.of_nodes;
+      few = shown.few;
     }
 
 -- those that calls answered
@@ -47,6 +48,7 @@ shown_called w s node calls e shown kept =
       standing = shown.standing;
       service = shown.service;
       of_nodes = shown.of_nodes;
+      few = shown.few;
     }
 
 -- ---- callers
@@ -60,6 +62,7 @@ shown_caller w s node line bytes (Some name) shown =
       standing = shown.standing;
       service = shown.service;
       of_nodes = shown.of_nodes;
+      few = shown.few;
     }
 
 -- ---- datagrams
@@ -77,6 +80,7 @@ shown_packet w s packets d shown kept =
       standing = shown.standing;
       service = shown.service;
       of_nodes = shown.of_nodes;
+      few = shown.few;
     }
 
 -- those that are kept
@@ -123,6 +127,7 @@ packet_comes w s (Some d) packets (Some (stops.Refused why)) t shown (full, bag)
     (Shows (record w { packets = packets })) (Some (stops.Refused causes.Bag)) t t) (sym full)
     (ran_refused (Shows (record w { packets = packets })) causes.Bag t)))
 packet_comes w s (Some d) packets (Some stops.SinkFault) t shown none = elim none [ ]
+packet_comes w s (Some d) packets (Some stops.Endless) t shown none = elim none [ ]
 
 -- ---- what is come to
 

@@ -10,10 +10,9 @@ use Rattle.rx_dispatch.specs.Handlers.{Handlers}
 use Rattle.rx_dispatch.specs.Jobs.{Ask, JobState, Moving, moving, serving}
 use Rattle.rx_nodes.specs.Nodes.{IsAllowedAt}
 use Rattle.rx_wire.specs.Turns.{Program}
-use Rattle.rx_world.specs.Parts.{Came, To, Refused, Cut, One, Part, Then, by_test, cut_behind, each, ends, goes_on}
-use Rattle.rx_world.specs.Parts.{makes}
-use Rattle.rx_world.specs.Parts.{not_made}
-use Rattle.rx_world.specs.Programs.{Turn, cut_there, goes, is_over}
+use Rattle.rx_world.specs.Parts.{Came, To, Refused, Cut, Endless, One, Part, Then, by_test, cut_behind, each, ends}
+use Rattle.rx_world.specs.Parts.{goes_on, makes, not_made}
+use Rattle.rx_world.specs.Programs.{Turn, cut_there, goes, is_endless, is_over}
 use Rattle.rx_world.specs.Stages.{Stage}
 use Rattle.rx_world.specs.Stages.{with_event}
 use Rattle.rx_world.specs.Turned.{jobs_left}
@@ -40,6 +39,7 @@ then_lead {A} {B} P R first next lead more es b t = onward t.came t.made t.goes
     onward (To a) made on = more a (lead t.front a made) t.rest b on
     onward (Refused why) made on = ends_lead R (Refused why) tt t.rest b on
     onward Cut made on = ends_lead R Cut tt t.rest b on
+    onward Endless made on = ends_lead R Endless tt t.rest b on
 
 pub each_lead : {A X : Type 0} (P : A → Type 0) (part : X → A → Part A)
     → ((x : X) (a : A) → P a → Leads P (part x a)) → (xs : List X) (a : A) → P a → Leads P (each part xs a)
@@ -74,6 +74,7 @@ turn_lead {View} {Ask} p node R step v s so es r made = of made so
     of (cut_there v s) so = tt
     of (is_over v s none) so = (so, none)
     of (goes v s a e es out asks allowed rest) so = of rest (step v s a e so asks allowed.0 allowed.1)
+    of (is_endless v s es turn long) so = tt
 
 -- ---- a dispatcher between its calls
 

@@ -11,12 +11,13 @@ use Rattle.rx_model.specs.declared.names.Host.{Host}
 use Rattle.rx_model.specs.declared.names.Limits.{Limits}
 use Rattle.rx_dispatch.specs.Handlers.{Handlers}
 use Rattle.rx_script.specs.declared.plan.Numbered.{Numbered}
-use Rattle.rx_world.specs.Follows.{CutOff, Goes, Progress, RefusedAt, Went, Whole, all, cut, next, next_part, refused}
+use Rattle.rx_world.specs.Follows.{CutOff, EndlessIn, Goes, Progress, RefusedAt, Went, Whole, all, cut, endless, next}
+use Rattle.rx_world.specs.Follows.{next_part, refused}
 use Rattle.rx_script.specs.declared.plan.PlanLine.{PlanLine}
 use Rattle.rx_script.specs.declared.plan.PlanLine.TheVariants as lines
 use Rattle.rx_world.specs.Lines.{line_part}
 use Rattle.rx_world.specs.Parts.{Came, To, Fits, Part, Ran, ends}
-use Rattle.rx_world.specs.Parts.{fits_refused, fits_wants, fits_fails}
+use Rattle.rx_world.specs.Parts.{fits_endless, fits_refused, fits_wants, fits_fails}
 use Rattle.rx_world.specs.Showing.{IsCounted, Made, MakesLine, ShowsRun, ended_at, other_part}
 use Rattle.rx_world.specs.Stages.{Plays, Shows, Stage, WorldState}
 use Rattle.rx_world.specs.Tells.{Gains, Told, gains_none}
@@ -94,6 +95,13 @@ behind_ended g ls more l p shows after last stop a b c before made =
           went = CutOff;
           goes = before.onward (l ∷ more) es CutOff (cut l more before.to es made);
           ends = fails_behind before.told told;
+        }
+    from es came why made (fits_endless old new them told) =
+        record {
+          events = before.events ++ es;
+          went = EndlessIn;
+          goes = before.onward (l ∷ more) es EndlessIn (endless l more before.to es made);
+          ends = gains_both before.told told;
         }
 
     of : (why : Stop) → Ran (next_part g l.what before.to) after (Some why) b c

@@ -1,17 +1,21 @@
 -- The numbers of nodes, in the order in which loops go over them.
-use Rattle.std.proofs.Common.{◌≡◌, ◌∙◌, ◌<◌, ◌≤◌, ◌+◌, ℕ, zero, suc, List, [], ◌∷◌, ◌++◌}
-use Rattle.std.proofs.Common.{Some}
+use Rattle.std.proofs.Common.{◌≡◌, ◌∙◌, ◌<◌, ◌≤◌, ◌+◌, ◌^◌, ℕ, zero, suc, List, [], ◌∷◌, ◌++◌}
+use Rattle.std.proofs.Common.{Option, Some}
 use Rattle.std.proofs.Common.{refl, sym, subst, ap, length, map, drop, arith, add-one, append_assoc}
 use Rattle.std.specs.Prelude.{slice_get, option_map, unwrap_or}
 use Rattle.std.proofs.lemmas.List.{drop-append-le, length-append, length-map}
 use Rattle.rx_law.specs.Sides.{Node}
+use Rattle.rx_law.specs.Worlds.{Datagram}
 use Rattle.rx_model.specs.declared.names.Host.{Host}
 use Rattle.rx_node.proofs.TableSteps.{decided}
 use Rattle.rx_nodes.specs.Nodes.{IsNodeThere, NodesState, client_node, host_of, nodes_of}
 use Rattle.rx_nodes.specs.declared.nodes.ClientAt.{ClientAt}
 use Rattle.rx_world.specs.Network.{below}
-use Rattle.rx_world.specs.Rounds.{clients_first}
-use Rattle.rx_world.specs.Stages.{Shows, Stage, WorldState, host_at}
+use Rattle.rx_world.specs.Parts.{Part}
+use Rattle.rx_world.specs.Rounds.{Polled, PlaysGiven, clients_first}
+use Rattle.rx_world.specs.Stages.{Plays, PlaysNodes, Shows, Stage, WorldState, host_at}
+use Rattle.rx_world.specs.Tells.{Told}
+use Rattle.rx_world.specs.declared.stop.Stop.{Stop}
 use Rattle.rx_world.proofs.Stepping.{nodes_shown}
 
 -- ---- lists of numbers
@@ -77,6 +81,26 @@ length_shown w s n shown is =
 pub clients_listed : (w : WorldState) (s : Stage) (n : ℕ) → Shows w s → n ≡ length w.nodes.clients + 1
     → clients_first s ≡ drop 1 (below n) ++ 0 ∷ []
 clients_listed w s n shown is = ap (λ k. drop 1 (below k) ++ 0 ∷ []) (length_shown w s n shown is)
+
+-- the nodes are so few that each has a number
+pub few_shown : (w : WorldState) (s : Stage) → Shows w s → length w.nodes.clients + 1 < 2 ^ 32
+few_shown w s shown =
+    subst (λ n. n < 2 ^ 32) (length_shown w s (length w.nodes.clients + 1) shown refl) shown.few
+
+-- what is played where they are is played
+pub plays_few : (part : Stage → Part Stage) (w new : WorldState) (stop : Option Stop) (a b : Told)
+    → (length w.nodes.clients + 1 < 2 ^ 32 → Plays part w new stop a b) → Plays part w new stop a b
+plays_few part w new stop a b plays s shown = plays (few_shown w s shown) s shown
+
+pub given_few : (part : Polled → Part Polled) (w new : WorldState) (given more : List Datagram) (stop : Option Stop)
+    (a b : Told) → (length w.nodes.clients + 1 < 2 ^ 32 → PlaysGiven part w given new more stop a b)
+    → PlaysGiven part w given new more stop a b
+given_few part w new given more stop a b plays p shown = plays (few_shown w p.stage shown.0) p shown
+
+pub nodes_few : (part : Stage → Part Stage) (old new : NodesState) (stop : Option Stop) (a b : Told)
+    → (length old.clients + 1 < 2 ^ 32 → PlaysNodes part old new stop a b) → PlaysNodes part old new stop a b
+nodes_few part old new stop a b plays w is s shown =
+    plays (subst (λ (n : NodesState). length n.clients + 1 < 2 ^ 32) is (few_shown w s shown)) w is s shown
 
 host_in : (cs : List ClientAt) (k : ℕ) (h : Host) → k < length cs
     → option_map (λ n. n.host) (slice_get (map client_node cs) k)

@@ -1,5 +1,5 @@
 -- Polls of a node, one by one, and then all of them.
-use Rattle.std.proofs.Common.{◌≡◌, ◌∙◌, ℕ, List, [], Bool, true, false, Option, Some, None, Result, Ok, Err}
+use Rattle.std.proofs.Common.{◌≡◌, ◌∙◌, ◌+◌, ℕ, List, [], Bool, true, false, Option, Some, None, Result, Ok, Err}
 use Rattle.std.proofs.Common.{refl, inr, sym, subst, ap}
 use Rattle.std.specs.Prelude.{IfOk, IfErr, IsErr, IsErrAnd}
 use Rattle.rx_model.specs.declared.event.Event.{Event}
@@ -56,23 +56,23 @@ poll_kept from node given more old new e (Err stop) a b makes is told heard want
 -- ---- the polls of a node
 
 -- it gave something: it is polled again
-pub polls_more : (from : Host) (node : ℕ) (given mid more : List Datagram) (old m new : NodesState) (again : Bool)
-    (a b c : Told) → Going (polling from) node (more_from given) (more_from mid) old m a b
+pub polls_more : (from : Host) (node made : ℕ) (given mid more : List Datagram) (old m new : NodesState) (again : Bool)
+    (a b c : Told) → Going (polling from) node made (more_from given) (more_from mid) old m a b
     → PollsOn from node mid more m new (Ok again) b c → again ≡ true → IsNodeThere m node
-    → Going (polling from) node (more_from given) (more_from more) old new a c
-polls_more from node given mid more old m new again a b c g one on there =
-    going_told (polling from) node (more_from given) (more_from mid) (more_from more) old m new a b c g
+    → Going (polling from) node (made + 1) (more_from given) (more_from more) old new a c
+polls_more from node made given mid more old m new again a b c g one on there =
+    going_told (polling from) node made (more_from given) (more_from mid) (more_from more) old m new a b c g
     (subst (λ x. CallsTold (polling from) node (more_from mid) (record { again = x; given = more }) m new b c) on one)
     there
 
 -- it gave nothing
-pub polls_end : (from : Host) (node : ℕ) (given mid more : List Datagram) (old m new : NodesState) (again : Bool)
-    (a b c : Told) → Going (polling from) node (more_from given) (more_from mid) old m a b
+pub polls_end : (from : Host) (node made : ℕ) (given mid more : List Datagram) (old m new : NodesState) (again : Bool)
+    (a b c : Told) → Going (polling from) node made (more_from given) (more_from mid) old m a b
     → PollsOn from node mid more m new (Ok again) b c → again ≡ false → IsNodeThere m node
     → PlaysTurn (polling from) node (more_from given) (record { again = false; given = more }) old new None a c
-polls_end from node given mid more old m new again a b c g one off there =
-    turn_whole (polling from) node (more_from given) (record { again = false; given = more }) old new a c
-    (going_told (polling from) node (more_from given) (more_from mid) (record { again = false; given = more }) old m new
+polls_end from node made given mid more old m new again a b c g one off there =
+    turn_whole (polling from) node (made + 1) (more_from given) (record { again = false; given = more }) old new a c
+    (going_told (polling from) node made (more_from given) (more_from mid) (record { again = false; given = more }) old m new
     a b c g
     (subst (λ x. CallsTold (polling from) node (more_from mid) (record { again = x; given = more }) m new b c) off one)
     there) refl
@@ -93,16 +93,6 @@ polls_play w node from given more new stop a b there host turn p shown =
     (λ r. Knows (record { again = false; given = more }) (record w { nodes = new }) r.0 r.1) stop a b)
     (sym shown.1) (turn w refl p.stage shown.0))
     (λ r known. (known.1, ap (λ (v : Polling). v.given) known.0)))
-
--- they may be cut off before the first
-pub polls_cut : (node : ℕ) (p : Polled) → polls_out node p [] Cut
-polls_cut node p = of (host_at p.stage node)
-  where
-    of : (o : Option Host) → polls_at node o p [] Cut
-    of None = (refl, inr refl)
-    of (Some from) =
-        then_cut (Turn (polling from) node (more_from p.given) p.stage)
-        (λ r. ends (To (record { stage = r.1; given = r.0.given }))) (cut_there (more_from p.given) p.stage)
 
 -- ---- what the code keeps
 

@@ -66,15 +66,6 @@ server_last part list k n old mid new stop a b c same listed before next =
     (on_one part (drop 1 (below n)) 0 old mid new stop a b c
     (subst (λ j. PlaysOn (each part (drop 1 (below j))) old mid None a b) same before) next)
 
--- memory was wanted first
-pub clients_want : {A : Type 0} (part : ℕ → A → Part A) (list : A → List ℕ) (old new : A → Type 0)
-    (r : Result (Unit {0}) Stop) (stop : Stop) (t : Told) → ((k : ℕ) (x : A) → part k x [] Cut)
-    → IsErr r × IsErrAnd r (λ why. why ≡ stop) → stop ≡ stops.OutOfMemory
-    → PlaysOn (λ x. each part (list x) x) old new (stop_of r) t t
-clients_want part list old new r stop t cut err wants x was =
-    subst (λ o. Ran (each part (list x) x) new o t t) (sym (stop_is r stop err))
-    (cut_off (each part (list x) x) new stop t (each_cut part cut (list x) x) wants)
-
 -- the list of polls and of clocks
 pub given_listed : (w : WorldState) (given : List Datagram) (n : ℕ) (p : Polled) → n ≡ length w.nodes.clients + 1
     → ShowsGiven w given p → clients_first p.stage ≡ drop 1 (below n) ++ 0 ∷ []
@@ -188,10 +179,6 @@ moves_none w time may t exact off =
     where_fails (λ s. not (time == 0) && may_move time s) (λ s. each (moves_on time) (clients_first s) s) (λ s. ends
     (To s))
     w w None t t (λ s shown. sym (exact s shown) ∙ off) (plays_none w t)
-
--- a move may be cut off first
-pub moves_cut : (time node : ℕ) (s : Stage) → moves_on time node s [] Cut
-moves_cut time node s = event_cut node (IsClocked (moment node s.history + time)) s
 
 -- the moments of nodes whose clocks were not yet set on
 pub early_left : (old new : NodesState) (node time : ℕ) → 1 ≤ node → KeepsOthers old new node

@@ -6,8 +6,8 @@ use Rattle.rx_script.specs.declared.outcome.PlanWhy.{PlanWhy}
 use Rattle.rx_wire.specs.Turns.{noted}
 use Rattle.rx_world.specs.declared.stop.Stop.{Stop}
 use Rattle.rx_world.specs.declared.stop.Stop.TheVariants as stops
-use Rattle.rx_world.specs.Parts.{Came, To, Refused, Cut, Fits, One, Part, Ran, Then, ends}
-use Rattle.rx_world.specs.Parts.{cut_behind, fits_to, fits_refused, fits_wants, fits_fails, makes, not_made}
+use Rattle.rx_world.specs.Parts.{Came, To, Refused, Cut, Endless, Fits, One, Part, Ran, Then, cut_behind, ends}
+use Rattle.rx_world.specs.Parts.{fits_endless, fits_to, fits_refused, fits_wants, fits_fails, makes, not_made}
 use Rattle.rx_world.specs.Tells.{Gains, IsTold, Told, fails_last, gains_none, gains_one}
 use Rattle.rx_world.specs.Tells.{wants_last, wants_more}
 use Rattle.rx_world.proofs.Telling.{fails_behind, gains_both, wants_behind}
@@ -44,6 +44,8 @@ fits_behind shows a b c es more stop came told (fits_wants old new them rest) =
     fits_wants a c (es ++ more) (wants_behind told rest)
 fits_behind shows a b c es more stop came told (fits_fails old new them rest) =
     fits_fails a c (es ++ more) (fails_behind told rest)
+fits_behind shows a b c es more stop came told (fits_endless old new them rest) =
+    fits_endless a c (es ++ more) (gains_both told rest)
 
 -- events, what was come to by them and the next part are both parts
 pub both : {A B : Type 0} (first : Part A) (next : A → Part B) (after : B → Type 0) (stop : Option Stop) (a b c : Told)
@@ -96,6 +98,13 @@ ran_stops {A} {B} first next shows after stop a b r = of r.events r.came stop r.
         cut es stops.OutOfMemory made (fits_wants a b (es ++ []) (rw (append-nil es) told))
     of es came stop made (fits_fails old new them told) =
         cut es stops.SinkFault made (fits_fails a b (es ++ []) (rw (append-nil es) told))
+    of es came stop made (fits_endless old new them told) =
+        record {
+          events = es ++ [];
+          came = Endless;
+          made = record { front = es; rest = []; are = refl; came = Endless; made = made; goes = (refl, inl refl) };
+          fits = fits_endless a b (es ++ []) (gains_both told (gains_none b));
+        }
 
 -- ---- one event
 
@@ -124,6 +133,7 @@ ran_one node is e (Some stops.SinkFault) a b there told =
       fits = fits_fails a b _ (fails_last a b (noted node e) told);
     }
 ran_one node is e (Some (stops.Refused why)) a b there told = elim told [ ]
+ran_one node is e (Some stops.Endless) a b there told = elim told [ ]
 
 -- memory is wanted before it is made
 pub ran_none : (node : ℕ) (is : Event → Type 0) (shows : Event → Type 0) (t : Told)

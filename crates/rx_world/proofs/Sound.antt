@@ -12,8 +12,8 @@ use Rattle.rx_law.specs.Sides.{Node}
 use Rattle.rx_law.specs.Worlds.{Carried, Datagram, IsFrom, bag}
 use Rattle.rx_nodes.specs.Nodes.{IsAllowedAt}
 use Rattle.rx_wire.specs.Turns.{noted}
-use Rattle.rx_world.specs.Parts.{Came, To, Refused, Cut, One, Part, Then, cut_behind, each, ends, goes_on, makes}
-use Rattle.rx_world.specs.Parts.{not_made}
+use Rattle.rx_world.specs.Parts.{Came, To, Refused, Cut, Endless, One, Part, Then, cut_behind, each, ends, goes_on}
+use Rattle.rx_world.specs.Parts.{makes, not_made}
 use Rattle.rx_world.specs.Stages.{IsAllowedNext, Stage, event, event_with, with_event}
 use Rattle.rx_world.proofs.Allowed.{AreAllowed}
 use Rattle.rx_world.proofs.Bags.{behind, behind_both, in_behind}
@@ -23,6 +23,7 @@ abbrev pub IfTo : {A : Type 0} → (A → Type 0) → Came A → Type 0
 IfTo P (To a) = P a
 IfTo P (Refused why) = Unit {0}
 IfTo P Cut = Unit {0}
+IfTo P Endless = Unit {0}
 
 -- an event that takes no datagram
 abbrev pub IsCalm : Event → Type 0
@@ -106,6 +107,7 @@ module _ (Honest : Type 0) (nodes : List Node) where
       onward (To a) b goes = more t.front a b.good b.came t.rest out goes
       onward (Refused why) b goes = ends_safe ok (behind t.front h) (Refused why) b.good tt t.rest out goes
       onward Cut b goes = ends_safe ok (behind t.front h) Cut b.good tt t.rest out goes
+      onward Endless b goes = ends_safe ok (behind t.front h) Endless b.good tt t.rest out goes
 
   pub each_safe : {A X : Type 0} (ok : List Noted → A → Type 0) (P : List Noted → X → Type 0) (part : X → A → Part A)
       → ((es h : List Noted) (x : X) → P h x → P (behind es h) x)

@@ -19,12 +19,12 @@ use Rattle.rx_script.specs.declared.outcome.PlanWhy.TheVariants as causes
 use Rattle.rx_script.specs.declared.plan.Numbered.{Numbered}
 use Rattle.rx_script.specs.declared.plan.PlanLine.{PlanLine}
 use Rattle.rx_script.specs.declared.plan.PlanLine.TheVariants as lines
-use Rattle.rx_world.specs.Follows.{CutOff, Empty, Goes, Progress, RefusedAt, Went, Whole, adds, all, begins, begun}
-use Rattle.rx_world.specs.Follows.{class_of}
+use Rattle.rx_world.specs.Follows.{CutOff, Empty, EndlessIn, Goes, Progress, RefusedAt, Went, Whole, adds, all, begins}
+use Rattle.rx_world.specs.Follows.{begun, class_of, endless}
 use Rattle.rx_world.specs.Follows.{client_node, cut, fits_limits, goes_from, has_room, made_node, next, next_part}
 use Rattle.rx_world.specs.Follows.{plan_goes, refused, server_node}
 use Rattle.rx_world.specs.Lines.{IsWell, line_part}
-use Rattle.rx_world.specs.Parts.{Came, To, Refused, Cut, Then, ends}
+use Rattle.rx_world.specs.Parts.{Came, To, Refused, Cut, Endless, Then, ends}
 use Rattle.rx_world.specs.Promises.{AreUnforged, AreInRange, IsInRange, IsUnforged, line_kind, plan_clients, plan_nodes}
 use Rattle.rx_world.specs.Promises.{client_before}
 use Rattle.rx_world.specs.Promises.{server_before}
@@ -92,6 +92,7 @@ IfWhole P Empty = Unit {0}
 IfWhole P (Whole s) = P s
 IfWhole P (RefusedAt line why) = Unit {0}
 IfWhole P CutOff = Unit {0}
+IfWhole P EndlessIn = Unit {0}
 
 -- ---- lines that invent nothing, where the run is honest
 
@@ -154,6 +155,10 @@ module _ (Honest : Type 0) (nodes : List Node) where
       of (cut l ls p es one) h fair good i =
           (let b : Ends Honest nodes IsLate (behind es h) Cut =
           late_safe g l.what h p (first_fair Honest l ls fair) good i es Cut one in
+          record { good = b.good; whole = tt })
+      of (endless l ls p es one) h fair good i =
+          (let b : Ends Honest nodes IsLate (behind es h) Endless =
+          late_safe g l.what h p (first_fair Honest l ls fair) good i es Endless one in
           record { good = b.good; whole = tt })
 
 -- ---- lines that make nodes
@@ -314,6 +319,9 @@ module _ (Honest : Type 0) where
       (first_fair Honest l ls fair) (λ P. tt) one
   fresh_goes g s (cut l ls p es one) cs f fair well =
       ended_goes g l.what (plan_clients ls) s cs p es Cut CutOff f
+      (first_fair Honest l ls fair) (λ P. tt) one
+  fresh_goes g s (endless l ls p es one) cs f fair well =
+      ended_goes g l.what (plan_clients ls) s cs p es Endless EndlessIn f
       (first_fair Honest l ls fair) (λ P. tt) one
 
   -- ---- a whole plan

@@ -11,7 +11,7 @@ use Rattle.rx_law.specs.Sides.{Node}
 use Rattle.rx_wire.specs.Turns.{Program, noted}
 use Rattle.rx_world.specs.Network.{below}
 use Rattle.rx_world.specs.Parts.{Came, To, Part, by_test, each, ends}
-use Rattle.rx_world.specs.Programs.{Turn, cut_there, goes, is_over}
+use Rattle.rx_world.specs.Programs.{Turn, cut_there, goes, is_endless, is_over}
 use Rattle.rx_world.specs.Stages.{InvokedState, Stage, is_client}
 use Rattle.rx_world.specs.Turned.{dispatches, is_of, turns_all, turns_at, turns_for, turns_of, turns_on, turns_where}
 use Rattle.rx_world.proofs.Bags.{behind}
@@ -60,6 +60,7 @@ module _ (Honest : Type 0) (nodes : List Node) where
           of rest (noted node e ∷ h)
           (good_more Honest nodes h node e g (allowed_in Honest nodes h s node e i allowed.1) step.0)
           (is_next Honest nodes h s node e i) step.1)
+      of (is_endless v s es turn long) h g i q = record { good = (of turn h g i q).good; came = tt }
 
   -- of a program that takes no datagram
   pub calm_turn_safe : {View Ask : Type 0} (p : Program View Ask) (node : ℕ)

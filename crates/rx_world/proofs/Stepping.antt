@@ -37,6 +37,7 @@ shown_behind w s new node e shown made there =
       standing = made.stands s.history shown.standing;
       service = shown.service;
       of_nodes = (there_shown w s node shown there, shown.of_nodes);
+      few = shown.few;
     }
 
 -- a call that was made is the event of a node that the rules allow there

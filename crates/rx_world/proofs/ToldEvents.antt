@@ -15,7 +15,7 @@ use Rattle.rx_dispatch.specs.Handlers.{Handlers}
 use Rattle.rx_script.specs.declared.outcome.Outcome.{Outcome}
 use Rattle.rx_script.specs.declared.outcome.Outcome.TheVariants as outcomes
 use Rattle.rx_script.specs.declared.plan.Numbered.{Numbered}
-use Rattle.rx_world.specs.Follows.{CutOff, Empty, RefusedAt, Went, Whole}
+use Rattle.rx_world.specs.Follows.{CutOff, Empty, EndlessIn, RefusedAt, Went, Whole}
 use Rattle.rx_world.specs.Promises.{AreInRange, plan_nodes}
 use Rattle.rx_world.specs.Runs.{RunIs, Tells}
 use Rattle.rx_world.specs.Tells.{Fails, FitsNoted, Gains, Told, Wants}
@@ -48,13 +48,17 @@ tells_fit g ls outcomes.SinkFault (Whole s) a b es tells = gains_fit tells.told
 tells_fit g ls outcomes.SinkFault CutOff a b es tells = fails_fit tells
 tells_fit g ls outcomes.OutOfMemory (Whole s) a b es tells = gains_fit tells.told
 tells_fit g ls outcomes.OutOfMemory CutOff a b es tells = wants_fit tells
+tells_fit g ls outcomes.OutOfMemory EndlessIn a b es tells = gains_fit tells
 tells_fit g ls outcomes.Ran (RefusedAt its cause) a b es tells = elim tells [ ]
 tells_fit g ls outcomes.Ran CutOff a b es tells = elim tells [ ]
+tells_fit g ls outcomes.Ran EndlessIn a b es tells = elim tells [ ]
 tells_fit g ls (outcomes.Refused line why) (Whole s) a b es tells = elim tells [ ]
 tells_fit g ls (outcomes.Refused line why) Empty a b es tells = elim tells [ ]
 tells_fit g ls (outcomes.Refused line why) CutOff a b es tells = elim tells [ ]
+tells_fit g ls (outcomes.Refused line why) EndlessIn a b es tells = elim tells [ ]
 tells_fit g ls outcomes.SinkFault Empty a b es tells = elim tells [ ]
 tells_fit g ls outcomes.SinkFault (RefusedAt its cause) a b es tells = elim tells [ ]
+tells_fit g ls outcomes.SinkFault EndlessIn a b es tells = elim tells [ ]
 tells_fit g ls outcomes.OutOfMemory Empty a b es tells = elim tells [ ]
 tells_fit g ls outcomes.OutOfMemory (RefusedAt its cause) a b es tells = elim tells [ ]
 

@@ -1,12 +1,14 @@
 -- Turns of a program, event by event.
-use Rattle.std.proofs.Common.{◌≡◌, ℕ, List, [], ◌∷◌, ◌++◌, Some, None}
+use Rattle.std.proofs.Common.{◌≡◌, ◌≤◌, ◌+◌, ◌-◌, ◌^◌, ◌∙◌, ℕ, List, [], ◌∷◌, ◌++◌, Some, None, ap, length, refl, subst}
+use Rattle.std.proofs.Common.{sym}
+use Rattle.std.proofs.lemmas.List.{length_push}
 use Rattle.rx_model.specs.declared.event.Event.{Event}
 use Rattle.rx_model.specs.declared.event.Noted.{Noted}
 use Rattle.rx_wire.specs.Turns.{Program, noted}
 use Rattle.rx_world.specs.declared.stop.Stop.{Stop}
 use Rattle.rx_world.specs.declared.stop.Stop.TheVariants as stops
-use Rattle.rx_world.specs.Parts.{Cut, To, Ran, fits_fails, fits_to, fits_wants}
-use Rattle.rx_world.specs.Programs.{Turn, cut_there, goes, is_over}
+use Rattle.rx_world.specs.Parts.{Cut, Endless, To, Ran, fits_endless, fits_fails, fits_to, fits_wants}
+use Rattle.rx_world.specs.Programs.{Turn, cut_there, goes, is_endless, is_over}
 use Rattle.rx_world.specs.Stages.{IsAllowedNext, Stage, with_event}
 use Rattle.rx_world.specs.Tells.{Gains, GainsOne, IsTold, Told, fails_last, gains_none, gains_one, wants_last}
 use Rattle.rx_world.proofs.Telling.{fails_behind, gains_both, wants_behind, wants_then}
@@ -45,10 +47,11 @@ onto_cut p node v s es w t (onward x y b f fs x2 y2 before there rest) =
 
 -- ---- what was made so far
 
--- events of a turn were made and told, and what was come to is shown
-pub record Began {View Ask : Type 0} (p : Program View Ask) (node : ℕ) (v : View) (s : Stage)
+-- so many events of a turn were made and told, and what was come to is shown
+pub record Began {View Ask : Type 0} (p : Program View Ask) (node made : ℕ) (v : View) (s : Stage)
     (shows : View → Stage → Type 0) (a b : Told) : Type 0 where
   pub events : List Noted
+  pub count : length events ≡ made
   pub view : View
   pub stage : Stage
   pub onto : Onto p node v s events view stage
@@ -63,20 +66,21 @@ pub record Next {View Ask : Type 0} (p : Program View Ask) (node : ℕ) (e : Eve
 
 -- nothing was made yet
 pub began_here : {View Ask : Type 0} (p : Program View Ask) (node : ℕ) (v : View) (s : Stage)
-    (shows : View → Stage → Type 0) (t : Told) → shows v s → Began p node v s shows t t
+    (shows : View → Stage → Type 0) (t : Told) → shows v s → Began p node 0 v s shows t t
 began_here p node v s shows t there =
-    record { events = []; view = v; stage = s; onto = here v s; there = there; told = gains_none t }
+    record { events = []; count = refl; view = v; stage = s; onto = here v s; there = there; told = gains_none t }
 
 -- one call more
-pub began_more : {View Ask : Type 0} (p : Program View Ask) (node : ℕ) (v : View) (s : Stage)
-    (shows after : View → Stage → Type 0) (a b c : Told) (e : Event) → Began p node v s shows a b
+pub began_more : {View Ask : Type 0} (p : Program View Ask) (node made : ℕ) (v : View) (s : Stage)
+    (shows after : View → Stage → Type 0) (a b c : Told) (e : Event) → Began p node made v s shows a b
     → ((w : View) (t : Stage) → shows w t → Next p node e w t)
     → ((w : View) (t : Stage) → shows w t → after (p.heard w e) (with_event node e t)) → GainsOne b c (noted node e)
-    → Began p node v s after a c
-began_more p node v s shows after a b c e r next there one =
+    → Began p node (made + 1) v s after a c
+began_more p node made v s shows after a b c e r next there one =
     (let n : Next p node e r.view r.stage = next r.view r.stage r.there in
     record {
       events = r.events ++ noted node e ∷ [];
+      count = length_push r.events (noted node e) ∙ ap (λ n. n + 1) r.count;
       view = p.heard r.view e;
       stage = with_event node e r.stage;
       onto = onto_more p node v s r.events r.view r.stage n.ask e r.onto n.asked n.allowed;
@@ -85,10 +89,10 @@ began_more p node v s shows after a b c e r next there one =
     })
 
 -- the turn is over
-pub began_over : {View Ask : Type 0} (p : Program View Ask) (node : ℕ) (v : View) (s : Stage)
-    (shows : View → Stage → Type 0) (after : View × Stage → Type 0) (a b : Told) → Began p node v s shows a b
+pub began_over : {View Ask : Type 0} (p : Program View Ask) (node made : ℕ) (v : View) (s : Stage)
+    (shows : View → Stage → Type 0) (after : View × Stage → Type 0) (a b : Told) → Began p node made v s shows a b
     → ((w : View) (t : Stage) → shows w t → (p.asks w ≡ None) × after (w, t)) → Ran (Turn p node v s) after None a b
-began_over p node v s shows after a b r over =
+began_over p node made v s shows after a b r over =
     (let o : (p.asks r.view ≡ None) × after (r.view, r.stage) = over r.view r.stage r.there in
     record {
       events = r.events;
@@ -97,11 +101,24 @@ began_over p node v s shows after a b r over =
       fits = fits_to (r.view, r.stage) a b r.events o.1 r.told;
     })
 
+-- it counts as endless
+pub began_endless : {View Ask : Type 0} (p : Program View Ask) (node made : ℕ) (v : View) (s : Stage)
+    (shows : View → Stage → Type 0) (after : View × Stage → Type 0) (a b : Told) → Began p node made v s shows a b
+    → 2 ^ 64 - 1 ≤ made → Ran (Turn p node v s) after (Some stops.Endless) a b
+began_endless p node made v s shows after a b r long =
+    record {
+      events = r.events;
+      came = Endless;
+      made = is_endless v s r.events (onto_cut p node v s r.events r.view r.stage r.onto)
+          (subst (λ n. 2 ^ 64 - 1 ≤ n) (sym r.count) long);
+      fits = fits_endless a b r.events r.told;
+    }
+
 -- memory was wanted before the next call
-pub began_wants : {View Ask : Type 0} (p : Program View Ask) (node : ℕ) (v : View) (s : Stage)
-    (shows : View → Stage → Type 0) (after : View × Stage → Type 0) (a b : Told) → Began p node v s shows a b
+pub began_wants : {View Ask : Type 0} (p : Program View Ask) (node made : ℕ) (v : View) (s : Stage)
+    (shows : View → Stage → Type 0) (after : View × Stage → Type 0) (a b : Told) → Began p node made v s shows a b
     → Ran (Turn p node v s) after (Some stops.OutOfMemory) a b
-began_wants p node v s shows after a b r =
+began_wants p node made v s shows after a b r =
     record {
       events = r.events;
       came = Cut;
@@ -110,11 +127,11 @@ began_wants p node v s shows after a b r =
     }
 
 -- the run ended as the next call was told
-pub began_stops : {View Ask : Type 0} (p : Program View Ask) (node : ℕ) (v : View) (s : Stage)
+pub began_stops : {View Ask : Type 0} (p : Program View Ask) (node made : ℕ) (v : View) (s : Stage)
     (shows : View → Stage → Type 0) (after : View × Stage → Type 0) (stop : Stop) (a b c : Told) (e : Event)
-    → Began p node v s shows a b → ((w : View) (t : Stage) → shows w t → Next p node e w t)
+    → Began p node made v s shows a b → ((w : View) (t : Stage) → shows w t → Next p node e w t)
     → IsTold (Some stop) b c (noted node e) → Ran (Turn p node v s) after (Some stop) a c
-began_stops {View} {Ask} p node v s shows after stop a b c e r next told = of stop told
+began_stops {View} {Ask} p node count v s shows after stop a b c e r next told = of stop told
   where
     n : Next p node e r.view r.stage
     n = next r.view r.stage r.there
@@ -140,3 +157,4 @@ began_stops {View} {Ask} p node v s shows after stop a b c e r next told = of st
           fits = fits_fails a c (r.events ++ noted node e ∷ []) (fails_behind r.told (fails_last b c (noted node e) fails));
         }
     of (stops.Refused why) none = elim none [ ]
+    of stops.Endless none = elim none [ ]

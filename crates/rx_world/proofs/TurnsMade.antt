@@ -46,6 +46,7 @@ with_jobs w d s jobs shown same =
       standing = shown.standing;
       service = shown.service;
       of_nodes = shown.of_nodes;
+      few = shown.few;
     }
 
 -- with other callers
@@ -58,6 +59,7 @@ with_callers w s callers given shown same =
       standing = shown.standing;
       service = shown.service;
       of_nodes = shown.of_nodes;
+      few = shown.few;
     }
 
 -- ---- the dispatcher

@@ -156,6 +156,7 @@ KeepsPacket (Some d) old new (Some stops.OutOfMemory) = Unit {0}
 KeepsPacket (Some d) old new (Some (stops.Refused why)) =
     (nat_le MAX_PACKETS (length old) ≡ true) × (why ≡ causes.Bag)
 KeepsPacket (Some d) old new (Some stops.SinkFault) = ⊥
+KeepsPacket (Some d) old new (Some stops.Endless) = ⊥
 
 -- what a poll gave, with the host that it is for
 abbrev pub given_by : Event → Option (Host × List ℕ)

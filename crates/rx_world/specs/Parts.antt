@@ -11,11 +11,13 @@ use Rattle.rx_world.specs.declared.stop.Stop.TheVariants as stops
 
 -- ---- what may be made
 
--- what a part came to: something, a refusal, or nothing where the sink failed or memory was wanted
+-- what a part came to: something, a refusal, or nothing where the sink failed or memory was wanted, or where it has no
+-- end
 pub data Came (A : Type 0) : Type 0 where
   To : (a : A) → Came A
   Refused : (why : PlanWhy) → Came A
   Cut : Came A
+  Endless : Came A
 
 -- the events that a part may make, with what it then comes to
 abbrev pub Part : Type 0 → Type 1
@@ -35,6 +37,7 @@ abbrev pub goes_on : {A B : Type 0} → (A → Part B) → Came A → Part B
 goes_on next (To a) = next a
 goes_on next (Refused why) = ends (Refused why)
 goes_on next Cut = ends Cut
+goes_on next Endless = ends Endless
 
 -- one part and then another
 pub record Then {A B : Type 0} (first : Part A) (next : A → Part B) (es : List Noted) (out : Came B) : Type 0 where
@@ -71,6 +74,8 @@ pub data Fits {A : Type 0} (shows : A → Type 0) : Came A → Option Stop → T
   fits_wants : (old new : Told) (es : List Noted) → Wants old new es
       → Fits shows Cut (Some stops.OutOfMemory) old new es
   fits_fails : (old new : Told) (es : List Noted) → Fails old new es → Fits shows Cut (Some stops.SinkFault) old new es
+  fits_endless : (old new : Told) (es : List Noted) → Gains old new es
+      → Fits shows Endless (Some stops.Endless) old new es
 
 -- events that the part may make were made and told, and what it came to is shown; or the run ends as the part says
 pub record Ran {A : Type 0} (part : Part A) (shows : A → Type 0) (stop : Option Stop) (old new : Told) : Type 0 where

@@ -1,16 +1,18 @@
 -- Turns of a program on a node, as events of a run. Public clauses cite this module.
-use Rattle.std.specs.Prelude.{◌≡◌, ℕ, Bool, true, false, List, [], ◌∷◌, Option, Some, None, Result, Ok, Err}
+use Rattle.std.specs.Prelude.{◌≡◌, ◌≤◌, ◌-◌, ◌^◌, ℕ, Bool, true, false, List, [], ◌∷◌, length, Option, Some}
+use Rattle.std.specs.Prelude.{None, Result, Ok, Err}
 use Rattle.rx_model.specs.declared.event.Event.{Event}
 use Rattle.rx_model.specs.declared.event.Noted.{Noted}
 use Rattle.rx_nodes.specs.Nodes.{Makes, NodesState}
 use Rattle.rx_wire.specs.Turns.{Program, noted}
 use Rattle.rx_world.specs.declared.stop.Stop.{Stop}
 use Rattle.rx_world.specs.declared.stop.Stop.TheVariants as stops
-use Rattle.rx_world.specs.Parts.{Came, Cut, Ran, To}
+use Rattle.rx_world.specs.Parts.{Came, Cut, Endless, Ran, To}
 use Rattle.rx_world.specs.Stages.{IsAllowedNext, Shows, Stage, WorldState, with_event}
 use Rattle.rx_world.specs.Tells.{GainsOne, IsTold, Told}
 
--- the events of a turn of a program on a node, from what it knows and a stage on
+-- the events of a turn of a program on a node, from what it knows and a stage on; one that was cut off may count as
+-- endless, behind at least 2^64 - 1 of them
 pub data Turn {View Ask : Type 0} (p : Program View Ask) (node : ℕ)
     : View → Stage → List Noted → Came (View × Stage) → Type 0 where
   cut_there : (v : View) (s : Stage) → Turn p node v s [] Cut
@@ -18,6 +20,8 @@ pub data Turn {View Ask : Type 0} (p : Program View Ask) (node : ℕ)
   goes : (v : View) (s : Stage) (a : Ask) (e : Event) (es : List Noted) (out : Came (View × Stage))
       → p.asks v ≡ Some a → IsAllowedNext s node (p.is a) e → Turn p node (p.heard v e) (with_event node e s) es out
       → Turn p node v s (noted node e ∷ es) out
+  is_endless : (v : View) (s : Stage) (es : List Noted) → Turn p node v s es Cut → 2 ^ 64 - 1 ≤ length es
+      → Turn p node v s es Endless
 
 -- ---- turns over nodes
 

@@ -11,8 +11,8 @@ use Rattle.rx_script.specs.declared.outcome.Outcome.{Outcome}
 use Rattle.rx_script.specs.declared.outcome.Outcome.TheVariants as outcomes
 use Rattle.rx_script.specs.declared.plan.Numbered.{Numbered}
 use Rattle.rx_script.specs.declared.plan.PlanLine.{PlanLine}
-use Rattle.rx_world.specs.Follows.{CutOff, Goes, Progress, RefusedAt, Went, Whole, adds, fits_limits, made_node}
-use Rattle.rx_world.specs.Follows.{slots_of}
+use Rattle.rx_world.specs.Follows.{CutOff, EndlessIn, Goes, Progress, RefusedAt, Went, Whole, adds, fits_limits}
+use Rattle.rx_world.specs.Follows.{made_node, slots_of}
 use Rattle.rx_world.specs.Lines.{line_part}
 use Rattle.rx_world.specs.Parts.{Came, To, Refused, Part, Ran, Then, ends}
 use Rattle.rx_world.specs.Runs.{PutsAll, PutsBroken, PutsSome, Tells}
@@ -30,6 +30,7 @@ abbrev pub ended_at : ℕ → Stop → Outcome
 ended_at line (stops.Refused why) = outcomes.Refused line why
 ended_at line stops.SinkFault = outcomes.SinkFault
 ended_at line stops.OutOfMemory = outcomes.OutOfMemory
+ended_at line stops.Endless = outcomes.OutOfMemory
 
 -- whole, or otherwise
 abbrev pub outcome_of : Result (Unit {0}) Outcome → Outcome
@@ -87,6 +88,7 @@ IsBegun came (Ok r) =
 IsBegun came (Err (stops.Refused why)) = came ≡ Refused why
 IsBegun came (Err stops.SinkFault) = ⊥
 IsBegun came (Err stops.OutOfMemory) = Unit {0}
+IsBegun came (Err stops.Endless) = ⊥
 
 -- from each progress before a line that is shown, the line was made, and the progress behind it is shown; or the run
 -- ends as the line says
@@ -106,6 +108,7 @@ Ends shows (Ok whole) (Whole s) a b es = shows s × Gains a b es
 Ends shows (Err (outcomes.Refused line why)) (RefusedAt its cause) a b es = (line ≡ its) × (why ≡ cause) × Gains a b es
 Ends shows (Err outcomes.SinkFault) CutOff a b es = Fails a b es
 Ends shows (Err outcomes.OutOfMemory) CutOff a b es = Wants a b es
+Ends shows (Err outcomes.OutOfMemory) EndlessIn a b es = Gains a b es
 Ends shows _ _ a b es = ⊥
 
 -- lines were made and told

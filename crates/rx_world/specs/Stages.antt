@@ -1,5 +1,5 @@
 -- What a run of a plan has come to, and one event more of it. Public clauses cite this module.
-use Rattle.std.specs.Prelude.{◌≡◌, ◌==◌, ◌&&◌, not, nat_lt, ℕ, Bool, List, [], ◌∷◌, ◌++◌, length}
+use Rattle.std.specs.Prelude.{◌≡◌, ◌<◌, ◌^◌, ◌==◌, ◌&&◌, not, nat_lt, ℕ, Bool, List, [], ◌∷◌, ◌++◌, length}
 use Rattle.std.specs.Prelude.{Option, Some, None, slice_get, Ok, option_map}
 use Rattle.rx_model.specs.declared.event.Event.{Event}
 use Rattle.rx_model.specs.declared.event.Event.TheVariants as events
@@ -81,12 +81,13 @@ stage_of w h = record {
   jobs = jobs_of w;
 }
 
--- what is kept is that of a stage, and the nodes stand for its history, which is one of theirs
+-- what is kept is that of a stage; the nodes stand for its history, which is one of theirs; and each has a number
 pub record Shows (w : WorldState) (s : Stage) : Type 0 where
   pub is : s ≡ stage_of w s.history
   pub standing : Standing w.nodes s.history
   pub service : w.service ≡ service_of (slice_get s.nodes 0)
   pub of_nodes : AreOf s.nodes s.history
+  pub few : length s.nodes < 2 ^ 32
 
 -- at each stage that is shown the part was made, and what it came to is shown; or the run ends as the part says
 abbrev pub Plays : (Stage → Part Stage) → WorldState → WorldState → Option Stop → Told → Told → Type 0

@@ -71,7 +71,7 @@ impl World {
             (told (J.told book.new) (O.told out.new) (O.faults out.new)) }
         ensures script { script_of self.new ≡ script_of self.old }
     {
-        for node in 1..node_count(&self.nodes)? {
+        for node in 1..node_count(&self.nodes) {
             self.clock(node, now, out, book)?;
         }
         self.clock(SERVER, now, out, book)

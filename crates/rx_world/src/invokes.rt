@@ -271,12 +271,12 @@ fn call_on<O: Sink, J: Journal>(
     ensures done { StaysDone caller.old caller.new }
 {
     caller.begin();
-    'calls: for _ in 0..u64::MAX {
+    'calls: for made in 0..u64::MAX {
         if !call(node, caller, nodes, trace, out, book)? {
             return Ok(());
         }
     }
-    Err(Stop::OutOfMemory)
+    Err(Stop::Endless)
 }
 
 /// Makes the next call of a caller's turn and tells it. Whether there was one.

@@ -288,7 +288,7 @@ pub fn deliver<O: Sink, J: Journal>(
         (told (J.told book.old) (O.told out.old) (O.faults out.old))
         (told (J.told book.new) (O.told out.new) (O.faults out.new)) }
 {
-    for node in 0..node_count(nodes)? {
+    for node in 0..node_count(nodes) {
         come_to(alloc, nodes, trace, node, datagram, out, book)?;
     }
     Ok(())

@@ -138,7 +138,7 @@ impl World {
             (told (J.told book.new) (O.told out.new) (O.faults out.new)) }
         ensures script { script_of self.new ≡ script_of self.old }
     {
-        for node in 1..node_count(&self.nodes)? {
+        for node in 1..node_count(&self.nodes) {
             self.poll_out(node, given, out, book)?;
         }
         self.poll_out(SERVER, given, out, book)
@@ -181,12 +181,12 @@ impl World {
         ensures rest { self.new ≡ record self.old { nodes = self.new.nodes } }
         ensures clients { length self.new.nodes.clients ≡ length self.old.nodes.clients }
     {
-        'polls: for _ in 0..u64::MAX {
+        'polls: for made in 0..u64::MAX {
             if !self.poll_once(node, from, given, out, book)? {
                 return Ok(());
             }
         }
-        Err(Stop::OutOfMemory)
+        Err(Stop::Endless)
     }
 
     /// Polls a node, and keeps what it gives. Whether it gave something.
@@ -262,7 +262,7 @@ impl World {
             (told (J.told book.new) (O.told out.new) (O.faults out.new)) }
         ensures script { script_of self.new ≡ script_of self.old }
     {
-        for node in 1..node_count(&self.nodes)? {
+        for node in 1..node_count(&self.nodes) {
             self.move_on(node, time, out, book)?;
         }
         self.move_on(SERVER, time, out, book)

@@ -41,7 +41,8 @@ pub const MAX_SLOTS: u32 = 262_144;
 pub const MAX_CLIENTS: usize = 64;
 
 /// Makes the events of a plan's lines on one server and its clients. Each event is noted, and then its line put. Behind
-/// the trace stands an answer line for each invoke that was given a call.
+/// the trace stands an answer line for each invoke that was given a call. The run is out of memory where memory was
+/// wanted, or where one polling or turn went on for 2^64 - 1 events.
 pub fn run<O: Sink, J: Journal>(
     alloc: Global,
     iface: &Interface,
@@ -113,7 +114,7 @@ fn ended(line: u32, stop: Stop) -> Outcome
     match stop {
         Stop::Refused(why) => Outcome::Refused { line, why },
         Stop::SinkFault => Outcome::SinkFault,
-        Stop::OutOfMemory => Outcome::OutOfMemory,
+        Stop::OutOfMemory | Stop::Endless => Outcome::OutOfMemory,
     }
 }
 

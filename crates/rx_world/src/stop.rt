@@ -10,6 +10,8 @@ pub enum Stop {
     Refused(PlanWhy),
     SinkFault,
     OutOfMemory,
+    /// One polling or one turn went on for 2^64 - 1 events.
+    Endless,
 }
 
 impl From<AllocError> for Stop {

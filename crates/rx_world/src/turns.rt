@@ -96,12 +96,12 @@ fn dispatch_on<O: Sink, J: Journal>(
     ensures script { (state_of dispatcher.new).script ≡ (state_of dispatcher.old).script }
 {
     dispatcher.begin();
-    'calls: for _ in 0..u64::MAX {
+    'calls: for made in 0..u64::MAX {
         if !serve(iface, dispatcher, nodes, trace, out, book)? {
             return Ok(());
         }
     }
-    Err(Stop::OutOfMemory)
+    Err(Stop::Endless)
 }
 
 /// Makes the next call of a dispatcher's turn and tells it. Whether there was one.

@@ -1,5 +1,5 @@
 //! What a run keeps: its nodes, the names that it answered, the datagrams that it gave, and who makes its calls.
-ghost use Rattle.std.specs.Prelude.{◌≡◌, ◌+◌, IfErr, IfOk, length, option_map};
+ghost use Rattle.std.specs.Prelude.{◌≡◌, ◌≤◌, ◌<◌, ◌+◌, ◌^◌, IfOk, length, option_map};
 ghost use Rattle.rx_nodes.specs.Nodes.{IsClientThere, IsNodeThere};
 ghost use Rattle.rx_wire.specs.Turns.{noted};
 ghost use Rattle.rx_world.specs.Finds.{Found, call_at, client_at, node_at, numbered, where_there};
@@ -153,16 +153,17 @@ impl World {
     }
 }
 
-/// How many nodes there are. More than have numbers want memory first.
-pub fn node_count(nodes: &Nodes) -> Result<u32, Stop>
-    ensures count { IfOk result (λ n. n ≡ length nodes.now.clients + 1) }
-    ensures wanting { IfErr result (λ stop. stop ≡ Stop.OutOfMemory) }
+/// How many nodes there are, as far as they have numbers.
+pub fn node_count(nodes: &Nodes) -> u32
+    ensures some { 1 ≤ result }
+    ensures there { result ≤ length nodes.now.clients + 1 }
+    ensures count { length nodes.now.clients + 1 < 2 ^ 32 → result ≡ length nodes.now.clients + 1 }
 {
     let clients = nodes.clients();
     if clients >= u32::MAX as usize {
-        return Err(Stop::OutOfMemory);
+        return u32::MAX;
     }
-    Ok(clients as u32 + 1)
+    clients as u32 + 1
 }
 
 /// What has a number in a list, from 1.

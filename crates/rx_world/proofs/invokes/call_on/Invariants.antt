@@ -9,7 +9,7 @@ use Rattle.rx_world.proofs.invokes.call_on.Given as goal
 -- the calls made so far lead from the beginning of the turn to here
 abbrev pub invariant-calls : goal.invariant-calls
 invariant-calls g l = record {
-  going : Going (calling REPLY_BYTES) l.node (begun l.fn.caller) l.caller l.fn.nodes l.nodes
+  going : Going (calling REPLY_BYTES) l.node l.made (begun l.fn.caller) l.caller l.fn.nodes l.nodes
       (told (g.J.Journal.told l.fn.book) (g.O.Sink.told l.fn.out) (g.O.Sink.faults l.fn.out))
       (told (g.J.Journal.told l.book) (g.O.Sink.told l.out) (g.O.Sink.faults l.out));
   clients : length l.nodes.clients ≡ length l.fn.nodes.clients;

@@ -1,14 +1,9 @@
 -- One node after another is passed.
-use Rattle.std.proofs.Common.{◌≡◌, ◌<◌, ◌∙◌, arith, length, refl, suc}
+use Rattle.std.proofs.Common.{◌≡◌, ◌<◌, ◌∙◌, arith, length, refl, suc, None}
 use Rattle.rx_world.specs.Network.{comes_to, delivers}
-use Rattle.rx_world.proofs.Delivering.{delivers_cut, delivers_done, delivers_more, delivers_stop_as, nodes_cut_as}
-use Rattle.rx_world.proofs.Delivering.{nodes_none}
+use Rattle.rx_world.proofs.Delivering.{delivers_done, delivers_more, delivers_stop_as, nodes_none}
+use Rattle.rx_world.proofs.Numbers.{nodes_few}
 use Rattle.rx_world.proofs.network_lines.deliver.Goals as goal
-
-pub returns-in_err-node-end : goal.returns-in_err-node-end
-returns-in_err-node-end g c =
-    nodes_cut_as (delivers c.args.datagram.now) _ _ c.from_residual.result c.in_err-node-end.field-0.0 _
-    c.from_residual.ensures c.in_err-node-end.ensures.wanting (delivers_cut c.args.datagram.now)
 
 pub loop-node-init : goal.loop-node-init
 loop-node-init g c =
@@ -17,9 +12,9 @@ loop-node-init g c =
 pub returns-in_err-come_to : goal.returns-in_err-come_to
 returns-in_err-come_to g c =
     (let less : c.loop-node.node < suc (length c.args.nodes.now.clients) =
-    omega (arith, c.in_ok-node-end.ensures.count, c.loop-node-test.true) in
+    omega (arith, c.node_count-node-end.ensures.there, c.loop-node-test.true) in
     delivers_stop_as c.args.datagram.now c.loop-node.node c.args.nodes.now c.loop-node.nodes c.come_to.new.nodes
-    c.from_residual-in_err-come_to.result c.in_err-come_to.field-0.0 _ _ _ c.from_residual-in_err-come_to.ensures less
+    c.from_residual.result c.in_err-come_to.field-0.0 _ _ _ c.from_residual.ensures less
     c.loop-node.invariant.plays c.in_err-come_to.ensures.plays)
 
 pub loop-node-preserved : goal.loop-node-preserved
@@ -32,7 +27,8 @@ loop-node-preserved g c =
 
 pub returns : goal.returns
 returns g c =
+    nodes_few (delivers c.args.datagram.now) c.args.nodes.now c.loop-node.nodes None _ _ (λ few.
     (let all : c.loop-node.node ≡ suc (length c.args.nodes.now.clients) =
-    omega (arith, c.in_ok-node-end.ensures.count, c.loop-node-test.false) in
+    omega (arith, c.node_count-node-end.ensures.count few, c.loop-node-test.false, c.loop-node.auto.node-end) in
     delivers_done c.args.datagram.now c.loop-node.node c.args.nodes.now c.loop-node.nodes _ _ all
-    c.loop-node.invariant.plays)
+    c.loop-node.invariant.plays))

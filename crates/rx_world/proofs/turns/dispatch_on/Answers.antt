@@ -6,7 +6,7 @@ use Rattle.rx_dispatch.specs.Making.{Remembers}
 use Rattle.rx_dispatch.specs.States.{state_of}
 use Rattle.rx_world.specs.Tells.{Told, told}
 use Rattle.rx_world.specs.Turned.{IsOverWith}
-use Rattle.rx_world.proofs.Going.{Going, goes_ended, goes_more, goes_over, goes_rest, going_here, turn_wants}
+use Rattle.rx_world.proofs.Going.{Going, goes_ended, goes_more, goes_over, goes_rest, going_here, turn_endless}
 use Rattle.rx_world.proofs.Serving.{served_by}
 use Rattle.rx_world.proofs.turns.dispatch_on.Goals as goal
 
@@ -17,7 +17,7 @@ calls-init g c =
     let old : DispatcherState = state_of c.args.dispatcher.now in
     let by : Handlers = handlers_of c.args.iface.now old.script in
     record {
-      going = subst (λ (s : DispatcherState). Going (dispatching by) 0 (accepts old.round.jobs) (turning_of by s.round)
+      going = subst (λ (s : DispatcherState). Going (dispatching by) 0 0 (accepts old.round.jobs) (turning_of by s.round)
           c.args.nodes.now c.args.nodes.now t t) (sym c.begin.ensures)
           (going_here (dispatching by) 0 (accepts old.round.jobs) c.args.nodes.now t);
       remembered = subst (λ (s : DispatcherState). Remembers (handlers_of c.args.iface.now s.script) s.round)
@@ -27,7 +27,7 @@ calls-init g c =
 
 pub returns-in_err-serve-clause-plays : goal.returns-in_err-serve-clause-plays
 returns-in_err-serve-clause-plays g c =
-    goes_ended _ 0 _ _ _ _ c.calls.nodes c.serve.new.nodes _ c.from_residual.result c.in_err-serve.field-0.0 _ _ _
+    goes_ended _ 0 _ _ _ _ _ c.calls.nodes c.serve.new.nodes _ c.from_residual.result c.in_err-serve.field-0.0 _ _ _
     c.calls.invariant.going (omega arith) c.from_residual.ensures.1
     (served_by (handlers_of c.args.iface.now) _ _ (state_of c.calls.dispatcher).round
     (state_of c.serve.new.dispatcher).round (state_of c.serve.new.dispatcher).round.jobs _ _ (Err
@@ -37,7 +37,7 @@ returns-in_err-serve-clause-plays g c =
 pub returns-then-not-branch-clause-plays : goal.returns-then-not-branch-clause-plays
 returns-then-not-branch-clause-plays g c =
     let off : c.in_ok-serve.field-0 ≡ false = search rules in
-    goes_over _ 0 (λ v. IsOverWith v (state_of c.serve.new.dispatcher).round.jobs) _ _ _ _ c.calls.nodes _
+    goes_over _ 0 _ (λ v. IsOverWith v (state_of c.serve.new.dispatcher).round.jobs) _ _ _ _ c.calls.nodes _
     c.in_ok-serve.field-0 _ _ _ c.calls.invariant.going
     (served_by (handlers_of c.args.iface.now) _ _ (state_of c.calls.dispatcher).round
     (state_of c.serve.new.dispatcher).round (state_of c.serve.new.dispatcher).round.jobs _ _ (Ok c.in_ok-serve.field-0)
@@ -56,7 +56,7 @@ pub calls-preserved : goal.calls-preserved
 calls-preserved g c =
     let on : c.in_ok-serve.field-0 ≡ true = search rules in
     record {
-      going = goes_more _ 0 (λ v. IsOverWith v (state_of c.serve.new.dispatcher).round.jobs) _ _ _ _ c.calls.nodes _
+      going = goes_more _ 0 _ (λ v. IsOverWith v (state_of c.serve.new.dispatcher).round.jobs) _ _ _ _ c.calls.nodes _
           c.in_ok-serve.field-0 _ _ _ c.calls.invariant.going
           (served_by (handlers_of c.args.iface.now) _ _ (state_of c.calls.dispatcher).round
           (state_of c.serve.new.dispatcher).round (state_of c.serve.new.dispatcher).round.jobs _ _
@@ -66,4 +66,5 @@ calls-preserved g c =
     }
 
 pub returns-clause-plays : goal.returns-clause-plays
-returns-clause-plays g c = turn_wants _ 0 _ _ _ _ c.calls.nodes _ _ _ c.calls.invariant.going
+returns-clause-plays g c =
+    turn_endless _ 0 c.calls.made _ _ _ _ c.calls.nodes _ _ _ c.calls.invariant.going (omega arith)

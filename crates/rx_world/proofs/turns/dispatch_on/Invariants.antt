@@ -10,7 +10,7 @@ use Rattle.rx_world.proofs.turns.dispatch_on.Given as goal
 -- the calls made so far lead from the beginning of the turn to here
 abbrev pub invariant-calls : goal.invariant-calls
 invariant-calls g l = record {
-  going : Going (dispatching (handlers_of l.iface (state_of l.fn.dispatcher).script)) 0
+  going : Going (dispatching (handlers_of l.iface (state_of l.fn.dispatcher).script)) 0 l.made
       (accepts (state_of l.fn.dispatcher).round.jobs)
       (turning_of (handlers_of l.iface (state_of l.fn.dispatcher).script) (state_of l.dispatcher).round)
       l.fn.nodes l.nodes

@@ -2,7 +2,7 @@ use Rattle.std.proofs.Common.{◌≡◌, ◌≤◌, ◌∙◌, refl, ap, true, f
 use Rattle.rx_world.specs.Rounds.{more_from, polling}
 use Rattle.rx_world.specs.Stages.{WorldState}
 use Rattle.rx_world.specs.Tells.{Told, told}
-use Rattle.rx_world.proofs.Going.{goes_ended, going_here, turn_wants}
+use Rattle.rx_world.proofs.Going.{goes_ended, going_here, turn_endless}
 use Rattle.rx_world.proofs.Polling.{polls_end, polls_more}
 use Rattle.rx_world.proofs.world.World.poll_from.Goals as goal
 
@@ -23,7 +23,7 @@ returns-in_err-poll_once-clause-plays g c =
       c.polls.invariant.clients,
       c.requires,
     ) in
-    goes_ended (polling c.args.from) c.args.node _ (more_from c.polls.given.items) _ _ c.polls.self.nodes
+    goes_ended (polling c.args.from) c.args.node _ _ (more_from c.polls.given.items) _ _ c.polls.self.nodes
     c.poll_once.new.self.nodes _ c.from_residual.result c.in_err-poll_once.field-0.0 _ _ _ c.polls.invariant.going there
     c.from_residual.ensures.1 c.in_err-poll_once.ensures.polls
 
@@ -35,7 +35,7 @@ returns-then-not-branch-clause-plays g c =
       c.requires,
     ) in
     let off : c.in_ok-poll_once.field-0 ≡ false = search rules in
-    polls_end c.args.from c.args.node _ c.polls.given.items c.poll_once.new.given.items _ c.polls.self.nodes
+    polls_end c.args.from c.args.node _ _ c.polls.given.items c.poll_once.new.given.items _ c.polls.self.nodes
     c.poll_once.new.self.nodes c.in_ok-poll_once.field-0 _ _ _ c.polls.invariant.going c.in_ok-poll_once.ensures.polls
     off there
 
@@ -48,7 +48,7 @@ polls-preserved g c =
     ) in
     let on : c.in_ok-poll_once.field-0 ≡ true = search rules in
     record {
-      going = polls_more c.args.from c.args.node _ c.polls.given.items c.poll_once.new.given.items _ c.polls.self.nodes
+      going = polls_more c.args.from c.args.node _ _ c.polls.given.items c.poll_once.new.given.items _ c.polls.self.nodes
           c.poll_once.new.self.nodes c.in_ok-poll_once.field-0 _ _ _ c.polls.invariant.going
           c.in_ok-poll_once.ensures.polls on there;
       rest = c.poll_once.ensures.rest
@@ -58,5 +58,5 @@ polls-preserved g c =
 
 pub returns-clause-plays : goal.returns-clause-plays
 returns-clause-plays g c =
-    turn_wants (polling c.args.from) c.args.node _ (more_from c.polls.given.items) _ _ c.polls.self.nodes _ _ _
-    c.polls.invariant.going
+    turn_endless (polling c.args.from) c.args.node c.polls.made _ (more_from c.polls.given.items) _ _ c.polls.self.nodes
+    _ _ _ c.polls.invariant.going (omega arith)

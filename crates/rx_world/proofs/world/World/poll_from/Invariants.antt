@@ -7,7 +7,7 @@ use Rattle.rx_world.proofs.world.World.poll_from.Given as goal
 -- the polls made so far
 abbrev pub invariant-polls : goal.invariant-polls
 invariant-polls g l = record {
-  going : Going (polling l.from) l.node (more_from l.fn.given.items) (more_from l.given.items) l.fn.self.nodes
+  going : Going (polling l.from) l.node l.made (more_from l.fn.given.items) (more_from l.given.items) l.fn.self.nodes
       l.self.nodes
       (told (g.J.Journal.told l.fn.book) (g.O.Sink.told l.fn.out) (g.O.Sink.faults l.fn.out))
       (told (g.J.Journal.told l.book) (g.O.Sink.told l.out) (g.O.Sink.faults l.out));

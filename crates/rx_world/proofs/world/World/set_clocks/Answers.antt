@@ -3,16 +3,11 @@ use Rattle.std.proofs.Common.{◌≡◌, ◌<◌, ◌≤◌, ◌∙◌, suc, ap,
 use Rattle.rx_world.specs.Lines.{sets_clocks}
 use Rattle.rx_world.specs.Parts.{stop_of}
 use Rattle.rx_world.specs.Stages.{WorldState}
-use Rattle.rx_world.proofs.Clocking.{clocks_all_set, clocks_cut, clocks_more, clocks_stop_as, count_kept, moment_kept}
+use Rattle.rx_world.proofs.Clocking.{clocks_all_set, clocks_more, clocks_stop_as, count_kept, moment_kept}
 use Rattle.rx_world.proofs.Clocking.{none_later, sets}
-use Rattle.rx_world.proofs.Making.{cut_as}
+use Rattle.rx_world.proofs.Numbers.{plays_few}
 use Rattle.rx_world.proofs.Playing.{each_none}
 use Rattle.rx_world.proofs.world.World.set_clocks.Goals as goal
-
-pub returns-in_err-node-end-clause-plays : goal.returns-in_err-node-end-clause-plays
-returns-in_err-node-end-clause-plays g c =
-    cut_as (sets_clocks c.args.now) _ _ c.from_residual.result c.in_err-node-end.field-0.0 _ c.from_residual.ensures
-    c.in_err-node-end.ensures.wanting (clocks_cut c.args.now)
 
 pub loop-node-init : goal.loop-node-init
 loop-node-init g c = record {
@@ -29,9 +24,9 @@ returns-in_err-clock-clause-plays g c =
     let same : length c.self.inside.nodes.clients ≡ length c.args.self.now.nodes.clients =
     ap (λ (v : WorldState). length v.nodes.clients) c.self.view_is in
     let less : c.loop-node.node < suc (length c.args.self.now.nodes.clients) =
-    omega (arith, same, c.in_ok-node-end.ensures.count, c.loop-node-test.true) in
+    omega (arith, same, c.node_count-node-end.ensures.there, c.loop-node-test.true) in
     clocks_stop_as c.args.now c.loop-node.node c.args.self.now c.loop-node.self c.clock.new.self
-    c.from_residual-in_err-clock.result c.in_err-clock.field-0.0 _ _ _ c.from_residual-in_err-clock.ensures some less
+    c.from_residual.result c.in_err-clock.field-0.0 _ _ _ c.from_residual.ensures some less
     c.loop-node.invariant.plays c.in_err-clock.ensures.plays)
 
 pub loop-node-preserved : goal.loop-node-preserved
@@ -56,7 +51,14 @@ pub returns-clause-plays : goal.returns-clause-plays
 returns-clause-plays g c =
     (let same : length c.self.inside.nodes.clients ≡ length c.args.self.now.nodes.clients =
     ap (λ (v : WorldState). length v.nodes.clients) c.self.view_is in
+    plays_few (sets_clocks c.args.now) c.args.self.now c.clock-2.new.self (stop_of c.clock-2.result) _ _ (λ few.
     let all : c.loop-node.node ≡ suc (length c.args.self.now.nodes.clients) =
-    omega (arith, same, c.in_ok-node-end.ensures.count, c.loop-node-test.false) in
+    omega (
+      arith,
+      same,
+      c.node_count-node-end.ensures.count (omega (arith, same, few)),
+      c.loop-node-test.false,
+      c.loop-node.auto.node-end,
+    ) in
     clocks_all_set c.args.now c.loop-node.node c.args.self.now c.loop-node.self c.clock-2.new.self
-    (stop_of c.clock-2.result) _ _ _ all c.loop-node.invariant.plays c.clock-2.ensures.plays)
+    (stop_of c.clock-2.result) _ _ _ all c.loop-node.invariant.plays c.clock-2.ensures.plays))
