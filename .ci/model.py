@@ -25,7 +25,7 @@ The clauses that cite them are in [PROVED.md](PROVED.md); the ones on which the 
 def page(defined):
     """The whole page, with these sentences on definitions that have none."""
     lines, used = [INTRODUCTION], set()
-    for crate, _, _ in table_of_crates():
+    for crate, _ in table_of_crates():
         files = list(specs_of(crate))
         if files:
             lines.append(f"## {crate}\n")

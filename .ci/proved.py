@@ -87,7 +87,7 @@ def page(said, notes):
     crates = listed_crates()
     of_traits = traits_of(crates)
     lines = [INTRODUCTION]
-    for crate, owns, _ in table_of_crates():
+    for crate, owns in table_of_crates():
         listed = [it for it in functions_of(crate) if is_listed(crate, it, of_traits, said)]
         lines.append(f"## {crate}\n\n{owns[0].upper()}{owns[1:]}. [Sources](../crates/{crate}).\n")
         lines.extend(f"{note}\n" for note in notes.get(crate, []))

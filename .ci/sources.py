@@ -31,13 +31,17 @@ def listed_crates():
     return re.findall(r"^(\w+):", (top / "crates.txt").read_text(), flags=re.M)
 
 
-def table_of_crates():
-    """The rows of docs/ARCHITECTURE.md's table of crates: crate, what it owns, and the words on what it stands on."""
+def rows_of_crates():
+    """The rows of docs/ARCHITECTURE.md's table of crates: its crates, what they own, and what it says they stand on."""
     text = (top / "docs" / "ARCHITECTURE.md").read_text()
     for line in re.search(r"^\| crate \|.*\n\|---.*\n((?:\|.*\n)*)", text, flags=re.M)[1].splitlines():
         cells = [cell.strip() for cell in line.split("|")[1:-1]]
-        for crate in re.findall(r"`(\w+)`", cells[0]):
-            yield crate, cells[1], cells[2]
+        yield re.findall(r"`(\w+)`", cells[0]), cells[1], cells[2]
+
+
+def table_of_crates():
+    """The same, each crate by itself, with what it owns."""
+    return [(crate, owns) for crates, owns, _ in rows_of_crates() for crate in crates]
 
 
 def indent_of(line):
