@@ -19,11 +19,11 @@ Printed by `.ci/proved.py --write` from the sources; the gate compares. For each
 [ARCHITECTURE.md](ARCHITECTURE.md): each public function with its conditions and its clauses. Of every function: called with
 its conditions met, it has no undefined behaviour, it returns on every input, and its clauses hold, whatever the input.
 
-- A function stands in the file that its name leads to. Its first row has its doc comment, and the clauses of which nothing
+- A function stands in the file that its name leads to; traits come first and laws last. Its first row has its doc comment, and the clauses of which nothing
   more is said; a further row has clauses of which more is said. A clause without a label is called *the clause*.
 - *asks* has the conditions, as the contract has them: what a caller has to show. A function without that row asks nothing.
 - A *law* is a function with an empty body: what it says follows from the definitions, and calls do nothing.
-- *A step* is a private function, listed because what it says is of use outside its crate.
+- *A step* is a private function of which more is to be said.
 - What a trait promises holds of each type that has it; a type's row has what it promises beside that.
 - The definitions that clauses cite are in `specs/` of the crate, listed with a sentence each in
   [DEFINITIONS.md](DEFINITIONS.md); the ones on which all rests are told in [MODEL.md](MODEL.md).
@@ -65,8 +65,7 @@ def rows_of(crate, function, of_traits, said):
         groups.setdefault(words_on(crate, function, clause, said), []).append(clause)
     kind = "law" if function.is_law else "" if function.is_public else "a step"
     name = f"[`{function.name}`](../{function.path})" + (f", {kind}" if kind else "")
-    doc = function.doc or (f"what `{trait}` promises" if trait else "")
-    doc += f" Beside what `{trait}` promises." if trait and function.doc else ""
+    doc = f"{function.doc} Beside what `{trait}` promises.".strip() if trait else function.doc
     yield f'<a id="{crate}.{function.name}"></a>{name}', labels(groups.pop(None, [])), cell(doc)
     for clause in function.conditions():
         label = f" `{clause.label}`" if clause.label else ""
@@ -76,32 +75,39 @@ def rows_of(crate, function, of_traits, said):
 
 
 def is_listed(crate, function, of_traits, said):
-    """Whether a function is listed: a public one with clauses or of one of these traits, or one of which something is said."""
+    """Whether a function has rows: a public one that has clauses of its own, or one of which something is said."""
+    clauses, _ = own_clauses(function, of_traits)
     named = any(key[:2] == (crate, function.name) for key in said)
-    clauses, trait = own_clauses(function, of_traits)
-    return named or (function.is_public and bool(clauses or function.conditions() or trait))
+    return named or (function.is_public and bool(clauses or function.conditions()))
+
+
+def section(crate, functions, of_traits, said):
+    """What is printed of a crate's functions."""
+    rules = [(key[2], words) for key, words in said.items() if key[:2] == (crate, "*")]
+    if rules:
+        yield "Where no more is said of such a clause below:\n"
+        yield "\n".join(f"- `{label}`: {words}." for label, words in rules) + "\n"
+    listed = [it for it in functions if is_listed(crate, it, of_traits, said)]
+    listed.sort(key=lambda it: (it.is_law, not it.name.startswith(f"{it.trait}::")))
+    if listed:
+        yield "| function | clauses | what it says |\n|---|---|---|"
+        yield from ("| " + " | ".join(row) + " |" for it in listed for row in rows_of(crate, it, of_traits, said))
+        yield ""
+    plain = [it.name for it in functions if it.is_public and it not in listed and own_clauses(it, of_traits)[1]]
+    if plain:
+        yield f"What their traits promise, and no more: {', '.join(f'`{name}`' for name in plain)}.\n"
+    if not listed and not plain:
+        yield "It has no public function.\n"
 
 
 def page(said, notes):
     """The whole page."""
-    crates = listed_crates()
-    of_traits = traits_of(crates)
+    of_traits = traits_of(listed_crates())
     lines = [INTRODUCTION]
     for crate, owns in table_of_crates():
-        listed = [it for it in functions_of(crate) if is_listed(crate, it, of_traits, said)]
         lines.append(f"## {crate}\n\n{owns[0].upper()}{owns[1:]}. [Sources](../crates/{crate}).\n")
         lines.extend(f"{note}\n" for note in notes.get(crate, []))
-        rules = [(key[2], words) for key, words in said.items() if key[:2] == (crate, "*")]
-        if rules:
-            lines.append("Where no more is said of such a clause below:\n")
-            lines.append("\n".join(f"- `{label}`: {words}." for label, words in rules) + "\n")
-        if listed:
-            lines.append("| function | clauses | what it says |\n|---|---|---|")
-            listed.sort(key=lambda it: it.is_law)
-            lines.extend("| " + " | ".join(row) + " |" for it in listed for row in rows_of(crate, it, of_traits, said))
-            lines.append("")
-        else:
-            lines.append("It has no public function.\n")
+        lines.extend(section(crate, list(functions_of(crate)), of_traits, said))
     return "\n".join(lines)
 
 

@@ -93,22 +93,19 @@ def contract_at(lines, at):
     return clauses, False
 
 
-OWNER = re.compile(r"(?:pub )?(trait)?(?:unsafe )?(?:impl)?(?:<.*?>)? ?(?:([\w:]+)(?:<.*>)? for )?&?(?:'\w+ )?(\w+)")
 HEAD = re.compile(r"(?:pub )?(?:trait|(?:unsafe )?impl)\b")
 
 
 def owner_at(line):
-    """The type and the trait that the functions behind a line are of."""
-    line = re.sub(r"^pub ", "", line)
-    if line.startswith("trait "):
-        name = re.match(r"trait (\w+)", line)[1]
-        return name, name
-    line = re.sub(r"^(?:unsafe )?impl", "", line)
-    while "<" in line.split(" for ")[0].split("{")[0] or line.startswith("<"):
-        line = re.sub(r"<[^<>]*>", "", line, count=1)
-    words = line.split("{")[0].split(" for ")
-    name = re.search(r"(\w+)(?:<.*)?\s*$", words[-1].split("<")[0].strip())[1]
-    return name, re.sub(r"<.*", "", words[0]).split("::")[-1].strip() if len(words) == 2 else None
+    """The type and the trait, or None, that the functions behind the head of a trait or an impl are of."""
+    trait = re.match(r"(?:pub )?trait (\w+)", line)
+    if trait:
+        return trait[1], trait[1]
+    words = line.split("impl", 1)[1].split("{")[0]
+    for _ in range(words.count("<")):
+        words = re.sub(r"<[^<>]*>", "", words)
+    *of, owner = (re.findall(r"\w+", part)[-1] for part in words.split(" for "))
+    return owner, of[0] if of else None
 
 
 def functions_in(crate, path, exported):
