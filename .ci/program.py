@@ -2,7 +2,7 @@
 """Runs the program as its callers do: .ci/program.py [PROGRAM]
 
 Compares the exit status and the bytes that arrive from standard output and standard error with the table of statuses of
-README.md, with docs/FORMATS.md and with examples/afs/*.table. PROGRAM is the one that the gate built, or else the one
+docs/COMMANDS.md, with docs/FORMATS.md and with examples/afs/*.table. PROGRAM is the one that the gate built, or else the one
 that ./rx --prove builds."""
 import contextlib
 import os
@@ -18,8 +18,8 @@ failed = []
 
 
 def statuses():
-    """The exit status and the line on standard error of each way to end, by the table under "Commands"."""
-    text = (top / "README.md").read_text().split("\n## Commands\n")[1].split("\n## ")[0]
+    """The exit status and the line on standard error of each way to end, by the table of statuses."""
+    text = (top / "docs" / "COMMANDS.md").read_text()
     rows = re.findall(r"^\| (\d) (\w+) \| (?:`(.*)`)? *\|", text, flags=re.M)
     return {name: (int(number), line + "\n" if line else "") for number, name, line in rows}
 
