@@ -18,7 +18,8 @@ INTRODUCTION = """\
 Printed by `.ci/model.py --write` from the sources; the gate compares. For each crate, in the order of
 [ARCHITECTURE.md](ARCHITECTURE.md), the files of its `specs/` with their public definitions, each with its own sentence.
 The clauses that cite them are in [PROVED.md](PROVED.md); the ones on which the promises rest are told in
-[MODEL.md](MODEL.md), in the order in which they are read best. A definition without a sentence is a step of the ones beside it.
+[MODEL.md](MODEL.md), in the order in which they are read best. A definition without a sentence is a step of the ones
+beside it.
 """
 
 
@@ -31,7 +32,7 @@ def page(defined):
             lines.append(f"## {crate}\n")
         for path, about, definitions in files:
             lines.append(f"### [{crate}, {path.stem}](../{path})\n")
-            lines.append(f"{about}\n\n| name | what it is |\n|---|---|" if about else "| name | what it is |\n|---|---|")
+            lines.append((f"{about}\n\n" if about else "") + "| name | what it is |\n|---|---|")
             for it in definitions:
                 key = crate, path.name, it.name
                 if key in defined and not it.sentence:

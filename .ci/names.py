@@ -1,8 +1,8 @@
 #!/usr/bin/env python3
 """Looks up each name in backticks, each path and each link of README.md, docs/*.md and their like in the repository.
 
-A name is there where the sources declare it (a function, a type, a field, a clause, a definition, a lemma), where it is a
-file, a crate, an option or a word of a text that the sources read or print, or where .ci/names.txt has it: that lists
+A name is there where the sources declare it (a function, a type, a field, a clause, a definition, a lemma), where it is
+a file, a crate, an option or a word of a text that the sources read or print, or where .ci/names.txt has it: that has
 names of other programs, of systems and of standards. Also looks whether docs/ARCHITECTURE.md's table is crates.txt.
 """
 import re
@@ -87,7 +87,9 @@ class Names:
         if "*" in word:
             pattern = re.compile(re.escape(word).replace(r"\*", "[^/]*") + "$")
             return any(pattern.match(path) for path in self.files)
-        return word in self.files or path_from(page, word) in self.files or any(it.endswith(f"/{word}") for it in self.files)
+        if word in self.files or path_from(page, word) in self.files:
+            return True
+        return any(path.endswith(f"/{word}") for path in self.files)
 
     def has(self, page, span):
         """Whether what stands in backticks is there, so far as it is a name, a path, or a command with some."""

@@ -1,9 +1,9 @@
 #!/usr/bin/env python3
 """Prints docs/PROVED.md: each public function of each crate with its clauses and what they say, from the sources.
 
-What a clause says is what docs/meanings.tsv says of it, or the comment above it; where there is neither, the doc comment
-of its function says it. Without arguments: tells where docs/PROVED.md differs, and which lines of docs/meanings.tsv name
-no clause. With --write: writes docs/PROVED.md.
+What a clause says is what docs/meanings.tsv says of it, or the comment above it; where there is neither, the doc
+comment of its function says it. Without arguments: tells where docs/PROVED.md differs, and which lines of
+docs/meanings.tsv name no clause. With --write: writes docs/PROVED.md.
 """
 import sys
 
@@ -16,12 +16,13 @@ INTRODUCTION = """\
 # What is proved
 
 Printed by `.ci/proved.py --write` from the sources; the gate compares. For each crate, in the order of
-[ARCHITECTURE.md](ARCHITECTURE.md): each public function with its conditions and its clauses. Of every function: called with
-its conditions met, it has no undefined behaviour, it returns on every input, and its clauses hold, whatever the input.
+[ARCHITECTURE.md](ARCHITECTURE.md): each public function with its conditions and its clauses. Of every function: called
+with its conditions met, it has no undefined behaviour, it returns on every input, and its clauses hold.
 
-- A function stands in the file that its name leads to; traits come first and laws last. Its first row has its doc comment, and the clauses of which nothing
-  more is said; a further row has clauses of which more is said. A clause without a label is called *the clause*.
-- *asks* has the conditions, as the contract has them: what a caller has to show. A function without that row asks nothing.
+- A function stands in the file that its name leads to; traits come first and laws last. Its first row has its doc
+  comment, and the clauses of which nothing more is said; a further row has clauses of which more is said. A clause
+  without a label is called *the clause*.
+- *asks* has a condition as the contract has it: what a caller has to show. A function without that row asks nothing.
 - A *law* is a function with an empty body: what it says follows from the definitions, and calls do nothing.
 - *A step* is a private function of which more is to be said.
 - What a trait promises holds of each type that has it; a type's row has what it promises beside that.

@@ -1,4 +1,4 @@
-"""What the checks of the documents read in the sources: the public functions with their clauses, and the definitions."""
+"""What the checks of the documents read in the sources: the functions with their clauses, and the definitions."""
 import pathlib
 import re
 
@@ -6,15 +6,15 @@ top = pathlib.Path(__file__).resolve().parent.parent
 
 
 class Clause:
-    """A clause of a contract: its kind (`ensures` or `requires`), its label or "", the comment above it and its text."""
+    """A clause of a contract: its kind (`ensures`, `requires`), its label or "", the comment above it and its text."""
 
     def __init__(self, kind, label, comment, text):
         self.kind, self.label, self.comment, self.text = kind, label, comment, text
 
 
 class Function:
-    """A function: its crate, its name behind its type's, its file, its doc comment, its clauses, the trait that it is of,
-    whether it is a law (a contract with an empty body), and whether the crate's users see it."""
+    """A function: its crate, its name behind its type's, its file, its doc comment, its clauses, the trait that it is
+    of, whether it is a law (a contract with an empty body), and whether the crate's users see it."""
 
     def __init__(self, **parts):
         self.__dict__.update(parts)

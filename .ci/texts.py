@@ -7,10 +7,10 @@ from sources import top
 
 
 def meanings():
-    """What docs/meanings.tsv says: of clauses, by crate, function and label; the notes of crates; and of definitions, by
-    crate, file and name. A line has four fields: crate, function, label and words. Without function and label it is a note
-    of its crate; the function `*` stands for each function with that label of which no line speaks; where the label is a
-    file of specs/, the second field names a definition."""
+    """What docs/meanings.tsv says: of clauses, by crate, function and label; the notes of crates; and of definitions,
+    by crate, file and name. A line has four fields: crate, function, label and words. Without function and label it is
+    a note of its crate; the function `*` stands for each function with that label of which no line speaks; where the
+    label is a file of specs/, the second field names a definition."""
     said, notes, defined = {}, {}, {}
     for number, line in enumerate((top / "docs" / "meanings.tsv").read_text().splitlines(), 1):
         if not line or line.startswith("#"):
@@ -43,7 +43,8 @@ def differs(path, text, script):
     if sys.argv[1:]:
         sys.exit(f"usage: {pathlib.Path(script).name} [--write]")
     there = path.read_text() if path.exists() else ""
-    changes = list(difflib.unified_diff(there.splitlines(), text.splitlines(), path.name, "as the sources have it", "", "", 0))
+    changes = difflib.unified_diff(there.splitlines(), text.splitlines(), path.name, "the sources", n=0, lineterm="")
+    changes = list(changes)
     if changes:
         print("\n".join(changes[:40]))
         print(f"{path.relative_to(top)} isn't what the sources say: run .ci/{pathlib.Path(script).name} --write")
