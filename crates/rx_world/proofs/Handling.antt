@@ -1,7 +1,7 @@
 -- The events of a server whose every accept, read, write and finish is a dispatcher's.
 use Rattle.std.proofs.Common.{◌≡◌, ◌≤◌, nat_lt, cond, if◌then◌else◌, ◌+◌, ℕ, ℤ, suc, Bool, true}
 use Rattle.std.proofs.Common.{false, List, [], ◌∷◌, ◌++◌, Option, Some, None, option_map, Result, Ok, Err, refl}
-use Rattle.std.proofs.Common.{◌∙◌, ap, sym, subst, arith}
+use Rattle.std.proofs.Common.{◌∙◌, ap, sym, subst, arith, length}
 use Rattle.std.proofs.lemmas.List.{append-nil, map-append}
 use Rattle.rx_model.specs.declared.answers.ReadGot.TheVariants as readers
 use Rattle.rx_model.specs.declared.answers.ServeRead.{ServeRead}
@@ -21,8 +21,9 @@ use Rattle.rx_dispatch.specs.Dispatching.{proceed, settle}
 use Rattle.rx_dispatch.specs.Handlers.{Handlers, early_code, served_for, wait_of}
 use Rattle.rx_dispatch.specs.History.{calls_of, gives, handles, life_of, turn_calls}
 use Rattle.rx_dispatch.specs.Jobs.{Ask, accept, IsCall, JobState, Moving, ask_of, begun}
-use Rattle.rx_dispatch.specs.Jobs.{decided, heard, heard_read, heard_write, is_staying, judged, maybe_coded, moving}
-use Rattle.rx_dispatch.specs.Jobs.{serving, settled, settled_by, waits, want_in}
+use Rattle.rx_dispatch.specs.Jobs.{decided, grown, heard, heard_read, heard_write, is_staying, judged, maybe_coded}
+use Rattle.rx_dispatch.specs.Jobs.{moving, serving, settled, settled_by, trimmed, waits, want_in}
+use Rattle.rx_dispatch.specs.Keeping.{kept_of}
 use Rattle.rx_law.specs.Counts.{accepts as is_accept_of, times_accepted}
 use Rattle.rx_script.specs.Served.{Served}
 use Rattle.rx_script.specs.Served as serveds
@@ -81,9 +82,16 @@ judged-call g j = by (early_code g j.request false)
     by None = refl
     by (Some c) = refl
 
+grown-call : (g : Handlers) (before : ℕ) (j : JobState) → (grown g before j).call ≡ j.call
+grown-call g before j = by (nat_lt before (length (kept_of g j.request)))
+  where
+    by : (b : Bool) → (if b then judged g (trimmed g j) else trimmed g j).call ≡ j.call
+    by true = judged-call g (trimmed g j)
+    by false = refl
+
 read-call : (g : Handlers) (j : JobState) (got : ServeRead) (came : List ℕ)
     → (heard_read g j got came).job.call ≡ j.call
-read-call g j (reads.Got n) came = judged-call g (record j { request = j.request ++ came })
+read-call g j (reads.Got n) came = grown-call g (length j.request) (record j { request = j.request ++ came })
 read-call g j reads.End came = settled-call g 0 (record j { ended = true })
 read-call g j reads.NotYet came = refl
 read-call g j (reads.Gone c) came = refl
