@@ -68,6 +68,29 @@ fn a_room_without_memory_is_refused(rt: HostRuntime) {
 }
 
 #[test]
+fn faults_are_told_in_words(rt: HostRuntime) -> Result<(), Fail> {
+    let alloc = rt.alloc();
+    let rows = [
+        (
+            format!(in alloc; "{}", ReadFault::Failed)?,
+            "the file can't be read",
+        ),
+        (
+            format!(in alloc; "{}", ReadFault::OutOfMemory)?,
+            "out of memory",
+        ),
+        (
+            format!(in alloc; "{}", Failed)?,
+            "the sink takes no more bytes",
+        ),
+    ];
+    for (told, want) in rows {
+        assert_eq!(rt; told.as_str(), want);
+    }
+    Ok(())
+}
+
+#[test]
 fn a_full_sink_keeps_what_fits(rt: HostRuntime) -> Result<(), Fail> {
     let alloc = rt.alloc();
     let mut sink = MemSink::make(alloc, 4, Vec::new(alloc))?;
