@@ -1,94 +1,74 @@
 -- How the call of a client begins.
-use Rattle.std.proofs.Common.{◌≡◌, ◌∙◌, ◌≤◌, ℕ, List, [], Option, Some, None, Result, Err, refl, inl, inr, sym, ap}
+use Rattle.std.proofs.Common.{◌≡◌, ◌≤◌, ℕ, List, [], ◌∷◌, Option, Some, None, Result, Err, refl, inl, inr, sym}
 use Rattle.std.proofs.Common.{arith, subst}
 use Rattle.rx_caller.specs.View.{CallerState, caller_for}
 use Rattle.rx_law.specs.Sides.{with_clock}
 use Rattle.rx_model.specs.declared.event.Event.{Event}
+use Rattle.rx_model.specs.declared.event.Event.TheVariants as events
 use Rattle.rx_model.specs.declared.event.Noted.{Noted}
 use Rattle.rx_model.specs.declared.names.CallName.{CallName}
 use Rattle.rx_rules.specs.After.{looks}
 use Rattle.rx_rules.specs.Rules.{Legal}
 use Rattle.rx_rules.specs.Setup.{Setup}
-use Rattle.rx_wire.specs.Journal.{HasNoted}
-use Rattle.rx_wire.specs.Turns.{after_all, noted}
+use Rattle.rx_udp.specs.Wire.{Logged}
+use Rattle.rx_wire.specs.Turns.{after_all}
 use Rattle.rx_passes.specs.declared.calling.CallEnd.{CallEnd}
 use Rattle.rx_passes.specs.declared.calling.Calling.{Calling as Words}
 use Rattle.rx_passes.specs.declared.stop.Stop.{Stop}
 use Rattle.rx_passes.specs.declared.stop.Stop.TheVariants as stops
 use Rattle.rx_passes.specs.Calls.{CallMade, CallsBound, begins, call_terms}
 use Rattle.rx_passes.specs.Nodes.{Answers}
-use Rattle.rx_passes.specs.Parts.{Came, Cut, One, Part, Place, Then, To, behind, cut_behind, ends, makes, not_made}
+use Rattle.rx_passes.specs.Ports.{NotesOne, clocks}
+use Rattle.rx_passes.specs.Parts.{Came, Cut, One, Place, To, behind, makes, refuses}
 use Rattle.rx_passes.specs.Runs.{Fits, IsAt, Plays, Ran, change}
 use Rattle.rx_passes.specs.Tells.{SinkTells, Told, WireTells, told}
 use Rattle.rx_passes.specs.Texts.{event_line}
 use Rattle.rx_passes.proofs.Callings.{call_terms_by}
 use Rattle.rx_passes.proofs.Noting.{one_noted, one_refused}
-use Rattle.rx_passes.proofs.Telling.{wants_none}
-use Rattle.rx_passes.proofs.Running.{plays_stops, plays_then, plays_to, plays_wants}
 
 -- ---- one event, and what it answered
 
-module _ {B : Type 0} (n : ℕ) (s : Setup) (s0 s1 : List Event → Type 0) (book after : Option (List Noted))
-    (sink : SinkTells) (wire : WireTells) (e : Event) (is : Event → Type 0) (of : Event → Came B) (shows : B → Type 0)
-    (quiet : event_line e ≡ []) (still : (m : ℕ) → with_clock e m ≡ m) (its : is e) (answers : Answers s s0 s1 e) where
-  abbrev before : Told
-  before = told book sink wire
+module _ {A : Type 0} (n : ℕ) (s : Setup) (s0 s1 : List Event → Type 0) (book after : Option (List Noted))
+    (sink : SinkTells) (wire : WireTells) (event : A → Event) (a : A) (quiet : event_line (event a) ≡ [])
+    (still : (m : ℕ) → with_clock (event a) m ≡ m) (answers : Answers s s0 s1 (event a)) where
+  -- by what became of its note
+  pub answered : (shows : A → Type 0) (stop : Option Stop) → (stop ≡ None → shows a) → NotesOne n book after (event a) stop
+      → Plays (change n s s0 s1 (told book sink wire) (told after sink wire)) (One event) shows stop
+  answered shows None there notes =
+      one_noted n s s0 s1 book after sink wire (event a) quiet (One event) a shows answers
+      (λ p at. (makes a, subst (λ (m : ℕ). m ≤ p.now) (sym (still (looks s p.history).now)) at.later)) (there refl) notes
+  answered shows (Some stops.Unnoted) there notes =
+      one_refused n s s0 s1 book after sink wire (event a) quiet (One event) shows answers (λ p at. refuses a) notes
+  answered shows (Some stops.OutOfMemory) there notes = absurd notes
+  answered shows (Some stops.SinkFault) there notes = absurd notes
+  answered shows (Some stops.WireFault) there notes = absurd notes
+  answered shows (Some stops.Endless) there notes = absurd notes
 
-  abbrev behind_it : Told
-  behind_it = told after sink wire
+-- a client at the start of its life stands for the clock alone behind it
+pub clocked_alone : (n : ℕ) (s : Setup) (s0 s1 : List Event → Type 0) (a b : Told) (shows : Unit {0} → Type 0) → s0 []
+    → Plays (change n s s0 s1 a b) clocks shows None → (now : ℕ) × s1 (events.Clocked now ∷ [])
+clocked_alone n s s0 s1 a b shows there plays = of r.events r.log r.came r.made r.standing r.fits
+  where
+    start : Place
+    start = record { history = []; now = a.wire.moment }
 
-  abbrev part : Part B
-  part = Then (One is) (λ d. ends (of d))
+    at : IsAt s s0 a start
+    at = (let low : 0 ≤ a.wire.moment = omega arith in record { standing = there; now = refl; later = low })
 
-  -- the event that was made
-  one_made : HasNoted book after (noted n e) → Plays (change n s s0 s1 before behind_it) (One is) (λ d. d ≡ e) None
-  one_made one =
-      one_noted n s s0 s1 book after sink wire e quiet (One is) e (λ d. d ≡ e) answers
-      (λ p at. (makes e its, subst (λ (m : ℕ). m ≤ p.now) (sym (still (looks s p.history).now)) at.later)) refl one
+    r : Ran (change n s s0 s1 a b) clocks shows None start
+    r = plays start at
 
-  -- something was come to
-  pub answered_to : (x : B) → of e ≡ To x → shows x → HasNoted book after (noted n e)
-      → Plays (change n s s0 s1 before behind_it) part shows None
-  answered_to x came there one =
-      plays_then n s s0 s1 s1 before behind_it behind_it (One is) (λ d. ends (of d)) (λ d. d ≡ e) shows None
-      (one_made one)
-      (λ d same. subst (λ (out : Came B). Plays (change n s s1 s1 behind_it behind_it) (ends out) shows None)
-      (sym (ap of same ∙ came)) (plays_to n s s1 behind_it shows x there))
-
-  -- nothing was
-  pub answered_cut : of e ≡ Cut stops.OutOfMemory → HasNoted book after (noted n e)
-      → Plays (change n s s0 s1 before behind_it) part shows (Some stops.OutOfMemory)
-  answered_cut came one =
-      plays_then n s s0 s1 s1 before behind_it behind_it (One is) (λ d. ends (of d)) (λ d. d ≡ e) shows
-      (Some stops.OutOfMemory) (one_made one)
-      (λ d same. plays_wants n s s1 behind_it shows (ends (of d)) (λ p. (refl, refl, sym (ap of same ∙ came))))
-
-  -- memory was wanted for its note
-  pub answer_lost : after ≡ book → Plays (change n s s0 s1 before behind_it) part shows (Some stops.OutOfMemory)
-  answer_lost same =
-      plays_stops n s s0 s1 before behind_it (One is) (λ d. ends (of d)) (λ d. d ≡ e) shows stops.OutOfMemory
-      (one_refused n s s0 s1 book after sink wire e quiet (One is) (λ d. d ≡ e) answers (λ p at. cut_behind e its) same)
+    of : (es : List Event) (ls : List Logged) (came : Came (Unit {0})) → clocks start es ls came
+        → s1 (after_all es []) → Fits (change n s s0 s1 a b) shows start es ls came None
+        → (now : ℕ) × s1 (events.Clocked now ∷ [])
+    of es ls came (makes u) standing fits = (a.wire.moment, standing)
+    of es ls came (refuses u) standing fits = absurd fits
 
 -- ---- the whole call
 
 -- memory was wanted before anything was made
-pub call_unmade : (w : Words) (request : List ℕ) (s : Setup) (book : Option (List Noted)) (sink : SinkTells)
-    (wire : WireTells)
-    → CallsBound w request s (Err stops.OutOfMemory) (told book sink wire) (told book sink wire)
-call_unmade w request s book sink wire =
-    (let made : begins w (record { history = []; now = wire.moment }) [] [] (Cut stops.OutOfMemory) =
-    record {
-      early = [];
-      late = [];
-      early_log = [];
-      late_log = [];
-      events = refl;
-      log = refl;
-      came = Cut stops.OutOfMemory;
-      made = not_made;
-      goes = (refl, refl, refl);
-    } in
-    inl (refl, ([], [], made, tt, wants_none 1 (told book sink wire))))
+pub call_unmade : (w : Words) (request : List ℕ) (s : Setup) (t : Told) → CallsBound w request s (Err stops.OutOfMemory) t t
+call_unmade w request s t = inl (refl, refl)
 
 module _ (w : Words) (request : List ℕ) (s : Setup) (s0 s1 : List Event → Type 0) (book mid : Option (List Noted))
     (sink : SinkTells) (wire : WireTells) (at_start : s0 []) where
@@ -103,21 +83,21 @@ module _ (w : Words) (request : List ℕ) (s : Setup) (s0 s1 : List Event → Ty
 
   -- it didn't begin
   pub call_unbegun : (shows : CallName → Type 0)
-      → Plays (change 1 s s0 s1 (told book sink wire) (told mid sink wire)) (begins w) shows (Some stops.OutOfMemory)
+      → Plays (change 1 s s0 s1 (told book sink wire) (told mid sink wire)) (begins w) shows (Some stops.Unnoted)
       → ((h : List Event) → s1 h → Legal s h)
-      → CallsBound w request s (Err stops.OutOfMemory) (told book sink wire) (told mid sink wire)
+      → CallsBound w request s (Err stops.Unnoted) (told book sink wire) (told mid sink wire)
   call_unbegun shows plays law = of r.came r.made r.fits
     where
-      r : begun (Some stops.OutOfMemory) shows
+      r : begun (Some stops.Unnoted) shows
       r = plays start is_there
 
       of : (came : Came CallName) → begins w start r.events r.log came
           → Fits (change 1 s s0 s1 (told book sink wire) (told mid sink wire)) shows start r.events r.log came
-          (Some stops.OutOfMemory)
-          → CallsBound w request s (Err stops.OutOfMemory) (told book sink wire) (told mid sink wire)
+          (Some stops.Unnoted)
+          → CallsBound w request s (Err stops.Unnoted) (told book sink wire) (told mid sink wire)
       of (To x) made fits = absurd fits
       of (Cut why) made fits =
-          inl (
+          inr (inl (
             refl,
             (
               r.events,
@@ -126,7 +106,7 @@ module _ (w : Words) (request : List ℕ) (s : Setup) (s0 s1 : List Event → Ty
               law (after_all r.events []) r.standing,
               fits.1,
             ),
-          )
+          ))
 
   -- it began, and passes were made
   pub call_begun : (name : CallName) (t : Setup) (most : ℕ) (v : CallerState) (result : Result CallEnd Stop)
@@ -154,7 +134,7 @@ module _ (w : Words) (request : List ℕ) (s : Setup) (s0 s1 : List Event → Ty
           None
           → CallsBound w request s result (told book sink wire) last
       of (To x) made (same, gained, there) =
-          inr (
+          inr (inr (
             name,
             r.events,
             r.log,
@@ -162,5 +142,5 @@ module _ (w : Words) (request : List ℕ) (s : Setup) (s0 s1 : List Event → Ty
             subst (λ (c : CallName). begins w start r.events r.log (To c)) same made,
             gained,
             as_named (behind r.events r.log start) there,
-          )
+          ))
       of (Cut why) made fits = absurd fits

@@ -19,9 +19,9 @@ brings_ends came stood stands there p es ls a at made =
     rw made.0 (there a p.history (sym made.2) at)
 
 -- one event is made
-pub brings_one : (is : Event → Type 0) (stood : List Event → Type 0) (stands : Event → List Event → Type 0)
-    → ((e : Event) (h : List Event) → is e → stood h → stands e (e ∷ h)) → Brings (One is) stood stands
-brings_one is stood stands there p es ls a at (makes e its) = there e p.history its at
+pub brings_one : {A : Type 0} (event : A → Event) (stood : List Event → Type 0) (stands : A → List Event → Type 0)
+    → ((a : A) (h : List Event) → stood h → stands a (event a ∷ h)) → Brings (One event) stood stands
+brings_one event stood stands there p es ls a at (makes its) = there its p.history at
 
 -- one part and then another
 module _ {A B : Type 0} (first : Part A) (next : A → Part B) (stood : List Event → Type 0)

@@ -34,7 +34,7 @@ use Rattle.rx_passes.specs.Tells.{wants_note}
 use Rattle.rx_passes.specs.Texts.{event_line, lines}
 use Rattle.rx_passes.proofs.Placing.{behind_both}
 use Rattle.rx_passes.proofs.Telling.{breaks_behind, gained_none, gains_both, gains_none, lines_both, logged_none}
-use Rattle.rx_passes.proofs.Telling.{wants_behind}
+use Rattle.rx_passes.proofs.Telling.{refuses_behind, wants_behind}
 use Rattle.rx_passes.proofs.Turning.{still}
 
 -- ---- what the calls of a caller are
@@ -238,12 +238,20 @@ module _ (t : CallTerms) (v : CallerState) (p : Place) (n : ℕ) (w : CallerStat
   stopped_ends sink es ls stops.WireFault none ends =
       breaks_behind 1 (told n0 sink w0) (told nb sink wb) (told na sink wa) (x sink).events es (x sink).log ls
       (x sink).told ends
+  stopped_ends sink es ls stops.Unnoted none ends =
+      refuses_behind 1 (told n0 sink w0) (told nb sink wb) (told na sink wa) (x sink).events es (x sink).log ls
+      (x sink).told ends
+  stopped_ends sink es ls stops.Endless none ends =
+      gains_both 1 (told n0 sink w0) (told nb sink wb) (told na sink wa) (x sink).events es (x sink).log ls
+      (x sink).told ends
 
   -- no sink fails
   sinks_hold : (part : Part CallerState) (shows : CallerState → Type 0) (stop : Stop)
       → ((sink : SinkTells) → Plays (moves sink) part shows (Some stop)) → stop ≡ stops.SinkFault → ⊥
   sinks_hold part shows stops.OutOfMemory plays is = search rules
   sinks_hold part shows stops.WireFault plays is = search rules
+  sinks_hold part shows stops.Unnoted plays is = search rules
+  sinks_hold part shows stops.Endless plays is = search rules
   sinks_hold part shows stops.SinkFault plays is = of r.came r.fits
     where
       none : SinkTells

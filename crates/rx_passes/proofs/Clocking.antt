@@ -1,5 +1,6 @@
 -- The clock of a node is handed in.
-use Rattle.std.proofs.Common.{◌≡◌, ◌∙◌, ◌≤◌, ◌<◌, ℕ, List, Option, Some, None, refl, sym, ap, arith}
+use Rattle.std.proofs.Common.{◌≡◌, ◌∙◌, ◌≤◌, ℕ, List, [], ◌∷◌, Option, Some, None, refl, sym, arith}
+use Rattle.std.proofs.Common.{subst}
 use Rattle.rx_model.specs.declared.event.Event.{Event}
 use Rattle.rx_model.specs.declared.event.Event.TheVariants as events
 use Rattle.rx_model.specs.declared.event.Noted.{Noted}
@@ -10,41 +11,52 @@ use Rattle.rx_wire.specs.Turns.{noted}
 use Rattle.rx_passes.specs.declared.stop.Stop.{Stop}
 use Rattle.rx_passes.specs.declared.stop.Stop.TheVariants as stops
 use Rattle.rx_passes.specs.Nodes.{Answers}
-use Rattle.rx_passes.specs.Parts.{Part, Place, cut_behind, makes}
-use Rattle.rx_passes.specs.Ports.{clocks}
-use Rattle.rx_passes.specs.Runs.{IsAt, Plays, change}
-use Rattle.rx_passes.specs.Tells.{SinkTells, Told, WireTells, told}
+use Rattle.rx_passes.specs.Parts.{Came, Place, To, Cut, makes, refuses}
+use Rattle.rx_passes.specs.Ports.{NotesOne, clocks}
+use Rattle.rx_passes.specs.Runs.{IsAt, IsBehind, Plays, change}
+use Rattle.rx_passes.specs.Tells.{SinkTells, WireTells, told}
 use Rattle.rx_passes.proofs.Noting.{one_noted, one_refused}
 
-abbrev pub AnyEvent : Event → Type 0
-AnyEvent e = Unit {0}
+abbrev pub AnyTime : Unit {0} → Type 0
+AnyTime u = Unit {0}
 
 module _ (n : ℕ) (s : Setup) (s0 s1 : List Event → Type 0) (book after : Option (List Noted)) (sink : SinkTells)
     (wire : WireTells) (now : ℕ) (is : now ≡ wire.moment) where
   abbrev e : Event
   e = events.Clocked now
 
-  clocked : (p : Place) → IsAt s s0 (told book sink wire) p → e ≡ events.Clocked p.now
-  clocked p at = ap (λ (m : ℕ). events.Clocked m) (is ∙ sym at.now)
+  clocked : (p : Place) → IsAt s s0 (told book sink wire) p → (came : Came (Unit {0}))
+      → clocks p (events.Clocked p.now ∷ []) [] came → clocks p (e ∷ []) [] came
+  clocked p at came made = subst (λ (m : ℕ). clocks p (events.Clocked m ∷ []) [] came) (at.now ∙ sym is) made
 
   pub clock_noted : Answers s s0 s1 e → HasNoted book after (noted n e)
-      → Plays (change n s s0 s1 (told book sink wire) (told after sink wire)) clocks AnyEvent None
+      → Plays (change n s s0 s1 (told book sink wire) (told after sink wire)) clocks AnyTime None
   clock_noted answers one =
-      one_noted n s s0 s1 book after sink wire e refl clocks e AnyEvent answers
-      (λ p at. (makes e (clocked p at), (let here = at.now in omega (arith, is, here)))) tt one
+      one_noted n s s0 s1 book after sink wire e refl clocks tt AnyTime answers
+      (λ p at. (clocked p at (To tt) (makes tt), (let here = at.now in omega (arith, is, here)))) tt one
 
   pub clock_refused : Answers s s0 s1 e → after ≡ book
-      → Plays (change n s s0 s1 (told book sink wire) (told after sink wire)) clocks AnyEvent (Some stops.OutOfMemory)
+      → Plays (change n s s0 s1 (told book sink wire) (told after sink wire)) clocks AnyTime (Some stops.Unnoted)
   clock_refused answers same =
-      one_refused n s s0 s1 book after sink wire e refl clocks AnyEvent answers
-      (λ p at. cut_behind e (clocked p at)) same
+      one_refused n s s0 s1 book after sink wire e refl clocks AnyTime answers
+      (λ p at. clocked p at (Cut stops.Unnoted) (refuses tt)) same
+
+-- by what became of its note
+pub clock_told : (n : ℕ) (s : Setup) (s0 s1 : List Event → Type 0) (book after : Option (List Noted)) (sink : SinkTells)
+    (wire : WireTells) (now : ℕ) (stop : Option Stop) → now ≡ wire.moment
+    → Answers s s0 s1 (events.Clocked now) → NotesOne n book after (events.Clocked now) stop
+    → Plays (change n s s0 s1 (told book sink wire) (told after sink wire)) clocks AnyTime stop
+clock_told n s s0 s1 book after sink wire now None is answers notes =
+    clock_noted n s s0 s1 book after sink wire now is answers notes
+clock_told n s s0 s1 book after sink wire now (Some stops.Unnoted) is answers notes =
+    clock_refused n s s0 s1 book after sink wire now is answers notes
+clock_told n s s0 s1 book after sink wire now (Some stops.OutOfMemory) is answers notes = absurd notes
+clock_told n s s0 s1 book after sink wire now (Some stops.SinkFault) is answers notes = absurd notes
+clock_told n s s0 s1 book after sink wire now (Some stops.WireFault) is answers notes = absurd notes
+clock_told n s s0 s1 book after sink wire now (Some stops.Endless) is answers notes = absurd notes
 
 -- a node isn't ahead of its wire
-pub never_ahead : {A : Type 0} (n : ℕ) (s : Setup) (s0 s1 : List Event → Type 0) (a b : Told) (part : Part A)
-    (shows : A → Type 0) (stop : Option Stop) (now moment : ℕ) → now ≡ a.wire.moment → now < moment
-    → ((h : List Event) → s0 h → moment ≡ (looks s h).now) → Plays (change n s s0 s1 a b) part shows stop
-never_ahead n s s0 s1 a b part shows stop now moment is ahead exact p at =
-    (let here : p.now ≡ a.wire.moment = at.now in
-    let low : (looks s p.history).now ≤ p.now = at.later in
-    let its : moment ≡ (looks s p.history).now = exact p.history at.standing in
-    absurd (omega (arith, is, ahead, here, low, its)))
+pub never_ahead : (s : Setup) (stands : List Event → Type 0) (now moment : ℕ) → IsBehind s stands now
+    → ((h : List Event) → stands h → moment ≡ (looks s h).now) → moment ≤ now
+never_ahead s stands now moment (h, there, low) exact =
+    (let its : moment ≡ (looks s h).now = exact h there in omega (arith, low, its))

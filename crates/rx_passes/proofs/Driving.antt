@@ -1,6 +1,6 @@
 -- The history of a client along the passes of a call, as one that its caller drives.
 use Rattle.std.proofs.Common.{◌≡◌, ℕ, true, List, [], ◌∷◌, ◌++◌, Option, Some}
-use Rattle.std.proofs.Common.{None, Ok, Err, sym, subst}
+use Rattle.std.proofs.Common.{None, Ok, sym, subst}
 use Rattle.std.specs.Prelude.{is_some}
 use Rattle.rx_caller.specs.Asks.{begun}
 use Rattle.rx_caller.specs.History.{Drives, begins as turn_begins, leaves, starts}
@@ -17,9 +17,9 @@ use Rattle.rx_wire.specs.Turns.{after_all}
 use Rattle.rx_wire.proofs.TurnLaws.{after_all-append}
 use Rattle.rx_passes.specs.declared.calling.Calling.{Calling as Words}
 use Rattle.rx_passes.specs.Calls.{CallPassed, CallTerms, Calls}
-use Rattle.rx_passes.specs.Calls.{IsCalledOn, IsEnded, IsLinked, begins, begins_on, begins_to}
-use Rattle.rx_passes.specs.Calls.{call_play, call_take, calls, calls_ended, linked, named}
-use Rattle.rx_passes.specs.Parts.{One, Part, Place, Then, To, behind, ends}
+use Rattle.rx_passes.specs.Calls.{IsEnded, begins, begins_on, begins_to, links}
+use Rattle.rx_passes.specs.Calls.{call_play, call_take, calls, calls_ended}
+use Rattle.rx_passes.specs.Parts.{Part, Place, Then, To, behind, ends}
 use Rattle.rx_passes.specs.Ports.{TakesAll, clocks, polled_all, polls, takes_came, takes_parts, takes_until}
 use Rattle.rx_passes.specs.Ports.{until_of, waits}
 use Rattle.rx_passes.specs.Serves.{pass, passed_more, passed_none}
@@ -39,41 +39,26 @@ module _ (request : List ℕ) where
   abbrev New : CallName → List Event → Type 0
   New name = Driven (caller_for 1 name request)
 
-  -- the same by what the event of its start answered
-  abbrev NewBy : Event → List Event → Type 0
-  NewBy e h = (name : CallName) → named e ≡ To name → New name h
-
-  started : (e : Event) (h : List Event) → NewBy e (e ∷ h)
-  started (events.Called cid (Ok its)) h name same =
-      let is : its ≡ name = cc in
-      subst (λ (c : CallName). New c (events.Called cid (Ok its) ∷ h)) is (starts 1 cid its h)
-  started (events.Called cid (Err why)) h name same = absurd (cc)
-  started _ h name same = absurd (cc)
-
   begun_on : (cid : ℕ) → Brings (begins_on cid) Any New
-  begun_on cid =
-      brings_then (One (IsCalledOn cid)) (λ c. ends (named c)) Any NewBy New
-      (brings_one (IsCalledOn cid) Any NewBy (λ e h is any. started e h))
-      (λ c. brings_ends (named c) (NewBy c) New (λ name h same new. new name same))
+  begun_on cid = brings_one (λ name. events.Called cid (Ok name)) Any New (λ name h any. starts 1 cid name h)
 
   begun_to : (to : Host) (service : ℕ) → Brings (begins_to to service) Any New
   begun_to to service =
-      brings_then (Then (One (IsLinked to service)) (λ l. ends (linked l))) begins_on Any (λ cid. Any) New
-      (λ p es ls cid any made. tt) begun_on
+      brings_then (links to service) begins_on Any (λ cid. Any) New (λ p es ls cid any made. tt) begun_on
 
   -- a call was begun
   pub call_begun : (w : Words) → Brings (begins w) Any New
   call_begun w =
-      brings_then clocks (λ e. begins_to w.to w.service) Any (λ e. Any) New (λ p es ls e any made. tt)
-      (λ e. begun_to w.to w.service)
+      brings_then clocks (λ u. begins_to w.to w.service) Any (λ u. Any) New (λ p es ls u any made. tt)
+      (λ u. begun_to w.to w.service)
 
   -- ---- passes
 
   module _ (v : CallerState) where
-    clocks_left : Brings clocks (Driven v) (λ e. Driven v)
+    clocks_left : Brings clocks (Driven v) (λ u. Driven v)
     clocks_left p =
-        brings_one (λ e. e ≡ events.Clocked p.now) (Driven v) (λ e. Driven v)
-        (λ e h is at. leaves v e h (rw is tt) at) p
+        brings_one (λ u. events.Clocked p.now) (Driven v) (λ u. Driven v)
+        (λ u h at. leaves v (events.Clocked p.now) h tt at) p
 
     polled : (ds : List (Host × List ℕ)) (h : List Event) → Driven v h
         → Driven v (after_all (polled_all ds ++ events.Polled None ∷ []) h)
@@ -95,8 +80,8 @@ module _ (request : List ℕ) where
     came_left : (came : Option Arrived) → Brings (takes_came came) (Driven v) (λ u. Driven v)
     came_left None p es ls u at made = rw made.0 at
     came_left (Some came) p es ls u at made =
-        brings_then clocks (λ e. takes_parts came.from (parts_of came.bytes)) (Driven v) (λ e. Driven v) (λ u. Driven v)
-        clocks_left (λ e q fs ms done here all. taken came.from (parts_of came.bytes) fs q.history all.1 here)
+        brings_then clocks (λ t. takes_parts came.from (parts_of came.bytes)) (Driven v) (λ t. Driven v) (λ u. Driven v)
+        clocks_left (λ t q fs ms done here all. taken came.from (parts_of came.bytes) fs q.history all.1 here)
         p es ls u at made
 
     takes_left : (until : ℕ) → Brings (takes_until until) (Driven v) (λ u. Driven v)
@@ -118,8 +103,8 @@ module _ (request : List ℕ) where
 
   play_made : (t : CallTerms) (v : CallerState) → Brings (call_play t v) (Driven v) Driven
   play_made t v =
-      brings_then clocks (λ e. polled_first) (Driven v) (λ e. Driven v) Driven (clocks_left v)
-      (λ e. brings_then (polls t.most) (λ u. turned) (Driven v) (λ u. Driven v) Driven (polls_left v t.most)
+      brings_then clocks (λ u. polled_first) (Driven v) (λ u. Driven v) Driven (clocks_left v)
+      (λ u. brings_then (polls t.most) (λ u. turned) (Driven v) (λ u. Driven v) Driven (polls_left v t.most)
       (λ u. brings_then (calls v) polled_last (Driven v) Driven Driven (turn_made v)
       (λ w. last_left w (polls t.most) (polls_left w t.most))))
     where

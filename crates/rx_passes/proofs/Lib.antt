@@ -14,4 +14,5 @@ pub mod Dispatching
 pub mod Passing
 pub mod Bringing
 pub mod Driving
+pub mod Fresh
 pub mod ToldCalls

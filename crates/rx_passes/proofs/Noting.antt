@@ -1,5 +1,5 @@
 -- One event of a node without a line, which is noted.
-use Rattle.std.proofs.Common.{◌≡◌, ◌≤◌, ℕ, List, [], ◌∷◌, Option, Some, None, refl, sym, subst}
+use Rattle.std.proofs.Common.{◌≡◌, ◌≤◌, ℕ, List, [], ◌∷◌, Option, Some, None, refl, sym, ap, subst}
 use Rattle.rx_model.specs.declared.event.Event.{Event}
 use Rattle.rx_model.specs.declared.event.Noted.{Noted}
 use Rattle.rx_base.specs.Sink.{Gained}
@@ -14,9 +14,9 @@ use Rattle.rx_passes.specs.declared.stop.Stop.TheVariants as stops
 use Rattle.rx_passes.specs.Nodes.{Answers}
 use Rattle.rx_passes.specs.Parts.{Cut, Part, Place, To}
 use Rattle.rx_passes.specs.Runs.{IsAt, Plays, change}
-use Rattle.rx_passes.specs.Tells.{Gains, SinkTells, Wants, WireTells, told, wants_note}
+use Rattle.rx_passes.specs.Tells.{Gains, Refuses, SinkTells, WireTells, told}
 use Rattle.rx_passes.specs.Texts.{event_line, lines}
-use Rattle.rx_passes.proofs.Telling.{gained_none, logged_none, unnoted}
+use Rattle.rx_passes.proofs.Telling.{gained_none, gains_same, logged_none}
 
 -- the lines of one event without a line
 lines_one : (e : Event) → event_line e ≡ [] → lines (e ∷ []) ≡ []
@@ -37,13 +37,14 @@ module _ (n : ℕ) (s : Setup) (s0 s1 : List Event → Type 0) (book after : Opt
         calls = refl;
       }
 
-  pub refused_wants : after ≡ book → Wants n (told book sink wire) (told after sink wire) (e ∷ []) []
-  refused_wants same =
+  pub note_refused : after ≡ book → Refuses n (told book sink wire) (told after sink wire) (e ∷ []) []
+  note_refused same =
       record {
-        wanted = wants_note [] e (unnoted n book after same) (gained_none sink.put);
-        log = logged_none wire.traffic;
-        puts = refl;
-        calls = refl;
+        early = [];
+        last = e;
+        are = refl;
+        gains = gains_same n (told book sink wire) (told after sink wire)
+            (ap (λ (b : Option (List Noted)). told b sink wire) same);
       }
 
   -- it was noted
@@ -71,17 +72,17 @@ module _ (n : ℕ) (s : Setup) (s0 s1 : List Event → Type 0) (book after : Opt
         );
       })
 
-  -- memory was wanted for its note
+  -- its note was refused
   pub one_refused : {A : Type 0} (part : Part A) (shows : A → Type 0) → Answers s s0 s1 e
-      → ((p : Place) → IsAt s s0 (told book sink wire) p → part p (e ∷ []) [] (Cut stops.OutOfMemory))
+      → ((p : Place) → IsAt s s0 (told book sink wire) p → part p (e ∷ []) [] (Cut stops.Unnoted))
       → after ≡ book
-      → Plays (change n s s0 s1 (told book sink wire) (told after sink wire)) part shows (Some stops.OutOfMemory)
+      → Plays (change n s s0 s1 (told book sink wire) (told after sink wire)) part shows (Some stops.Unnoted)
   one_refused part shows answers made same p at =
       record {
         events = e ∷ [];
         log = [];
-        came = Cut stops.OutOfMemory;
+        came = Cut stops.Unnoted;
         made = made p at;
         standing = (answers p.history at.standing).1;
-        fits = (refl, refused_wants same);
+        fits = (refl, note_refused same);
       }

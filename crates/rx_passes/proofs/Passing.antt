@@ -30,7 +30,7 @@ use Rattle.rx_passes.proofs.Placing.{behind_both}
 use Rattle.rx_passes.proofs.Polling.{Anyhow}
 use Rattle.rx_passes.proofs.Running.{plays_at, plays_stops, plays_then, plays_to}
 use Rattle.rx_passes.proofs.Telling.{breaks_behind, fails_behind, gained_both, gains_both, gains_none}
-use Rattle.rx_passes.proofs.Telling.{wants_behind}
+use Rattle.rx_passes.proofs.Telling.{refuses_behind, wants_behind}
 
 -- a last part, behind which something is known already
 pub plays_tail : {A : Type 0} (n : ℕ) (s : Setup) (s0 s1 : List Event → Type 0) (a b : Told) (part : Part (Unit {0}))
@@ -51,45 +51,45 @@ module _ {V : Type 0} (n : ℕ) (s : Setup) (most : ℕ) (turn : V → Part V) (
   abbrev middle : Unit {0} → Part V
   middle u = Then (turn v) rest
 
-  abbrev later : Event → Part V
-  later e = Then (polls most) middle
+  abbrev later : Unit {0} → Part V
+  later u = Then (polls most) middle
 
   -- it ended at the clock
   pub play_clock : (s0 s1 : List Event → Type 0) (a b : Told) (stop : Stop)
-      → Plays (change n s s0 s1 a b) clocks (λ e. Unit {0}) (Some stop)
+      → Plays (change n s s0 s1 a b) clocks Anyhow (Some stop)
       → Plays (change n s s0 s1 a b) (plays most turn v) shows (Some stop)
-  play_clock s0 s1 a b stop first = plays_stops n s s0 s1 a b clocks later (λ e. Unit {0}) shows stop first
+  play_clock s0 s1 a b stop first = plays_stops n s s0 s1 a b clocks later Anyhow shows stop first
 
   -- at the first polling
   pub play_first : (s0 s1 s2 : List Event → Type 0) (a b c : Told) (stop : Stop)
-      → Plays (change n s s0 s1 a b) clocks (λ e. Unit {0}) None
+      → Plays (change n s s0 s1 a b) clocks Anyhow None
       → Plays (change n s s1 s2 b c) (polls most) Anyhow (Some stop)
       → Plays (change n s s0 s2 a c) (plays most turn v) shows (Some stop)
   play_first s0 s1 s2 a b c stop first second =
-      plays_then n s s0 s1 s2 a b c clocks later (λ e. Unit {0}) shows (Some stop) first
-      (λ e i. plays_stops n s s1 s2 b c (polls most) middle Anyhow shows stop second)
+      plays_then n s s0 s1 s2 a b c clocks later Anyhow shows (Some stop) first
+      (λ t i. plays_stops n s s1 s2 b c (polls most) middle Anyhow shows stop second)
 
   -- in the turn
   pub play_turn : (s0 s1 s2 s3 : List Event → Type 0) (a b c d : Told) (stop : Stop) (after : V → Type 0)
-      → Plays (change n s s0 s1 a b) clocks (λ e. Unit {0}) None
+      → Plays (change n s s0 s1 a b) clocks Anyhow None
       → Plays (change n s s1 s2 b c) (polls most) Anyhow None
       → Plays (change n s s2 s3 c d) (turn v) after (Some stop)
       → Plays (change n s s0 s3 a d) (plays most turn v) shows (Some stop)
   play_turn s0 s1 s2 s3 a b c d stop after first second third =
-      plays_then n s s0 s1 s3 a b d clocks later (λ e. Unit {0}) shows (Some stop) first
-      (λ e i. plays_then n s s1 s2 s3 b c d (polls most) middle Anyhow shows (Some stop) second
+      plays_then n s s0 s1 s3 a b d clocks later Anyhow shows (Some stop) first
+      (λ t i. plays_then n s s1 s2 s3 b c d (polls most) middle Anyhow shows (Some stop) second
       (λ u j. plays_stops n s s2 s3 c d (turn v) rest after shows stop third))
 
   -- at the second polling, or behind it
   pub play_last : (s0 s1 s2 s3 s4 : List Event → Type 0) (a b c d f : Told) (stop : Option Stop)
-      → Plays (change n s s0 s1 a b) clocks (λ e. Unit {0}) None
+      → Plays (change n s s0 s1 a b) clocks Anyhow None
       → Plays (change n s s1 s2 b c) (polls most) Anyhow None
       → Plays (change n s s2 s3 c d) (turn v) shows None
       → Plays (change n s s3 s4 d f) (polls most) Anyhow stop
       → Plays (change n s s0 s4 a f) (plays most turn v) shows stop
   play_last s0 s1 s2 s3 s4 a b c d f stop first second third fourth =
-      plays_then n s s0 s1 s4 a b f clocks later (λ e. Unit {0}) shows stop first
-      (λ e i. plays_then n s s1 s2 s4 b c f (polls most) middle Anyhow shows stop second
+      plays_then n s s0 s1 s4 a b f clocks later Anyhow shows stop first
+      (λ t i. plays_then n s s1 s2 s4 b c f (polls most) middle Anyhow shows stop second
       (λ u j. plays_then n s s2 s3 s4 c d f (turn v) rest shows shows stop third
       (λ w there. plays_tail n s s3 s4 d f (polls most) shows w stop there fourth)))
 
@@ -171,6 +171,8 @@ module _ (t : Terms) (p : Place) (n : ℕ) (jobs next : List JobState) (s1 s2 : 
   stopped_ends es ls stops.OutOfMemory told = wants_behind 0 before mid after x.events es x.log ls x.told told
   stopped_ends es ls stops.SinkFault told = fails_behind 0 before mid after x.events es x.log ls x.told told
   stopped_ends es ls stops.WireFault told = breaks_behind 0 before mid after x.events es x.log ls x.told told
+  stopped_ends es ls stops.Unnoted told = refuses_behind 0 before mid after x.events es x.log ls x.told told
+  stopped_ends es ls stops.Endless told = gains_both 0 before mid after x.events es x.log ls x.told told
 
   -- a history with more events is legal
   legal_behind : (es : List Event) → ((h : List Event) → s2 h → Legal t.setup h)
@@ -274,6 +276,8 @@ module _ (t : Terms) (p : Place) (n : ℕ) (jobs next : List JobState) (s1 s2 : 
       of (Cut why) made fits = absurd fits
   serving_up_failed plays low late law last stops.OutOfMemory puts = absurd puts
   serving_up_failed plays low late law last stops.WireFault puts = absurd puts
+  serving_up_failed plays low late law last stops.Unnoted puts = absurd puts
+  serving_up_failed plays low late law last stops.Endless puts = absurd puts
 
   -- all takes were made: the last pass was made up to its take
   pub serving_spent : Plays (change 0 t.setup s1 s2 mid after) (serve_play t jobs) (λ js. js ≡ next) None
@@ -409,3 +413,5 @@ ready_stopped terms setup host stops.OutOfMemory noted s0 s1 wire puts =
 ready_stopped terms setup host stops.SinkFault noted s0 s1 wire puts =
     inr (inl (refl, refl, refl, puts.0, puts.1))
 ready_stopped terms setup host stops.WireFault noted s0 s1 wire puts = absurd puts
+ready_stopped terms setup host stops.Unnoted noted s0 s1 wire puts = absurd puts
+ready_stopped terms setup host stops.Endless noted s0 s1 wire puts = absurd puts

@@ -1,7 +1,7 @@
 -- Polls of a node, whose datagrams are passed on.
-use Rattle.std.proofs.Common.{◌≡◌, ◌≢◌, ◌⊎◌, ◌∙◌, ◌≤◌, ℕ, Bool, true, false, List, [], ◌∷◌, ◌++◌, append_assoc}
+use Rattle.std.proofs.Common.{◌≡◌, ◌≢◌, ◌⊎◌, ◌∙◌, ◌≤◌, ◌+◌, ◌-◌, ◌^◌, ℕ, Bool, true, false, List, [], ◌∷◌, ◌++◌, append_assoc}
 use Rattle.std.proofs.Common.{Option, Some, None, Result, Ok, Err, refl, sym, ap, subst, inl, inr, drop, length, take}
-use Rattle.std.proofs.lemmas.List.{append-nil, map-append}
+use Rattle.std.proofs.lemmas.List.{append-nil, length-append, length-map, map-append}
 use Rattle.std.proofs.Math.Seq.{take-append_seam}
 use Rattle.rx_jumbo.specs.JoinerState.{JoinerState}
 use Rattle.rx_model.specs.declared.event.Event.{Event}
@@ -24,18 +24,18 @@ use Rattle.rx_passes.specs.declared.stop.Stop.{Stop}
 use Rattle.rx_passes.specs.declared.stop.Stop.TheVariants as stops
 use Rattle.rx_passes.specs.Nodes.{Answers}
 use Rattle.rx_passes.specs.Parts.{Came, Cut, Part, Place, To, behind, moment_after}
-use Rattle.rx_passes.specs.Ports.{AreOfFew, Behind, CutsOne, Empties, Gave, IsOfWire, IsWithin, NotesOne, Passes}
+use Rattle.rx_passes.specs.Ports.{AreOfFew, Behind, CutsOne, CutsPolls, Empties, EndsAPoll, Gave, NotesOne, Passes}
 use Rattle.rx_passes.specs.Ports.{PassesOn, PollsCut}
 use Rattle.rx_passes.specs.Ports.{PollsOne, PollsOut, PortsState, gave_all, held, parts_all, polled_all, polls}
 use Rattle.rx_passes.specs.Ports.{polls_once}
-use Rattle.rx_passes.specs.Runs.{Fits, IsAt, Plays, Ran, change, stop_of}
+use Rattle.rx_passes.specs.Runs.{Fits, IsAt, IsBehind, Plays, Ran, change, stop_of}
 use Rattle.rx_passes.specs.Tells.{SinkTells, Told, WireTells, told}
 use Rattle.rx_passes.proofs.Giving.{gave_all_both, parts_all_both, some_last}
-use Rattle.rx_passes.proofs.Noting.{noted_gains, one_noted, one_refused, refused_wants}
+use Rattle.rx_passes.proofs.Noting.{note_refused, noted_gains, one_noted, one_refused}
 use Rattle.rx_passes.proofs.Single.{single_polled}
-use Rattle.rx_passes.proofs.Running.{plays_as, plays_at, plays_cut, plays_join}
+use Rattle.rx_passes.proofs.Running.{plays_as, plays_at, plays_cut, plays_join, stops_any}
 use Rattle.rx_passes.proofs.Telling.{gained_none, gains_both, logged_none, breaks_behind}
-use Rattle.rx_passes.specs.Tells.{Breaks, Gains}
+use Rattle.rx_passes.specs.Tells.{Breaks, Gains, Refuses}
 
 -- ---- one poll
 
@@ -58,7 +58,7 @@ pub none_refused : (n : ℕ) (s : Setup) (s0 s1 : List Event → Type 0) (book a
     (sink : SinkTells) (wire : WireTells) (j k : JoinerState) (shows : Bool → Type 0)
     → Answers s s0 s1 (events.Polled None) → after ≡ book
     → Plays (change n s s0 s1 (told book sink wire) (told after sink wire)) (polls_once j k) shows
-    (Some stops.OutOfMemory)
+    (Some stops.Unnoted)
 none_refused n s s0 s1 book after sink wire j k shows answers same =
     one_refused n s s0 s1 book after sink wire (events.Polled None) refl (polls_once j k) shows answers
     (λ p at. inl (refl, refl, refl)) same
@@ -145,21 +145,21 @@ module _ (n : ℕ) (s : Setup) (s0 s1 : List Event → Type 0) (book after : Opt
           lost = lost;
         }
 
-    -- memory was wanted for its note
-    pub one_forgotten : (shows : Bool → Type 0) → after ≡ book → last ≡ first
+    -- its note was refused
+    pub one_unnoted : (shows : Bool → Type 0) → after ≡ book → last ≡ first
         → Plays (change n s s0 s1 (told book sink first) (told after sink last)) (polls_once j k) shows
-        (Some stops.OutOfMemory)
-    one_forgotten shows same wire p at =
+        (Some stops.Unnoted)
+    one_unnoted shows same wire p at =
         record {
           events = e ∷ [];
           log = [];
-          came = Cut stops.OutOfMemory;
+          came = Cut stops.Unnoted;
           made = inr (inl refl, cuts [] (held j ++ d ∷ []) refl tt (some_last (held j) d));
           standing = (answers p.history at.standing).1;
           fits = (
             refl,
-            subst (λ (w : WireTells). Rattle.rx_passes.specs.Tells.Wants n (told book sink first) (told after sink w)
-                (e ∷ []) []) (sym wire) (refused_wants n s s0 s1 book after sink first e refl same),
+            subst (λ (w : WireTells). Refuses n (told book sink first) (told after sink w) (e ∷ []) []) (sym wire)
+                (note_refused n s s0 s1 book after sink first e refl same),
           );
         }
 
@@ -185,18 +185,19 @@ module _ (n : ℕ) (s : Setup) (s0 s1 : List Event → Type 0) (book after : Opt
 
 -- ---- polls so far
 
--- datagrams were polled, and given but for those that are held back
-pub record PollsSo (most : ℕ) (j : JoinerState) (es : List Event) (ls : List Logged) : Type 0 where
+-- so many datagrams were polled, and given but for those that are held back
+pub record PollsSo (most : ℕ) (j : JoinerState) (count : ℕ) (es : List Event) (ls : List Logged) : Type 0 where
   pub polled : List (Host × List ℕ)
+  pub counted : length polled ≡ count
   pub given : List (Host × List ℕ)
   pub events : es ≡ polled_all polled
   pub log : ls ≡ gave_all given
   pub joined : parts_all given ++ held j ≡ polled
   pub few : AreOfFew most given
 
-abbrev pub polls_so : ℕ → JoinerState → Part (Unit {0})
-polls_so most j p es ls (To done) = PollsSo most j es ls
-polls_so most j p es ls (Cut stop) = Unit {0}
+abbrev pub polls_so : ℕ → JoinerState → ℕ → Part (Unit {0})
+polls_so most j count p es ls (To done) = PollsSo most j count es ls
+polls_so most j count p es ls (Cut stop) = Unit {0}
 
 abbrev pub Anyhow : Unit {0} → Type 0
 Anyhow u = Unit {0}
@@ -207,27 +208,39 @@ few_both most (x ∷ xs) ys first second = (first.0, few_both most xs ys first.1
 
 -- none yet
 pub polls_none : (n : ℕ) (s : Setup) (stands : List Event → Type 0) (t : Told) (j : JoinerState) → j.datagrams ≡ []
-    → Plays (change n s stands stands t t) (polls_so j.most j) Anyhow None
+    → Plays (change n s stands stands t t) (polls_so j.most j 0) Anyhow None
 polls_none n s stands t j none p at =
     record {
       events = [];
       log = [];
       came = To tt;
-      made = record { polled = []; given = []; events = refl; log = refl; joined = rw none refl; few = tt };
+      made = record {
+        polled = [];
+        counted = refl;
+        given = [];
+        events = refl;
+        log = refl;
+        joined = rw none refl;
+        few = tt;
+      };
       standing = at.standing;
       fits = (tt, Rattle.rx_passes.proofs.Telling.gains_none n t, at);
     }
 
--- wanted memory is no failed wire
-not_both : {A : Type 0} → stops.OutOfMemory ≡ stops.WireFault → A
-not_both is = absurd (cc (is))
+-- a note was refused, or the wire failed and some is missing
+cuts_of : (why : Stop) (missing : List (Host × List ℕ)) (es : List Event) → EndsAPoll why → missing ≢ []
+    → CutsPolls why missing es
+cuts_of why missing es (inl refused) some = subst (λ (k : Stop). CutsPolls k missing es) (sym refused) tt
+cuts_of why missing es (inr failed) some = subst (λ (k : Stop). CutsPolls k missing es) (sym failed) some
 
-module _ (most : ℕ) (j k : JoinerState) (es fs : List Event) (ls ms : List Logged) where
+module _ (most : ℕ) (j k : JoinerState) (count : ℕ) (es fs : List Event) (ls ms : List Logged) where
   -- one more, which gave a datagram
-  so_more : PollsSo most j es ls → j.most ≡ most → PollsOne j k fs ms → PollsSo most k (es ++ fs) (ls ++ ms)
+  so_more : PollsSo most j count es ls → j.most ≡ most → PollsOne j k fs ms
+      → PollsSo most k (count + 1) (es ++ fs) (ls ++ ms)
   so_more x is y =
       record {
         polled = x.polled ++ y.datagram ∷ [];
+        counted = length-append x.polled (y.datagram ∷ []) ∙ ap (λ (m : ℕ). m + 1) x.counted;
         given = x.given ++ y.given;
         events = rw x.events (rw y.events (sym (map-append (λ (d : Host × List ℕ). events.Polled (Some d)) x.polled
             (y.datagram ∷ []))));
@@ -242,11 +255,10 @@ module _ (most : ℕ) (j k : JoinerState) (es fs : List Event) (ls ms : List Log
       }
 
   -- one that was cut off
-  so_cut : (why : Stop) → PollsSo most j es ls → j.most ≡ most → IsOfWire why → CutsOne j fs ms
+  so_cut : (why : Stop) → PollsSo most j count es ls → j.most ≡ most → EndsAPoll why → CutsOne j fs ms
       → PollsCut most why (es ++ fs) (ls ++ ms)
   so_cut why x is reason y =
       record {
-        reason = reason;
         polled = x.polled ++ y.datagram ∷ [];
         given = x.given ++ y.given;
         missing = y.missing;
@@ -260,15 +272,14 @@ module _ (most : ℕ) (j k : JoinerState) (es fs : List Event) (ls ms : List Log
             ∙ sym (append_assoc (parts_all x.given) (held j) (y.datagram ∷ []))
             ∙ ap (λ (zs : List (Host × List ℕ)). zs ++ y.datagram ∷ []) x.joined;
         few = few_both most x.given y.given x.few (subst (λ (m : ℕ). AreOfFew m y.given) is y.few);
-        lost = λ failed. y.lost;
+        reason = cuts_of why y.missing (es ++ fs) reason y.lost;
       }
 
   -- the last one
-  so_none : (why : Stop) → PollsSo most j es ls → why ≡ stops.OutOfMemory → fs ≡ events.Polled None ∷ [] → ms ≡ []
+  so_none : (why : Stop) → PollsSo most j count es ls → why ≡ stops.Unnoted → fs ≡ events.Polled None ∷ [] → ms ≡ []
       → PollsCut most why (es ++ fs) (ls ++ ms)
-  so_none why x wants last none =
+  so_none why x refused last none =
       record {
-        reason = inl wants;
         polled = x.polled;
         given = x.given;
         missing = held j;
@@ -276,40 +287,41 @@ module _ (most : ℕ) (j k : JoinerState) (es fs : List Event) (ls ms : List Log
         log = rw none (append-nil ls ∙ x.log);
         joined = x.joined;
         few = x.few;
-        lost = λ failed. not_both (sym wants ∙ failed);
+        reason = subst (λ (i : Stop). CutsPolls i (held j) (es ++ fs)) (sym refused) tt;
       }
 
 -- ---- the loop
 
 module _ (n : ℕ) (s : Setup) (s0 s1 s2 : List Event → Type 0) (a b c : Told) (most : ℕ) (j k : JoinerState)
-    (is : j.most ≡ most) where
+    (count : ℕ) (is : j.most ≡ most) where
   -- a poll gave a datagram
-  pub polls_more : Plays (change n s s0 s1 a b) (polls_so most j) Anyhow None
+  pub polls_more : Plays (change n s s0 s1 a b) (polls_so most j count) Anyhow None
       → Plays (change n s s1 s2 b c) (polls_once j k) (λ r. r ≡ true) None
-      → Plays (change n s s0 s2 a c) (polls_so most k) Anyhow None
+      → Plays (change n s s0 s2 a c) (polls_so most k (count + 1)) Anyhow None
   polls_more first second =
-      plays_join n s s0 s1 s2 a b c (polls_so most j) (λ u. polls_once j k) (polls_so most k) (λ r. tt) Anyhow
-      (λ r. r ≡ true) Anyhow None
-      (λ p es fs ls ms u r i holds made one. so_more most j k es fs ls ms made is
+      plays_join n s s0 s1 s2 a b c (polls_so most j count) (λ u. polls_once j k) (polls_so most k (count + 1)) (λ r. tt)
+      Anyhow (λ r. r ≡ true) Anyhow None
+      (λ p es fs ls ms u r i holds made one. so_more most j k count es fs ls ms made is
       (subst (λ (r' : Bool). polls_once j k (behind es ls p) fs ms (To r')) holds one))
       (λ p es fs ls ms u why i made one. tt) (λ r holds. tt) first (λ u i. second)
 
   -- passes ended at a poll
-  pub polls_stopped : (stop : Stop) (shows : Bool → Type 0) → Plays (change n s s0 s1 a b) (polls_so most j) Anyhow None
+  pub polls_stopped : (stop : Stop) (shows : Bool → Type 0)
+      → Plays (change n s s0 s1 a b) (polls_so most j count) Anyhow None
       → Plays (change n s s1 s2 b c) (polls_once j k) shows (Some stop)
       → Plays (change n s s0 s2 a c) (polls most) Anyhow (Some stop)
   polls_stopped stop shows first second =
-      plays_cut n s s0 s1 s2 a b c (polls_so most j) (λ u. polls_once j k) (polls most) (λ r. tt) Anyhow shows Anyhow
-      stop
+      plays_cut n s s0 s1 s2 a b c (polls_so most j count) (λ u. polls_once j k) (polls most) (λ r. tt) Anyhow shows
+      Anyhow stop
       (λ p es fs ls ms u why i made one. cut es fs ls ms why made one) first (λ u i. second)
     where
-      cut : (es fs : List Event) (ls ms : List Logged) (why : Stop) → PollsSo most j es ls
-          → ((why ≡ stops.OutOfMemory) × (fs ≡ events.Polled None ∷ []) × (ms ≡ []))
-          ⊎ (IsOfWire why × CutsOne j fs ms)
+      cut : (es fs : List Event) (ls ms : List Logged) (why : Stop) → PollsSo most j count es ls
+          → ((why ≡ stops.Unnoted) × (fs ≡ events.Polled None ∷ []) × (ms ≡ []))
+          ⊎ (EndsAPoll why × CutsOne j fs ms)
           → PollsCut most why (es ++ fs) (ls ++ ms)
       cut es fs ls ms why made (inl none) =
-          so_none most j k es fs ls ms why made none.0 none.1 none.2
-      cut es fs ls ms why made (inr one) = so_cut most j k es fs ls ms why made is one.0 one.1
+          so_none most j k count es fs ls ms why made none.0 none.1 none.2
+      cut es fs ls ms why made (inr one) = so_cut most j k count es fs ls ms why made is one.0 one.1
 
 -- ---- the end of a polling
 
@@ -412,21 +424,23 @@ module _ (n : ℕ) (s : Setup) (stands : List Event → Type 0) (book : Option (
           }
   flush_plays (Some stops.OutOfMemory) e p at = absurd e.passes.gave
   flush_plays (Some stops.SinkFault) e p at = absurd e.passes.gave
+  flush_plays (Some stops.Unnoted) e p at = absurd e.passes.gave
+  flush_plays (Some stops.Endless) e p at = absurd e.passes.gave
 
 module _ (n : ℕ) (s : Setup) (s0 s1 s2 : List Event → Type 0) (a b c : Told) (most : ℕ) (j k : JoinerState)
-    (is : j.most ≡ most) where
+    (count : ℕ) (is : j.most ≡ most) where
   -- a poll gave none
-  pub polls_over : Plays (change n s s0 s1 a b) (polls_so most j) Anyhow None
+  pub polls_over : Plays (change n s s0 s1 a b) (polls_so most j count) Anyhow None
       → Plays (change n s s1 s2 b c) (polls_once j k) (λ r. r ≡ false) None
       → Plays (change n s s0 s2 a c) (polls_last most k) Anyhow None
   polls_over first second =
-      plays_join n s s0 s1 s2 a b c (polls_so most j) (λ u. polls_once j k) (polls_last most k) (λ r. tt) Anyhow
+      plays_join n s s0 s1 s2 a b c (polls_so most j count) (λ u. polls_once j k) (polls_last most k) (λ r. tt) Anyhow
       (λ r. r ≡ false) Anyhow None
       (λ p es fs ls ms u r i off made one. over es fs ls ms made
       (subst (λ (r' : Bool). polls_once j k (behind es ls p) fs ms (To r')) off one))
       (λ p es fs ls ms u why i made one. tt) (λ r off. tt) first (λ u i. second)
     where
-      over : (es fs : List Event) (ls ms : List Logged) → PollsSo most j es ls
+      over : (es fs : List Event) (ls ms : List Logged) → PollsSo most j count es ls
           → (fs ≡ events.Polled None ∷ []) × (ms ≡ []) × (k ≡ j) → PollsLast most k (es ++ fs) (ls ++ ms)
       over es fs ls ms x none =
           record {
@@ -474,7 +488,6 @@ module _ (n : ℕ) (s : Setup) (s0 s1 s2 : List Event → Type 0) (a b c : Told)
           → PollsCut most why (es ++ fs) (ls ++ ms)
       cut es fs ls ms why x failed missing some y =
           record {
-            reason = inr failed;
             polled = x.polled;
             given = x.given ++ y.given;
             missing = missing;
@@ -482,70 +495,120 @@ module _ (n : ℕ) (s : Setup) (s0 s1 s2 : List Event → Type 0) (a b c : Told)
             log = rw x.log (rw y.log (sym (gave_all_both x.given y.given)));
             joined = joins x.given y.given missing x.polled y.joined x.joined;
             few = few_both most x.given y.given x.few (subst (λ (m : ℕ). AreOfFew m y.given) is y.few);
-            lost = λ is. some;
+            reason = cuts_of why missing (es ++ fs) (inr failed) some;
           }
 
--- memory is wanted though the polls go on
-pub polls_wanted : (n : ℕ) (s : Setup) (s0 s1 : List Event → Type 0) (a b : Told) (most : ℕ) (j : JoinerState)
-    → Plays (change n s s0 s1 a b) (polls_so most j) Anyhow None
-    → Plays (change n s s0 s1 a b) (polls most) Anyhow (Some stops.OutOfMemory)
-polls_wanted n s s0 s1 a b most j plays p at = of r.came r.made r.fits
-  where
-    r : Ran (change n s s0 s1 a b) (polls_so most j) Anyhow None p
-    r = plays p at
+-- ---- polls that come to no end
 
-    of : (came : Came (Unit {0})) → polls_so most j p r.events r.log came
-        → Fits (change n s s0 s1 a b) Anyhow p r.events r.log came None
-        → Ran (change n s s0 s1 a b) (polls most) Anyhow (Some stops.OutOfMemory) p
-    of (To u) x (i, told, here) =
-        record {
-          events = r.events;
-          log = r.log;
-          came = Cut stops.OutOfMemory;
-          made = record {
-            reason = inl refl;
-            polled = x.polled;
-            given = x.given;
-            missing = held j;
-            events = inl x.events;
-            log = x.log;
-            joined = x.joined;
-            few = x.few;
-            lost = not_both;
-          };
-          standing = r.standing;
-          fits = (refl, Rattle.rx_passes.proofs.Telling.wants_then n a b r.events r.log told);
-        }
-    of (Cut why) x none = absurd none
+-- so many polls gave something and none gave nothing; what is held back was given, or the wire failed
+abbrev pub polls_gone : ℕ → Part (Unit {0})
+polls_gone most p es ls (To done) = PollsCut most stops.Endless es ls
+polls_gone most p es ls (Cut stop) = PollsCut most stop es ls
+
+module _ (n : ℕ) (s : Setup) (s0 s1 s2 : List Event → Type 0) (a b c : Told) (most : ℕ) (j : JoinerState)
+    (count : ℕ) (is : j.most ≡ most) (many : 2 ^ 64 - 1 ≤ count) where
+  joins_all : (x y missing polled : List (Host × List ℕ)) → parts_all y ++ missing ≡ held j
+      → parts_all x ++ held j ≡ polled → parts_all (x ++ y) ++ missing ≡ polled
+  joins_all x y missing polled later early =
+      ap (λ (zs : List (Host × List ℕ)). zs ++ missing) (parts_all_both x y)
+      ∙ append_assoc (parts_all x) (parts_all y) missing
+      ∙ ap (λ (zs : List (Host × List ℕ)). parts_all x ++ zs) later ∙ early
+
+  cut_by : (es fs : List Event) (ls ms : List Logged) (why : Stop) (missing : List (Host × List ℕ))
+      → PollsSo most j count es ls → Flushed j.most j missing fs ms → CutsPolls why missing (es ++ fs)
+      → PollsCut most why (es ++ fs) (ls ++ ms)
+  cut_by es fs ls ms why missing x y reason =
+      record {
+        polled = x.polled;
+        given = x.given ++ y.given;
+        missing = missing;
+        events = inl (rw y.events (append-nil es ∙ x.events));
+        log = rw x.log (rw y.log (sym (gave_all_both x.given y.given)));
+        joined = joins_all x.given y.given missing x.polled y.joined x.joined;
+        few = few_both most x.given y.given x.few (subst (λ (m : ℕ). AreOfFew m y.given) is y.few);
+        reason = reason;
+      }
+
+  many_made : (es fs : List Event) (ls ms : List Logged) → PollsSo most j count es ls → Flushed j.most j [] fs ms
+      → 2 ^ 64 - 1 ≤ length (es ++ fs)
+  many_made es fs ls ms x y =
+      (let whole : es ++ fs ≡ polled_all x.polled = rw y.events (append-nil es ∙ x.events) in
+      let long : length (es ++ fs) ≡ count =
+      ap (λ (gs : List Event). length gs) whole ∙ length-map x.polled (λ d. events.Polled (Some d)) ∙ x.counted in
+      subst (λ (k : ℕ). 2 ^ 64 - 1 ≤ k) (sym long) many)
+
+  gone : (stop : Option Stop) → Plays (change n s s0 s1 a b) (polls_so most j count) Anyhow None
+      → Plays (change n s s1 s2 b c) (flushes j.most j) Anyhow stop
+      → Plays (change n s s0 s2 a c) (polls_gone most) Anyhow stop
+  gone stop first second =
+      plays_join n s s0 s1 s2 a b c (polls_so most j count) (λ u. flushes j.most j) (polls_gone most) (λ u. tt) Anyhow
+      Anyhow Anyhow stop
+      (λ p es fs ls ms u v i y made one. cut_by es fs ls ms stops.Endless [] made one
+      (refl, many_made es fs ls ms made one))
+      (λ p es fs ls ms u why i made one. cut_by es fs ls ms why one.1.0 made one.1.2
+      (cuts_of why one.1.0 (es ++ fs) (inr one.0) one.1.1))
+      (λ u y. tt) first (λ u i. second)
+
+  -- what is held back was given
+  pub polls_endless : Plays (change n s s0 s1 a b) (polls_so most j count) Anyhow None
+      → Plays (change n s s1 s2 b c) (flushes j.most j) Anyhow None
+      → Plays (change n s s0 s2 a c) (polls most) Anyhow (Some stops.Endless)
+  polls_endless first second p at = of r.came r.made r.fits
+    where
+      r : Ran (change n s s0 s2 a c) (polls_gone most) Anyhow None p
+      r = gone None first second p at
+
+      of : (came : Came (Unit {0})) → polls_gone most p r.events r.log came
+          → Fits (change n s s0 s2 a c) Anyhow p r.events r.log came None
+          → Ran (change n s s0 s2 a c) (polls most) Anyhow (Some stops.Endless) p
+      of (To u) made (i, told, here) =
+          record {
+            events = r.events;
+            log = r.log;
+            came = Cut stops.Endless;
+            made = made;
+            standing = r.standing;
+            fits = (refl, told);
+          }
+      of (Cut why) made fits = absurd fits
+
+  -- the wire failed
+  pub polls_unflushed : (stop : Stop) → Plays (change n s s0 s1 a b) (polls_so most j count) Anyhow None
+      → Plays (change n s s1 s2 b c) (flushes j.most j) Anyhow (Some stop)
+      → Plays (change n s s0 s2 a c) (polls most) Anyhow (Some stop)
+  polls_unflushed stop first second =
+      plays_as n s s0 s2 a c (polls_gone most) (polls most) (λ u. u) (λ u. ⊥) Anyhow (Some stop)
+      (λ p es ls u none made. absurd none) (λ p es ls why made. made) (λ u none. absurd none)
+      (stops_any n s s0 s2 a c (polls_gone most) Anyhow (λ u. ⊥) stop (gone (Some stop) first second))
 
 -- ---- one poll, by how it ended
 
 -- it gave a datagram
 pub polled_on : (n : ℕ) (s : Setup) (s0 s1 : List Event → Type 0) (book after : Option (List Noted)) (sink : SinkTells)
     (first last : WireTells) (j k : JoinerState) (d : Host × List ℕ) (result : Result Bool Stop)
-    → Answers s s0 s1 (events.Polled (Some d)) → ((h : List Event) → s0 h → Legal s h) → FitsSetup s
-    → (is_jumbo d.1 ≡ false → length d.1 ≤ DATAGRAM_BYTES → PassesOn n j k book after d first last (stop_of result))
+    → Answers s s0 s1 (events.Polled (Some d)) → PassesOn n j k book after d first last (stop_of result)
     → IfOk result (λ b. b ≡ true)
     → Plays (change n s s0 s1 (told book sink first) (told after sink last)) (polls_once j k)
     (λ b. IfOk result (λ r. b ≡ r)) (stop_of result)
-polled_on n s s0 s1 book after sink first last j k d result answers law fits passes holds p at =
-    (let single = single_polled s p.history d.0 d.1 fits (law p.history at.standing)
-    (answers p.history at.standing).0 in
-    by result (passes single.0 single.1) holds p at)
-  where
-    by : (r : Result Bool Stop) → PassesOn n j k book after d first last (stop_of r) → IfOk r (λ b. b ≡ true)
-        → Plays (change n s s0 s1 (told book sink first) (told after sink last)) (polls_once j k)
-        (λ b. IfOk r (λ x. b ≡ x)) (stop_of r)
-    by (Ok b) passed is =
-        plays_as n s s0 s1 (told book sink first) (told after sink last) (polls_once j k) (polls_once j k) (λ x. x)
-        (λ x. x ≡ true) (λ x. x ≡ b) None (λ q es ls x there made. made) (λ q es ls why made. made)
-        (λ x there. there ∙ sym is)
-        (one_passed n s s0 s1 book after sink first last j k d answers passed.0 passed.1)
-    by (Err stops.OutOfMemory) passed is =
-        one_forgotten n s s0 s1 book after sink first last j k d answers (λ x. Unit {0}) passed.0 passed.1
-    by (Err stops.WireFault) passed is =
-        one_failed n s s0 s1 book after sink first last j k d answers (λ x. Unit {0}) passed.0 passed.1
-    by (Err stops.SinkFault) passed is = absurd passed
+polled_on n s s0 s1 book after sink first last j k d (Ok b) answers passed is =
+    plays_as n s s0 s1 (told book sink first) (told after sink last) (polls_once j k) (polls_once j k) (λ x. x)
+    (λ x. x ≡ true) (λ x. x ≡ b) None (λ q es ls x there made. made) (λ q es ls why made. made)
+    (λ x there. there ∙ sym is)
+    (one_passed n s s0 s1 book after sink first last j k d answers passed.0 passed.1)
+polled_on n s s0 s1 book after sink first last j k d (Err stops.Unnoted) answers passed is =
+    one_unnoted n s s0 s1 book after sink first last j k d answers (λ x. Unit {0}) passed.0 passed.1
+polled_on n s s0 s1 book after sink first last j k d (Err stops.WireFault) answers passed is =
+    one_failed n s s0 s1 book after sink first last j k d answers (λ x. Unit {0}) passed.0 passed.1
+polled_on n s s0 s1 book after sink first last j k d (Err stops.OutOfMemory) answers passed is = absurd passed
+polled_on n s s0 s1 book after sink first last j k d (Err stops.SinkFault) answers passed is = absurd passed
+polled_on n s s0 s1 book after sink first last j k d (Err stops.Endless) answers passed is = absurd passed
+
+-- a single datagram that is short enough
+pub single_in : (s : Setup) (s0 s1 : List Event → Type 0) (now : ℕ) (to : Host) (d b : List ℕ) → d ≡ b
+    → IsBehind s s0 now → ((h : List Event) → s0 h → Legal s h) → FitsSetup s
+    → Answers s s0 s1 (events.Polled (Some (to, b))) → (is_jumbo d ≡ false) × (length d ≤ DATAGRAM_BYTES)
+single_in s s0 s1 now to d b same (h, there, low) law fits answers =
+    rw same (single_polled s h to b fits (law h there) (answers h there).0)
 
 -- it gave none
 pub none_on : (n : ℕ) (s : Setup) (s0 s1 : List Event → Type 0) (book after : Option (List Noted)) (sink : SinkTells)
@@ -557,25 +620,26 @@ none_on n s s0 s1 book after sink wire j (Ok b) answers notes is =
     plays_as n s s0 s1 (told book sink wire) (told after sink wire) (polls_once j j) (polls_once j j) (λ x. x)
     (λ x. x ≡ false) (λ x. x ≡ b) None (λ q es ls x there made. made) (λ q es ls why made. made)
     (λ x there. there ∙ sym is) (none_polled n s s0 s1 book after sink wire j answers notes)
-none_on n s s0 s1 book after sink wire j (Err stops.OutOfMemory) answers notes is =
+none_on n s s0 s1 book after sink wire j (Err stops.Unnoted) answers notes is =
     none_refused n s s0 s1 book after sink wire j j (λ x. Unit {0}) answers notes
+none_on n s s0 s1 book after sink wire j (Err stops.OutOfMemory) answers notes is = absurd notes
 none_on n s s0 s1 book after sink wire j (Err stops.SinkFault) answers notes is = absurd notes
 none_on n s s0 s1 book after sink wire j (Err stops.WireFault) answers notes is = absurd notes
+none_on n s s0 s1 book after sink wire j (Err stops.Endless) answers notes is = absurd notes
 
 -- the same by the view of a node's ports, with the bytes that the poll wrote
 pub polled_in : (v : PortsState) (n : ℕ) (j : JoinerState) → record { node = n; joiner = j } ≡ v → (s : Setup)
     (s0 s1 : List Event → Type 0) (book after : Option (List Noted)) (sink : SinkTells) (first last : WireTells)
     (k : JoinerState) (to : Host) (d b : List ℕ) (result : Result Bool Stop) → d ≡ b
-    → Answers s s0 s1 (events.Polled (Some (to, b))) → ((h : List Event) → s0 h → Legal s h) → FitsSetup s
-    → (is_jumbo d ≡ false → length d ≤ DATAGRAM_BYTES → PassesOn n j k book after (to, d) first last (stop_of result))
+    → Answers s s0 s1 (events.Polled (Some (to, b))) → PassesOn n j k book after (to, d) first last (stop_of result)
     → IfOk result (λ x. x ≡ true)
     → Plays (change v.node s s0 s1 (told book sink first) (told after sink last)) (polls_once v.joiner k)
     (λ x. IfOk result (λ r. x ≡ r)) (stop_of result)
-polled_in v n j is s s0 s1 book after sink first last k to d b result same answers law fits passes holds =
+polled_in v n j is s s0 s1 book after sink first last k to d b result same answers passes holds =
     subst (λ (w : PortsState). Plays (change w.node s s0 s1 (told book sink first) (told after sink last))
     (polls_once w.joiner k) (λ x. IfOk result (λ r. x ≡ r)) (stop_of result)) is
     (polled_on n s s0 s1 book after sink first last j k (to, d) result
-    (subst (λ (x : List ℕ). Answers s s0 s1 (events.Polled (Some (to, x)))) (sym same) answers) law fits passes holds)
+    (subst (λ (x : List ℕ). Answers s s0 s1 (events.Polled (Some (to, x)))) (sym same) answers) passes holds)
 
 pub none_in : (v : PortsState) (n : ℕ) (j : JoinerState) → record { node = n; joiner = j } ≡ v → (s : Setup)
     (s0 s1 : List Event → Type 0) (book after : Option (List Noted)) (sink : SinkTells) (wire : WireTells)
@@ -591,32 +655,33 @@ none_in v n j is s s0 s1 book after sink wire result answers notes holds =
 -- ---- the loop, where its node and its setup have other names
 
 module _ (n m : ℕ) (s t : Setup) (s0 s1 s2 : List Event → Type 0) (a b c : Told) (most : ℕ) (j k : JoinerState)
-    (number : m ≡ n) (setup : t ≡ s) (is : j.most ≡ most) where
-  pub polls_step : (again : Bool) → again ≡ true → Plays (change n s s0 s1 a b) (polls_so most j) Anyhow None
+    (count : ℕ) (number : m ≡ n) (setup : t ≡ s) (is : j.most ≡ most) where
+  pub polls_step : (again : Bool) → again ≡ true → Plays (change n s s0 s1 a b) (polls_so most j count) Anyhow None
       → Plays (change m t s1 s2 b c) (polls_once j k) (λ r. r ≡ again) None
-      → Plays (change n s s0 s2 a c) (polls_so most k) Anyhow None
+      → Plays (change n s s0 s2 a c) (polls_so most k (count + 1)) Anyhow None
   polls_step again on first second =
-      polls_more n s s0 s1 s2 a b c most j k is first
+      polls_more n s s0 s1 s2 a b c most j k count is first
       (plays_at n m s t s1 s2 b c (polls_once j k) (λ r. r ≡ true) None number setup
       (subst (λ (x : Bool). Plays (change m t s1 s2 b c) (polls_once j k) (λ r. r ≡ x) None) on second))
 
-  pub polls_ends : (stop : Stop) (shows : Bool → Type 0) → Plays (change n s s0 s1 a b) (polls_so most j) Anyhow None
+  pub polls_ends : (stop : Stop) (shows : Bool → Type 0)
+      → Plays (change n s s0 s1 a b) (polls_so most j count) Anyhow None
       → Plays (change m t s1 s2 b c) (polls_once j k) shows (Some stop)
       → Plays (change n s s0 s2 a c) (polls most) Anyhow (Some stop)
   polls_ends stop shows first second =
-      polls_stopped n s s0 s1 s2 a b c most j k is stop shows first
+      polls_stopped n s s0 s1 s2 a b c most j k count is stop shows first
       (plays_at n m s t s1 s2 b c (polls_once j k) shows (Some stop) number setup second)
 
 pub polls_whole : (n m : ℕ) (s t : Setup) (s0 s1 s2 : List Event → Type 0) (a b : Told) (book : Option (List Noted))
-    (sink : SinkTells) (first last : WireTells) (most : ℕ) (j k l : JoinerState) → m ≡ n → t ≡ s → j.most ≡ most
+    (sink : SinkTells) (first last : WireTells) (most : ℕ) (j k l : JoinerState) (count : ℕ) → m ≡ n → t ≡ s → j.most ≡ most
     → k.most ≡ most → (again : Bool) → again ≡ false → (stop : Option Stop)
-    → Plays (change n s s0 s1 a b) (polls_so most j) Anyhow None
+    → Plays (change n s s0 s1 a b) (polls_so most j count) Anyhow None
     → Plays (change m t s1 s2 b (told book sink first)) (polls_once j k) (λ r. r ≡ again) None
     → Empties k l first last stop
     → Plays (change n s s0 s2 a (told book sink last)) (polls most) Anyhow stop
-polls_whole n m s t s0 s1 s2 a b book sink first last most j k l number setup was is again off stop so once flush =
-    polls_flushed n s s0 s2 s2 a (told book sink first) (told book sink last) most k k is stop
-    (polls_over n s s0 s1 s2 a b (told book sink first) most j k was so
+polls_whole n m s t s0 s1 s2 a b book sink first last most j k l count number setup was is again off stop so once flush =
+    polls_flushed n s s0 s2 s2 a (told book sink first) (told book sink last) most k k count is stop
+    (polls_over n s s0 s1 s2 a b (told book sink first) most j k count was so
     (plays_at n m s t s1 s2 b (told book sink first) (polls_once j k) (λ r. r ≡ false) None number setup
     (subst (λ (x : Bool). Plays (change m t s1 s2 b (told book sink first)) (polls_once j k) (λ r. r ≡ x) None) off
     once)))

@@ -1,19 +1,20 @@
 -- How what was made of parts is what was made of a part that has them.
-use Rattle.std.proofs.Common.{◌≡◌, ℕ, List, [], ◌++◌, Option, Some, None, Result, Ok, Err, refl, sym}
-use Rattle.std.proofs.Common.{ap, subst}
+use Rattle.std.proofs.Common.{◌≡◌, ◌≤◌, ℕ, List, [], ◌++◌, Option, Some, None, Result, Ok, Err, refl, sym}
+use Rattle.std.proofs.Common.{ap, arith, subst}
 use Rattle.std.specs.Prelude.{IsErrAnd}
 use Rattle.std.proofs.lemmas.List.{append-nil}
 use Rattle.rx_model.specs.declared.event.Event.{Event}
+use Rattle.rx_rules.specs.After.{looks}
 use Rattle.rx_rules.specs.Setup.{Setup}
 use Rattle.rx_udp.specs.Wire.{Logged}
 use Rattle.rx_wire.proofs.TurnLaws.{after_all-append}
 use Rattle.rx_passes.specs.declared.stop.Stop.{Stop}
 use Rattle.rx_passes.specs.declared.stop.Stop.TheVariants as stops
 use Rattle.rx_passes.specs.Parts.{Came, To, Cut, Part, Place, Then, behind, ends}
-use Rattle.rx_passes.specs.Runs.{Fits, IsAt, Plays, Ran, Stops, change, stop_of}
+use Rattle.rx_passes.specs.Runs.{Fits, IsAt, IsBehind, Plays, Ran, Stops, change, stop_of}
 use Rattle.rx_passes.specs.Tells.{Gains, Told}
 use Rattle.rx_passes.proofs.Placing.{behind_both}
-use Rattle.rx_passes.proofs.Telling.{breaks_behind, fails_behind, gains_both, gains_none, wants_behind, wants_none}
+use Rattle.rx_passes.proofs.Telling.{breaks_behind, fails_behind, gains_both, gains_none, refuses_behind, wants_behind}
 
 -- ---- nothing was made
 
@@ -30,20 +31,6 @@ plays_to n s stands t shows a there p at =
       fits = (there, gains_none n t, at);
     }
 
--- memory is wanted
-pub plays_wants : {A : Type 0} (n : ℕ) (s : Setup) (stands : List Event → Type 0) (t : Told) (shows : A → Type 0)
-    (part : Part A) → ((p : Place) → part p [] [] (Cut stops.OutOfMemory))
-    → Plays (change n s stands stands t t) part shows (Some stops.OutOfMemory)
-plays_wants n s stands t shows part cut p at =
-    record {
-      events = [];
-      log = [];
-      came = Cut stops.OutOfMemory;
-      made = cut p;
-      standing = at.standing;
-      fits = (refl, wants_none n t);
-    }
-
 -- ---- one part and then another
 
 -- passes end behind what was told whole
@@ -54,6 +41,8 @@ stops_behind n s s0 s1 s2 a b c es fs ls ms stops.OutOfMemory told rest =
     wants_behind n a b c es fs ls ms told rest
 stops_behind n s s0 s1 s2 a b c es fs ls ms stops.SinkFault told rest = fails_behind n a b c es fs ls ms told rest
 stops_behind n s s0 s1 s2 a b c es fs ls ms stops.WireFault told rest = breaks_behind n a b c es fs ls ms told rest
+stops_behind n s s0 s1 s2 a b c es fs ls ms stops.Unnoted told rest = refuses_behind n a b c es fs ls ms told rest
+stops_behind n s s0 s1 s2 a b c es fs ls ms stops.Endless told rest = gains_both n a b c es fs ls ms told rest
 
 module _ {B : Type 0} (n : ℕ) (s : Setup) (s0 s1 s2 : List Event → Type 0) (a b c : Told) (after : B → Type 0)
     (p : Place) (es fs : List Event) (ls ms : List Logged) where
@@ -264,3 +253,39 @@ pub plays_at : {A : Type 0} (n m : ℕ) (s t : Setup) (s0 s1 : List Event → Ty
 plays_at n m s t s0 s1 a b part shows stop number setup plays =
     subst (λ (k : ℕ). Plays (change k s s0 s1 a b) part shows stop) number
     (subst (λ (u : Setup). Plays (change m u s0 s1 a b) part shows stop) setup plays)
+
+-- ---- where a node is
+
+-- a node that stands for a history that isn't ahead of the wire is at a place
+pub place_of : (s : Setup) (stands : List Event → Type 0) (t : Told) → (h : List Event) → stands h
+    → (looks s h).now ≤ t.wire.moment → IsAt s stands t (record { history = h; now = t.wire.moment })
+place_of s stands t h there low = record { standing = there; now = refl; later = low }
+
+-- and what is at a place isn't ahead of the wire
+pub behind_at : (s : Setup) (stands : List Event → Type 0) (t : Told) (p : Place) → IsAt s stands t p
+    → IsBehind s stands t.wire.moment
+behind_at s stands t p at =
+    (p.history, at.standing, subst (λ (m : ℕ). (looks s p.history).now ≤ m) at.now at.later)
+
+-- nor is it where a part was made whole
+pub behind_made : {A : Type 0} (n : ℕ) (s t : Setup) (s0 s1 : List Event → Type 0) (a b : Told) (part : Part A)
+    (shows : A → Type 0) → t ≡ s → IsBehind s s0 a.wire.moment → Plays (change n s s0 s1 a b) part shows None
+    → IsBehind t s1 b.wire.moment
+behind_made {A} n s t s0 s1 a b part shows same (h, there, low) plays =
+    subst (λ (u : Setup). IsBehind u s1 b.wire.moment) (sym same) (of r.came r.fits)
+  where
+    start : Place
+    start = record { history = h; now = a.wire.moment }
+
+    r : Ran (change n s s0 s1 a b) part shows None start
+    r = plays start (place_of s s0 a h there low)
+
+    of : (came : Came A) → Fits (change n s s0 s1 a b) shows start r.events r.log came None
+        → IsBehind s s1 b.wire.moment
+    of (To x) (is, told, at) = behind_at s s1 b (behind r.events r.log start) at
+    of (Cut why) fits = absurd fits
+
+-- nor where the wire's moment is later
+pub behind_later : (s : Setup) (stands : List Event → Type 0) (now later : ℕ) → now ≤ later → IsBehind s stands now
+    → IsBehind s stands later
+behind_later s stands now later more (h, there, low) = (h, there, omega (arith, more, low))

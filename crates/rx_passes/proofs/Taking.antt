@@ -20,12 +20,13 @@ use Rattle.rx_wire.proofs.TurnLaws.{HasNotedAll-none}
 use Rattle.rx_passes.specs.declared.stop.Stop.TheVariants as stops
 use Rattle.rx_passes.specs.Nodes.{Answers}
 use Rattle.rx_passes.specs.Parts.{Cut, Part, Then, To}
-use Rattle.rx_passes.specs.Ports.{PortsState, TakesAll, TakesSome, takes_came, takes_parts, takes_until, waits}
+use Rattle.rx_passes.specs.Ports.{NotesOne, PortsState, TakesAll, TakesSome, takes_came, takes_parts, takes_until}
+use Rattle.rx_passes.specs.Ports.{waits}
 use Rattle.rx_passes.specs.Runs.{Plays, change}
 use Rattle.rx_passes.specs.Tells.{HasLoggedAll, SinkTells, Told, WireTells, told, wire_tells}
 use Rattle.rx_passes.proofs.Noting.{one_noted, one_refused}
 use Rattle.rx_passes.specs.declared.stop.Stop.{Stop}
-use Rattle.rx_passes.proofs.Running.{plays_at, plays_cut, plays_join, plays_stops, plays_then, plays_wants}
+use Rattle.rx_passes.proofs.Running.{plays_at, plays_cut, plays_join, plays_stops, plays_then}
 use Rattle.rx_passes.proofs.Telling.{gained_none, gains_none, logged_none, logged_one}
 
 abbrev pub Anything : Unit {0} → Type 0
@@ -46,18 +47,25 @@ pub part_refused : (n : ℕ) (s : Setup) (s0 s1 : List Event → Type 0) (book a
     (sink : SinkTells) (wire : WireTells) (from : Host) (b : List ℕ) (got : Took)
     → Answers s s0 s1 (events.Taken from b got) → after ≡ book
     → Plays (change n s s0 s1 (told book sink wire) (told after sink wire)) (takes_parts from (b ∷ [])) Anything
-    (Some stops.OutOfMemory)
+    (Some stops.Unnoted)
 part_refused n s s0 s1 book after sink wire from b got answers same =
     one_refused n s s0 s1 book after sink wire (events.Taken from b got) refl (takes_parts from (b ∷ [])) Anything
     answers
     (λ p at. (refl, refl, ((got, refl), tt))) same
 
-pub parts_wanted : (n : ℕ) (s : Setup) (stands : List Event → Type 0) (book : Option (List Noted)) (sink : SinkTells)
-    (wire : WireTells) (from : Host) (bs : List (List ℕ))
-    → Plays (change n s stands stands (told book sink wire) (told book sink wire)) (takes_parts from bs) Anything
-    (Some stops.OutOfMemory)
-parts_wanted n s stands book sink wire from bs =
-    plays_wants n s stands (told book sink wire) Anything (takes_parts from bs) (λ p. (refl, refl, tt))
+-- by what became of its note
+pub part_told : (n : ℕ) (s : Setup) (s0 s1 : List Event → Type 0) (book after : Option (List Noted)) (sink : SinkTells)
+    (wire : WireTells) (from : Host) (b : List ℕ) (got : Took) (stop : Option Stop)
+    → Answers s s0 s1 (events.Taken from b got) → NotesOne n book after (events.Taken from b got) stop
+    → Plays (change n s s0 s1 (told book sink wire) (told after sink wire)) (takes_parts from (b ∷ [])) Anything stop
+part_told n s s0 s1 book after sink wire from b got None answers notes =
+    part_taken n s s0 s1 book after sink wire from b got answers notes
+part_told n s s0 s1 book after sink wire from b got (Some stops.Unnoted) answers notes =
+    part_refused n s s0 s1 book after sink wire from b got answers notes
+part_told n s s0 s1 book after sink wire from b got (Some stops.OutOfMemory) answers notes = absurd notes
+part_told n s s0 s1 book after sink wire from b got (Some stops.SinkFault) answers notes = absurd notes
+part_told n s s0 s1 book after sink wire from b got (Some stops.WireFault) answers notes = absurd notes
+part_told n s s0 s1 book after sink wire from b got (Some stops.Endless) answers notes = absurd notes
 
 -- ---- several
 
@@ -119,7 +127,7 @@ parts_stopped n s s0 s1 s2 a b c from xs zs y stop first second =
 -- ---- one take
 
 module _ (n : ℕ) (s : Setup) (stands : List Event → Type 0) (book : Option (List Noted)) (sink : SinkTells)
-    (old new : Option Traffic) (faults same_faults now moment until : ℕ) where
+    (old new : Option Traffic) (faults same_faults now moment room until : ℕ) where
   abbrev before : Told
   before = told book sink (wire_tells old faults now)
 
@@ -127,24 +135,34 @@ module _ (n : ℕ) (s : Setup) (stands : List Event → Type 0) (book : Option (
   after = told book sink (wire_tells new same_faults moment)
 
   -- what came, if anything came
-  pub waited : (came : Option Arrived) → now ≤ moment → same_faults ≡ faults
-      → HasLogged old new (TookUntil until came moment) → IfNone came (until ≤ moment)
+  pub waited : (came : Option Arrived) → 65536 ≤ room → now ≤ moment → same_faults ≡ faults
+      → HasLogged old new (TookUntil room until came moment) → IfNone came (until ≤ moment)
       → Plays (change n s stands stands before after) (waits until) (λ its. its ≡ came) None
-  waited came later same logged reached p at =
+  waited came roomy later same logged reached p at =
       (let here : p.now ≡ now = at.now in
       let low : (looks s p.history).now ≤ p.now = at.later in
       record {
         events = [];
-        log = TookUntil until came moment ∷ [];
+        log = TookUntil room until came moment ∷ [];
         came = To came;
-        made = (refl, record { moment = moment; log = refl; later = omega (arith, here, later); reached = reached });
+        made = (
+          refl,
+          record {
+            room = room;
+            moment = moment;
+            log = refl;
+            roomy = roomy;
+            later = omega (arith, here, later);
+            reached = reached;
+          },
+        );
         standing = at.standing;
         fits = (
           refl,
           record {
             noted = HasNotedAll-none book n;
             put = gained_none sink.put;
-            log = logged_one old new (TookUntil until came moment) logged;
+            log = logged_one old new (TookUntil room until came moment) logged;
             puts = refl;
             calls = same;
           },

@@ -8,7 +8,7 @@ use Rattle.rx_model.specs.declared.event.Noted.{Noted}
 use Rattle.rx_udp.specs.Wire.{HasLogged, Logged, Traffic}
 use Rattle.rx_wire.specs.Turns.{HasNotedAll}
 use Rattle.rx_wire.proofs.TurnLaws.{HasNotedAll-append, HasNotedAll-none}
-use Rattle.rx_passes.specs.Tells.{Breaks, Fails, GainedLast, Gains, HasLoggedAll, Told, Wants, WantsAt}
+use Rattle.rx_passes.specs.Tells.{Breaks, Fails, GainedLast, Gains, HasLoggedAll, Refuses, Told, Wants, WantsAt}
 use Rattle.rx_passes.specs.Tells.{logged_all, wants_line, wants_next, wants_note}
 use Rattle.rx_passes.specs.Texts.{event_line, lines}
 
@@ -68,6 +68,10 @@ gains_none node t =
       calls = refl;
     }
 
+-- the same where nothing was made between
+pub gains_same : (node : ℕ) (a b : Told) → b ≡ a → Gains node a b [] []
+gains_same node a b same = subst (λ (t : Told). Gains node a t [] []) (sym same) (gains_none node a)
+
 -- the lines of both, from those of each
 put_both : (a b c : Option (List ℕ)) (es fs : List Event) → Gained a b (lines es) → Gained b c (lines fs)
     → Gained a c (lines (es ++ fs))
@@ -118,6 +122,16 @@ wants_behind node a b c es fs ls ms x y =
       calls = y.calls ∙ x.calls;
     }
 
+pub refuses_behind : (node : ℕ) (a b c : Told) (es fs : List Event) (ls ms : List Logged) → Gains node a b es ls
+    → Refuses node b c fs ms → Refuses node a c (es ++ fs) (ls ++ ms)
+refuses_behind node a b c es fs ls ms x y =
+    record {
+      early = es ++ y.early;
+      last = y.last;
+      are = ap (λ (xs : List Event). es ++ xs) y.are ∙ sym (append_assoc es y.early (y.last ∷ []));
+      gains = gains_both node a b c es y.early ls ms x y.gains;
+    }
+
 -- the lines of all but the last of both, where those of the first were put
 gained_last : (a b c : Option (List ℕ)) (es fs : List Event) → Gained a b (lines es) → GainedLast b c fs
     → GainedLast a c (es ++ fs)
@@ -163,7 +177,3 @@ wants_then node a b es ls x =
       puts = x.puts;
       calls = x.calls;
     }
-
--- memory is wanted where nothing was made
-pub wants_none : (node : ℕ) (t : Told) → Wants node t t [] []
-wants_none node t = wants_then node t t [] [] (gains_none node t)

@@ -83,7 +83,8 @@ module _ (w : Words) (request : List ℕ) (class : Class) (v : CallerState) (bef
       → CallsBound w request (client_setup w class host) (Ok (call_ends.Ended v)) bound after
       → CallTold w request class v before after
   bound_told host bound same (inl wants) = absurd (cc (wants.0))
-  bound_told host bound same (inr b) = made_told host bound b.3 b.0 b.1 b.2 same b.4 b.5 b.6
+  bound_told host bound same (inr (inl refused)) = absurd (cc (refused.0))
+  bound_told host bound same (inr (inr b)) = made_told host bound b.3 b.0 b.1 b.2 same b.4 b.5 b.6
 
   told_of : CallIs w request class (Ok (call_ends.Ended v)) before after → CallTold w request class v before after
   told_of (inl nothing) = absurd (cc (nothing.result_is))

@@ -1,7 +1,7 @@
 -- Turns of a program on a node, call by call.
-use Rattle.std.proofs.Common.{◌≡◌, ◌⊎◌, ◌∙◌, ◌≤◌, ℕ, List, [], ◌∷◌, ◌++◌, Option, Some, None}
-use Rattle.std.proofs.Common.{refl, sym, ap, subst, inl}
-use Rattle.std.proofs.lemmas.List.{append-nil}
+use Rattle.std.proofs.Common.{◌≡◌, ◌∙◌, ◌≤◌, ◌+◌, ◌-◌, ◌^◌, ℕ, List, [], ◌∷◌, ◌++◌, Option, Some, None}
+use Rattle.std.proofs.Common.{refl, sym, ap, subst, length}
+use Rattle.std.proofs.lemmas.List.{append-nil, length-append}
 use Rattle.rx_dispatch.specs.Dispatching.{Turning, accepts, dispatching, over}
 use Rattle.rx_dispatch.specs.Handlers.{Handlers}
 use Rattle.rx_dispatch.specs.Jobs.{Ask, IsCall, JobState, accept, finish, read, write}
@@ -20,8 +20,8 @@ use Rattle.rx_passes.specs.Lines.{PutsLine}
 use Rattle.rx_passes.specs.Nodes.{Answers}
 use Rattle.rx_passes.specs.Parts.{Cut, To}
 use Rattle.rx_passes.specs.Runs.{Plays, Stops, change}
-use Rattle.rx_passes.specs.Serves.{dispatches}
-use Rattle.rx_passes.specs.Tells.{Fails, Gains, SinkTells, Told, Wants, WireTells, told, wants_line, wants_note}
+use Rattle.rx_passes.specs.Serves.{CutsTurn, dispatches}
+use Rattle.rx_passes.specs.Tells.{Fails, Gains, Refuses, SinkTells, Told, Wants, WireTells, told, wants_line}
 use Rattle.rx_passes.specs.Texts.{event_line, lines}
 use Rattle.rx_passes.proofs.Telling.{gained_none, gains_both, gains_none, logged_none, unnoted}
 use Rattle.rx_passes.proofs.Running.{stops_behind}
@@ -70,13 +70,19 @@ module _ (n : ℕ) (book after : Option (List Noted)) (first last : SinkTells) (
         calls = refl;
       }
 
-  pub told_refused : after ≡ book → last ≡ first → Wants n (told book first wire) (told after last wire) (e ∷ []) []
+  pub told_refused : after ≡ book → last ≡ first → Refuses n (told book first wire) (told after last wire) (e ∷ []) []
   told_refused none same =
       record {
-        wanted = wants_note [] e (unnoted n book after none) (nothing_put same);
-        log = logged_none wire.traffic;
-        puts = ap (λ (k : SinkTells). k.faults) same;
-        calls = refl;
+        early = [];
+        last = e;
+        are = refl;
+        gains = record {
+          noted = unnoted n book after none;
+          put = nothing_put same;
+          log = logged_none wire.traffic;
+          puts = ap (λ (k : SinkTells). k.faults) same;
+          calls = refl;
+        };
       }
 
 -- ---- a program that doesn't move the clock
@@ -100,25 +106,29 @@ dispatching_still g (finish c code) e is m = ap (λ (x : Event). with_clock x m)
 
 -- ---- a turn so far
 
--- calls of a turn were made and told
+-- so many calls of a turn were made and told
 pub record Went {View Ask : Type 0} (p : Program View Ask) (n : ℕ) (s0 s1 : List Event → Type 0) (v w : View)
-    (a b : Told) : Type 0 where
+    (a b : Told) (count : ℕ) : Type 0 where
   pub events : List Event
+  pub counted : length events ≡ count
   pub runs : Runs p v events w
   pub standing : (h : List Event) → s0 h → s1 (after_all events h)
   pub told : Gains n a b events []
 
 pub went_here : {View Ask : Type 0} (p : Program View Ask) (n : ℕ) (s0 : List Event → Type 0) (v : View) (t : Told)
-    → Went p n s0 s0 v v t t
-went_here p n s0 v t = record { events = []; runs = stays v; standing = λ h is. is; told = gains_none n t }
+    → Went p n s0 s0 v v t t 0
+went_here p n s0 v t =
+    record { events = []; counted = refl; runs = stays v; standing = λ h is. is; told = gains_none n t }
 
 -- one call more
 pub went_more : {View Ask : Type 0} (p : Program View Ask) (n : ℕ) (s : Setup) (s0 s1 s2 : List Event → Type 0)
-    (v w u : View) (a b c : Told) (ask : Ask) (e : Event) → Went p n s0 s1 v w a b → p.asks w ≡ Some ask → p.is ask e
-    → p.heard w e ≡ u → Answers s s1 s2 e → Gains n b c (e ∷ []) [] → Went p n s0 s2 v u a c
-went_more p n s s0 s1 s2 v w u a b c ask e x asked is heard answers one =
+    (v w u : View) (a b c : Told) (count : ℕ) (ask : Ask) (e : Event) → Went p n s0 s1 v w a b count
+    → p.asks w ≡ Some ask → p.is ask e → p.heard w e ≡ u → Answers s s1 s2 e → Gains n b c (e ∷ []) []
+    → Went p n s0 s2 v u a c (count + 1)
+went_more p n s s0 s1 s2 v w u a b c count ask e x asked is heard answers one =
     record {
       events = x.events ++ e ∷ [];
+      counted = length-append x.events (e ∷ []) ∙ ap (λ (k : ℕ). k + 1) x.counted;
       runs = Runs-append p v w u x.events (e ∷ []) x.runs
           (subst (Runs p w (e ∷ [])) heard (Runs-one p w ask e asked is));
       standing = λ h there. subst s2 (sym (after_all-append x.events (e ∷ []) h))
@@ -129,9 +139,9 @@ went_more p n s s0 s1 s2 v w u a b c ask e x asked is heard answers one =
 -- ---- turns of the handlers
 
 module _ (n : ℕ) (s : Setup) (g : Handlers) (jobs : List JobState) (s0 s1 : List Event → Type 0) (v : Turning)
-    (a b : Told) (wire : a.wire ≡ b.wire) where
+    (a b : Told) (count : ℕ) (wire : a.wire ≡ b.wire) where
   -- it is over
-  pub went_over : (after : List JobState) → Went (dispatching g) n s0 s1 (accepts jobs) v a b → v ≡ over after
+  pub went_over : (after : List JobState) → Went (dispatching g) n s0 s1 (accepts jobs) v a b count → v ≡ over after
       → Plays (change n s s0 s1 a b) (dispatches g jobs) (λ js. js ≡ after) None
   went_over after x is p at =
       record {
@@ -160,32 +170,60 @@ module _ (n : ℕ) (s : Setup) (g : Handlers) (jobs : List JobState) (s0 s1 : Li
       }
 
   -- memory is wanted before the next call
-  pub went_wants : (shows : List JobState → Type 0) → Went (dispatching g) n s0 s1 (accepts jobs) v a b
+  pub went_wants : (shows : List JobState → Type 0) → Went (dispatching g) n s0 s1 (accepts jobs) v a b count
       → Plays (change n s s0 s1 a b) (dispatches g jobs) shows (Some stops.OutOfMemory)
   went_wants shows x p at =
       record {
         events = x.events;
         log = [];
         came = Cut stops.OutOfMemory;
-        made = (inl refl, refl, (v, x.runs));
+        made = (tt, refl, (v, x.runs));
         standing = x.standing p.history at.standing;
         fits = (refl, wants_then n a b x.events [] x.told);
       }
 
+  -- calls come to no end
+  pub went_endless : (shows : List JobState → Type 0) → Went (dispatching g) n s0 s1 (accepts jobs) v a b count
+      → 2 ^ 64 - 1 ≤ count → Plays (change n s s0 s1 a b) (dispatches g jobs) shows (Some stops.Endless)
+  went_endless shows x many p at =
+      record {
+        events = x.events;
+        log = [];
+        came = Cut stops.Endless;
+        made = (subst (λ (k : ℕ). 2 ^ 64 - 1 ≤ k) (sym x.counted) many, refl, (v, x.runs));
+        standing = x.standing p.history at.standing;
+        fits = (refl, x.told);
+      }
+
+-- how passes end at one call of a turn: memory is wanted, the sink fails, or its note is refused
+abbrev pub IsTold : Stop → Type 0
+IsTold stops.OutOfMemory = Unit {0}
+IsTold stops.SinkFault = Unit {0}
+IsTold stops.Unnoted = Unit {0}
+IsTold stops.Endless = ⊥
+IsTold stops.WireFault = ⊥
+
+cuts_told : (stop : Stop) (es : List Event) → IsTold stop → CutsTurn stop es
+cuts_told stops.OutOfMemory es short = tt
+cuts_told stops.SinkFault es short = tt
+cuts_told stops.Unnoted es short = tt
+cuts_told stops.Endless es short = absurd short
+cuts_told stops.WireFault es short = absurd short
+
 -- passes ended at the next call
 pub went_stops : (n : ℕ) (s z : Setup) (g : Handlers) (jobs : List JobState) (s0 s1 s2 : List Event → Type 0)
-    (v u : Turning) (a b c : Told) (ask : Ask) (e : Event) (shows : List JobState → Type 0) (stop : Stop)
-    → Went (dispatching g) n s0 s1 (accepts jobs) v a b → (dispatching g).asks v ≡ Some ask → IsCall ask e
+    (v u : Turning) (a b c : Told) (count : ℕ) (ask : Ask) (e : Event) (shows : List JobState → Type 0) (stop : Stop)
+    → Went (dispatching g) n s0 s1 (accepts jobs) v a b count → (dispatching g).asks v ≡ Some ask → IsCall ask e
     → (dispatching g).heard v e ≡ u → Answers z s1 s2 e
-    → ((stop ≡ stops.OutOfMemory) ⊎ (stop ≡ stops.SinkFault)) × Stops (change n s s1 s2 b c) (e ∷ []) [] stop
+    → IsTold stop → Stops (change n s s1 s2 b c) (e ∷ []) [] stop
     → Plays (change n s s0 s2 a c) (dispatches g jobs) shows (Some stop)
-went_stops n s z g jobs s0 s1 s2 v u a b c ask e shows stop x asked is heard answers told p at =
+went_stops n s z g jobs s0 s1 s2 v u a b c count ask e shows stop x asked is heard answers short told p at =
     record {
       events = x.events ++ e ∷ [];
       log = [];
       came = Cut stop;
       made = (
-        told.0,
+        cuts_told stop (x.events ++ e ∷ []) short,
         refl,
         (
           u,
@@ -195,5 +233,5 @@ went_stops n s z g jobs s0 s1 s2 v u a b c ask e shows stop x asked is heard ans
       );
       standing = subst s2 (sym (after_all-append x.events (e ∷ []) p.history))
           (answers (after_all x.events p.history) (x.standing p.history at.standing)).1;
-      fits = (refl, stops_behind n s s0 s1 s2 a b c x.events (e ∷ []) [] [] stop x.told told.1);
+      fits = (refl, stops_behind n s s0 s1 s2 a b c x.events (e ∷ []) [] [] stop x.told told);
     }

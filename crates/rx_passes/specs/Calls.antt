@@ -18,48 +18,32 @@ use Rattle.rx_passes.specs.declared.calling.CallEnd.TheVariants as call_ends
 use Rattle.rx_passes.specs.declared.calling.Calling.{Calling as Words}
 use Rattle.rx_passes.specs.declared.stop.Stop.{Stop}
 use Rattle.rx_passes.specs.declared.stop.Stop.TheVariants as stops
-use Rattle.rx_passes.specs.Parts.{Came, To, Cut, One, Part, Place, Then, behind, ends}
+use Rattle.rx_passes.specs.Parts.{To, Cut, One, Part, Place, Then, behind}
 use Rattle.rx_passes.specs.Ports.{clocks, takes}
 use Rattle.rx_passes.specs.Serves.{Passed, pass, plays}
-use Rattle.rx_passes.specs.Tells.{Breaks, Gains, Told, Wants}
+use Rattle.rx_passes.specs.Tells.{Breaks, Gains, Refuses, Told, Wants}
 
 -- ---- the beginning
 
--- a connection to a service of a host, whose first call has the number 1
-abbrev pub IsLinked : Host → ℕ → Event → Type 0
-IsLinked to service (events.Linked its_to its first got) = (its_to ≡ to) × (its ≡ service) × (first ≡ 1)
-IsLinked to service _ = ⊥
-
--- a call on a connection
-abbrev pub IsCalledOn : ℕ → Event → Type 0
-IsCalledOn cid (events.Called its got) = its ≡ cid
-IsCalledOn cid _ = ⊥
-
--- the name that a call answered; where it answered none, passes end for want of memory
-abbrev pub named : Event → Came CallName
-named (events.Called cid (Ok name)) = To name
-named _ = Cut stops.OutOfMemory
-
--- the cid of the connection that was made
-abbrev pub linked : Event → Came ℕ
-linked (events.Linked to service first (Ok cid)) = To cid
-linked _ = Cut stops.OutOfMemory
+-- a connection to a service of a host is made, whose first call has the number 1
+abbrev pub links : Host → ℕ → Part ℕ
+links to service = One (λ cid. events.Linked to service 1 (Ok cid))
 
 -- a call is begun on a connection
 abbrev pub begins_on : ℕ → Part CallName
-begins_on cid = Then (One (IsCalledOn cid)) (λ c. ends (named c))
+begins_on cid = One (λ name. events.Called cid (Ok name))
 
 -- the connection is made, and then the call on it
 abbrev pub begins_to : Host → ℕ → Part CallName
-begins_to to service = Then (Then (One (IsLinked to service)) (λ l. ends (linked l))) begins_on
+begins_to to service = Then (links to service) begins_on
 
 -- the clock is handed in before
 abbrev pub begins : Words → Part CallName
-begins w = Then clocks (λ e. begins_to w.to w.service)
+begins w = Then clocks (λ u. begins_to w.to w.service)
 
 -- ---- passes
 
--- a turn of the caller, unless memory is wanted
+-- a turn of the caller, unless it wants memory
 abbrev pub calls : CallerState → Part CallerState
 calls v p es ls (To w) = (ls ≡ []) × Turns (calling REPLY_BYTES) (begun v) es w
 calls v p es ls (Cut stop) =
@@ -122,6 +106,8 @@ CallEnds node (Ok (call_ends.Ended caller)) (IsEnded v) before after es ls =
 CallEnds node (Ok call_ends.TurnsSpent) IsSpent before after es ls = Gains node before after es ls
 CallEnds node (Err stops.OutOfMemory) (IsCut stops.OutOfMemory) before after es ls = Wants node before after es ls
 CallEnds node (Err stops.WireFault) (IsCut stops.WireFault) before after es ls = Breaks node before after es ls
+CallEnds node (Err stops.Unnoted) (IsCut stops.Unnoted) before after es ls = Refuses node before after es ls
+CallEnds node (Err stops.Endless) (IsCut stops.Endless) before after es ls = Gains node before after es ls
 CallEnds node _ _ before after es ls = ⊥
 
 -- passes of a call were made and told, and the history of its client is legal
@@ -153,12 +139,14 @@ pub record CallsNothing (result : Result CallEnd Stop) (before after : Told) : T
   pub traffic : after.wire.traffic ≡ before.wire.traffic
   pub calls : HasRisen before.wire.faults after.wire.faults
 
--- The beginning of a call ended it, for want of memory; or it began, and passes were made.
+-- Memory was wanted before anything was made; or a note was refused as the call began; or it began, and passes were
+-- made.
 abbrev pub CallsBound : Words → List ℕ → Setup → Result CallEnd Stop → Told → Told → Type 0
 CallsBound w request s result before after =
-    ((result ≡ Err stops.OutOfMemory) × ((es : List Event) × (ls : List Logged)
-    × begins w (record { history = []; now = before.wire.moment }) es ls (Cut stops.OutOfMemory)
-    × Legal s (after_all es []) × Wants 1 before after es ls))
+    ((result ≡ Err stops.OutOfMemory) × (after ≡ before))
+    ⊎ ((result ≡ Err stops.Unnoted) × ((es : List Event) × (ls : List Logged)
+    × begins w (record { history = []; now = before.wire.moment }) es ls (Cut stops.Unnoted)
+    × Legal s (after_all es []) × Refuses 1 before after es ls))
     ⊎ ((name : CallName) × (es : List Event) × (ls : List Logged) × (between : Told)
     × begins w (record { history = []; now = before.wire.moment }) es ls (To name) × Gains 1 before between es ls
     × CallMade (call_terms w s) (caller_for 1 name request)

@@ -12,6 +12,8 @@ PutsLine before after line (Some stops.OutOfMemory) = after ≡ before
 PutsLine before after line (Some stops.SinkFault) =
     GainedSome before.put after.put line × HasRisen before.faults after.faults × (line ≢ [])
 PutsLine before after line (Some stops.WireFault) = ⊥
+PutsLine before after line (Some stops.Unnoted) = ⊥
+PutsLine before after line (Some stops.Endless) = ⊥
 
 -- the same of a text, for which no memory is wanted
 abbrev pub PutsText : SinkTells → SinkTells → List ℕ → Option Stop → Type 0
@@ -20,3 +22,5 @@ PutsText before after text (Some stops.OutOfMemory) = ⊥
 PutsText before after text (Some stops.SinkFault) =
     GainedSome before.put after.put text × HasRisen before.faults after.faults
 PutsText before after text (Some stops.WireFault) = ⊥
+PutsText before after text (Some stops.Unnoted) = ⊥
+PutsText before after text (Some stops.Endless) = ⊥

@@ -16,7 +16,7 @@ pub record Place : Type 0 where
 
 -- the moment behind an entry of the log: a take alone moves it
 abbrev pub moment_by : Logged → ℕ → ℕ
-moment_by (TookUntil until came moment) now = moment
+moment_by (TookUntil room until came moment) now = moment
 moment_by (GaveTo to bytes) now = now
 
 -- the moment behind these entries
@@ -61,8 +61,7 @@ pub record Then {A B : Type 0} (first : Part A) (next : A → Part B) (p : Place
   pub made : first p early early_log came
   pub goes : goes_on next came (behind early early_log p) late late_log out
 
--- one event of the node; memory may be wanted before it, or behind it
-pub data One (is : Event → Type 0) (p : Place) : List Event → List Logged → Came Event → Type 0 where
-  not_made : One is p [] [] (Cut stops.OutOfMemory)
-  cut_behind : (e : Event) → is e → One is p (e ∷ []) [] (Cut stops.OutOfMemory)
-  makes : (e : Event) → is e → One is p (e ∷ []) [] (To e)
+-- one event of the node, by what it answered; where its note is refused passes end behind it
+pub data One {A : Type 0} (event : A → Event) (p : Place) : List Event → List Logged → Came A → Type 0 where
+  makes : (a : A) → One event p (event a ∷ []) [] (To a)
+  refuses : (a : A) → One event p (event a ∷ []) [] (Cut stops.Unnoted)

@@ -28,8 +28,8 @@ pub record PortsState : Type 0 where
 -- ---- the clock
 
 -- the moment of the wire is handed in
-abbrev pub clocks : Part Event
-clocks p = One (λ e. e ≡ events.Clocked p.now) p
+abbrev pub clocks : Part (Unit {0})
+clocks p = One (λ u. events.Clocked p.now) p
 
 -- ---- polling
 
@@ -64,13 +64,17 @@ pub record PollsOut (most : ℕ) (es : List Event) (ls : List Logged) : Type 0 w
   pub joined : parts_all given ≡ polled
   pub few : AreOfFew most given
 
--- memory was wanted, or the wire failed
-abbrev pub IsOfWire : Stop → Type 0
-IsOfWire stop = (stop ≡ stops.OutOfMemory) ⊎ (stop ≡ stops.WireFault)
+-- why polls end passes, by what is missing of them on the wire: the note of one was refused; or the wire failed, and
+-- some is missing; or there were 2^64 - 1 of them or more, and nothing is missing
+abbrev pub CutsPolls : Stop → List (Host × List ℕ) → List Event → Type 0
+CutsPolls stops.Unnoted missing es = Unit {0}
+CutsPolls stops.WireFault missing es = missing ≢ []
+CutsPolls stops.Endless missing es = (missing ≡ []) × (2 ^ 64 - 1 ≤ length es)
+CutsPolls stops.OutOfMemory missing es = ⊥
+CutsPolls stops.SinkFault missing es = ⊥
 
--- polls in which passes ended: a suffix of what they gave may be missing on the wire, and is where the wire failed
+-- polls in which passes ended: what they gave was given on the wire, joined, but for a suffix that is missing
 pub record PollsCut (most : ℕ) (stop : Stop) (es : List Event) (ls : List Logged) : Type 0 where
-  pub reason : IsOfWire stop
   pub polled : List (Host × List ℕ)
   pub given : List (Host × List ℕ)
   pub missing : List (Host × List ℕ)
@@ -78,10 +82,10 @@ pub record PollsCut (most : ℕ) (stop : Stop) (es : List Event) (ls : List Logg
   pub log : ls ≡ gave_all given
   pub joined : parts_all given ++ missing ≡ polled
   pub few : AreOfFew most given
-  pub lost : stop ≡ stops.WireFault → missing ≢ []
+  pub reason : CutsPolls stop missing es
 
--- one polling, of which at most so many datagrams are given as one; passes end in it for want of memory or as the wire
--- fails
+-- one polling, of which at most so many datagrams are given as one; passes end in it as a note is refused, as the wire
+-- fails, or as it has no end
 abbrev pub polls : ℕ → Part (Unit {0})
 polls most p es ls (To done) = PollsOut most es ls
 polls most p es ls (Cut stop) = PollsCut most stop es ls
@@ -114,21 +118,24 @@ TakesSome from bs [] = Unit {0}
 TakesSome from [] (e ∷ es) = ⊥
 TakesSome from (b ∷ bs) (e ∷ es) = IsTaken from b e × TakesSome from bs es
 
--- the node takes these from a host, one after another, unless memory is wanted
+-- the node takes these from a host, one after another, unless the note of one is refused
 abbrev pub takes_parts : Host → List (List ℕ) → Part (Unit {0})
 takes_parts from bs p es ls (To done) = (ls ≡ []) × TakesAll from bs es
-takes_parts from bs p es ls (Cut stop) = (stop ≡ stops.OutOfMemory) × (ls ≡ []) × TakesSome from bs es
+takes_parts from bs p es ls (Cut stop) = (stop ≡ stops.Unnoted) × (ls ≡ []) × TakesSome from bs es
 
 -- the node takes what came, if anything came: the clock is handed in, and then it takes each part
 abbrev pub takes_came : Option Arrived → Part (Unit {0})
 takes_came None p es ls (To done) = (es ≡ []) × (ls ≡ [])
 takes_came None p es ls (Cut stop) = ⊥
-takes_came (Some came) p es ls out = Then clocks (λ e. takes_parts came.from (parts_of came.bytes)) p es ls out
+takes_came (Some came) p es ls out = Then clocks (λ u. takes_parts came.from (parts_of came.bytes)) p es ls out
 
--- one take up to this moment in the log, by which this came: if nothing came, it waited up to its moment
+-- one take up to this moment in the log, with room for any datagram, by which this came: if nothing came, it waited up
+-- to its moment
 pub record Waits (until : ℕ) (p : Place) (ls : List Logged) (came : Option Arrived) : Type 0 where
+  pub room : ℕ
   pub moment : ℕ
-  pub log : ls ≡ TookUntil until came moment ∷ []
+  pub log : ls ≡ TookUntil room until came moment ∷ []
+  pub roomy : 65536 ≤ room
   pub later : p.now ≤ moment
   pub reached : IfNone came (until ≤ moment)
 
@@ -161,7 +168,7 @@ pub record Keeps (old new : JoinerState) : Type 0 where
   pub within : IsWithin new
   pub most : new.most ≡ old.most
 
--- the wire gave these datagrams, one after another, and failed then or didn't; memory isn't wanted for it
+-- the wire gave these datagrams, one after another, and failed then or didn't; nothing else ends passes there
 abbrev pub Gave : WireTells → WireTells → List (Host × List ℕ) → Option Stop → Type 0
 Gave before after given None =
     HasLoggedAll before.traffic after.traffic (gave_all given) × (after.faults ≡ before.faults)
@@ -171,6 +178,8 @@ Gave before after given (Some stops.WireFault) =
     × (after.moment ≡ before.moment)
 Gave before after given (Some stops.SinkFault) = ⊥
 Gave before after given (Some stops.OutOfMemory) = ⊥
+Gave before after given (Some stops.Unnoted) = ⊥
+Gave before after given (Some stops.Endless) = ⊥
 
 -- what is held back behind these datagrams given: nothing is missing where the wire didn't fail, and some where it did
 abbrev pub Behind : List (Host × List ℕ) → List (Host × List ℕ) → JoinerState → Option Stop → Type 0
@@ -211,20 +220,26 @@ pub record CutsOne (old : JoinerState) (es : List Event) (ls : List Logged) : Ty
   pub few : AreOfFew old.most given
   pub lost : missing ≢ []
 
--- one poll, and whether it gave something; where it gave nothing passes end for want of memory alone
+-- the note of a poll was refused, or the wire failed
+abbrev pub EndsAPoll : Stop → Type 0
+EndsAPoll stop = (stop ≡ stops.Unnoted) ⊎ (stop ≡ stops.WireFault)
+
+-- one poll, and whether it gave something; where it gave nothing a refused note alone ends passes
 abbrev pub polls_once : JoinerState → JoinerState → Part Bool
 polls_once old new p es ls (To true) = PollsOne old new es ls
 polls_once old new p es ls (To false) = (es ≡ events.Polled None ∷ []) × (ls ≡ []) × (new ≡ old)
 polls_once old new p es ls (Cut stop) =
-    ((stop ≡ stops.OutOfMemory) × (es ≡ events.Polled None ∷ []) × (ls ≡ []))
-    ⊎ (IsOfWire stop × CutsOne old es ls)
+    ((stop ≡ stops.Unnoted) × (es ≡ events.Polled None ∷ []) × (ls ≡ []))
+    ⊎ (EndsAPoll stop × CutsOne old es ls)
 
--- an event was noted, or memory was wanted for that
+-- an event was noted, or its note was refused
 abbrev pub NotesOne : ℕ → Option (List Noted) → Option (List Noted) → Event → Option Stop → Type 0
 NotesOne node before after e None = HasNoted before after (noted node e)
-NotesOne node before after e (Some stops.OutOfMemory) = after ≡ before
+NotesOne node before after e (Some stops.Unnoted) = after ≡ before
+NotesOne node before after e (Some stops.OutOfMemory) = ⊥
 NotesOne node before after e (Some stops.SinkFault) = ⊥
 NotesOne node before after e (Some stops.WireFault) = ⊥
+NotesOne node before after e (Some stops.Endless) = ⊥
 
 -- the wire gave a datagram, or failed
 abbrev pub GivesOne : WireTells → WireTells → Host × List ℕ → Option Stop → Type 0
@@ -235,14 +250,18 @@ GivesOne before after d (Some stops.WireFault) =
     (after.traffic ≡ before.traffic) × HasRisen before.faults after.faults × (after.moment ≡ before.moment)
 GivesOne before after d (Some stops.SinkFault) = ⊥
 GivesOne before after d (Some stops.OutOfMemory) = ⊥
+GivesOne before after d (Some stops.Unnoted) = ⊥
+GivesOne before after d (Some stops.Endless) = ⊥
 
--- a datagram that was polled was noted and passed on; or memory was wanted for its note; or the wire failed
+-- a datagram that was polled was noted and passed on; or its note was refused; or the wire failed
 abbrev pub PassesOn : ℕ → JoinerState → JoinerState → Option (List Noted) → Option (List Noted) → Host × List ℕ
     → WireTells → WireTells → Option Stop → Type 0
 PassesOn node old new before after d first last None =
     HasNoted before after (noted node (events.Polled (Some d))) × Passes (held old ++ d ∷ []) old new first last None
-PassesOn node old new before after d first last (Some stops.OutOfMemory) = (after ≡ before) × (last ≡ first)
+PassesOn node old new before after d first last (Some stops.Unnoted) = (after ≡ before) × (last ≡ first)
+PassesOn node old new before after d first last (Some stops.OutOfMemory) = ⊥
 PassesOn node old new before after d first last (Some stops.SinkFault) = ⊥
+PassesOn node old new before after d first last (Some stops.Endless) = ⊥
 PassesOn node old new before after d first last (Some stops.WireFault) =
     HasNoted before after (noted node (events.Polled (Some d)))
     × Passes (held old ++ d ∷ []) old new first last (Some stops.WireFault)

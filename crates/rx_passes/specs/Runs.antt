@@ -7,7 +7,7 @@ use Rattle.rx_udp.specs.Wire.{Logged}
 use Rattle.rx_passes.specs.declared.stop.Stop.{Stop}
 use Rattle.rx_passes.specs.declared.stop.Stop.TheVariants as stops
 use Rattle.rx_passes.specs.Parts.{Came, To, Cut, Part, Place, behind}
-use Rattle.rx_passes.specs.Tells.{Breaks, Fails, Gains, Told, Wants}
+use Rattle.rx_passes.specs.Tells.{Breaks, Fails, Gains, Refuses, Told, Wants}
 
 -- why a result ends passes, if it does
 abbrev pub stop_of : {T : Type 0} → Result T Stop → Option Stop
@@ -35,11 +35,17 @@ pub record IsAt (s : Setup) (stands : List Event → Type 0) (t : Told) (p : Pla
   pub now : p.now ≡ t.wire.moment
   pub later : (looks s p.history).now ≤ p.now
 
+-- a node that stands for these histories stands for some that isn't ahead of a moment
+abbrev pub IsBehind : Setup → (List Event → Type 0) → ℕ → Type 0
+IsBehind s stands now = (h : List Event) × stands h × ((looks s h).now ≤ now)
+
 -- what was told of what was made, where passes end for this reason
 abbrev pub Stops : Change → List Event → List Logged → Stop → Type 0
 Stops c es ls stops.OutOfMemory = Wants c.node c.before c.after es ls
 Stops c es ls stops.SinkFault = Fails c.node c.before c.after es ls
 Stops c es ls stops.WireFault = Breaks c.node c.before c.after es ls
+Stops c es ls stops.Unnoted = Refuses c.node c.before c.after es ls
+Stops c es ls stops.Endless = Gains c.node c.before c.after es ls
 
 -- what was come to, how passes go on, and what was told of what was made: passes end for the part's reason
 abbrev pub Fits : {A : Type 0} → Change → (A → Type 0) → Place → List Event → List Logged → Came A → Option Stop → Type

@@ -1,5 +1,5 @@
 -- The passes of a server, and how they go. Public clauses cite this module.
-use Rattle.std.specs.Prelude.{◌≡◌, ◌⊎◌, ◌<◌, ◌≤◌, ℕ, suc, List, [], ◌++◌, Some}
+use Rattle.std.specs.Prelude.{◌≡◌, ◌-◌, ◌^◌, ◌<◌, ◌≤◌, ℕ, suc, List, [], ◌++◌, Some, length}
 use Rattle.rx_dispatch.specs.Dispatching.{Turning, accepts, dispatching, over}
 use Rattle.rx_dispatch.specs.Handlers.{Handlers}
 use Rattle.rx_dispatch.specs.Jobs.{JobState}
@@ -18,7 +18,7 @@ use Rattle.rx_passes.specs.Ports.{clocks, polls, takes}
 -- and the node is polled again
 abbrev pub plays : {V : Type 0} → ℕ → (V → Part V) → V → Part V
 plays most turn v =
-    Then clocks (λ e. Then (polls most) (λ u. Then (turn v) (λ w. Then (polls most) (λ u. ends (To w)))))
+    Then clocks (λ u. Then (polls most) (λ u. Then (turn v) (λ w. Then (polls most) (λ u. ends (To w)))))
 
 -- a whole pass
 abbrev pub pass : {V : Type 0} → (V → Part V) → Part (Unit {0}) → V → Part V
@@ -36,12 +36,20 @@ pub data Passed {V : Type 0} (play : V → Part V) (take : Part (Unit {0})) (goe
 
 -- ---- serving
 
--- a turn of the handlers that have these jobs, unless memory is wanted or the sink fails
+-- why a turn of the handlers ends passes: memory is wanted, the sink fails, a note is refused, or the turn has 2^64 - 1
+-- calls or more
+abbrev pub CutsTurn : Stop → List Event → Type 0
+CutsTurn stops.OutOfMemory es = Unit {0}
+CutsTurn stops.SinkFault es = Unit {0}
+CutsTurn stops.Unnoted es = Unit {0}
+CutsTurn stops.Endless es = 2 ^ 64 - 1 ≤ length es
+CutsTurn stops.WireFault es = ⊥
+
+-- a turn of the handlers that have these jobs, unless passes end in it
 abbrev pub dispatches : Handlers → List JobState → Part (List JobState)
 dispatches g jobs at es ls (To after) = (ls ≡ []) × Turns (dispatching g) (accepts jobs) es (over after)
 dispatches g jobs at es ls (Cut stop) =
-    ((stop ≡ stops.OutOfMemory) ⊎ (stop ≡ stops.SinkFault)) × (ls ≡ [])
-    × ((w : Turning) × Runs (dispatching g) (accepts jobs) es w)
+    CutsTurn stop es × (ls ≡ []) × ((w : Turning) × Runs (dispatching g) (accepts jobs) es w)
 
 -- what a server serves by: its handlers, how it is set up, how many datagrams at most are given as one, how many takes
 -- are made at most, and up to which moment it serves

@@ -16,7 +16,7 @@ use Rattle.rx_passes.specs.declared.stop.Stop.{Stop}
 use Rattle.rx_passes.specs.declared.stop.Stop.TheVariants as stops
 use Rattle.rx_passes.specs.Parts.{Place}
 use Rattle.rx_passes.specs.Serves.{IsCut, IsSpent, IsUp, ServeCame, Serves, Terms}
-use Rattle.rx_passes.specs.Tells.{Breaks, Fails, Gains, HasLoggedAll, Told, Wants}
+use Rattle.rx_passes.specs.Tells.{Breaks, Fails, Gains, HasLoggedAll, Refuses, Told, Wants}
 use Rattle.rx_passes.specs.Texts.{lines, ready_line, time_up_line}
 
 -- how a server is set up, by what it is served with and its class: it is prompt
@@ -56,6 +56,8 @@ ServeEnds node (Err stops.OutOfMemory) (IsCut stops.OutOfMemory) before after es
 ServeEnds node (Err stops.SinkFault) (IsCut stops.SinkFault) before after es ls = Fails node before after es ls
 ServeEnds node (Err stops.SinkFault) IsUp before after es ls = FailsUp node before after es ls
 ServeEnds node (Err stops.WireFault) (IsCut stops.WireFault) before after es ls = Breaks node before after es ls
+ServeEnds node (Err stops.Unnoted) (IsCut stops.Unnoted) before after es ls = Refuses node before after es ls
+ServeEnds node (Err stops.Endless) (IsCut stops.Endless) before after es ls = Gains node before after es ls
 ServeEnds node _ _ before after es ls = ⊥
 
 -- passes of a server were made and told, and its history is legal

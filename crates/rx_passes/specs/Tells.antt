@@ -73,6 +73,13 @@ pub record Wants (node : ℕ) (before after : Told) (es : List Event) (ls : List
   pub puts : after.sink.faults ≡ before.sink.faults
   pub calls : after.wire.faults ≡ before.wire.faults
 
+-- the same of all events but the last, whose note was refused
+pub record Refuses (node : ℕ) (before after : Told) (es : List Event) (ls : List Logged) : Type 0 where
+  pub early : List Event
+  pub last : Event
+  pub are : es ≡ early ++ last ∷ []
+  pub gains : Gains node before after early ls
+
 -- the lines of all events but the last were put, and of that of the last, which has one, the first bytes
 abbrev pub GainedLast : Option (List ℕ) → Option (List ℕ) → List Event → Type 0
 GainedLast before after es =

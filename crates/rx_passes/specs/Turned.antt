@@ -15,10 +15,10 @@ use Rattle.rx_passes.specs.Lines.{PutsLine}
 use Rattle.rx_passes.specs.Tells.{SinkTells}
 use Rattle.rx_passes.specs.Texts.{event_line}
 
--- an event was noted, and its line put; or memory was wanted for its note, or for its line; or the sink failed
+-- an event was noted, and its line put; or its note was refused; or memory was wanted for its line; or the sink failed
 pub data TellsOne (node : ℕ) (before after : Option (List Noted)) (first last : SinkTells) (e : Event)
     : Option Stop → Type 0 where
-  tells_refused : after ≡ before → last ≡ first → TellsOne node before after first last e (Some stops.OutOfMemory)
+  tells_refused : after ≡ before → last ≡ first → TellsOne node before after first last e (Some stops.Unnoted)
   tells_line : (stop : Option Stop) → HasNoted before after (noted node e)
       → PutsLine first last (event_line e) stop → TellsOne node before after first last e stop
 

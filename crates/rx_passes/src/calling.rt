@@ -1,5 +1,6 @@
 //! One call over a wire.
-ghost use Rattle.std.specs.Prelude.{◌≡◌, ◌≤◌, IfErr, IfOk, None, is_some};
+ghost use Rattle.std.specs.Prelude.{◌≡◌, ◌≤◌, ℕ, ◌∷◌, [], IfErr, IfOk, OnErr, None, Ok, is_some, true};
+ghost use Rattle.rx_model.specs.declared.event.Event.TheVariants as events;
 ghost use Rattle.rx_jumbo.specs.declared.sizes.TheConstants.{JUMBO_PARTS};
 ghost use Rattle.rx_node.specs.Node.{setup_of};
 ghost use Rattle.rx_node.specs.Steps.{StandsNode};
@@ -7,13 +8,15 @@ ghost use Rattle.rx_rules.specs.Setup as setups;
 ghost use Rattle.rx_rules.specs.Setup.{FitsSetup};
 ghost use Rattle.rx_passes.specs.Calls.{CallIs, CallMade, CallsBound, begins, begins_on, begins_to, calls};
 ghost use Rattle.rx_passes.specs.Calls.{client_setup};
+ghost use Rattle.rx_passes.specs.Nodes.{Answers};
 ghost use Rattle.rx_passes.specs.Parts.{Place};
 ghost use Rattle.rx_passes.specs.Ports.{AreReady, takes};
-ghost use Rattle.rx_passes.specs.Runs.{IsAt, Plays, change, stop_of};
+ghost use Rattle.rx_passes.specs.Runs.{IsAt, IsBehind, Plays, change, stop_of};
 ghost use Rattle.rx_passes.specs.Serves.{plays};
 ghost use Rattle.rx_passes.specs.Tells.{SinkTells, WireTells, told, wire_tells};
 
 use crate::lines::CLIENT;
+use crate::notes::note;
 use crate::ports::{Ports, wait_until};
 use crate::stop::Stop;
 use rx_caller::Caller;
@@ -58,9 +61,10 @@ pub fn call<C: Class, W: Wire, J: Journal>(
     requires limits { setups.FitsLimits calling.now.limits }
     requires some { 1 ≤ calling.now.jumbo }
     requires few { calling.now.jumbo ≤ JUMBO_PARTS }
-    ensures { (sink : SinkTells) → CallIs calling.now request.items (C.class_of (C.secret class)) result
+    ensures calls { (sink : SinkTells) → CallIs calling.now request.items (C.class_of (C.secret class)) result
         (told (J.told book.old) sink (wire_tells (W.told wire.old) (W.faults wire.old) (W.moment wire.old)))
         (told (J.told book.new) sink (wire_tells (W.told wire.new) (W.faults wire.new) (W.moment wire.new))) }
+    ensures unnoted { IfErr result (λ stop. stop ≡ Stop.Unnoted → J.may_want ≡ true) }
 {
     match wire.bind(calling.from) {
         Ok(host) => call_from(alloc, request, calling, class, host, wire, book),
@@ -81,10 +85,11 @@ fn call_from<C: Class, W: Wire, J: Journal>(
     requires limits { setups.FitsLimits calling.now.limits }
     requires some { 1 ≤ calling.now.jumbo }
     requires few { calling.now.jumbo ≤ JUMBO_PARTS }
-    ensures { (sink : SinkTells) → CallsBound calling.now request.items
+    ensures calls { (sink : SinkTells) → CallsBound calling.now request.items
         (client_setup calling.now (C.class_of (C.secret class)) host) result
         (told (J.told book.old) sink (wire_tells (W.told wire.old) (W.faults wire.old) (W.moment wire.old)))
         (told (J.told book.new) sink (wire_tells (W.told wire.new) (W.faults wire.new) (W.moment wire.new))) }
+    ensures unnoted { IfErr result (λ stop. stop ≡ Stop.Unnoted → J.may_want ≡ true) }
 {
     let mut client = Client::make_prompt(alloc, &calling.limits, host, calling.epoch, class)?;
     let ports = Ports::make(alloc, CLIENT, calling.jumbo)?;
@@ -97,7 +102,7 @@ fn call_from<C: Class, W: Wire, J: Journal>(
     node.passes(calling.turns, wire, book)
 }
 
-/// Hands in the clock, and begins the call. Its name.
+/// Hands in the clock of a client at the start of its life, and begins the call. Its name.
 fn begin<C: Class, W: Wire, J: Journal>(
     calling: &Calling,
     ports: &Ports,
@@ -105,13 +110,16 @@ fn begin<C: Class, W: Wire, J: Journal>(
     wire: &W,
     book: &mut J,
 ) -> Result<CallName, Stop>
-    requires { ports.now.node ≡ CLIENT }
+    requires number { ports.now.node ≡ CLIENT }
+    requires fits { FitsSetup (setup_of C.class_of client.old) }
+    requires stands { StandsNode C.class_of client.old [] }
     ensures plays { (sink : SinkTells) → Plays (change CLIENT (setup_of C.class_of client.old)
         (StandsNode C.class_of client.old) (StandsNode C.class_of client.new)
         (told (J.told book.old) sink (wire_tells (W.told wire.now) (W.faults wire.now) (W.moment wire.now)))
         (told (J.told book.new) sink (wire_tells (W.told wire.now) (W.faults wire.now) (W.moment wire.now))))
         (begins calling.now) (λ name. IfOk result (λ its. name ≡ its)) (stop_of result) }
-    ensures wanting { IfErr result (λ stop. stop ≡ Stop.OutOfMemory) }
+    ensures refused { IfErr result (λ stop. stop ≡ Stop.Unnoted) }
+    ensures wants { OnErr result (J.may_want ≡ true) }
     ensures setup { setup_of C.class_of client.new ≡ setup_of C.class_of client.old }
 {
     ports.clock(client, wire, book)?;
@@ -125,46 +133,81 @@ fn begin_to<C: Class, J: Journal>(
     client: &mut Client<C>,
     book: &mut J,
 ) -> Result<CallName, Stop>
+    requires fits { FitsSetup (setup_of C.class_of client.old) }
+    requires clocked { (now : ℕ) × StandsNode C.class_of client.old (events.Clocked now ∷ []) }
     ensures plays { (sink : SinkTells) (wire : WireTells) → Plays (change CLIENT (setup_of C.class_of client.old)
         (StandsNode C.class_of client.old) (StandsNode C.class_of client.new)
         (told (J.told book.old) sink wire) (told (J.told book.new) sink wire))
         (begins_to to service) (λ name. IfOk result (λ its. name ≡ its)) (stop_of result) }
-    ensures wanting { IfErr result (λ stop. stop ≡ Stop.OutOfMemory) }
+    ensures refused { IfErr result (λ stop. stop ≡ Stop.Unnoted) }
+    ensures wants { OnErr result (J.may_want ≡ true) }
     ensures setup { setup_of C.class_of client.new ≡ setup_of C.class_of client.old }
 {
     let first = 1;
-    let got = client.connect(to, service, first);
+    let cid = connect(to, service, first, client);
+    let got = Ok(cid);
     let event = Event::Linked {
         to,
         service,
         first,
         got,
     };
-    book.note(CLIENT, &event)?;
-    match got {
-        Ok(cid) => begin_on(cid, client, book),
-        Err(_) => Err(Stop::OutOfMemory),
+    note(CLIENT, &event, book)?;
+    begin_on(to, service, cid, client, book)
+}
+
+/// Makes the first connection of a client, which has a place for it.
+fn connect<C: Class>(to: Host, service: u16, first: u32, client: &mut Client<C>) -> u32
+    requires some { 1 ≤ first }
+    requires fits { FitsSetup (setup_of C.class_of client.old) }
+    requires clocked { (now : ℕ) × StandsNode C.class_of client.old (events.Clocked now ∷ []) }
+    ensures answered { Answers (setup_of C.class_of client.old) (StandsNode C.class_of client.old)
+        (StandsNode C.class_of client.new) (events.Linked to service first (Ok result)) }
+    ensures setup { setup_of C.class_of client.new ≡ setup_of C.class_of client.old }
+{
+    match client.connect(to, service, first) {
+        Ok(cid) => cid,
+        Err(_) => unreachable!(),
     }
 }
 
-/// Begins the call on a connection.
+/// Begins the call on the connection that was made.
 fn begin_on<C: Class, J: Journal>(
+    to: Host,
+    service: u16,
     cid: u32,
     client: &mut Client<C>,
     book: &mut J,
 ) -> Result<CallName, Stop>
+    requires fits { FitsSetup (setup_of C.class_of client.old) }
+    requires linked { (now : ℕ) × StandsNode C.class_of client.old
+        (events.Linked to service 1 (Ok cid) ∷ events.Clocked now ∷ []) }
     ensures plays { (sink : SinkTells) (wire : WireTells) → Plays (change CLIENT (setup_of C.class_of client.old)
         (StandsNode C.class_of client.old) (StandsNode C.class_of client.new)
         (told (J.told book.old) sink wire) (told (J.told book.new) sink wire))
         (begins_on cid) (λ name. IfOk result (λ its. name ≡ its)) (stop_of result) }
-    ensures wanting { IfErr result (λ stop. stop ≡ Stop.OutOfMemory) }
+    ensures refused { IfErr result (λ stop. stop ≡ Stop.Unnoted) }
+    ensures wants { OnErr result (J.may_want ≡ true) }
     ensures setup { setup_of C.class_of client.new ≡ setup_of C.class_of client.old }
 {
-    let got = client.call(cid);
-    book.note(CLIENT, &Event::Called { cid, got })?;
-    match got {
-        Ok(name) => Ok(name),
-        Err(_) => Err(Stop::OutOfMemory),
+    let name = start(to, service, cid, client);
+    let got = Ok(name);
+    note(CLIENT, &Event::Called { cid, got }, book)?;
+    Ok(name)
+}
+
+/// Starts the first call of a client, which has room for it, on its first connection.
+fn start<C: Class>(to: Host, service: u16, cid: u32, client: &mut Client<C>) -> CallName
+    requires fits { FitsSetup (setup_of C.class_of client.old) }
+    requires linked { (now : ℕ) × StandsNode C.class_of client.old
+        (events.Linked to service 1 (Ok cid) ∷ events.Clocked now ∷ []) }
+    ensures answered { Answers (setup_of C.class_of client.old) (StandsNode C.class_of client.old)
+        (StandsNode C.class_of client.new) (events.Called cid (Ok result)) }
+    ensures setup { setup_of C.class_of client.new ≡ setup_of C.class_of client.old }
+{
+    match client.call(cid) {
+        Ok(name) => name,
+        Err(_) => unreachable!(),
     }
 }
 
@@ -188,7 +231,9 @@ impl<C: Class> CallingNode<C> {
         requires number { self.caller.node ≡ CLIENT }
         requires fits { FitsSetup (setup_of C.class_of self.client) }
         requires unended { self.caller.end ≡ None }
-        ensures { (sink : SinkTells) (p : Place) → IsAt (setup_of C.class_of self.client)
+        requires behind { IsBehind (setup_of C.class_of self.client) (StandsNode C.class_of self.client)
+            (W.moment wire.old) }
+        ensures calls { (sink : SinkTells) (p : Place) → IsAt (setup_of C.class_of self.client)
             (StandsNode C.class_of self.client)
             (told (J.told book.old) sink (wire_tells (W.told wire.old) (W.faults wire.old) (W.moment wire.old))) p
             → CallMade (record {
@@ -199,6 +244,7 @@ impl<C: Class> CallingNode<C> {
             self.caller p result
             (told (J.told book.old) sink (wire_tells (W.told wire.old) (W.faults wire.old) (W.moment wire.old)))
             (told (J.told book.new) sink (wire_tells (W.told wire.new) (W.faults wire.new) (W.moment wire.new))) }
+        ensures unnoted { IfErr result (λ stop. stop ≡ Stop.Unnoted → J.may_want ≡ true) }
     {
         for taken in 0..turns {
             if self.play(wire, book)? {
@@ -217,11 +263,14 @@ impl<C: Class> CallingNode<C> {
         requires ready { AreReady CLIENT self.old.ports.joiner.most self.old.ports }
         requires number { self.old.caller.node ≡ CLIENT }
         requires fits { FitsSetup (setup_of C.class_of self.old.client) }
+        requires behind { IsBehind (setup_of C.class_of self.old.client) (StandsNode C.class_of self.old.client)
+            (W.moment wire.old) }
         ensures plays { (sink : SinkTells) → Plays (change CLIENT (setup_of C.class_of self.old.client)
             (StandsNode C.class_of self.old.client) (StandsNode C.class_of self.new.client)
             (told (J.told book.old) sink (wire_tells (W.told wire.old) (W.faults wire.old) (W.moment wire.old)))
             (told (J.told book.new) sink (wire_tells (W.told wire.new) (W.faults wire.new) (W.moment wire.new))))
             (plays self.old.ports.joiner.most calls self.old.caller) (λ v. v ≡ self.new.caller) (stop_of result) }
+        ensures unnoted { IfErr result (λ stop. stop ≡ Stop.Unnoted → J.may_want ≡ true) }
         ensures done { IfOk result (λ done. done ≡ is_some self.new.caller.end) }
         ensures ready { IfOk result (λ done. AreReady CLIENT self.old.ports.joiner.most self.new.ports) }
         ensures number { IfOk result (λ done. self.new.caller.node ≡ CLIENT) }
@@ -238,11 +287,14 @@ impl<C: Class> CallingNode<C> {
     fn take<W: Wire, J: Journal>(&mut self, wire: &mut W, book: &mut J) -> Result<(), Stop>
         requires ready { AreReady CLIENT self.old.ports.joiner.most self.old.ports }
         requires fits { FitsSetup (setup_of C.class_of self.old.client) }
+        requires behind { IsBehind (setup_of C.class_of self.old.client) (StandsNode C.class_of self.old.client)
+            (W.moment wire.old) }
         ensures plays { (sink : SinkTells) → Plays (change CLIENT (setup_of C.class_of self.old.client)
             (StandsNode C.class_of self.old.client) (StandsNode C.class_of self.new.client)
             (told (J.told book.old) sink (wire_tells (W.told wire.old) (W.faults wire.old) (W.moment wire.old)))
             (told (J.told book.new) sink (wire_tells (W.told wire.new) (W.faults wire.new) (W.moment wire.new))))
             (takes (setup_of C.class_of self.old.client) None) (λ u. Unit {0}) (stop_of result) }
+        ensures unnoted { IfErr result (λ stop. stop ≡ Stop.Unnoted → J.may_want ≡ true) }
         ensures ports { self.new.ports ≡ self.old.ports }
         ensures caller { self.new.caller ≡ self.old.caller }
         ensures setup { setup_of C.class_of self.new.client ≡ setup_of C.class_of self.old.client }

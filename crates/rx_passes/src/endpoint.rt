@@ -65,6 +65,9 @@ pub trait Endpoint {
 
     // Each history for which it stands is legal.
     ghost legal: { (s : Self) (h : List Event) → stands s h → Legal (setup s) h };
+
+    // Its moment is the one that such a history says.
+    ghost timed: { (s : Self) (h : List Event) → stands s h → clocked s ≡ (looks (setup s) h).now };
 }
 
 impl<C: Class> Endpoint for Server<C> {
@@ -75,6 +78,8 @@ impl<C: Class> Endpoint for Server<C> {
     ghost clocked = { λ s. s.node.moment };
 
     ghost legal = { λ s h is. is.legal };
+
+    ghost timed = { λ s h is. is.serves.mirrors.now };
 
     fn moment(&self) -> u64 {
         Server::moment(self)
@@ -132,6 +137,8 @@ impl<C: Class> Endpoint for Client<C> {
     ghost clocked = { λ s. s.moment };
 
     ghost legal = { λ s h is. is.legal };
+
+    ghost timed = { λ s h is. is.mirrors.now };
 
     fn moment(&self) -> u64 {
         Client::moment(self)

@@ -9,9 +9,9 @@ mod calling;
 mod endpoint;
 mod laws;
 mod lines;
+mod notes;
 mod ports;
 mod serving;
-mod spare;
 mod stop;
 
 pub use calling::{CallEnd, Calling, call};

@@ -2,7 +2,7 @@
 //! split and taken.
 ghost use Rattle.std.specs.Prelude.{◌≡◌, ◌≤◌, ◌<◌, ◌∷◌, ◌++◌, ◌^◌, [], ℕ, List, Bool, None, Some, false, true, length};
 ghost use Rattle.std.specs.Prelude.{take};
-ghost use Rattle.std.specs.Prelude.{IfErr, IfOk, OnOk, min};
+ghost use Rattle.std.specs.Prelude.{IfErr, IfOk, OnErr, OnOk};
 ghost use Rattle.rx_jumbo.specs.declared.sizes.TheConstants.{JUMBO_BYTES, JUMBO_PARTS};
 ghost use Rattle.rx_jumbo.specs.Parts.{is_jumbo, parts_of};
 ghost use Rattle.rx_model.specs.declared.event.Event.{Event as OneEvent};
@@ -11,13 +11,13 @@ ghost use Rattle.rx_rules.specs.Setup.{FitsSetup};
 ghost use Rattle.rx_passes.specs.Ports.{Empties, GivesOne, IsWithin, Keeps, NotesOne, Passes, PassesOn, clocks, held};
 ghost use Rattle.rx_passes.specs.Ports.{lesser};
 ghost use Rattle.rx_passes.specs.Ports.{polls, polls_once, takes_came, takes_parts, takes_until, until_of};
-ghost use Rattle.rx_passes.specs.Runs.{Plays, change, stop_of};
+ghost use Rattle.rx_passes.specs.Runs.{IsBehind, Plays, change, stop_of};
 ghost use Rattle.rx_passes.specs.Tells.{SinkTells, WireTells, told, wire_tells};
 
 use crate::endpoint::Endpoint;
-use crate::spare::Spare;
+use crate::notes::{note, note_polled, note_taken};
 use crate::stop::Stop;
-use rx_jumbo::{JUMBO_BYTES, Joiner, is_jumbo, part, parts};
+use rx_jumbo::{JUMBO_BYTES, Joiner, part, parts};
 use rx_model::wire::DATAGRAM_BYTES;
 use rx_model::{Event, Host};
 use rx_udp::Wire;
@@ -37,7 +37,6 @@ pub const LAST_MOMENT: u64 = (1 << 62) - 1;
 /// The buffers between a node and its wire, and the datagrams that are to be given as one.
 #[derive(Debug, Drop)]
 pub struct Ports {
-    spare: Spare,
     /// The number for which events are noted.
     node: u32,
     joiner: Joiner,
@@ -69,7 +68,6 @@ impl Ports {
         ensures empty { IfOk result (λ s. s.joiner.datagrams ≡ []) }
     {
         Ok(Ports {
-            spare: Spare::make(alloc, TAKE_BYTES)?,
             node,
             joiner: Joiner::make(alloc, most)?,
             whole: vec![in alloc; 0u8; TAKE_BYTES]?,
@@ -84,12 +82,14 @@ impl Ports {
         wire: &W,
         book: &mut J,
     ) -> Result<(), Stop>
+        requires { IsBehind (N.setup node.old) (N.stands node.old) (W.moment wire.now) }
         ensures plays { (sink : SinkTells) → Plays (change self.now.node (N.setup node.old)
             (N.stands node.old) (N.stands node.new)
             (told (J.told book.old) sink (wire_tells (W.told wire.now) (W.faults wire.now) (W.moment wire.now)))
             (told (J.told book.new) sink (wire_tells (W.told wire.now) (W.faults wire.now) (W.moment wire.now))))
-            clocks (λ e. Unit {0}) (stop_of result) }
-        ensures wanting { IfErr result (λ stop. stop ≡ Stop.OutOfMemory) }
+            clocks (λ u. Unit {0}) (stop_of result) }
+        ensures refused { IfErr result (λ stop. stop ≡ Stop.Unnoted) }
+        ensures wants { OnErr result (J.may_want ≡ true) }
         ensures setup { N.setup node.new ≡ N.setup node.old }
     {
         clock(self.node, node, wire, book)
@@ -104,22 +104,25 @@ impl Ports {
     ) -> Result<(), Stop>
         requires empty { self.old.joiner.datagrams ≡ [] }
         requires fits { FitsSetup (N.setup node.old) }
+        requires behind { IsBehind (N.setup node.old) (N.stands node.old) (W.moment wire.old) }
         ensures plays { (sink : SinkTells) → Plays (change self.old.node (N.setup node.old)
             (N.stands node.old) (N.stands node.new)
             (told (J.told book.old) sink (wire_tells (W.told wire.old) (W.faults wire.old) (W.moment wire.old)))
             (told (J.told book.new) sink (wire_tells (W.told wire.new) (W.faults wire.new) (W.moment wire.new))))
             (polls self.old.joiner.most) (λ u. Unit {0}) (stop_of result) }
+        ensures unnoted { IfErr result (λ stop. stop ≡ Stop.Unnoted → J.may_want ≡ true) }
         ensures empty { OnOk result (self.new.joiner.datagrams ≡ []) }
         ensures most { self.new.joiner.most ≡ self.old.joiner.most }
         ensures node { self.new.node ≡ self.old.node }
         ensures setup { N.setup node.new ≡ N.setup node.old }
     {
-        'polls: for _ in 0..u64::MAX {
+        'polls: for given in 0..u64::MAX {
             if !self.poll_once(node, wire, book)? {
                 return self.flush(wire);
             }
         }
-        Err(Stop::OutOfMemory)
+        self.flush(wire)?;
+        Err(Stop::Endless)
     }
 
     /// Polls the node once. Whether it gave something.
@@ -129,12 +132,14 @@ impl Ports {
         wire: &mut W,
         book: &mut J,
     ) -> Result<bool, Stop>
-        requires { FitsSetup (N.setup node.old) }
+        requires fits { FitsSetup (N.setup node.old) }
+        requires behind { IsBehind (N.setup node.old) (N.stands node.old) (W.moment wire.old) }
         ensures plays { (sink : SinkTells) → Plays (change self.old.node (N.setup node.old)
             (N.stands node.old) (N.stands node.new)
             (told (J.told book.old) sink (wire_tells (W.told wire.old) (W.faults wire.old) (W.moment wire.old)))
             (told (J.told book.new) sink (wire_tells (W.told wire.new) (W.faults wire.new) (W.moment wire.new))))
             (polls_once self.old.joiner self.new.joiner) (λ b. IfOk result (λ r. b ≡ r)) (stop_of result) }
+        ensures unnoted { IfErr result (λ stop. stop ≡ Stop.Unnoted → J.may_want ≡ true) }
         ensures most { self.new.joiner.most ≡ self.old.joiner.most }
         ensures node { self.new.node ≡ self.old.node }
         ensures setup { N.setup node.new ≡ N.setup node.old }
@@ -143,7 +148,6 @@ impl Ports {
             Some((to, count)) => {
                 let datagram = front(&self.single, count);
                 pass_on(
-                    &mut self.spare,
                     self.node,
                     to,
                     datagram,
@@ -162,6 +166,7 @@ impl Ports {
         ensures empties { Empties self.old.joiner self.new.joiner
             (wire_tells (W.told wire.old) (W.faults wire.old) (W.moment wire.old))
             (wire_tells (W.told wire.new) (W.faults wire.new) (W.moment wire.new)) (stop_of result) }
+        ensures failed { IfErr result (λ stop. stop ≡ Stop.WireFault) }
         ensures most { self.new.joiner.most ≡ self.old.joiner.most }
         ensures node { self.new.node ≡ self.old.node }
     {
@@ -176,28 +181,21 @@ impl Ports {
         wire: &mut W,
         book: &mut J,
     ) -> Result<(), Stop>
-        requires { until < 2 ^ 62 }
+        requires until { until < 2 ^ 62 }
+        requires behind { IsBehind (N.setup node.old) (N.stands node.old) (W.moment wire.old) }
         ensures plays { (sink : SinkTells) → Plays (change self.old.node (N.setup node.old)
             (N.stands node.old) (N.stands node.new)
             (told (J.told book.old) sink (wire_tells (W.told wire.old) (W.faults wire.old) (W.moment wire.old)))
             (told (J.told book.new) sink (wire_tells (W.told wire.new) (W.faults wire.new) (W.moment wire.new))))
             (takes_until until) (λ u. Unit {0}) (stop_of result) }
+        ensures unnoted { IfErr result (λ stop. stop ≡ Stop.Unnoted → J.may_want ≡ true) }
         ensures ports { self.new ≡ self.old }
         ensures setup { N.setup node.new ≡ N.setup node.old }
     {
         match wire.take(until, &mut self.whole) {
             Ok(Some((from, count))) => {
                 let came = front(&self.whole, count);
-                take_came(
-                    &mut self.spare,
-                    self.node,
-                    from,
-                    came,
-                    &mut self.single,
-                    node,
-                    wire,
-                    book,
-                )
+                take_came(self.node, from, came, &mut self.single, node, wire, book)
             }
             Ok(None) => Ok(()),
             Err(_) => Err(Stop::WireFault),
@@ -212,35 +210,32 @@ fn clock<N: Endpoint, W: Wire, J: Journal>(
     wire: &W,
     book: &mut J,
 ) -> Result<(), Stop>
+    requires { IsBehind (N.setup node.old) (N.stands node.old) (W.moment wire.now) }
     ensures plays { (sink : SinkTells) → Plays (change number (N.setup node.old) (N.stands node.old) (N.stands node.new)
         (told (J.told book.old) sink (wire_tells (W.told wire.now) (W.faults wire.now) (W.moment wire.now)))
         (told (J.told book.new) sink (wire_tells (W.told wire.now) (W.faults wire.now) (W.moment wire.now))))
-        clocks (λ e. Unit {0}) (stop_of result) }
-    ensures wanting { IfErr result (λ stop. stop ≡ Stop.OutOfMemory) }
+        clocks (λ u. Unit {0}) (stop_of result) }
+    ensures refused { IfErr result (λ stop. stop ≡ Stop.Unnoted) }
+    ensures wants { OnErr result (J.may_want ≡ true) }
     ensures setup { N.setup node.new ≡ N.setup node.old }
 {
     let now = wire.now();
-    if now < node.moment() {
-        // No node is ahead of its wire.
-        return Err(Stop::OutOfMemory);
-    }
     node.clock(now);
-    book.note(number, &Event::Clocked { now })?;
-    Ok(())
+    note(number, &Event::Clocked { now }, book)
 }
 
 /// Notes that a poll gave nothing.
 fn note_none<J: Journal>(number: u32, book: &mut J) -> Result<bool, Stop>
     ensures told { NotesOne number (J.told book.old) (J.told book.new) (OneEvent.Polled None) (stop_of result) }
+    ensures wants { OnErr result (J.may_want ≡ true) }
     ensures none { IfOk result (λ again. again ≡ false) }
 {
-    book.note(number, &Event::Polled { got: None })?;
+    note(number, &Event::Polled { got: None }, book)?;
     Ok(false)
 }
 
 /// Notes a datagram that was polled, and gives it or holds it back.
 fn pass_on<W: Wire, J: Journal>(
-    spare: &mut Spare,
     number: u32,
     to: Host,
     datagram: &[u8],
@@ -251,23 +246,22 @@ fn pass_on<W: Wire, J: Journal>(
 ) -> Result<bool, Stop>
     requires room { JUMBO_BYTES ≤ length whole.old }
     requires within { IsWithin joiner.old }
-    ensures passes { is_jumbo datagram.now ≡ false → length datagram.now ≤ DATAGRAM_BYTES
-        → PassesOn number joiner.old joiner.new (J.told book.old) (J.told book.new) (to, datagram.now)
+    requires size { length datagram.now ≤ DATAGRAM_BYTES }
+    requires single { is_jumbo datagram.now ≡ false }
+    ensures passes { PassesOn number joiner.old joiner.new (J.told book.old) (J.told book.new) (to, datagram.now)
         (wire_tells (W.told wire.old) (W.faults wire.old) (W.moment wire.old))
         (wire_tells (W.told wire.new) (W.faults wire.new) (W.moment wire.new)) (stop_of result) }
+    ensures unnoted { IfErr result (λ stop. stop ≡ Stop.Unnoted → J.may_want ≡ true) }
     ensures some { IfOk result (λ again. again ≡ true) }
     ensures kept { Keeps joiner.old joiner.new }
 {
-    let bytes = spare.fill(datagram)?;
-    let got = Some((to, bytes));
-    spare.note(number, Event::Polled { got }, book)?;
+    note_polled(number, to, datagram, book)?;
     offer(joiner, whole, to, datagram, wire)?;
     Ok(true)
 }
 
 /// Hands in the clock, and has the node take each part of what came.
 fn take_came<N: Endpoint, W: Wire, J: Journal>(
-    spare: &mut Spare,
     number: u32,
     from: Host,
     came: &[u8],
@@ -276,20 +270,21 @@ fn take_came<N: Endpoint, W: Wire, J: Journal>(
     wire: &W,
     book: &mut J,
 ) -> Result<(), Stop>
-    requires { length came.now ≤ length single.old }
+    requires room { length came.now ≤ length single.old }
+    requires behind { IsBehind (N.setup node.old) (N.stands node.old) (W.moment wire.now) }
     ensures plays { (sink : SinkTells) → Plays (change number (N.setup node.old) (N.stands node.old) (N.stands node.new)
         (told (J.told book.old) sink (wire_tells (W.told wire.now) (W.faults wire.now) (W.moment wire.now)))
         (told (J.told book.new) sink (wire_tells (W.told wire.now) (W.faults wire.now) (W.moment wire.now))))
         (takes_came (Some (record { from = from; bytes = came.now }))) (λ u. Unit {0}) (stop_of result) }
+    ensures wants { OnErr result (J.may_want ≡ true) }
     ensures setup { N.setup node.new ≡ N.setup node.old }
 {
     clock(number, node, wire, book)?;
-    take_parts(spare, number, from, came, single, node, book)
+    take_parts(number, from, came, single, node, book)
 }
 
 /// The node takes each part of what came.
 fn take_parts<N: Endpoint, J: Journal>(
-    spare: &mut Spare,
     number: u32,
     from: Host,
     came: &[u8],
@@ -302,18 +297,18 @@ fn take_parts<N: Endpoint, J: Journal>(
         (N.stands node.old) (N.stands node.new)
         (told (J.told book.old) sink wire) (told (J.told book.new) sink wire))
         (takes_parts from (parts_of came.now)) (λ u. Unit {0}) (stop_of result) }
+    ensures wants { OnErr result (J.may_want ≡ true) }
     ensures setup { N.setup node.new ≡ N.setup node.old }
 {
     for k in 0..parts(came) {
         let length = part(came, k, single);
-        take_part(spare, number, from, front(single, length), node, book)?;
+        take_part(number, from, front(single, length), node, book)?;
     }
     Ok(())
 }
 
 /// The node takes a single datagram.
 fn take_part<N: Endpoint, J: Journal>(
-    spare: &mut Spare,
     number: u32,
     from: Host,
     taken: &[u8],
@@ -324,12 +319,11 @@ fn take_part<N: Endpoint, J: Journal>(
         (N.stands node.old) (N.stands node.new)
         (told (J.told book.old) sink wire) (told (J.told book.new) sink wire))
         (takes_parts from (taken.now ∷ [])) (λ u. Unit {0}) (stop_of result) }
+    ensures wants { OnErr result (J.may_want ≡ true) }
     ensures setup { N.setup node.new ≡ N.setup node.old }
 {
-    let bytes = spare.fill(taken)?;
     let got = node.take(from, taken);
-    spare.note(number, Event::Taken { from, bytes, got }, book)?;
-    Ok(())
+    note_taken(number, from, taken, got, book)
 }
 
 /// Holds a datagram back behind those that it follows, and gives what it doesn't follow.
@@ -342,35 +336,18 @@ fn offer<W: Wire>(
 ) -> Result<(), Stop>
     requires room { JUMBO_BYTES ≤ length whole.old }
     requires within { IsWithin joiner.old }
-    ensures passes { is_jumbo datagram.now ≡ false → length datagram.now ≤ DATAGRAM_BYTES
-        → Passes (held joiner.old ++ (to, datagram.now) ∷ []) joiner.old joiner.new
+    requires size { length datagram.now ≤ DATAGRAM_BYTES }
+    requires single { is_jumbo datagram.now ≡ false }
+    ensures passes { Passes (held joiner.old ++ (to, datagram.now) ∷ []) joiner.old joiner.new
         (wire_tells (W.told wire.old) (W.faults wire.old) (W.moment wire.old))
         (wire_tells (W.told wire.new) (W.faults wire.new) (W.moment wire.new)) (stop_of result) }
+    ensures failed { IfErr result (λ stop. stop ≡ Stop.WireFault) }
     ensures kept { Keeps joiner.old joiner.new }
 {
-    if is_jumbo(datagram) || datagram.len() > DATAGRAM_BYTES {
-        return give_alone(joiner, whole, to, datagram, wire);
-    }
     if joiner.push(to, datagram) {
         return Ok(());
     }
     give_before(joiner, whole, to, datagram, wire)
-}
-
-/// Gives what is held back, and then a datagram that can't be joined. A node gives none.
-fn give_alone<W: Wire>(
-    joiner: &mut Joiner,
-    whole: &mut [u8],
-    to: Host,
-    datagram: &[u8],
-    wire: &mut W,
-) -> Result<(), Stop>
-    requires room { JUMBO_BYTES ≤ length whole.old }
-    requires within { IsWithin joiner.old }
-    ensures { Keeps joiner.old joiner.new }
-{
-    give_held(joiner, whole, wire)?;
-    give(to, datagram, wire)
 }
 
 /// Gives what is held back, and holds a datagram back that doesn't follow it.
@@ -388,6 +365,7 @@ fn give_before<W: Wire>(
     ensures passes { Passes (held joiner.old ++ (to, datagram.now) ∷ []) joiner.old joiner.new
         (wire_tells (W.told wire.old) (W.faults wire.old) (W.moment wire.old))
         (wire_tells (W.told wire.new) (W.faults wire.new) (W.moment wire.new)) (stop_of result) }
+    ensures failed { IfErr result (λ stop. stop ≡ Stop.WireFault) }
     ensures kept { Keeps joiner.old joiner.new }
 {
     give_held(joiner, whole, wire)?;
@@ -402,6 +380,7 @@ fn give_held<W: Wire>(joiner: &mut Joiner, whole: &mut [u8], wire: &mut W) -> Re
     ensures empties { Empties joiner.old joiner.new
         (wire_tells (W.told wire.old) (W.faults wire.old) (W.moment wire.old))
         (wire_tells (W.told wire.new) (W.faults wire.new) (W.moment wire.new)) (stop_of result) }
+    ensures failed { IfErr result (λ stop. stop ≡ Stop.WireFault) }
     ensures kept { Keeps joiner.old joiner.new }
 {
     match joiner.out(whole) {
@@ -412,8 +391,9 @@ fn give_held<W: Wire>(joiner: &mut Joiner, whole: &mut [u8], wire: &mut W) -> Re
 
 /// Gives a datagram.
 fn give<W: Wire>(to: Host, bytes: &[u8], wire: &mut W) -> Result<(), Stop>
-    ensures { GivesOne (wire_tells (W.told wire.old) (W.faults wire.old) (W.moment wire.old))
+    ensures gives { GivesOne (wire_tells (W.told wire.old) (W.faults wire.old) (W.moment wire.old))
         (wire_tells (W.told wire.new) (W.faults wire.new) (W.moment wire.new)) (to, bytes.now) (stop_of result) }
+    ensures failed { IfErr result (λ stop. stop ≡ Stop.WireFault) }
 {
     match wire.give(to, bytes) {
         Ok(()) => Ok(()),

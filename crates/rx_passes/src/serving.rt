@@ -10,13 +10,14 @@ ghost use Rattle.rx_rules.specs.Setup.{FitsSetup};
 ghost use Rattle.rx_script.specs.Saying.{blocks_of};
 ghost use Rattle.rx_server.specs.Server.{Stands};
 ghost use Rattle.rx_passes.specs.Ports.{AreReady, takes};
-ghost use Rattle.rx_passes.specs.Runs.{Plays, change, stop_of};
+ghost use Rattle.rx_passes.specs.Runs.{IsBehind, Plays, change, stop_of};
 ghost use Rattle.rx_passes.specs.Serves.{dispatches, pass, plays};
 ghost use Rattle.rx_passes.specs.Serving.{Serving as Served, ServeIs, ServesBound, server_setup, terms_of};
 ghost use Rattle.rx_passes.specs.Tells.{SinkTells, WireTells, sink_tells, told, wire_tells};
 ghost use Rattle.rx_passes.specs.Turned.{Handles, TellsOne};
 
 use crate::lines::{Lines, SERVER, put_time_up};
+use crate::notes::note;
 use crate::ports::{Ports, wait_until};
 use crate::stop::Stop;
 use rx_base::Sink;
@@ -67,12 +68,13 @@ pub fn serve<C: Class, W: Wire, O: Sink, J: Journal>(
     requires some { 1 ≤ serving.now.jumbo }
     requires few { serving.now.jumbo ≤ JUMBO_PARTS }
     requires span { serving.now.span ≤ 2 ^ 40 }
-    ensures { ServeIs (terms_of serving.now (handlers_of iface.now (blocks_of script.blocks.items)))
+    ensures serves { ServeIs (terms_of serving.now (handlers_of iface.now (blocks_of script.blocks.items)))
         (server_setup serving.now (C.class_of (C.secret class))) serving.now.at result
         (told (J.told book.old) (sink_tells (O.told out.old) (O.faults out.old))
         (wire_tells (W.told wire.old) (W.faults wire.old) (W.moment wire.old)))
         (told (J.told book.new) (sink_tells (O.told out.new) (O.faults out.new))
         (wire_tells (W.told wire.new) (W.faults wire.new) (W.moment wire.new))) }
+    ensures unnoted { IfErr result (λ stop. stop ≡ Stop.Unnoted → J.may_want ≡ true) }
 {
     match wire.bind(serving.at) {
         Ok(host) => serve_on(alloc, iface, script, serving, class, host, wire, out, book),
@@ -96,12 +98,13 @@ fn serve_on<C: Class, W: Wire, O: Sink, J: Journal>(
     requires some { 1 ≤ serving.now.jumbo }
     requires few { serving.now.jumbo ≤ JUMBO_PARTS }
     requires span { serving.now.span ≤ 2 ^ 40 }
-    ensures { ServesBound (terms_of serving.now (handlers_of iface.now (blocks_of script.blocks.items)))
+    ensures serves { ServesBound (terms_of serving.now (handlers_of iface.now (blocks_of script.blocks.items)))
         (server_setup serving.now (C.class_of (C.secret class))) host result
         (told (J.told book.old) (sink_tells (O.told out.old) (O.faults out.old))
         (wire_tells (W.told wire.old) (W.faults wire.old) (W.moment wire.old)))
         (told (J.told book.new) (sink_tells (O.told out.new) (O.faults out.new))
         (wire_tells (W.told wire.new) (W.faults wire.new) (W.moment wire.new))) }
+    ensures unnoted { IfErr result (λ stop. stop ≡ Stop.Unnoted → J.may_want ≡ true) }
 {
     let mut node = ServedNode::make(alloc, script, serving, class)?;
     node.lines.ready(host, out)?;
@@ -166,7 +169,7 @@ impl<C: Class> ServedNode<C> {
         requires stands { Stands C.class_of self.old.server [] }
         requires fits { FitsSetup (setup_of C.class_of self.old.server.node) }
         requires jobs { (state_of self.old.dispatcher).round.jobs ≡ [] }
-        ensures { Served (record {
+        ensures serves { Served (record {
           handlers = handlers_of iface.now (state_of self.old.dispatcher).script;
           setup = setup_of C.class_of self.old.server.node;
           most = self.old.ports.joiner.most;
@@ -177,6 +180,7 @@ impl<C: Class> ServedNode<C> {
             (wire_tells (W.told wire.old) (W.faults wire.old) (W.moment wire.old)))
             (told (J.told book.new) (sink_tells (O.told out.new) (O.faults out.new))
             (wire_tells (W.told wire.new) (W.faults wire.new) (W.moment wire.new))) }
+        ensures unnoted { IfErr result (λ stop. stop ≡ Stop.Unnoted → J.may_want ≡ true) }
     {
         for taken in 0..turns {
             self.pass(iface, end, wire, out, book)?;
@@ -200,6 +204,8 @@ impl<C: Class> ServedNode<C> {
     ) -> Result<(), Stop>
         requires ready { AreReady SERVER self.old.ports.joiner.most self.old.ports }
         requires fits { FitsSetup (setup_of C.class_of self.old.server.node) }
+        requires behind { IsBehind (setup_of C.class_of self.old.server.node) (Stands C.class_of self.old.server)
+            (W.moment wire.old) }
         ensures plays { Plays (change SERVER (setup_of C.class_of self.old.server.node)
             (Stands C.class_of self.old.server) (Stands C.class_of self.new.server)
             (told (J.told book.old) (sink_tells (O.told out.old) (O.faults out.old))
@@ -210,6 +216,7 @@ impl<C: Class> ServedNode<C> {
             (dispatches (handlers_of iface.now (state_of self.old.dispatcher).script)))
             (takes (setup_of C.class_of self.old.server.node) (Some end)) (state_of self.old.dispatcher).round.jobs)
             (λ jobs. jobs ≡ (state_of self.new.dispatcher).round.jobs) (stop_of result) }
+        ensures unnoted { IfErr result (λ stop. stop ≡ Stop.Unnoted → J.may_want ≡ true) }
         ensures ready { OnOk result (AreReady SERVER self.old.ports.joiner.most self.new.ports) }
         ensures script { (state_of self.new.dispatcher).script ≡ (state_of self.old.dispatcher).script }
         ensures setup { setup_of C.class_of self.new.server.node ≡ setup_of C.class_of self.old.server.node }
@@ -228,6 +235,8 @@ impl<C: Class> ServedNode<C> {
     ) -> Result<(), Stop>
         requires ready { AreReady SERVER self.old.ports.joiner.most self.old.ports }
         requires fits { FitsSetup (setup_of C.class_of self.old.server.node) }
+        requires behind { IsBehind (setup_of C.class_of self.old.server.node) (Stands C.class_of self.old.server)
+            (W.moment wire.old) }
         ensures plays { Plays (change SERVER (setup_of C.class_of self.old.server.node)
             (Stands C.class_of self.old.server) (Stands C.class_of self.new.server)
             (told (J.told book.old) (sink_tells (O.told out.old) (O.faults out.old))
@@ -238,6 +247,7 @@ impl<C: Class> ServedNode<C> {
             (dispatches (handlers_of iface.now (state_of self.old.dispatcher).script))
             (state_of self.old.dispatcher).round.jobs)
             (λ jobs. jobs ≡ (state_of self.new.dispatcher).round.jobs) (stop_of result) }
+        ensures unnoted { IfErr result (λ stop. stop ≡ Stop.Unnoted → J.may_want ≡ true) }
         ensures ready { OnOk result (AreReady SERVER self.old.ports.joiner.most self.new.ports) }
         ensures script { (state_of self.new.dispatcher).script ≡ (state_of self.old.dispatcher).script }
         ensures setup { setup_of C.class_of self.new.server.node ≡ setup_of C.class_of self.old.server.node }
@@ -257,11 +267,14 @@ impl<C: Class> ServedNode<C> {
     ) -> Result<(), Stop>
         requires ready { AreReady SERVER self.old.ports.joiner.most self.old.ports }
         requires fits { FitsSetup (setup_of C.class_of self.old.server.node) }
+        requires behind { IsBehind (setup_of C.class_of self.old.server.node) (Stands C.class_of self.old.server)
+            (W.moment wire.old) }
         ensures plays { (sink : SinkTells) → Plays (change SERVER (setup_of C.class_of self.old.server.node)
             (Stands C.class_of self.old.server) (Stands C.class_of self.new.server)
             (told (J.told book.old) sink (wire_tells (W.told wire.old) (W.faults wire.old) (W.moment wire.old)))
             (told (J.told book.new) sink (wire_tells (W.told wire.new) (W.faults wire.new) (W.moment wire.new))))
             (takes (setup_of C.class_of self.old.server.node) (Some end)) (λ u. Unit {0}) (stop_of result) }
+        ensures unnoted { IfErr result (λ stop. stop ≡ Stop.Unnoted → J.may_want ≡ true) }
         ensures ports { self.new.ports ≡ self.old.ports }
         ensures dispatcher { self.new.dispatcher ≡ self.old.dispatcher }
         ensures setup { setup_of C.class_of self.new.server.node ≡ setup_of C.class_of self.old.server.node }
@@ -284,17 +297,18 @@ impl<C: Class> ServedNode<C> {
             (dispatches (handlers_of iface.now (state_of self.old.dispatcher).script)
             (state_of self.old.dispatcher).round.jobs)
             (λ jobs. jobs ≡ (state_of self.new.dispatcher).round.jobs) (stop_of result) }
+        ensures unnoted { IfErr result (λ stop. stop ≡ Stop.Unnoted → J.may_want ≡ true) }
         ensures ports { self.new.ports ≡ self.old.ports }
         ensures script { (state_of self.new.dispatcher).script ≡ (state_of self.old.dispatcher).script }
         ensures setup { setup_of C.class_of self.new.server.node ≡ setup_of C.class_of self.old.server.node }
     {
         self.dispatcher.begin();
-        'calls: for _ in 0..u64::MAX {
+        'calls: for made in 0..u64::MAX {
             if !self.handle(iface, out, book)? {
                 return Ok(());
             }
         }
-        Err(Stop::OutOfMemory)
+        Err(Stop::Endless)
     }
 
     /// Makes the next call of the handlers' turn, notes it, and puts its line. Whether there was one.
@@ -310,6 +324,7 @@ impl<C: Class> ServedNode<C> {
             (state_of self.old.dispatcher).round (state_of self.new.dispatcher).round self.old.server self.new.server
             (J.told book.old) (J.told book.new)
             (sink_tells (O.told out.old) (O.faults out.old)) (sink_tells (O.told out.new) (O.faults out.new)) result }
+        ensures unnoted { IfErr result (λ stop. stop ≡ Stop.Unnoted → J.may_want ≡ true) }
         ensures remembered { Remembers (handlers_of iface.now (state_of self.new.dispatcher).script)
             (state_of self.new.dispatcher).round }
         ensures ports { self.new.ports ≡ self.old.ports }
@@ -333,9 +348,10 @@ fn tell<O: Sink, J: Journal>(
     ensures told { TellsOne SERVER (J.told book.old) (J.told book.new)
         (sink_tells (O.told out.old) (O.faults out.old)) (sink_tells (O.told out.new) (O.faults out.new)) event.now
         (stop_of result) }
+    ensures unnoted { IfErr result (λ stop. stop ≡ Stop.Unnoted → J.may_want ≡ true) }
     ensures again { IfOk result (λ again. again ≡ true) }
 {
-    book.note(SERVER, event)?;
+    note(SERVER, event, book)?;
     lines.tell(event, out)?;
     Ok(true)
 }

@@ -3,12 +3,19 @@ ghost use Rattle.std.specs.Prelude.{◌≡◌};
 
 use std::alloc::AllocError;
 
-/// Why passes end before they are done: a put or a call of the wire failed, or memory is wanted.
+/// Why passes end before they are done.
 #[derive(Clone, Copy, Debug, PartialEq, Eq)]
 pub enum Stop {
+    /// A put failed.
     SinkFault,
+    /// A call of the wire failed.
     WireFault,
+    /// A handler, a caller, a line or the making of the node wanted memory.
     OutOfMemory,
+    /// The journal wanted memory for the note of an event.
+    Unnoted,
+    /// A polling, or a turn of the handlers, came to no end within 2^64 - 1 events.
+    Endless,
 }
 
 impl From<AllocError> for Stop {

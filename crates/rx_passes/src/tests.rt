@@ -1,16 +1,16 @@
 //! Passes over a wire in memory.
 
-ghost use Rattle.std.specs.Prelude.{◌<◌, ◌≤◌, ◌^◌, All, IfOk};
+ghost use Rattle.std.specs.Prelude.{◌<◌, ◌≤◌, ◌^◌, All, IfOk, None, true};
 ghost use Rattle.rx_jumbo.specs.declared.sizes.TheConstants.{JUMBO_PARTS};
 ghost use Rattle.rx_rules.specs.Setup.{FitsLimits};
 
 use crate::{CallEnd, Calling, ServeEnd, Serving, Stop, call, serve};
 use rx_base::MemSink;
 use rx_class::Null;
-use rx_model::{End, Event, Host, Limits, Noted};
+use rx_model::{End, Event, Host, Limits, Noted, Took};
 use rx_script::Script;
 use rx_udp::{Arrival, LogEntry, MemWire};
-use rx_wire::MemJournal;
+use rx_wire::{Journal, MemJournal};
 use std::alloc::{AllocError, Global};
 use std::test::Fail;
 use xdr_value::{Interface, sound};
@@ -301,6 +301,73 @@ fn faults_of_the_wire_end_a_call(rt: HostRuntime) -> Result<(), Fail> {
         match call(alloc, request, &CALLING, Null, &mut wire, &mut book) {
             Ok(_) => assert!(rt; false, "call {k}"),
             Err(stop) => assert_eq!(rt; stop, Stop::WireFault, "call {k}"),
+        }
+    }
+    Ok(())
+}
+
+/// A journal with room for so many notes, which tells none of them.
+#[derive(Debug, Drop)]
+struct Short {
+    left: u32,
+}
+
+impl Short {
+    fn spend(&mut self) -> Result<(), AllocError> {
+        if self.left == 0 {
+            return Err(AllocError);
+        }
+        self.left -= 1;
+        Ok(())
+    }
+}
+
+impl Journal for Short {
+    ghost told = { λ s. None };
+
+    ghost may_want = { true };
+
+    fn note(&mut self, node: u32, event: &Event) -> Result<(), AllocError> {
+        self.spend()
+    }
+
+    fn note_taken(
+        &mut self,
+        node: u32,
+        from: Host,
+        bytes: &[u8],
+        got: Took,
+    ) -> Result<(), AllocError> {
+        self.spend()
+    }
+
+    fn note_polled(&mut self, node: u32, to: Host, bytes: &[u8]) -> Result<(), AllocError> {
+        self.spend()
+    }
+}
+
+// The notes of the clock, the connection, the call, the clock again and a poll; then the caller's own.
+#[test]
+fn a_refused_note_ends_a_call(rt: HostRuntime) -> Result<(), Fail> {
+    let alloc = rt.alloc();
+    for left in 0..6 {
+        let mut wire = wire_with(alloc, Vec::new(alloc), &[])?;
+        let request = Vec::from_slice(alloc, &OPCODE)?;
+        let stop = if left < 5 {
+            Stop::Unnoted
+        } else {
+            Stop::OutOfMemory
+        };
+        match call(
+            alloc,
+            request,
+            &CALLING,
+            Null,
+            &mut wire,
+            &mut Short { left },
+        ) {
+            Ok(_) => assert!(rt; false, "behind {left} notes"),
+            Err(got) => assert_eq!(rt; got, stop, "behind {left} notes"),
         }
     }
     Ok(())

@@ -2,8 +2,8 @@ use Rattle.std.proofs.Common.{inr, refl}
 use Rattle.rx_passes.specs.Tells.{told}
 use Rattle.rx_passes.proofs.calling.call.Goals as goal
 
-pub returns-in-Ok : goal.returns-in-Ok
-returns-in-Ok g c =
+pub returns-in-Ok-clause-calls : goal.returns-in-Ok-clause-calls
+returns-in-Ok-clause-calls g c =
     λ sink. inr (
       c.in-Ok.host,
       told _ sink _,
@@ -12,5 +12,5 @@ returns-in-Ok g c =
       c.in-Ok.ensures.ok,
       c.in-Ok.ensures.same,
       c.in-Ok.ensures.same_moment,
-      c.call_from.ensures sink,
+      c.call_from.ensures.calls sink,
     )

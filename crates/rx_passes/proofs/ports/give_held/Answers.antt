@@ -8,7 +8,7 @@ pub returns-in-Some-clause-empties : goal.returns-in-Some-clause-empties
 returns-in-Some-clause-empties g c =
     empties_given c.args.joiner.now c.out.new.self c.in-Some.to c.front.result.now _ _ (stop_of c.give.result)
     c.in-Some.ensures.host (ap parts_of c.front.ensures ∙ c.in-Some.ensures.parts)
-    (λ none. absurd (cc (c.in-Some.ensures.none.1 none))) c.in-Some.ensures.emptied c.requires.within c.give.ensures
+    (λ none. absurd (cc (c.in-Some.ensures.none.1 none))) c.in-Some.ensures.emptied c.requires.within c.give.ensures.gives
 
 pub returns-in-Some-clause-kept : goal.returns-in-Some-clause-kept
 returns-in-Some-clause-kept g c =

@@ -4,7 +4,7 @@ use Rattle.rx_passes.proofs.ports.offer.Goals as goal
 
 pub returns-then-push-clause-passes : goal.returns-then-push-clause-passes
 returns-then-push-clause-passes g c =
-    λ single short. passes_held c.args.joiner.now c.push.new.self c.args.to c.args.datagram.now _
+    passes_held c.args.joiner.now c.push.new.self c.args.to c.args.datagram.now _
     (sym c.push.ensures.takes ∙ c.if-push.true) (c.push.ensures.taken c.if-push.true)
 
 pub returns-then-push-clause-kept : goal.returns-then-push-clause-kept

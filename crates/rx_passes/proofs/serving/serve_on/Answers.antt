@@ -4,8 +4,8 @@ use Rattle.rx_passes.proofs.Passing.{ready_stopped}
 use Rattle.rx_passes.proofs.Running.{is_stopped}
 use Rattle.rx_passes.proofs.serving.serve_on.Goals as goal
 
-pub returns-in_err-ready : goal.returns-in_err-ready
-returns-in_err-ready g c =
+pub returns-in_err-ready-clause-serves : goal.returns-in_err-ready-clause-serves
+returns-in_err-ready-clause-serves g c =
     rw (is_stopped c.from_residual-in_err-ready.result c.in_err-ready.field-0.0 c.from_residual-in_err-ready.ensures.1)
     (ready_stopped (terms_of c.args.serving.now (handlers_of c.args.iface.now _)) _ c.args.host c.in_err-ready.field-0.0
     _ _ _ _ c.in_err-ready.ensures)

@@ -4,17 +4,51 @@ use Rattle.std.specs.Prelude.{is_some}
 use Rattle.rx_caller.specs.View.{CallerState}
 use Rattle.rx_node.specs.Node.{setup_of}
 use Rattle.rx_node.specs.Steps.{StandsNode}
+use Rattle.rx_rules.specs.Setup.{Setup}
 use Rattle.rx_passes.specs.Calls.{calls}
 use Rattle.rx_passes.specs.Ports.{AreReady, takes}
+use Rattle.rx_passes.specs.Runs.{IsBehind}
 use Rattle.rx_passes.specs.Serves.{plays}
-use Rattle.rx_passes.specs.Tells.{SinkTells, told, wire_tells}
+use Rattle.rx_passes.specs.Tells.{SinkTells, sink_tells, told, wire_tells}
 use Rattle.rx_passes.specs.declared.ports.Ports.{Ports}
 use Rattle.rx_passes.proofs.Callings.{CallSoFar, at_any, call_ended, call_more, call_pass_at, call_play_at}
 use Rattle.rx_passes.proofs.Callings.{call_so_none}
 use Rattle.rx_passes.proofs.Callings.{call_spent, call_stopped, call_stopped_last, call_terms_by, none_of}
 use Rattle.rx_passes.proofs.Passing.{legal_as, pass_early, pass_take, takes_at}
-use Rattle.rx_passes.proofs.Running.{is_stopped}
+use Rattle.rx_passes.proofs.Running.{behind_at, behind_made, is_stopped, place_of}
 use Rattle.rx_passes.proofs.calling.CallingNode.passes.Goals as goal
+
+pub play-requires-clause-behind : goal.play-requires-clause-behind
+play-requires-clause-behind g c =
+    subst (λ (s : Setup). IsBehind s (StandsNode g.C.Class.class_of c.loop-taken.self.client)
+    (g.W.Wire.moment c.loop-taken.wire)) (sym c.loop-taken.invariant.setup)
+    (behind_at (setup_of g.C.Class.class_of c.args.self.client) _ _ _ (c.loop-taken.invariant.so (sink_tells None 0)
+    (record { history = c.requires.behind.0; now = g.W.Wire.moment c.args.wire.now })
+    (place_of (setup_of g.C.Class.class_of c.args.self.client) (StandsNode g.C.Class.class_of c.args.self.client) _
+    c.requires.behind.0 c.requires.behind.1 c.requires.behind.2)).at)
+
+pub take-requires-clause-behind : goal.take-requires-clause-behind
+take-requires-clause-behind g c =
+    behind_made 1 (setup_of g.C.Class.class_of c.loop-taken.self.client)
+    (setup_of g.C.Class.class_of c.play.new.self.client) _ _ _ _
+    (plays c.loop-taken.self.ports.joiner.most calls c.loop-taken.self.caller)
+    (λ (u : CallerState). u ≡ c.play.new.self.caller) c.play.ensures.setup
+    (subst (λ (s : Setup). IsBehind s (StandsNode g.C.Class.class_of c.loop-taken.self.client)
+    (g.W.Wire.moment c.loop-taken.wire)) (sym c.loop-taken.invariant.setup)
+    (behind_at (setup_of g.C.Class.class_of c.args.self.client) _ _ _ (c.loop-taken.invariant.so (sink_tells None 0)
+    (record { history = c.requires.behind.0; now = g.W.Wire.moment c.args.wire.now })
+    (place_of (setup_of g.C.Class.class_of c.args.self.client) (StandsNode g.C.Class.class_of c.args.self.client) _
+    c.requires.behind.0 c.requires.behind.1 c.requires.behind.2)).at))
+    (c.in_ok-play.ensures.plays (sink_tells None 0))
+
+pub play-requires-2-clause-behind : goal.play-requires-2-clause-behind
+play-requires-2-clause-behind g c =
+    subst (λ (s : Setup). IsBehind s (StandsNode g.C.Class.class_of c.loop-taken.self.client)
+    (g.W.Wire.moment c.loop-taken.wire)) (sym c.loop-taken.invariant.setup)
+    (behind_at (setup_of g.C.Class.class_of c.args.self.client) _ _ _ (c.loop-taken.invariant.so (sink_tells None 0)
+    (record { history = c.requires.behind.0; now = g.W.Wire.moment c.args.wire.now })
+    (place_of (setup_of g.C.Class.class_of c.args.self.client) (StandsNode g.C.Class.class_of c.args.self.client) _
+    c.requires.behind.0 c.requires.behind.1 c.requires.behind.2)).at)
 
 pub loop-taken-init : goal.loop-taken-init
 loop-taken-init g c = record {
@@ -27,8 +61,8 @@ loop-taken-init g c = record {
   unended = c.requires.unended;
 }
 
-pub returns-in_err-play : goal.returns-in_err-play
-returns-in_err-play g c =
+pub returns-in_err-play-clause-calls : goal.returns-in_err-play-clause-calls
+returns-in_err-play-clause-calls g c =
     let low : c.loop-taken.taken < c.args.turns = search rules in
     λ sink p at. rw (is_stopped c.from_residual.result c.in_err-play.field-0.0 c.from_residual.ensures.1)
     (call_stopped _ c.args.self.caller p c.loop-taken.taken c.loop-taken.self.caller _ _ _ _ _ _ _ _
@@ -47,8 +81,8 @@ returns-in_err-play g c =
     c.args.self.client) (setup_of g.C.Class.class_of c.play.new.self.client) _ (c.play.ensures.setup
     ∙ c.loop-taken.invariant.setup) (λ h is. is.legal)) sink)
 
-pub returns-then-branch : goal.returns-then-branch
-returns-then-branch g c =
+pub returns-then-branch-clause-calls : goal.returns-then-branch-clause-calls
+returns-then-branch-clause-calls g c =
     let low : c.loop-taken.taken ≤ c.args.turns = search rules in
     let done : is_some c.play.new.self.caller.end ≡ true = search rules in
     λ sink p at. call_ended _ c.args.self.caller p c.loop-taken.taken c.loop-taken.self.caller _ _ _ _ _ _ _ _
@@ -58,8 +92,8 @@ returns-then-branch g c =
     (c.in_ok-play.ensures.plays sink)) low done (legal_as _ _ _ (c.play.ensures.setup ∙ c.loop-taken.invariant.setup)
     (λ h is. is.legal))
 
-pub returns-in_err-take : goal.returns-in_err-take
-returns-in_err-take g c =
+pub returns-in_err-take-clause-calls : goal.returns-in_err-take-clause-calls
+returns-in_err-take-clause-calls g c =
     let low : c.loop-taken.taken < c.args.turns = search rules in
     λ sink p at. rw (is_stopped c.from_residual-in_err-take.result c.in_err-take.field-0.0
     c.from_residual-in_err-take.ensures.1) (call_stopped _ c.args.self.caller p c.loop-taken.taken
@@ -125,8 +159,8 @@ loop-taken-preserved g c =
       unended = ap (λ (u : CallerState). u.end) c.take.ensures.caller ∙ left;
     }
 
-pub returns-in_err-play-2 : goal.returns-in_err-play-2
-returns-in_err-play-2 g c =
+pub returns-in_err-play-2-clause-calls : goal.returns-in_err-play-2-clause-calls
+returns-in_err-play-2-clause-calls g c =
     let all : c.loop-taken.taken ≡ c.args.turns = search rules in
     λ sink p at. rw (is_stopped c.from_residual-in_err-play-2.result c.in_err-play-2.field-0.0
     c.from_residual-in_err-play-2.ensures.1) (call_stopped_last _ c.args.self.caller p c.loop-taken.taken
@@ -138,8 +172,8 @@ returns-in_err-play-2 g c =
     (c.in_err-play-2.ensures.plays k))) all (legal_as _ _ _ (c.play-2.ensures.setup ∙ c.loop-taken.invariant.setup)
     (λ h is. is.legal)) sink)
 
-pub returns-then-branch-2 : goal.returns-then-branch-2
-returns-then-branch-2 g c =
+pub returns-then-branch-2-clause-calls : goal.returns-then-branch-2-clause-calls
+returns-then-branch-2-clause-calls g c =
     let low : c.loop-taken.taken ≤ c.args.turns = search rules in
     let done : is_some c.play-2.new.self.caller.end ≡ true = search rules in
     λ sink p at. call_ended _ c.args.self.caller p c.loop-taken.taken c.loop-taken.self.caller _ _ _ _ _ _ _ _
@@ -149,8 +183,8 @@ returns-then-branch-2 g c =
     (c.in_ok-play-2.ensures.plays sink)) low done (legal_as _ _ _ (c.play-2.ensures.setup
     ∙ c.loop-taken.invariant.setup) (λ h is. is.legal))
 
-pub returns : goal.returns
-returns g c =
+pub returns-clause-calls : goal.returns-clause-calls
+returns-clause-calls g c =
     let all : c.loop-taken.taken ≡ c.args.turns = search rules in
     let done : is_some c.play-2.new.self.caller.end ≡ false = search rules in
     λ sink p at. call_spent _ c.args.self.caller p c.loop-taken.taken c.loop-taken.self.caller _ _ _ _ _ _ _ _

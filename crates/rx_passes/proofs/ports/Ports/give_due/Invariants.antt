@@ -12,7 +12,7 @@ invariant-polls g l = record {
       (told (g.J.Journal.told l.fn.book) sink (wire_tells (g.W.Wire.told l.fn.wire) (g.W.Wire.faults l.fn.wire)
       (g.W.Wire.moment l.fn.wire)))
       (told (g.J.Journal.told l.book) sink (wire_tells (g.W.Wire.told l.wire) (g.W.Wire.faults l.wire)
-      (g.W.Wire.moment l.wire)))) (polls_so l.fn.self.joiner.most l.self.joiner) Anyhow None;
+      (g.W.Wire.moment l.wire)))) (polls_so l.fn.self.joiner.most l.self.joiner l.given) Anyhow None;
   most : l.self.joiner.most ≡ l.fn.self.joiner.most;
   number : l.self.node ≡ l.fn.self.node;
   setup : g.N.Endpoint.setup l.node ≡ g.N.Endpoint.setup l.fn.node;

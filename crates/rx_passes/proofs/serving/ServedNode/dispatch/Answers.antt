@@ -1,4 +1,4 @@
-use Rattle.std.proofs.Common.{◌≡◌, ◌∙◌, Err, List, Ok, ap, false, refl, rules, subst, sym, true}
+use Rattle.std.proofs.Common.{◌≡◌, ◌∙◌, ◌≤◌, ◌-◌, ◌^◌, Err, List, Ok, ap, false, refl, rules, subst, sym, true}
 use Rattle.rx_dispatch.specs.Dispatching.{DispatcherState, accepts, dispatching, turning_of}
 use Rattle.rx_dispatch.specs.Handlers.{Handlers, handlers_of}
 use Rattle.rx_dispatch.specs.Making.{Remembers}
@@ -10,7 +10,7 @@ use Rattle.rx_passes.specs.Tells.{Told, sink_tells, told}
 use Rattle.rx_passes.specs.Turned.{Handles}
 use Rattle.rx_passes.proofs.Dispatching.{calls_more, calls_over, calls_stopped}
 use Rattle.rx_passes.proofs.Running.{stopped}
-use Rattle.rx_passes.proofs.Turning.{Went, went_here, went_wants}
+use Rattle.rx_passes.proofs.Turning.{Went, went_endless, went_here}
 use Rattle.rx_passes.proofs.serving.ServedNode.dispatch.Goals as goal
 
 pub calls-init : goal.calls-init
@@ -21,7 +21,8 @@ calls-init g c =
       went = λ wire. (
           let t : Told = told _ (sink_tells _ (g.O.Sink.faults c.args.out.now)) wire in
           subst (λ (s : DispatcherState). Went (dispatching by) 0 (Stands g.C.Class.class_of c.args.self.now.server)
-          (Stands g.C.Class.class_of c.args.self.now.server) (accepts old.round.jobs) (turning_of by s.round) t t)
+          (Stands g.C.Class.class_of c.args.self.now.server) (accepts old.round.jobs) (turning_of by s.round) t t
+          0)
           (sym c.begin.ensures) (went_here (dispatching by) 0 _ (accepts old.round.jobs) t));
       remembered = subst (λ (s : DispatcherState). Remembers (handlers_of c.args.iface.now s.script) s.round)
           (sym c.begin.ensures) tt;
@@ -36,7 +37,7 @@ returns-in_err-handle-clause-plays g c =
     (calls_stopped g.C.Class.class_of (handlers_of c.args.iface.now (state_of c.args.self.now.dispatcher).script)
     (state_of c.args.self.now.dispatcher).round.jobs (state_of c.calls.self.dispatcher).round
     (state_of c.handle.new.self.dispatcher).round c.calls.self.server c.handle.new.self.server _ _ _ _ _ _ wire refl
-    (setup_of g.C.Class.class_of c.args.self.now.server.node) _ (c.calls.invariant.went wire)
+    c.calls.made (setup_of g.C.Class.class_of c.args.self.now.server.node) _ (c.calls.invariant.went wire)
     (Err c.in_err-handle.field-0.0) (subst (λ (x : List Answering). Handles g.C.Class.class_of
     (handlers_of c.args.iface.now x) (state_of c.calls.self.dispatcher).round (state_of
     c.handle.new.self.dispatcher).round c.calls.self.server c.handle.new.self.server (g.J.Journal.told c.calls.book)
@@ -50,7 +51,7 @@ returns-then-not-branch-clause-plays g c =
     λ wire. calls_over g.C.Class.class_of (handlers_of c.args.iface.now (state_of c.args.self.now.dispatcher).script)
     (state_of c.args.self.now.dispatcher).round.jobs (state_of c.calls.self.dispatcher).round
     (state_of c.handle.new.self.dispatcher).round c.calls.self.server c.handle.new.self.server _ _ _ _ _ _ wire refl
-    (setup_of g.C.Class.class_of c.args.self.now.server.node) (c.calls.invariant.went wire) (Ok c.in_ok-handle.field-0)
+    c.calls.made (setup_of g.C.Class.class_of c.args.self.now.server.node) (c.calls.invariant.went wire) (Ok c.in_ok-handle.field-0)
     (subst (λ (x : List Answering). Handles g.C.Class.class_of (handlers_of c.args.iface.now x)
     (state_of c.calls.self.dispatcher).round (state_of c.handle.new.self.dispatcher).round c.calls.self.server
     c.handle.new.self.server (g.J.Journal.told c.calls.book) (g.J.Journal.told c.handle.new.book)
@@ -66,7 +67,7 @@ calls-preserved g c =
           (handlers_of c.args.iface.now (state_of c.args.self.now.dispatcher).script)
           (state_of c.args.self.now.dispatcher).round.jobs (state_of c.calls.self.dispatcher).round
           (state_of c.handle.new.self.dispatcher).round c.calls.self.server c.handle.new.self.server _ _ _ _ _ _ wire
-          refl (c.calls.invariant.went wire) (Ok c.in_ok-handle.field-0) (subst (λ (x : List Answering). Handles
+          refl c.calls.made (c.calls.invariant.went wire) (Ok c.in_ok-handle.field-0) (subst (λ (x : List Answering). Handles
           g.C.Class.class_of (handlers_of c.args.iface.now x) (state_of c.calls.self.dispatcher).round
           (state_of c.handle.new.self.dispatcher).round c.calls.self.server c.handle.new.self.server
           (g.J.Journal.told c.calls.book) (g.J.Journal.told c.handle.new.book) (sink_tells (g.O.Sink.told c.calls.out)
@@ -81,5 +82,6 @@ calls-preserved g c =
 
 pub returns-clause-plays : goal.returns-clause-plays
 returns-clause-plays g c =
-    λ wire. went_wants 0 _ (handlers_of c.args.iface.now (state_of c.args.self.now.dispatcher).script)
-    (state_of c.args.self.now.dispatcher).round.jobs _ _ _ _ _ refl _ (c.calls.invariant.went wire)
+    let many : 2 ^ 64 - 1 ≤ c.calls.made = search rules in
+    λ wire. went_endless 0 _ (handlers_of c.args.iface.now (state_of c.args.self.now.dispatcher).script)
+    (state_of c.args.self.now.dispatcher).round.jobs _ _ _ _ _ c.calls.made refl _ (c.calls.invariant.went wire) many

@@ -17,7 +17,7 @@ invariant-calls g l = record {
       (accepts (state_of l.fn.self.dispatcher).round.jobs)
       (turning_of (handlers_of l.iface (state_of l.fn.self.dispatcher).script) (state_of l.self.dispatcher).round)
       (told (g.J.Journal.told l.fn.book) (sink_tells (g.O.Sink.told l.fn.out) (g.O.Sink.faults l.fn.out)) wire)
-      (told (g.J.Journal.told l.book) (sink_tells (g.O.Sink.told l.out) (g.O.Sink.faults l.out)) wire);
+      (told (g.J.Journal.told l.book) (sink_tells (g.O.Sink.told l.out) (g.O.Sink.faults l.out)) wire) l.made;
   remembered : Remembers (handlers_of l.iface (state_of l.self.dispatcher).script) (state_of l.self.dispatcher).round;
   script : (state_of l.self.dispatcher).script ≡ (state_of l.fn.self.dispatcher).script;
   ports : l.self.ports ≡ l.fn.self.ports;

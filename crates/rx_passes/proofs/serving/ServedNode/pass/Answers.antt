@@ -10,8 +10,18 @@ use Rattle.rx_passes.specs.Runs.{Plays, change, stop_of}
 use Rattle.rx_passes.specs.Serves.{dispatches, pass, plays}
 use Rattle.rx_passes.specs.Tells.{sink_tells, told, wire_tells}
 use Rattle.rx_passes.proofs.Passing.{pass_early, pass_take, takes_at}
-use Rattle.rx_passes.proofs.Running.{stopped}
+use Rattle.rx_passes.proofs.Running.{behind_made, stopped}
 use Rattle.rx_passes.proofs.serving.ServedNode.pass.Goals as goal
+
+pub take-requires-clause-behind : goal.take-requires-clause-behind
+take-requires-clause-behind g c =
+    behind_made 0 (setup_of g.C.Class.class_of c.args.self.now.server.node)
+    (setup_of g.C.Class.class_of c.play.new.self.server.node) _ _ _ _
+    (plays c.args.self.now.ports.joiner.most
+    (dispatches (handlers_of c.args.iface.now (state_of c.args.self.now.dispatcher).script))
+    (state_of c.args.self.now.dispatcher).round.jobs)
+    (λ (js : List JobState). js ≡ (state_of c.play.new.self.dispatcher).round.jobs) c.play.ensures.setup
+    c.requires.behind c.in_ok-play.ensures.plays
 
 pub returns-in_err-play-clause-plays : goal.returns-in_err-play-clause-plays
 returns-in_err-play-clause-plays g c =

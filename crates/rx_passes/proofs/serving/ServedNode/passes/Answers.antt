@@ -3,12 +3,26 @@ use Rattle.std.proofs.Math.Numerals.{suc-eq-add-one}
 use Rattle.rx_dispatch.specs.Jobs.{JobState}
 use Rattle.rx_dispatch.specs.States.{state_of}
 use Rattle.rx_node.specs.Node.{setup_of}
+use Rattle.rx_rules.specs.Setup.{Setup}
 use Rattle.rx_server.specs.Server.{Stands}
+use Rattle.rx_passes.specs.Runs.{IsBehind}
 use Rattle.rx_passes.specs.Tells.{sink_tells, told, wire_tells}
 use Rattle.rx_passes.proofs.Passing.{legal_as, pass_at, play_at, serving_spent, serving_stopped, serving_stopped_last}
 use Rattle.rx_passes.proofs.Passing.{serving_up, SoFar, serving_up_failed, so_more, so_none, terms_by}
-use Rattle.rx_passes.proofs.Running.{is_stopped}
+use Rattle.rx_passes.proofs.Running.{behind_at, is_stopped}
 use Rattle.rx_passes.proofs.serving.ServedNode.passes.Goals as goal
+
+pub pass-requires-clause-behind : goal.pass-requires-clause-behind
+pass-requires-clause-behind g c =
+    subst (λ (s : Setup). IsBehind s (Stands g.C.Class.class_of c.loop-taken.self.server)
+    (g.W.Wire.moment c.loop-taken.wire)) (sym c.loop-taken.invariant.setup)
+    (behind_at (setup_of g.C.Class.class_of c.args.self.now.server.node) _ _ _ c.loop-taken.invariant.so.at)
+
+pub play-requires-clause-behind : goal.play-requires-clause-behind
+play-requires-clause-behind g c =
+    subst (λ (s : Setup). IsBehind s (Stands g.C.Class.class_of c.loop-taken.self.server)
+    (g.W.Wire.moment c.loop-taken.wire)) (sym c.loop-taken.invariant.setup)
+    (behind_at (setup_of g.C.Class.class_of c.args.self.now.server.node) _ _ _ c.loop-taken.invariant.so.at)
 
 pub loop-taken-init : goal.loop-taken-init
 loop-taken-init g c = record {
@@ -32,8 +46,8 @@ loop-taken-init g c = record {
   setup = refl;
 }
 
-pub returns-in_err-pass : goal.returns-in_err-pass
-returns-in_err-pass g c =
+pub returns-in_err-pass-clause-serves : goal.returns-in_err-pass-clause-serves
+returns-in_err-pass-clause-serves g c =
     let low : c.loop-taken.taken < c.args.turns = search rules in
     rw (is_stopped c.from_residual.result c.in_err-pass.field-0.0 c.from_residual.ensures.1)
     (serving_stopped _ (record { history = []; now = g.W.Wire.moment c.args.wire.now }) c.loop-taken.taken
@@ -46,8 +60,8 @@ returns-in_err-pass g c =
     c.loop-taken.invariant.script c.loop-taken.invariant.setup c.loop-taken.invariant.most c.in_err-pass.ensures.plays)
     low (legal_as _ _ _ (c.pass.ensures.setup ∙ c.loop-taken.invariant.setup) (λ h is. is.legal)))
 
-pub returns-in_err-put_time_up : goal.returns-in_err-put_time_up
-returns-in_err-put_time_up g c =
+pub returns-in_err-put_time_up-clause-serves : goal.returns-in_err-put_time_up-clause-serves
+returns-in_err-put_time_up-clause-serves g c =
     let low : c.loop-taken.taken < c.args.turns = search rules in
     let late : c.args.end ≤ g.W.Wire.moment c.pass.new.wire = search rules in
     rw (is_stopped c.from_residual-in_err-put_time_up.result c.in_err-put_time_up.field-0.0
@@ -65,8 +79,8 @@ returns-in_err-put_time_up g c =
     (c.pass.ensures.setup ∙ c.loop-taken.invariant.setup) (λ h is. is.legal)) _ c.in_err-put_time_up.field-0.0
     c.in_err-put_time_up.ensures)
 
-pub returns-then-end-now : goal.returns-then-end-now
-returns-then-end-now g c =
+pub returns-then-end-now-clause-serves : goal.returns-then-end-now-clause-serves
+returns-then-end-now-clause-serves g c =
     let low : c.loop-taken.taken < c.args.turns = search rules in
     let late : c.args.end ≤ g.W.Wire.moment c.pass.new.wire = search rules in
     serving_up _ (record { history = []; now = g.W.Wire.moment c.args.wire.now }) c.loop-taken.taken
@@ -108,8 +122,8 @@ loop-taken-preserved g c =
       setup = c.pass.ensures.setup ∙ c.loop-taken.invariant.setup;
     }
 
-pub returns-in_err-play : goal.returns-in_err-play
-returns-in_err-play g c =
+pub returns-in_err-play-clause-serves : goal.returns-in_err-play-clause-serves
+returns-in_err-play-clause-serves g c =
     let all : c.loop-taken.taken ≡ c.args.turns = search rules in
     rw (is_stopped c.from_residual-in_err-play.result c.in_err-play.field-0.0 c.from_residual-in_err-play.ensures.1)
     (serving_stopped_last _ (record { history = []; now = g.W.Wire.moment c.args.wire.now }) c.loop-taken.taken
@@ -122,8 +136,8 @@ returns-in_err-play g c =
     c.loop-taken.invariant.script c.loop-taken.invariant.setup c.loop-taken.invariant.most c.in_err-play.ensures.plays)
     all (legal_as _ _ _ (c.play.ensures.setup ∙ c.loop-taken.invariant.setup) (λ h is. is.legal)))
 
-pub returns : goal.returns
-returns g c =
+pub returns-clause-serves : goal.returns-clause-serves
+returns-clause-serves g c =
     let all : c.loop-taken.taken ≡ c.args.turns = search rules in
     serving_spent _ (record { history = []; now = g.W.Wire.moment c.args.wire.now }) c.loop-taken.taken
     (state_of c.loop-taken.self.dispatcher).round.jobs (state_of c.play.new.self.dispatcher).round.jobs _ _ _ _ _
