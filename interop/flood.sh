@@ -187,10 +187,7 @@ alone
 beside
 end_all
 never_ends
-if [ "${#faults[@]}" -gt 0 ]; then
-    (IFS=';' && echo "failed: ${faults[*]}")
-    exit 1
-fi
+tell_faults
 echo "passed: $(per $((1000 * echoes_without)) "$ms_without") echoes a second without the flood," \
     "$(per $((1000 * echoes_with)) "$ms_with") with it but for forged calls," \
     "$(per $((1000 * echoes)) "$ms") behind it," \

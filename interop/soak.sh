@@ -223,8 +223,5 @@ for name in to_peer to_us to_keyed; do
     end "$name"
     echo "the bad network $name: $(tail -n 1 "$work/$name.out")"
 done
-if [ "${#faults[@]}" -gt 0 ]; then
-    (IFS=';' && echo "failed: ${faults[*]}")
-    exit 1
-fi
+tell_faults
 echo "passed: $told answers$figures"

@@ -1,6 +1,6 @@
 # What the scripts of interop/ and bench/udp.sh share: processes that are started under a name and ended by their id. To
 # be sourced by a script of bash that has set top, the folder of the repository, and work, a folder of its own; for
-# floods and long runs also here, the folder of this file.
+# floods and long runs also here, the folder of this file, and faults, what failed.
 # shellcheck shell=bash disable=SC2154
 declare -A pid_of
 
@@ -112,6 +112,14 @@ forget_most() {
 give_up() {
     echo "failed: $1"
     exit 1
+}
+
+# Ends the run with what failed, where anything did.
+tell_faults() {
+    local all
+    [ "${#faults[@]}" -gt 0 ] || return 0
+    printf -v all '%s; ' "${faults[@]}"
+    give_up "${all%; }"
 }
 
 # Builds the peers, and has the network namespace speak with itself.
