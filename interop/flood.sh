@@ -29,7 +29,8 @@ span=$2
 part=$((span * 1000 / 25))
 SERVE_MS=$(((span + 4 * BACK_SECONDS) * 1000))
 work=$(mktemp -d)
-faults=() all_us=0 all_taken=0 echoes=0 ms=0 echoes_without=0 ms_without=0 echoes_with=0 ms_with=0 told_memory=
+faults=() all_us=0 all_taken=0 told_memory='' unsent=''
+echoes=0 ms=0 echoes_without=0 ms_without=0 echoes_with=0 ms_with=0
 trap 'end_all; rm -rf "$work"' EXIT
 trap 'exit 1' INT TERM
 
@@ -86,6 +87,7 @@ cost_of() {
     forge "$1"
     sleep 0.3
     survives "$1" || return
+    [[ $(<"$work/forged") != *'without a raw socket'* ]] || unsent=', without a raw socket and so none of nowhere'
     us=$(($(used) - us)) lost=$(($(dropped) - lost)) sent=$(awk '{ print $1 }' "$work/forged")
     all_us=$((all_us + us)) all_taken=$((all_taken + sent - lost))
     echo "alone, $2: $(<"$work/forged"); $lost lost at the full socket," \
@@ -191,4 +193,4 @@ tell_faults
 echo "passed: $(per $((1000 * echoes_without)) "$ms_without") echoes a second without the flood," \
     "$(per $((1000 * echoes_with)) "$ms_with") with it but for forged calls," \
     "$(per $((1000 * echoes)) "$ms") behind it," \
-    "$(per "$all_us" "$all_taken") us of the processor a forged datagram$told_memory"
+    "$(per "$all_us" "$all_taken") us of the processor a forged datagram$unsent$told_memory"
