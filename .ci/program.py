@@ -9,9 +9,14 @@ import os
 import pathlib
 import re
 import resource
+import signal
+import socket
+import struct
 import subprocess
 import sys
 import tempfile
+import threading
+import time
 
 top = pathlib.Path(__file__).resolve().parent.parent
 failed = []
@@ -196,11 +201,18 @@ def refused_calls():
 @contextlib.contextmanager
 def served(ending, *words):
     """The host of a server while it runs, and its lines behind it, which are looked at when it has ended."""
+    with served_by(ending, *words) as (server, host, lines):
+        yield host, lines
+
+
+@contextlib.contextmanager
+def served_by(ending, *words):
+    """The same, with the process of the server."""
     server = subprocess.Popen([PROGRAM, "serve", *words], stdout=subprocess.PIPE, stderr=subprocess.PIPE)
     lines = []
     try:
         ready = server.stdout.readline().decode()
-        yield ready.removeprefix("ready ").strip(), lines
+        yield server, ready.removeprefix("ready ").strip(), lines
         rest, err = server.communicate(timeout=100)
         expect(f"the server {words}", (server.returncode, rest, err), ending, "".join(lines).encode())
     finally:
@@ -262,11 +274,63 @@ def wires():
     expect("a call from a host of others", run(*call, "--from", "192.0.2.1:0"), "WireFault")
     got = run("serve", xg, script, "--at", "192.0.2.1:0")
     expect("a server on a host of others", got, "WireFault")
+    began = time.monotonic()
     status, out, err = run(*call)
+    took = time.monotonic() - began
     silence = re.fullmatch(r"rx: dead (\d+)\n", err.decode())
-    if (status, out) != (4, b"") or not silence or not 12_000 <= int(silence[1]) < 15_000:
+    if (status, out) != (4, b"") or not silence or not 12_000 <= int(silence[1]) < 15_000 or not 12 <= took < 16:
         failed.append("silence")
-        print(f"a call that nobody answers: {status}, {out}, {err}")
+        print(f"a call that nobody answers: {status}, {out}, {err}, {took:.1f} s")
+
+
+def from_port_0(host):
+    """Gives a datagram whose source has port 0 to a host, where this user may: a packet 1 for a service that isn't served."""
+    address, port = host.split(":")
+    data = bytes.fromhex("0000000700000004000000010000000100000001010500000000ffff") + b"hi"
+    try:
+        with socket.socket(socket.AF_INET, socket.SOCK_RAW, socket.IPPROTO_UDP) as raw:
+            raw.sendto(struct.pack(">4H", 0, int(port), 8 + len(data), 0) + data, (address, 0))
+    except PermissionError:
+        print("skipped, as this user may make no raw datagrams: whether a datagram from port 0 ends a server")
+
+
+def robust():
+    """Strange datagrams, a stop and a pipe for a file end no server; and its time is that of the clock on the wall."""
+    xg, script = write("x.xg", "P(IN int a, INOUT string b<4>) = 1;"), write("s", "")
+    words = [xg, script, "--at", "127.0.0.1:0"]
+    began = time.monotonic()
+    with served_by("Ok", *words, "--for", "4000") as (server, host, lines):
+        from_port_0(host)
+        address, port = host.split(":")
+        with socket.socket(socket.AF_INET, socket.SOCK_DGRAM) as strange:
+            strange.bind(("127.0.0.9", 0))
+            for datagram in (b"", b"\xff", bytes(28), b"\x00" * 60_000, bytes(range(256)) * 4):
+                strange.sendto(datagram, (address, int(port)))
+        server.send_signal(signal.SIGSTOP)
+        time.sleep(0.3)
+        server.send_signal(signal.SIGCONT)
+        at = f"127.0.0.1:{20_000 + os.getpid() % 10_000}"
+        got = run("call", xg, "P", '[1,"a"]', "--to", host, "--from", at, "--epoch", "1")
+        expect("a call behind strange datagrams and a stop", got, "Ok", b'ok ["a"]\n')
+        lines.append(f"accept {at}/1/4/0/1\nfinish {at}/1/4/0/1 0\ntime up\n")
+    took = time.monotonic() - began
+    if not 4 <= took < 5.5:
+        failed.append("the time of a server")
+        print(f"a server for 4000 ms served for {took:.1f} s")
+    # a pipe is read once, where a file could be read again and again
+    write("key", b"k" * 32), os.mkfifo("pipe")
+    with served("Ok", *words, "--for", "1500", "--key", "key") as (host, lines):
+        writer = threading.Thread(target=lambda: pathlib.Path("pipe").write_bytes(b"k" * 32), daemon=True)
+        writer.start()
+        got = run("call", xg, "P", '[1,"a"]', "--to", host, "--from", at, "--epoch", "2", "--key", "pipe")
+        expect("a call with a pipe for its key", got, "Ok", b'ok ["a"]\n')
+        lines.append(f"accept {at}/2/4/0/1\nfinish {at}/2/4/0/1 0\ntime up\n")
+    began = time.monotonic()
+    got = run("call", xg, "P", '[1,"a"]', "--to", "240.0.0.1:9", "--epoch", "1")
+    expect("a call to nowhere", got, "WireFault")
+    if time.monotonic() - began > 2:
+        failed.append("a call to nowhere")
+        print("a call to nowhere isn't told at once")
 
 
 def files():
@@ -326,7 +390,7 @@ def memory():
 
 with tempfile.TemporaryDirectory() as folder:
     os.chdir(folder)
-    for part in (usage, plans, interfaces, refused_calls, wires, files, streams, memory):
+    for part in (usage, plans, interfaces, refused_calls, wires, robust, files, streams, memory):
         part()
     os.chdir(top)
 print(f"the program: {len(failed)} runs failed" if failed else "the program: each run ended and printed as it is to")
