@@ -19,7 +19,7 @@ use Rattle.rx_words.specs.declared.command.Command.{Command}
 use Rattle.rx_words.specs.declared.command.Command.TheVariants as commands
 use Rattle.rx_world.specs.Answering.{AbortedAsServed, AnswersNoZero, AreDriven, AreServable, EndedAsServed}
 use Rattle.rx_world.specs.Answering.{EndedByLaw, OkAsAnswered}
-use Rattle.rx_world.specs.Follows.{CutOff, Empty, RefusedAt, Went, Whole, plan_goes}
+use Rattle.rx_world.specs.Follows.{CutOff, Empty, EndlessIn, RefusedAt, Went, Whole, plan_goes}
 use Rattle.rx_world.specs.Lines.{IsWell}
 use Rattle.rx_world.specs.Promises.{AreDistinct, KeepsPromises, plan_nodes}
 use Rattle.rx_world.specs.Runs.{RunIs, Tells}
@@ -36,7 +36,7 @@ use Rattle.xg_check.specs.Meaning.{Meant}
 use Rattle.xg_check.specs.Meant.{proc_meant, procs_behind, with_proc}
 use Rattle.xg_check.specs.Opcodes.{opcode_behind}
 use Rattle.rx_top.specs.declared.sim.SimFiles.{SimFiles}
-use Rattle.rx_top.specs.Inputs.{IsInterface, IsScript, reads_by}
+use Rattle.rx_top.specs.Inputs.{IsInterface, IsScript, behind, read_on, reads_by}
 use Rattle.rx_top.specs.Sims.{IsRead, Played, handlers_with}
 
 -- ---- files
@@ -46,11 +46,12 @@ pub empty_is_sound : is_sound [] [] ≡ true
 unfolding is_sound differ
 empty_is_sound = refl
 
--- what files told behind a read that didn't fail is what they told before it
-pub reads_on : {F : Type 0} (contents : F → Option (List (List ℕ × List ℕ)))
-    (failed_last : F → Option (Option (List ℕ))) (old now new : F) → contents now ≡ contents old
-    → failed_last now ≡ failed_last old → reads_by contents failed_last now new ≡ reads_by contents failed_last old new
-reads_on contents failed_last old now new same last = rw (same, last) refl
+-- what files tell from behind the read of a named file on, if one is named, where that didn't fail
+pub reads_behind : {F : Type 0} (contents : F → Option (List (List ℕ × List ℕ)))
+    (failed_last : F → Option (Option (List ℕ))) (reads : F → ℕ) (name : Option (List ℕ)) (old now new : F)
+    → contents now ≡ contents old → failed_last now ≡ failed_last old → reads now ≡ read_on name (reads old)
+    → reads_by contents failed_last reads now new ≡ behind name (reads_by contents failed_last reads old new)
+reads_behind contents failed_last reads name old now new same last count = rw (same, last, count) refl
 
 -- ---- what serves the calls of a plan
 
@@ -140,19 +141,23 @@ tells_faults g ls runs.Ran (Whole s) old new es told = told.puts.faults ∙ gain
 tells_faults g ls runs.Ran Empty old new es told = gains_faults told
 tells_faults g ls runs.Ran (RefusedAt line why) old new es told = absurd told
 tells_faults g ls runs.Ran CutOff old new es told = absurd told
+tells_faults g ls runs.Ran EndlessIn old new es told = absurd told
 tells_faults g ls (runs.Refused line why) (Whole s) old new es told = absurd told
 tells_faults g ls (runs.Refused line why) Empty old new es told = absurd told
 tells_faults g ls (runs.Refused line why) (RefusedAt its cause) old new es told = gains_faults told.2
 tells_faults g ls (runs.Refused line why) CutOff old new es told = absurd told
+tells_faults g ls (runs.Refused line why) EndlessIn old new es told = absurd told
 tells_faults g ls runs.SinkFault (Whole s) old new es told =
     subst (λ (before : ℕ). HasRisen before new.faults) (gains_faults told.told) told.puts.faults
 tells_faults g ls runs.SinkFault Empty old new es told = absurd told
 tells_faults g ls runs.SinkFault (RefusedAt line why) old new es told = absurd told
 tells_faults g ls runs.SinkFault CutOff old new es told = fails_faults told
+tells_faults g ls runs.SinkFault EndlessIn old new es told = absurd told
 tells_faults g ls runs.OutOfMemory (Whole s) old new es told = told.puts.faults ∙ gains_faults told.told
 tells_faults g ls runs.OutOfMemory Empty old new es told = absurd told
 tells_faults g ls runs.OutOfMemory (RefusedAt line why) old new es told = absurd told
 tells_faults g ls runs.OutOfMemory CutOff old new es told = wants_faults told
+tells_faults g ls runs.OutOfMemory EndlessIn old new es told = gains_faults told
 
 -- the faults of a sink behind a run
 pub run_faults : (g : Handlers) (ls : List Numbered) (ran : Outcome) (old new : Told) → RunIs g ls ran old new

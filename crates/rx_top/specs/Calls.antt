@@ -41,7 +41,7 @@ use Rattle.rx_top.specs.declared.status.Status.{Status}
 use Rattle.rx_top.specs.declared.wire_outcome.ArgsFault.TheVariants as faults
 use Rattle.rx_top.specs.declared.wire_outcome.WireOutcome.{WireOutcome}
 use Rattle.rx_top.specs.declared.wire_outcome.WireOutcome.TheVariants as outcomes
-use Rattle.rx_top.specs.Inputs.{BadXg, Gives, Reads}
+use Rattle.rx_top.specs.Inputs.{BadXg, Gives, ReadNone, ReadOne, Reads, behind}
 use Rattle.rx_top.specs.Wires.{EndsAtInput, EndsAtKey, IsClass, wire_said, wire_status}
 
 -- ---- the words
@@ -99,14 +99,19 @@ EndsAtValues _ t p text = ⊥
 
 -- ---- the upload
 
--- it ends at the file of the upload: it can't be read, or is too long, or memory was wanted
-abbrev pub EndsAtUpload : WireOutcome → List ℕ → Reads → Type 0
-EndsAtUpload (outcomes.Input (inputs.FileFault file)) name r =
+-- it ends for the file of the upload: it can't be read, or is too long, or memory was wanted
+abbrev pub EndsForUpload : WireOutcome → List ℕ → Reads → Type 0
+EndsForUpload (outcomes.Input (inputs.FileFault file)) name r =
     (file.now ≡ name) × IsNoted r.failed_before r.failed name
-EndsAtUpload (outcomes.BadArgs faults.Number) name r =
+EndsForUpload (outcomes.BadArgs faults.Number) name r =
     Gives r.contents name (λ upload. MAX_COUNTED_BYTES < length upload)
-EndsAtUpload outcomes.OutOfMemory name r = ⊤
-EndsAtUpload _ name r = ⊥
+EndsForUpload outcomes.OutOfMemory name r = ⊤
+EndsForUpload _ name r = ⊥
+
+-- it reads the file of the upload, unless memory was wanted before, and ends for it
+abbrev pub EndsAtUpload : WireOutcome → List ℕ → Reads → Type 0
+EndsAtUpload outcome name r =
+    (ReadOne r × EndsForUpload outcome name r) ⊎ (ReadNone r × (outcome ≡ outcomes.OutOfMemory))
 
 -- these bytes are too long for an upload, or memory was wanted
 abbrev pub RefusesUpload : WireOutcome → List ℕ → Type 0
@@ -192,33 +197,35 @@ pub record CallsServer (a : CallAsked) (w : Calling) (request : List ℕ) (class
 abbrev pub CallsAtKey : CallAsked → CallWords → Calling → List ℕ → WireOutcome → Reads → Told → Told → Type 0
 CallsAtKey a words w request outcome r before after =
     (IsSomeAnd words.key (λ name. EndsAtKey outcome name r) × (after ≡ before))
-    ⊎ ((class : Class) × IsClass r.contents words.key class × CallsServer a w request class outcome before after)
+    ⊎ ((class : Class) × IsClass r.contents words.key class × ReadNone (behind words.key r)
+    × CallsServer a w request class outcome before after)
 
 -- with a request, it ends at the file of the upload, and nothing was told; or it went on with what is sent
 abbrev pub CallsAtUpload : CallAsked → CallWords → Calling → List ℕ → WireOutcome → Reads → Told → Told → Type 0
 CallsAtUpload a words w request outcome r before after =
     (IsSomeAnd words.up (λ name. EndsAtUpload outcome name r) × (after ≡ before))
     ⊎ ((sent : List ℕ) × IsSent r.contents words.up request sent
-    × CallsAtKey a words w sent outcome r before after)
+    × CallsAtKey a words w sent outcome (behind words.up r) before after)
 
 -- of a procedure with the streams that are asked for, it ends at the text of the values, and nothing was told; or it
 -- went on with their request
 abbrev pub CallsAtValues : CallAsked → CallWords → Calling → WireOutcome → Reads → Told → Told → Type 0
 CallsAtValues a words w outcome r before after =
-    (EndsAtValues outcome a.meant.types a.proc words.args × (after ≡ before))
+    (EndsAtValues outcome a.meant.types a.proc words.args × ReadNone r × (after ≡ before))
     ⊎ ((request : List ℕ) × SaysRequest a.meant.types a.proc words.args request
     × CallsAtUpload a words w request outcome r before after)
 
 -- of a procedure, it ends at its streams, and nothing was told; or it has those that are asked for
 abbrev pub CallsAtStreams : CallAsked → CallWords → Calling → WireOutcome → Reads → Told → Told → Type 0
 CallsAtStreams a words w outcome r before after =
-    ((outcome ≡ outcomes.BadArgs faults.Kind) × AsksStream words a.proc × (after ≡ before))
+    ((outcome ≡ outcomes.BadArgs faults.Kind) × AsksStream words a.proc × ReadNone r × (after ≡ before))
     ⊎ ((AsksStream words a.proc → ⊥) × CallsAtValues a words w outcome r before after)
 
 -- over an interface, it ends at the name of the procedure, and nothing was told; or it went on with the procedure
 abbrev pub CallsAtProc : Meant → CallWords → Calling → WireOutcome → Reads → Told → Told → Type 0
 CallsAtProc m words w outcome r before after =
-    ((outcome ≡ outcomes.BadArgs faults.Proc) × (proc_named words.proc m.procs ≡ None) × (after ≡ before))
+    ((outcome ≡ outcomes.BadArgs faults.Proc) × (proc_named words.proc m.procs ≡ None) × ReadNone r
+    × (after ≡ before))
     ⊎ ((p : Procedure) × (proc_named words.proc m.procs ≡ Some p)
     × CallsAtStreams (record { meant = m; proc = p; down = words.down }) words w outcome r before after)
 
@@ -227,13 +234,13 @@ abbrev pub CallsAtXg : CallWords → Calling → WireOutcome → Reads → Told 
 CallsAtXg words w outcome r before after =
     (EndsAtInput outcome words.xg BadXg r × (after ≡ before))
     ⊎ ((m : Meant) × Gives r.contents words.xg (λ text. Means text m)
-    × CallsAtProc m words w outcome r before after)
+    × CallsAtProc m words w outcome (behind (Some words.xg) r) before after)
 
 -- what `call` does: the interface is read first, then the procedure and the values are judged, then the upload and the
--- key are read, each checked before the next; or memory was wanted before
+-- key are read, each once and checked before the next; or memory was wanted before
 abbrev pub CallsByFiles : WireOutcome → CallWords → Calling → Reads → Told → Told → Type 0
 CallsByFiles outcome words w r before after =
-    ((outcome ≡ outcomes.OutOfMemory) × (after ≡ before)) ⊎ CallsAtXg words w outcome r before after
+    ((outcome ≡ outcomes.OutOfMemory) × ReadNone r × (after ≡ before)) ⊎ CallsAtXg words w outcome r before after
 
 -- what the program leaves of it: the status of how it ended, and the line of that said
 abbrev pub CallLeaves : Status → CallWords → Calling → Reads → Told → Told → (List ℕ → Type 0) → Type 0

@@ -1,6 +1,7 @@
 -- What `compile XG` leaves, by how it ended. Public clauses cite this module.
-use Rattle.std.specs.Prelude.{◌≡◌, ◌≢◌, ℕ, List, [], codes, false, string_bytes, ⊤}
+use Rattle.std.specs.Prelude.{◌≡◌, ◌≢◌, ◌⊎◌, ℕ, List, [], codes, false, string_bytes, ⊤}
 use Rattle.std.specs.Str.{is_utf8}
+use Rattle.rx_base.specs.Count.{one_more}
 use Rattle.rx_base.specs.Files.{HasFile, IsNoted}
 use Rattle.rx_base.specs.Sink.{Gained, GainedSome}
 use Rattle.xg_check.specs.Meaning.{Meant}
@@ -94,8 +95,14 @@ compile_said outcomes.FileFault name = unread_text name
 compile_said outcomes.SinkFault name = unwritten_text
 compile_said outcomes.OutOfMemory name = memory_text
 
+-- the file was read once, unless memory was wanted before
+abbrev pub ReadsOnce : CompileOutcome → Seen → Type 0
+ReadsOnce outcome seen =
+    (seen.count ≡ one_more seen.count_before)
+    ⊎ ((outcome ≡ outcomes.OutOfMemory) × (seen.count ≡ seen.count_before))
+
 -- what the program leaves of it: the status of how it ended, and the line of that said
 abbrev pub CompileLeaves : Status → List ℕ → Seen → (List ℕ → Type 0) → Type 0
 CompileLeaves status name seen IsSaid =
-    (outcome : CompileOutcome) × (status ≡ compile_status outcome) × CompileIs outcome name seen
+    (outcome : CompileOutcome) × (status ≡ compile_status outcome) × CompileIs outcome name seen × ReadsOnce outcome seen
     × IsSaid (compile_said outcome name)

@@ -36,21 +36,26 @@ unread_text name = codes "rx: cannot read " ++ name ++ codes "\n"
 abbrev pub unwritten_text : List ℕ
 unwritten_text = codes "rx: cannot write\n"
 
--- what the files tell, the name whose read failed last, and what the sink tells, the latter two before and after
+-- what the files tell; and the name whose read failed last, how many were read, and what the sink tells, before and
+-- after
 pub record Seen : Type 0 where
   pub contents : Option (List (List ℕ × List ℕ))
   pub failed_before : Option (Option (List ℕ))
   pub failed : Option (Option (List ℕ))
+  pub count_before : ℕ
+  pub count : ℕ
   pub out_before : Option (List ℕ)
   pub out : Option (List ℕ)
 
 -- that of these files and this sink, by what such files and sinks tell
 abbrev pub seen_by : {F O : Type 0} → (F → Option (List (List ℕ × List ℕ))) → (F → Option (Option (List ℕ)))
-    → (O → Option (List ℕ)) → F → F → O → O → Seen
-seen_by contents failed_last told files_before files out_before out = record {
+    → (F → ℕ) → (O → Option (List ℕ)) → F → F → O → O → Seen
+seen_by contents failed_last reads told files_before files out_before out = record {
   contents = contents files_before;
   failed_before = failed_last files_before;
   failed = failed_last files;
+  count_before = reads files_before;
+  count = reads files;
   out_before = told out_before;
   out = told out;
 }

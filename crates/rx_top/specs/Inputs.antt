@@ -1,6 +1,7 @@
 -- What the files that a command names give, and how it ends at one that gives nothing. Public clauses cite this module.
 use Rattle.std.specs.Prelude.{◌≡◌, ◌≢◌, ℕ, List, [], codes, false, Option, Some, None, Result, Ok, Err, ⊤}
 use Rattle.std.specs.Str.{is_utf8}
+use Rattle.rx_base.specs.Count.{one_more}
 use Rattle.rx_base.specs.Files.{HasFile, IsNoted}
 use Rattle.rx_script.specs.declared.fault.LineFault.TheVariants.{BadLine}
 use Rattle.rx_script.specs.declared.plan.Numbered.{Numbered}
@@ -55,20 +56,41 @@ status_in (Err outcome) = status_of outcome
 
 -- ---- what files give
 
--- what files tell: their bytes, and the name whose read failed last, before and after
+-- what files tell: their bytes; and the name whose read failed last, and how many were read, before and after
 pub record Reads : Type 0 where
   pub contents : Option (List (List ℕ × List ℕ))
   pub failed_before : Option (Option (List ℕ))
   pub failed : Option (Option (List ℕ))
+  pub count_before : ℕ
+  pub count : ℕ
 
 -- that of these files, by what such files tell
-abbrev pub reads_by : {F : Type 0} → (F → Option (List (List ℕ × List ℕ))) → (F → Option (Option (List ℕ)))
+abbrev pub reads_by : {F : Type 0} → (F → Option (List (List ℕ × List ℕ))) → (F → Option (Option (List ℕ))) → (F → ℕ)
     → F → F → Reads
-reads_by contents failed_last files_before files = record {
+reads_by contents failed_last reads files_before files = record {
   contents = contents files_before;
   failed_before = failed_last files_before;
   failed = failed_last files;
+  count_before = reads files_before;
+  count = reads files;
 }
+
+-- no file was read
+abbrev pub ReadNone : Reads → Type 0
+ReadNone r = r.count ≡ r.count_before
+
+-- one file was read
+abbrev pub ReadOne : Reads → Type 0
+ReadOne r = r.count ≡ one_more r.count_before
+
+-- how many reads there were behind that of the named file, if one is named
+abbrev pub read_on : Option (List ℕ) → ℕ → ℕ
+read_on None count = count
+read_on (Some name) count = one_more count
+
+-- the reads behind that of the named file, if one is named
+abbrev pub behind : Option (List ℕ) → Reads → Reads
+behind name r = record r { count_before = read_on name r.count_before }
 
 -- the file of this name is there, and this holds of its bytes
 abbrev pub Gives : Option (List (List ℕ × List ℕ)) → List ℕ → (List ℕ → Type 0) → Type 0
@@ -133,14 +155,18 @@ RefusesText (outcomes.FileFault file) name Bad = ⊥
 RefusesText outcomes.SinkFault name Bad = ⊥
 RefusesText outcomes.OutOfMemory name Bad = ⊤
 
--- the command ends at this file: it can't be read, or its bytes are refused so, or memory was wanted
-abbrev pub EndsAt : SimOutcome → List ℕ → (List ℕ → ℕ → Cause → Type 0) → Reads → Type 0
-EndsAt outcomes.Ran name Bad r = ⊥
-EndsAt (outcomes.Refused file line cause) name Bad r =
+-- the command ends for this file: it can't be read, or its bytes are refused so, or memory was wanted
+abbrev pub EndsFor : SimOutcome → List ℕ → (List ℕ → ℕ → Cause → Type 0) → Reads → Type 0
+EndsFor outcomes.Ran name Bad r = ⊥
+EndsFor (outcomes.Refused file line cause) name Bad r =
     (file.now ≡ name) × Gives r.contents name (λ bytes. Bad bytes line cause)
-EndsAt (outcomes.FileFault file) name Bad r = (file.now ≡ name) × IsNoted r.failed_before r.failed name
-EndsAt outcomes.SinkFault name Bad r = ⊥
-EndsAt outcomes.OutOfMemory name Bad r = ⊤
+EndsFor (outcomes.FileFault file) name Bad r = (file.now ≡ name) × IsNoted r.failed_before r.failed name
+EndsFor outcomes.SinkFault name Bad r = ⊥
+EndsFor outcomes.OutOfMemory name Bad r = ⊤
+
+-- the command reads this file, and ends for it
+abbrev pub EndsAt : SimOutcome → List ℕ → (List ℕ → ℕ → Cause → Type 0) → Reads → Type 0
+EndsAt outcome name Bad r = ReadOne r × EndsFor outcome name Bad r
 
 -- the outcome of a text that has this fault first
 abbrev pub IsFaultAt : CompileFault → ℕ → Cause → Type 0

@@ -1,5 +1,5 @@
 -- What `serve` does and leaves, by how it ended. Public clauses cite this module.
-use Rattle.std.specs.Prelude.{◌≡◌, ◌⊎◌, ◌≤◌, ◌^◌, ℕ, List, Result, Ok, Err, IsSomeAnd}
+use Rattle.std.specs.Prelude.{◌≡◌, ◌⊎◌, ◌≤◌, ◌^◌, ℕ, List, Some, Result, Ok, Err, IsSomeAnd}
 use Rattle.rx_jumbo.specs.declared.sizes.TheConstants.{JUMBO_PARTS}
 use Rattle.rx_rules.specs.Classes.{Class}
 use Rattle.rx_rules.specs.Setup.{FitsLimits}
@@ -17,7 +17,7 @@ use Rattle.rx_top.specs.declared.serve.ServeFiles.{ServeFiles}
 use Rattle.rx_top.specs.declared.status.Status.{Status}
 use Rattle.rx_top.specs.declared.wire_outcome.WireOutcome.{WireOutcome}
 use Rattle.rx_top.specs.declared.wire_outcome.WireOutcome.TheVariants as outcomes
-use Rattle.rx_top.specs.Inputs.{BadScript, BadXg, Gives, Reads, script_given}
+use Rattle.rx_top.specs.Inputs.{BadScript, BadXg, Gives, ReadNone, Reads, behind, script_given}
 use Rattle.rx_top.specs.Sims.{handlers_with}
 use Rattle.rx_top.specs.Wires.{EndsAtInput, EndsAtKey, IsClass, wire_said, wire_status}
 
@@ -47,27 +47,28 @@ pub record ServesNode (m : Meant) (s : List Answering) (class : Class) (w : Serv
 abbrev pub ServesAtKey : Meant → List Answering → ServeFiles → Serving → WireOutcome → Reads → Told → Told → Type 0
 ServesAtKey m s names w outcome r before after =
     (IsSomeAnd names.key (λ name. EndsAtKey outcome name r) × (after ≡ before))
-    ⊎ ((class : Class) × IsClass r.contents names.key class × ServesNode m s class w outcome before after)
+    ⊎ ((class : Class) × IsClass r.contents names.key class × ReadNone (behind names.key r)
+    × ServesNode m s class w outcome before after)
 
 -- over an interface, it ends at the script's file, and nothing was told; or it went on with the script
 abbrev pub ServesAtScript : Meant → ServeFiles → Serving → WireOutcome → Reads → Told → Told → Type 0
 ServesAtScript m names w outcome r before after =
     (EndsAtInput outcome names.script (BadScript m) r × (after ≡ before))
     ⊎ ((s : List Answering) × Gives r.contents names.script (λ text. script_given m text ≡ Ok s)
-    × ServesAtKey m s names w outcome r before after)
+    × ServesAtKey m s names w outcome (behind (Some names.script) r) before after)
 
 -- it ends at the interface's file, and nothing was told; or it went on with the interface
 abbrev pub ServesAtXg : ServeFiles → Serving → WireOutcome → Reads → Told → Told → Type 0
 ServesAtXg names w outcome r before after =
     (EndsAtInput outcome names.xg BadXg r × (after ≡ before))
     ⊎ ((m : Meant) × Gives r.contents names.xg (λ text. Means text m)
-    × ServesAtScript m names w outcome r before after)
+    × ServesAtScript m names w outcome (behind (Some names.xg) r) before after)
 
--- what `serve` does: the files are read in the order interface, script, key, each checked before the next; or memory
--- was wanted before
+-- what `serve` does: the files are read in the order interface, script, key, each once and checked before the next; or
+-- memory was wanted before
 abbrev pub ServesByFiles : WireOutcome → ServeFiles → Serving → Reads → Told → Told → Type 0
 ServesByFiles outcome names w r before after =
-    ((outcome ≡ outcomes.OutOfMemory) × (after ≡ before)) ⊎ ServesAtXg names w outcome r before after
+    ((outcome ≡ outcomes.OutOfMemory) × ReadNone r × (after ≡ before)) ⊎ ServesAtXg names w outcome r before after
 
 -- what the program leaves of it: the status of how it ended, and the line of that said
 abbrev pub ServeLeaves : Status → ServeFiles → Serving → Reads → Told → Told → (List ℕ → Type 0) → Type 0

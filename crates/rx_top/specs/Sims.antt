@@ -1,5 +1,5 @@
 -- What `sim` makes and leaves, by how it ended. Public clauses cite this module.
-use Rattle.std.specs.Prelude.{◌≡◌, ◌⊎◌, ℕ, List, reverse, All, Ok, IsSomeAnd}
+use Rattle.std.specs.Prelude.{◌≡◌, ◌⊎◌, ℕ, List, reverse, All, Some, Ok, IsSomeAnd}
 use Rattle.rx_dispatch.specs.Handlers.{Handlers}
 use Rattle.rx_law.specs.Promises.{ServerForgotNone}
 use Rattle.rx_law.specs.Times.{Timely}
@@ -21,8 +21,8 @@ use Rattle.rx_top.specs.declared.outcome.SimOutcome.{SimOutcome}
 use Rattle.rx_top.specs.declared.outcome.SimOutcome.TheVariants as outcomes
 use Rattle.rx_top.specs.declared.sim.SimFiles.{SimFiles}
 use Rattle.rx_top.specs.declared.status.Status.{Status}
-use Rattle.rx_top.specs.Inputs.{BadPlan, BadScript, BadXg, EndsAt, IsInterface, IsPlan, IsScript, Reads, plan_given}
-use Rattle.rx_top.specs.Inputs.{said_of, status_of}
+use Rattle.rx_top.specs.Inputs.{BadPlan, BadScript, BadXg, EndsAt, IsInterface, IsPlan, IsScript, ReadNone, Reads}
+use Rattle.rx_top.specs.Inputs.{behind, plan_given, said_of, status_of}
 
 -- what serves the calls of a plan: an interface and a script
 abbrev pub handlers_with : Meant → List Answering → Handlers
@@ -71,26 +71,27 @@ EndsAs outcomes.OutOfMemory name Ran = Ran runs.OutOfMemory
 abbrev pub PlanIs : Meant → List Answering → List ℕ → SimOutcome → Reads → Told → Told → Type 0
 PlanIs m s name outcome r before after =
     (EndsAt outcome name (BadPlan m) r × (after ≡ before))
-    ⊎ ((lines : List Numbered) × IsPlan r.contents m name lines
+    ⊎ ((lines : List Numbered) × IsPlan r.contents m name lines × ReadNone (behind (Some name) r)
     × EndsAs outcome name (λ ran. Played (handlers_with m s) lines ran before after))
 
 -- over an interface, it ends at the script's file, and nothing was told; or it went on with the script
 abbrev pub ScriptIs : Meant → SimFiles → SimOutcome → Reads → Told → Told → Type 0
 ScriptIs m names outcome r before after =
     (IsSomeAnd names.script (λ name. EndsAt outcome name (BadScript m) r) × (after ≡ before))
-    ⊎ ((s : List Answering) × IsScript r.contents m names.script s × PlanIs m s names.plan outcome r before after)
+    ⊎ ((s : List Answering) × IsScript r.contents m names.script s
+    × PlanIs m s names.plan outcome (behind names.script r) before after)
 
 -- it ends at the interface's file, and nothing was told; or it went on with the interface
 abbrev pub InterfaceIs : SimFiles → SimOutcome → Reads → Told → Told → Type 0
 InterfaceIs names outcome r before after =
     (IsSomeAnd names.xg (λ name. EndsAt outcome name BadXg r) × (after ≡ before))
-    ⊎ ((m : Meant) × IsInterface r.contents names.xg m × ScriptIs m names outcome r before after)
+    ⊎ ((m : Meant) × IsInterface r.contents names.xg m × ScriptIs m names outcome (behind names.xg r) before after)
 
--- what `sim` of these files does: the files are read in the order interface, script, plan, each checked before the
--- next; or memory was wanted before
+-- what `sim` of these files does: the files are read in the order interface, script, plan, each once and checked before
+-- the next; or memory was wanted before
 abbrev pub SimIs : SimOutcome → SimFiles → Reads → Told → Told → Type 0
 SimIs outcome names r before after =
-    ((outcome ≡ outcomes.OutOfMemory) × (after ≡ before)) ⊎ InterfaceIs names outcome r before after
+    ((outcome ≡ outcomes.OutOfMemory) × ReadNone r × (after ≡ before)) ⊎ InterfaceIs names outcome r before after
 
 -- what the program leaves of it: the status of how it ended, and the line of that said
 abbrev pub SimLeaves : Status → SimFiles → Reads → Told → Told → (List ℕ → Type 0) → Type 0

@@ -16,7 +16,7 @@ use Rattle.rx_top.specs.declared.wire_outcome.ArgsFault.TheVariants as faults
 use Rattle.rx_top.specs.declared.wire_outcome.WireOutcome.{WireOutcome}
 use Rattle.rx_top.specs.declared.wire_outcome.WireOutcome.TheVariants as outcomes
 use Rattle.rx_top.specs.Endings.{memory_text, refused_text, unwritten_text}
-use Rattle.rx_top.specs.Inputs.{EndsAt, Gives, Reads, said_of, status_of}
+use Rattle.rx_top.specs.Inputs.{EndsAt, Gives, ReadOne, Reads, said_of, status_of}
 
 -- ---- outcomes
 
@@ -85,14 +85,18 @@ abbrev pub IsClass : Option (List (List ℕ × List ℕ)) → Option (List ℕ) 
 IsClass contents None class = class ≡ null
 IsClass contents (Some name) class = Gives contents name (λ key. IsClassOf key class)
 
--- `serve` or `call` ends at a key file: it can't be read, or hasn't exactly the bytes of a key, or memory was wanted
-abbrev pub EndsAtKey : WireOutcome → List ℕ → Reads → Type 0
-EndsAtKey (outcomes.Input (inputs.FileFault file)) name r =
+-- `serve` or `call` ends for a key file: it can't be read, or hasn't exactly the bytes of a key, or memory was wanted
+abbrev pub EndsForKey : WireOutcome → List ℕ → Reads → Type 0
+EndsForKey (outcomes.Input (inputs.FileFault file)) name r =
     (file.now ≡ name) × IsNoted r.failed_before r.failed name
-EndsAtKey (outcomes.BadKey file) name r =
+EndsForKey (outcomes.BadKey file) name r =
     (file.now ≡ name) × Gives r.contents name (λ bytes. length bytes ≢ KEY_BYTES)
-EndsAtKey outcomes.OutOfMemory name r = ⊤
-EndsAtKey _ name r = ⊥
+EndsForKey outcomes.OutOfMemory name r = ⊤
+EndsForKey _ name r = ⊥
+
+-- it reads a key file, and ends for it
+abbrev pub EndsAtKey : WireOutcome → List ℕ → Reads → Type 0
+EndsAtKey outcome name r = ReadOne r × EndsForKey outcome name r
 
 -- the bytes of a key file are none of a key
 abbrev pub RefusesKey : WireOutcome → List ℕ → List ℕ → Type 0

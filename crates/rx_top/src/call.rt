@@ -49,7 +49,7 @@ pub fn call_files<'a, F: Files, O: Sink, W: Wire, J: Journal>(
     book: &mut J,
 ) -> WireOutcome<'a>
     requires { CanCall calling.now }
-    ensures call { CallsAtXg asked.now calling.now result (reads_by F.contents F.failed_last files.old files.new)
+    ensures call { CallsAtXg asked.now calling.now result (reads_by F.contents F.failed_last F.reads files.old files.new)
         (told (J.told book.old) (sink_tells (O.told out.old) (O.faults out.old))
         (wire_tells (W.told wire.old) (W.faults wire.old) (W.moment wire.old)))
         (told (J.told book.new) (sink_tells (O.told out.new) (O.faults out.new))
@@ -83,7 +83,7 @@ fn call_over<'a, F: Files, O: Sink, W: Wire, J: Journal>(
 ) -> WireOutcome<'a>
     requires { CanCall calling.now }
     ensures call { CallsAtProc (interface_of iface.now) asked.now calling.now result
-        (reads_by F.contents F.failed_last files.old files.new)
+        (reads_by F.contents F.failed_last F.reads files.old files.new)
         (told (J.told book.old) (sink_tells (O.told out.old) (O.faults out.old))
         (wire_tells (W.told wire.old) (W.faults wire.old) (W.moment wire.old)))
         (told (J.told book.new) (sink_tells (O.told out.new) (O.faults out.new))
@@ -119,7 +119,7 @@ fn call_proc<'a, F: Files, O: Sink, W: Wire, J: Journal>(
     requires calling { CanCall calling.now }
     requires one { Contains (procs_of iface.now.procs.items) (proc_of p.now) }
     ensures call { CallsAtStreams (asked_of iface.now p.now asked.now.down)
-        asked.now calling.now result (reads_by F.contents F.failed_last files.old files.new)
+        asked.now calling.now result (reads_by F.contents F.failed_last F.reads files.old files.new)
         (told (J.told book.old) (sink_tells (O.told out.old) (O.faults out.old))
         (wire_tells (W.told wire.old) (W.faults wire.old) (W.moment wire.old)))
         (told (J.told book.new) (sink_tells (O.told out.new) (O.faults out.new))
@@ -155,7 +155,7 @@ fn call_streams<'a, F: Files, O: Sink, W: Wire, J: Journal>(
     requires calling { CanCall calling.now }
     requires one { Contains (procs_of iface.now.procs.items) (proc_of p.now) }
     ensures call { CallsAtValues (asked_of iface.now p.now asked.now.down)
-        asked.now calling.now result (reads_by F.contents F.failed_last files.old files.new)
+        asked.now calling.now result (reads_by F.contents F.failed_last F.reads files.old files.new)
         (told (J.told book.old) (sink_tells (O.told out.old) (O.faults out.old))
         (wire_tells (W.told wire.old) (W.faults wire.old) (W.moment wire.old)))
         (told (J.told book.new) (sink_tells (O.told out.new) (O.faults out.new))
@@ -195,7 +195,7 @@ fn call_said<'a, F: Files, O: Sink, W: Wire, J: Journal>(
     requires one { Contains (procs_of iface.now.procs.items) (proc_of p.now) }
     ensures call { CallsAtUpload (asked_of iface.now p.now asked.now.down)
         asked.now calling.now request.items result
-        (reads_by F.contents F.failed_last files.old files.new)
+        (reads_by F.contents F.failed_last F.reads files.old files.new)
         (told (J.told book.old) (sink_tells (O.told out.old) (O.faults out.old))
         (wire_tells (W.told wire.old) (W.faults wire.old) (W.moment wire.old)))
         (told (J.told book.new) (sink_tells (O.told out.new) (O.faults out.new))
@@ -234,7 +234,7 @@ fn call_sent<'a, F: Files, O: Sink, W: Wire, J: Journal>(
     requires calling { CanCall calling.now }
     requires one { Contains (procs_of iface.now.procs.items) (proc_of p.now) }
     ensures call { CallsAtKey (asked_of iface.now p.now asked.now.down)
-        asked.now calling.now sent.items result (reads_by F.contents F.failed_last files.old files.new)
+        asked.now calling.now sent.items result (reads_by F.contents F.failed_last F.reads files.old files.new)
         (told (J.told book.old) (sink_tells (O.told out.old) (O.faults out.old))
         (wire_tells (W.told wire.old) (W.faults wire.old) (W.moment wire.old)))
         (told (J.told book.new) (sink_tells (O.told out.new) (O.faults out.new))

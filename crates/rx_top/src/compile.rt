@@ -1,6 +1,7 @@
 //! The command that prints the table of an interface file.
 
 ghost use Rattle.std.specs.Prelude.{◌≡◌, ◌≢◌};
+ghost use Rattle.rx_base.specs.Count.{one_more};
 ghost use Rattle.rx_base.specs.Sink.{HasRisen, IsPut};
 ghost use Rattle.rx_top.specs.Compiles.{CompileIs, IsRefusalOf, compile_said, compile_status};
 ghost use Rattle.rx_top.specs.Endings.{seen_by};
@@ -51,11 +52,12 @@ pub fn compile_file<F: Files, O: Sink>(
     out: &mut O,
 ) -> CompileOutcome
     ensures compile { CompileIs result name.now
-        (seen_by F.contents F.failed_last O.told files.old files.new out.old out.new) }
+        (seen_by F.contents F.failed_last F.reads O.told files.old files.new out.old out.new) }
     ensures file_fault { result ≡ CompileOutcome.FileFault → HasRisen (F.faults files.old) (F.faults files.new) }
     ensures no_file_fault { result ≢ CompileOutcome.FileFault → F.faults files.new ≡ F.faults files.old }
     ensures sink_fault { result ≡ CompileOutcome.SinkFault → HasRisen (O.faults out.old) (O.faults out.new) }
     ensures no_sink_fault { result ≢ CompileOutcome.SinkFault → O.faults out.new ≡ O.faults out.old }
+    ensures reads { F.reads files.new ≡ one_more (F.reads files.old) }
     ensures same_contents { F.contents files.new ≡ F.contents files.old }
     ensures same_failed_last { result ≢ CompileOutcome.FileFault
         → F.failed_last files.new ≡ F.failed_last files.old }

@@ -1,12 +1,13 @@
 //! The files of a plan's run: its interface, its script and the plan itself.
 
 ghost use Rattle.std.specs.Prelude.{◌≡◌, ◌≢◌, IfOk, IfErr, IsSomeAnd, Ok};
+ghost use Rattle.rx_base.specs.Count.{one_more};
 ghost use Rattle.rx_base.specs.Sink.{HasRisen};
 ghost use Rattle.rx_script.specs.Saying.{blocks_of, plan_rows};
 ghost use Rattle.xg_check.specs.Meaning.{interface_of};
 ghost use Rattle.xg_compile.specs.Means.{Means};
 ghost use Rattle.rx_top.specs.Inputs.{BadPlan, BadScript, BadXg, EndsAt, Gives, IsFaultAt, IsInterface, IsScript};
-ghost use Rattle.rx_top.specs.Inputs.{RefusesText, plan_given, reads_by, script_given, status_in, status_of};
+ghost use Rattle.rx_top.specs.Inputs.{RefusesText, plan_given, read_on, reads_by, script_given, status_in, status_of};
 
 use crate::cause::Cause;
 use crate::outcome::SimOutcome;
@@ -27,10 +28,11 @@ pub fn named_interface<'a, F: Files>(
 ) -> Result<Interface, SimOutcome<'a>>
     ensures ok { IfOk result (λ i. IsInterface (F.contents files.old) xg.now (interface_of i)) }
     ensures err { IfErr result (λ o. IsSomeAnd xg.now (λ name. EndsAt o name BadXg
-        (reads_by F.contents F.failed_last files.old files.new))) }
+        (reads_by F.contents F.failed_last F.reads files.old files.new))) }
     ensures file_fault { status_in result ≡ Status.FileFault → HasRisen (F.faults files.old) (F.faults files.new) }
     ensures no_file_fault { status_in result ≢ Status.FileFault → F.faults files.new ≡ F.faults files.old }
     ensures no_sink_fault { status_in result ≢ Status.SinkFault }
+    ensures reads { F.reads files.new ≡ read_on xg.now (F.reads files.old) }
     ensures same_contents { F.contents files.new ≡ F.contents files.old }
     ensures same_failed_last { status_in result ≢ Status.FileFault
         → F.failed_last files.new ≡ F.failed_last files.old }
@@ -49,10 +51,11 @@ pub fn read_interface<'a, F: Files>(
 ) -> Result<Interface, SimOutcome<'a>>
     ensures ok { IfOk result (λ i. Gives (F.contents files.old) name.now (λ text. Means text (interface_of i))) }
     ensures err { IfErr result (λ o. EndsAt o name.now BadXg
-        (reads_by F.contents F.failed_last files.old files.new)) }
+        (reads_by F.contents F.failed_last F.reads files.old files.new)) }
     ensures file_fault { status_in result ≡ Status.FileFault → HasRisen (F.faults files.old) (F.faults files.new) }
     ensures no_file_fault { status_in result ≢ Status.FileFault → F.faults files.new ≡ F.faults files.old }
     ensures no_sink_fault { status_in result ≢ Status.SinkFault }
+    ensures reads { F.reads files.new ≡ one_more (F.reads files.old) }
     ensures same_contents { F.contents files.new ≡ F.contents files.old }
     ensures same_failed_last { status_in result ≢ Status.FileFault
         → F.failed_last files.new ≡ F.failed_last files.old }
@@ -124,10 +127,11 @@ pub fn named_script<'a, F: Files>(
     ensures ok { IfOk result (λ s. IsScript (F.contents files.old) (interface_of iface.now) script.now
         (blocks_of s.blocks.items)) }
     ensures err { IfErr result (λ o. IsSomeAnd script.now (λ name. EndsAt o name (BadScript (interface_of iface.now))
-        (reads_by F.contents F.failed_last files.old files.new))) }
+        (reads_by F.contents F.failed_last F.reads files.old files.new))) }
     ensures file_fault { status_in result ≡ Status.FileFault → HasRisen (F.faults files.old) (F.faults files.new) }
     ensures no_file_fault { status_in result ≢ Status.FileFault → F.faults files.new ≡ F.faults files.old }
     ensures no_sink_fault { status_in result ≢ Status.SinkFault }
+    ensures reads { F.reads files.new ≡ read_on script.now (F.reads files.old) }
     ensures same_contents { F.contents files.new ≡ F.contents files.old }
     ensures same_failed_last { status_in result ≢ Status.FileFault
         → F.failed_last files.new ≡ F.failed_last files.old }
@@ -150,10 +154,11 @@ pub fn script_file<'a, F: Files>(
     ensures ok { IfOk result (λ it. Gives (F.contents files.old) name.now (λ text.
         script_given (interface_of iface.now) text ≡ Ok (blocks_of it.blocks.items))) }
     ensures err { IfErr result (λ o. EndsAt o name.now (BadScript (interface_of iface.now))
-        (reads_by F.contents F.failed_last files.old files.new)) }
+        (reads_by F.contents F.failed_last F.reads files.old files.new)) }
     ensures file_fault { status_in result ≡ Status.FileFault → HasRisen (F.faults files.old) (F.faults files.new) }
     ensures no_file_fault { status_in result ≢ Status.FileFault → F.faults files.new ≡ F.faults files.old }
     ensures no_sink_fault { status_in result ≢ Status.SinkFault }
+    ensures reads { F.reads files.new ≡ one_more (F.reads files.old) }
     ensures same_contents { F.contents files.new ≡ F.contents files.old }
     ensures same_failed_last { status_in result ≢ Status.FileFault
         → F.failed_last files.new ≡ F.failed_last files.old }
@@ -220,10 +225,11 @@ pub fn plan_file<'a, F: Files>(
     ensures ok { IfOk result (λ it. Gives (F.contents files.old) name.now (λ text.
         plan_given (interface_of iface.now) text ≡ Ok (plan_rows it.lines.items))) }
     ensures err { IfErr result (λ o. EndsAt o name.now (BadPlan (interface_of iface.now))
-        (reads_by F.contents F.failed_last files.old files.new)) }
+        (reads_by F.contents F.failed_last F.reads files.old files.new)) }
     ensures file_fault { status_in result ≡ Status.FileFault → HasRisen (F.faults files.old) (F.faults files.new) }
     ensures no_file_fault { status_in result ≢ Status.FileFault → F.faults files.new ≡ F.faults files.old }
     ensures no_sink_fault { status_in result ≢ Status.SinkFault }
+    ensures reads { F.reads files.new ≡ one_more (F.reads files.old) }
     ensures same_contents { F.contents files.new ≡ F.contents files.old }
     ensures same_failed_last { status_in result ≢ Status.FileFault
         → F.failed_last files.new ≡ F.failed_last files.old }

@@ -1,9 +1,10 @@
 //! The keys of nodes.
 
 ghost use Rattle.std.specs.Prelude.{◌≡◌, ◌≢◌, IfErr, IfOk, IsSomeAnd, Some};
+ghost use Rattle.rx_base.specs.Count.{one_more};
 ghost use Rattle.rx_base.specs.Sink.{HasRisen};
 ghost use Rattle.rx_token.specs.Chosen.{chosen, secret_of};
-ghost use Rattle.rx_top.specs.Inputs.{reads_by};
+ghost use Rattle.rx_top.specs.Inputs.{read_on, reads_by};
 ghost use Rattle.rx_top.specs.Wires.{EndsAtKey, IsClass, IsClassOf, RefusesKey, wire_status_in};
 
 use crate::outcome::SimOutcome;
@@ -22,11 +23,12 @@ pub fn named_class<'a, F: Files>(
 ) -> Result<Chosen, WireOutcome<'a>>
     ensures ok { IfOk result (λ class. IsClass (F.contents files.old) key.now (chosen (secret_of class))) }
     ensures err { IfErr result (λ o. IsSomeAnd key.now (λ name. EndsAtKey o name
-        (reads_by F.contents F.failed_last files.old files.new))) }
+        (reads_by F.contents F.failed_last F.reads files.old files.new))) }
     ensures file_fault { wire_status_in result ≡ Status.FileFault → HasRisen (F.faults files.old) (F.faults files.new) }
     ensures no_file_fault { wire_status_in result ≢ Status.FileFault → F.faults files.new ≡ F.faults files.old }
     ensures no_sink_fault { wire_status_in result ≢ Status.SinkFault }
     ensures no_wire_fault { wire_status_in result ≢ Status.WireFault }
+    ensures reads { F.reads files.new ≡ read_on key.now (F.reads files.old) }
     ensures same_contents { F.contents files.new ≡ F.contents files.old }
     ensures same_failed_last { wire_status_in result ≢ Status.FileFault
         → F.failed_last files.new ≡ F.failed_last files.old }
@@ -43,11 +45,12 @@ fn class_file<'a, F: Files>(
     files: &mut F,
 ) -> Result<Chosen, WireOutcome<'a>>
     ensures ok { IfOk result (λ class. IsClass (F.contents files.old) (Some name.now) (chosen (secret_of class))) }
-    ensures err { IfErr result (λ o. EndsAtKey o name.now (reads_by F.contents F.failed_last files.old files.new)) }
+    ensures err { IfErr result (λ o. EndsAtKey o name.now (reads_by F.contents F.failed_last F.reads files.old files.new)) }
     ensures file_fault { wire_status_in result ≡ Status.FileFault → HasRisen (F.faults files.old) (F.faults files.new) }
     ensures no_file_fault { wire_status_in result ≢ Status.FileFault → F.faults files.new ≡ F.faults files.old }
     ensures no_sink_fault { wire_status_in result ≢ Status.SinkFault }
     ensures no_wire_fault { wire_status_in result ≢ Status.WireFault }
+    ensures reads { F.reads files.new ≡ one_more (F.reads files.old) }
     ensures same_contents { F.contents files.new ≡ F.contents files.old }
     ensures same_failed_last { wire_status_in result ≢ Status.FileFault
         → F.failed_last files.new ≡ F.failed_last files.old }

@@ -3,12 +3,13 @@
 ghost use Rattle.std.specs.Prelude.{◌≡◌, ◌≢◌, ◌≤◌, ◌+◌, List, ℕ, IfErr, IfOk, IsSomeAnd, None, Ok, Err, drop, take};
 ghost use Rattle.std.specs.Prelude.{vec_len};
 ghost use Rattle.std.specs.List.{Contains};
+ghost use Rattle.rx_base.specs.Count.{one_more};
 ghost use Rattle.rx_base.specs.Sink.{HasRisen};
 ghost use Rattle.xdr_json.specs.Args.{AreArgs, args_in};
 ghost use Rattle.xdr_value.specs.Data.{Procedure, Types};
 ghost use Rattle.xdr_value.specs.View.{proc_of, procs_of, types_of, values_of};
 ghost use Rattle.rx_top.specs.Calls.{EndsAtUpload, EndsAtValues, HasUpload, IsSent, RefusesUpload, SaysRequest};
-ghost use Rattle.rx_top.specs.Inputs.{Gives, reads_by};
+ghost use Rattle.rx_top.specs.Inputs.{Gives, read_on, reads_by};
 ghost use Rattle.rx_top.specs.Wires.{wire_status, wire_status_in};
 
 use crate::outcome::SimOutcome;
@@ -94,11 +95,12 @@ pub fn sent_with<'a, F: Files>(
 ) -> Result<Vec<u8>, WireOutcome<'a>>
     ensures ok { IfOk result (λ bytes. IsSent (F.contents files.old) up.now request.items bytes.items) }
     ensures err { IfErr result (λ o. IsSomeAnd up.now (λ name. EndsAtUpload o name
-        (reads_by F.contents F.failed_last files.old files.new))) }
+        (reads_by F.contents F.failed_last F.reads files.old files.new))) }
     ensures file_fault { wire_status_in result ≡ Status.FileFault → HasRisen (F.faults files.old) (F.faults files.new) }
     ensures no_file_fault { wire_status_in result ≢ Status.FileFault → F.faults files.new ≡ F.faults files.old }
     ensures no_sink_fault { wire_status_in result ≢ Status.SinkFault }
     ensures no_wire_fault { wire_status_in result ≢ Status.WireFault }
+    ensures reads { IfOk result (λ bytes. F.reads files.new ≡ read_on up.now (F.reads files.old)) }
     ensures same_contents { F.contents files.new ≡ F.contents files.old }
     ensures same_failed_last { wire_status_in result ≢ Status.FileFault
         → F.failed_last files.new ≡ F.failed_last files.old }
@@ -117,11 +119,12 @@ fn upload_file<'a, F: Files>(
 ) -> Result<Vec<u8>, WireOutcome<'a>>
     ensures ok { IfOk result (λ bytes. Gives (F.contents files.old) name.now
         (λ upload. HasUpload request.items upload bytes.items)) }
-    ensures err { IfErr result (λ o. EndsAtUpload o name.now (reads_by F.contents F.failed_last files.old files.new)) }
+    ensures err { IfErr result (λ o. EndsAtUpload o name.now (reads_by F.contents F.failed_last F.reads files.old files.new)) }
     ensures file_fault { wire_status_in result ≡ Status.FileFault → HasRisen (F.faults files.old) (F.faults files.new) }
     ensures no_file_fault { wire_status_in result ≢ Status.FileFault → F.faults files.new ≡ F.faults files.old }
     ensures no_sink_fault { wire_status_in result ≢ Status.SinkFault }
     ensures no_wire_fault { wire_status_in result ≢ Status.WireFault }
+    ensures reads { IfOk result (λ bytes. F.reads files.new ≡ one_more (F.reads files.old)) }
     ensures same_contents { F.contents files.new ≡ F.contents files.old }
     ensures same_failed_last { wire_status_in result ≢ Status.FileFault
         → F.failed_last files.new ≡ F.failed_last files.old }

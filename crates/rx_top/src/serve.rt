@@ -43,7 +43,7 @@ pub fn serve_files<'a, F: Files, O: Sink, W: Wire, J: Journal>(
     book: &mut J,
 ) -> WireOutcome<'a>
     requires { CanServe serving.now }
-    ensures serve { ServesAtXg names.now serving.now result (reads_by F.contents F.failed_last files.old files.new)
+    ensures serve { ServesAtXg names.now serving.now result (reads_by F.contents F.failed_last F.reads files.old files.new)
         (told (J.told book.old) (sink_tells (O.told out.old) (O.faults out.old))
         (wire_tells (W.told wire.old) (W.faults wire.old) (W.moment wire.old)))
         (told (J.told book.new) (sink_tells (O.told out.new) (O.faults out.new))
@@ -77,7 +77,7 @@ fn serve_over<'a, F: Files, O: Sink, W: Wire, J: Journal>(
 ) -> WireOutcome<'a>
     requires { CanServe serving.now }
     ensures serve { ServesAtScript (interface_of iface.now) names.now serving.now result
-        (reads_by F.contents F.failed_last files.old files.new)
+        (reads_by F.contents F.failed_last F.reads files.old files.new)
         (told (J.told book.old) (sink_tells (O.told out.old) (O.faults out.old))
         (wire_tells (W.told wire.old) (W.faults wire.old) (W.moment wire.old)))
         (told (J.told book.new) (sink_tells (O.told out.new) (O.faults out.new))
@@ -112,7 +112,7 @@ fn serve_script<'a, F: Files, O: Sink, W: Wire, J: Journal>(
 ) -> WireOutcome<'a>
     requires { CanServe serving.now }
     ensures serve { ServesAtKey (interface_of iface.now) (blocks_of script.blocks.items) names.now serving.now result
-        (reads_by F.contents F.failed_last files.old files.new)
+        (reads_by F.contents F.failed_last F.reads files.old files.new)
         (told (J.told book.old) (sink_tells (O.told out.old) (O.faults out.old))
         (wire_tells (W.told wire.old) (W.faults wire.old) (W.moment wire.old)))
         (told (J.told book.new) (sink_tells (O.told out.new) (O.faults out.new))

@@ -38,7 +38,7 @@ pub fn sim<'a, F: Files, O: Sink, J: Journal>(
     out: &mut O,
     book: &mut J,
 ) -> SimOutcome<'a>
-    ensures sim { InterfaceIs names.now result (reads_by F.contents F.failed_last files.old files.new)
+    ensures sim { InterfaceIs names.now result (reads_by F.contents F.failed_last F.reads files.old files.new)
         (told (J.told book.old) (O.told out.old) (O.faults out.old))
         (told (J.told book.new) (O.told out.new) (O.faults out.new)) }
     ensures file_fault { status_of result ≡ Status.FileFault → HasRisen (F.faults files.old) (F.faults files.new) }
@@ -66,7 +66,7 @@ fn sim_over<'a, F: Files, O: Sink, J: Journal>(
 ) -> SimOutcome<'a>
     requires { All (λ p. p.opcode < 2 ^ 32) (interface_of iface.now).procs }
     ensures sim { ScriptIs (interface_of iface.now) names.now result
-        (reads_by F.contents F.failed_last files.old files.new)
+        (reads_by F.contents F.failed_last F.reads files.old files.new)
         (told (J.told book.old) (O.told out.old) (O.faults out.old))
         (told (J.told book.new) (O.told out.new) (O.faults out.new)) }
     ensures file_fault { status_of result ≡ Status.FileFault → HasRisen (F.faults files.old) (F.faults files.new) }
@@ -96,7 +96,7 @@ fn sim_with<'a, F: Files, O: Sink, J: Journal>(
 ) -> SimOutcome<'a>
     requires { AreServable (handlers_with (interface_of iface.now) (blocks_of script.blocks.items)) }
     ensures sim { PlanIs (interface_of iface.now) (blocks_of script.blocks.items) name.now result
-        (reads_by F.contents F.failed_last files.old files.new)
+        (reads_by F.contents F.failed_last F.reads files.old files.new)
         (told (J.told book.old) (O.told out.old) (O.faults out.old))
         (told (J.told book.new) (O.told out.new) (O.faults out.new)) }
     ensures file_fault { status_of result ≡ Status.FileFault → HasRisen (F.faults files.old) (F.faults files.new) }

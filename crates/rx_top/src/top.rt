@@ -61,6 +61,8 @@ pub fn rx_main<F: Files, O: Sink, E: Sink, W: Wire, J: Journal>(
         → IsPut (E.told err.old) (E.told err.new) (E.faults err.old) (E.faults err.new) memory_text }
     ensures no_command_out { is_command (command_of (map string_bytes words.now)) ≡ false
         → O.told out.new ≡ O.told out.old }
+    ensures no_read { is_command (command_of (map string_bytes words.now)) ≡ false
+        → F.reads files.new ≡ F.reads files.old }
     ensures no_events { has_events (command_of (map string_bytes words.now)) ≡ false
         → J.told book.new ≡ J.told book.old }
     ensures no_wire { has_wire (command_of (map string_bytes words.now)) ≡ false
@@ -70,7 +72,7 @@ pub fn rx_main<F: Files, O: Sink, E: Sink, W: Wire, J: Journal>(
     ensures sim { (plan : List ℕ) (xg script : Option (List ℕ))
         → command_of (map string_bytes words.now) ≡ Some (Command.Sim plan xg script)
         → SimLeaves result (record { plan = plan; xg = xg; script = script })
-        (reads_by F.contents F.failed_last files.old files.new)
+        (reads_by F.contents F.failed_last F.reads files.old files.new)
         (told (J.told book.old) (O.told out.old) (O.faults out.old))
         (told (J.told book.new) (O.told out.new) (O.faults out.new))
         (IsPut (E.told err.old) (E.told err.new) (E.faults err.old) (E.faults err.new)) }
@@ -87,7 +89,7 @@ pub fn rx_main<F: Files, O: Sink, E: Sink, W: Wire, J: Journal>(
           span = span;
           turns = turns;
           jumbo = jumbo;
-        }) (reads_by F.contents F.failed_last files.old files.new)
+        }) (reads_by F.contents F.failed_last F.reads files.old files.new)
         (told_over (J.told book.old) (sink_tells (O.told out.old) (O.faults out.old))
         (wire_tells (W.told wire.old) (W.faults wire.old) (W.moment wire.old)))
         (told_over (J.told book.new) (sink_tells (O.told out.new) (O.faults out.new))
@@ -108,7 +110,7 @@ pub fn rx_main<F: Files, O: Sink, E: Sink, W: Wire, J: Journal>(
           service = service;
           turns = turns;
           jumbo = jumbo;
-        }) (reads_by F.contents F.failed_last files.old files.new)
+        }) (reads_by F.contents F.failed_last F.reads files.old files.new)
         (told_over (J.told book.old) (sink_tells (O.told out.old) (O.faults out.old))
         (wire_tells (W.told wire.old) (W.faults wire.old) (W.moment wire.old)))
         (told_over (J.told book.new) (sink_tells (O.told out.new) (O.faults out.new))
@@ -117,7 +119,7 @@ pub fn rx_main<F: Files, O: Sink, E: Sink, W: Wire, J: Journal>(
 
     // What `compile XG` does, and what it says of that.
     ensures compile { (xg : List ℕ) → command_of (map string_bytes words.now) ≡ Some (Command.Compile xg)
-        → CompileLeaves result xg (seen_by F.contents F.failed_last O.told files.old files.new out.old out.new)
+        → CompileLeaves result xg (seen_by F.contents F.failed_last F.reads O.told files.old files.new out.old out.new)
         (IsPut (E.told err.old) (E.told err.new) (E.faults err.old) (E.faults err.new)) }
 
     // A command that is done whole says nothing.
@@ -153,8 +155,8 @@ fn do_job<F: Files, O: Sink, E: Sink, W: Wire, J: Journal>(
 ) -> Status
     requires { CanDo job.now }
     ensures leaves { JobLeaves job.now result (record {
-      reads = reads_by F.contents F.failed_last files.old files.new;
-      seen = seen_by F.contents F.failed_last O.told files.old files.new out.old out.new;
+      reads = reads_by F.contents F.failed_last F.reads files.old files.new;
+      seen = seen_by F.contents F.failed_last F.reads O.told files.old files.new out.old out.new;
       before = told (J.told book.old) (O.told out.old) (O.faults out.old);
       after = told (J.told book.new) (O.told out.new) (O.faults out.new);
       before_wire = told_over (J.told book.old) (sink_tells (O.told out.old) (O.faults out.old))
@@ -165,6 +167,7 @@ fn do_job<F: Files, O: Sink, E: Sink, W: Wire, J: Journal>(
     ensures usage { result ≡ Status.Usage → is_job job.now ≡ false }
     ensures nothing { is_job job.now ≡ false → result ≡ Status.Usage }
     ensures nothing_put { is_job job.now ≡ false → O.told out.new ≡ O.told out.old }
+    ensures nothing_read { is_job job.now ≡ false → F.reads files.new ≡ F.reads files.old }
     ensures no_events { makes_events job.now ≡ false → J.told book.new ≡ J.told book.old }
     ensures no_wire { is_over_wire job.now ≡ false
         → (W.told wire.new ≡ W.told wire.old) × (W.moment wire.new ≡ W.moment wire.old) }
@@ -200,7 +203,7 @@ fn do_sim<F: Files, O: Sink, E: Sink, J: Journal>(
     err: &mut E,
     book: &mut J,
 ) -> Status
-    ensures sim { SimLeaves result names.now (reads_by F.contents F.failed_last files.old files.new)
+    ensures sim { SimLeaves result names.now (reads_by F.contents F.failed_last F.reads files.old files.new)
         (told (J.told book.old) (O.told out.old) (O.faults out.old))
         (told (J.told book.new) (O.told out.new) (O.faults out.new))
         (IsPut (E.told err.old) (E.told err.new) (E.faults err.old) (E.faults err.new)) }
@@ -231,7 +234,7 @@ fn do_serve<F: Files, O: Sink, E: Sink, W: Wire, J: Journal>(
     book: &mut J,
 ) -> Status
     requires { CanServe serving.now }
-    ensures serve { ServeLeaves result names.now serving.now (reads_by F.contents F.failed_last files.old files.new)
+    ensures serve { ServeLeaves result names.now serving.now (reads_by F.contents F.failed_last F.reads files.old files.new)
         (told_over (J.told book.old) (sink_tells (O.told out.old) (O.faults out.old))
         (wire_tells (W.told wire.old) (W.faults wire.old) (W.moment wire.old)))
         (told_over (J.told book.new) (sink_tells (O.told out.new) (O.faults out.new))
@@ -267,7 +270,7 @@ fn do_call<F: Files, O: Sink, E: Sink, W: Wire, J: Journal>(
     book: &mut J,
 ) -> Status
     requires { CanCall calling.now }
-    ensures call { CallLeaves result asked.now calling.now (reads_by F.contents F.failed_last files.old files.new)
+    ensures call { CallLeaves result asked.now calling.now (reads_by F.contents F.failed_last F.reads files.old files.new)
         (told_over (J.told book.old) (sink_tells (O.told out.old) (O.faults out.old))
         (wire_tells (W.told wire.old) (W.faults wire.old) (W.moment wire.old)))
         (told_over (J.told book.new) (sink_tells (O.told out.new) (O.faults out.new))
@@ -300,7 +303,7 @@ fn do_compile<F: Files, O: Sink, E: Sink>(
     err: &mut E,
 ) -> Status
     ensures compile { CompileLeaves result xg.now
-        (seen_by F.contents F.failed_last O.told files.old files.new out.old out.new)
+        (seen_by F.contents F.failed_last F.reads O.told files.old files.new out.old out.new)
         (IsPut (E.told err.old) (E.told err.new) (E.faults err.old) (E.faults err.new)) }
     ensures a_command { result ≢ Status.Usage }
     ensures quiet_told { result ≡ Status.Ok → E.told err.new ≡ E.told err.old }

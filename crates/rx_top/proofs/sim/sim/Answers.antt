@@ -3,7 +3,7 @@ use Rattle.rx_world.specs.Tells.{Told, told}
 use Rattle.xg_check.specs.Meaning.{interface_of}
 use Rattle.rx_top.specs.Inputs.{Reads}
 use Rattle.rx_top.specs.Sims.{ScriptIs}
-use Rattle.rx_top.proofs.SimLemmas.{interface_opcodes, reads_on}
+use Rattle.rx_top.proofs.SimLemmas.{interface_opcodes, reads_behind}
 use Rattle.rx_top.proofs.sim.sim.Goals as goal
 
 pub sim_over-requires : goal.sim_over-requires
@@ -11,8 +11,9 @@ sim_over-requires g c = interface_opcodes _ _ _ c.in-Ok.ensures.ok
 
 pub returns-in-Ok-clause-sim : goal.returns-in-Ok-clause-sim
 returns-in-Ok-clause-sim g c =
-    let same = reads_on g.F.Files.contents g.F.Files.failed_last c.args.files.now c.named_interface.new.files
-    c.sim_over.new.files c.in-Ok.ensures.same_contents (c.in-Ok.ensures.same_failed_last (λ e. absurd (cc))) in
+    let same = reads_behind g.F.Files.contents g.F.Files.failed_last g.F.Files.reads c.args.names.now.xg c.args.files.now c.named_interface.new.files
+    c.sim_over.new.files c.in-Ok.ensures.same_contents (c.in-Ok.ensures.same_failed_last (λ e. absurd (cc)))
+    c.in-Ok.ensures.reads in
     let before : Told =
     told (g.J.Journal.told c.args.book.now) (g.O.Sink.told c.args.out.now) (g.O.Sink.faults c.args.out.now) in
     let after : Told =
