@@ -1,6 +1,6 @@
 -- Lemmas on what is told of calls that ended, and on calls that end in silence.
 use Rattle.std.proofs.Common.{◌≡◌, ◌⊎◌, ◌≤◌, ℕ, List, [], ◌∷◌, Option, Some, None, Result, Ok, Err}
-use Rattle.std.proofs.Common.{inl, inr, refl, subst}
+use Rattle.std.proofs.Common.{IfOk, inl, inr, refl, subst}
 use Rattle.rx_caller.specs.View.{CallerState}
 use Rattle.rx_caller.specs.declared.caller.TheConstants.{CC_UNMARSHAL}
 use Rattle.rx_law.proofs.Client.{Silences}
@@ -23,6 +23,7 @@ use Rattle.rx_passes.specs.Tells.{SinkTells, Told}
 use Rattle.rx_passes.specs.ToldCalls.{CallTold, CallsTell}
 use Rattle.rx_reply.specs.Replies.{Returned, reply_says}
 use Rattle.rx_rules.specs.After.{looks}
+use Rattle.rx_rules.specs.Classes.{Class}
 use Rattle.rx_rules.specs.Looks.{Looks}
 use Rattle.rx_rules.specs.Rules.{Legal}
 use Rattle.rx_rules.specs.Setup.{Client, FitsSetup, Setup}
@@ -31,7 +32,7 @@ use Rattle.rx_token.specs.TokenLaws.{chosen_fits}
 use Rattle.rx_wire.specs.Turns.{after_all}
 use Rattle.rx_top.specs.declared.wire_outcome.WireOutcome.{WireOutcome}
 use Rattle.rx_top.specs.declared.wire_outcome.WireOutcome.TheVariants as outcomes
-use Rattle.rx_top.specs.Calls.{CallAsked, CanCall, EndsByCall, EndsByEnd, EndsBySaid}
+use Rattle.rx_top.specs.Calls.{CallAsked, CanCall, EndsByCall, EndsByEnd, EndsBySaid, IsFinished}
 
 silence_long : (l : Looks) (e : Event) (c : CallName) (n : ℕ) → Silences l e c n → SILENCE_MS ≤ n
 silence_long l (events.Polled got) c n silent = silent.long
@@ -66,6 +67,14 @@ ended_told w request secret result before after law can made v is =
     law w request (chosen secret) v before after can.epoch can.limits (chosen_fits secret)
     (subst (λ (r : Result CallEnd Stop). CallIs w request (chosen secret) r before after) is made)
 
+-- where each call that ended is told by the law, its caller is finished
+pub told_finished : (w : Calling) (request : List ℕ) (class : Class) (result : Result CallEnd Stop) (before after : Told)
+    → ((v : CallerState) → result ≡ Ok (call_ends.Ended v) → CallTold w request class v before after)
+    → IfOk result IsFinished
+told_finished w request class (Ok (call_ends.Ended v)) before after told = (told v refl).finished
+told_finished w request class (Ok call_ends.TurnsSpent) before after told = tt
+told_finished w request class (Err stop) before after told = tt
+
 -- a call that is told so, and ended in silence, ended behind one that was long
 told_long : (w : Calling) (request secret : List ℕ) (v : CallerState) (before after : Told) (n : ℕ) → CanCall w
     → CallTold w request (chosen secret) v before after → v.end ≡ Some (ends.Dead n) → SILENCE_MS ≤ n
@@ -88,7 +97,7 @@ end_dead a reply (Some ends.Ok) before after n by =
 end_dead a reply (Some (ends.Abort code)) before after n by = let is = by.0 in absurd cc
 end_dead a reply (Some (ends.Dead silence)) before after n by = let is = by.0 in cc
 end_dead a reply (Some (ends.Cancelled code)) before after n by = let is = by.0 in absurd cc
-end_dead a reply None before after n by = let is = by.0 in absurd cc
+end_dead a reply None before after n by = absurd by
 
 -- where `call` says that its call ended in silence, the silence was long
 long_by : (a : CallAsked) (w : Calling) (request secret : List ℕ) (result : Result CallEnd Stop) (before after : Told)
@@ -102,6 +111,10 @@ long_by a w request secret (Ok call_ends.TurnsSpent) before after first last n c
 long_by a w request secret (Err stops.SinkFault) before after first last n can told by = absurd by
 long_by a w request secret (Err stops.WireFault) before after first last n can told by = let is = by.0 in absurd cc
 long_by a w request secret (Err stops.OutOfMemory) before after first last n can told by =
+    let is = by.0 in absurd cc
+long_by a w request secret (Err stops.Unnoted) before after first last n can told by =
+    let is = by.0 in absurd cc
+long_by a w request secret (Err stops.Endless) before after first last n can told by =
     let is = by.0 in absurd cc
 
 -- the same of its outcome

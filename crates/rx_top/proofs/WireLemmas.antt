@@ -48,12 +48,17 @@ ServeCounts (Ok end) k = (k.sink_new ≡ k.sink_old) × (k.wire_new ≡ k.wire_o
 ServeCounts (Err stops.SinkFault) k = HasRisen k.sink_old k.sink_new × (k.wire_new ≡ k.wire_old)
 ServeCounts (Err stops.WireFault) k = (k.sink_new ≡ k.sink_old) × HasRisen k.wire_old k.wire_new
 ServeCounts (Err stops.OutOfMemory) k = (k.sink_new ≡ k.sink_old) × (k.wire_new ≡ k.wire_old)
+ServeCounts (Err stops.Unnoted) k = (k.sink_new ≡ k.sink_old) × (k.wire_new ≡ k.wire_old)
+ServeCounts (Err stops.Endless) k = (k.sink_new ≡ k.sink_old) × (k.wire_new ≡ k.wire_old)
 
 ends_count : (node : ℕ) (result : Result ServeEnd Stop) (came : ServeCame) (before after : Told) (es : List Event)
     (ls : List Logged) → ServeEnds node result came before after es ls → ServeCounts result (counts before after)
 ends_count node (Ok serve_ends.TimeUp) IsUp before after es ls told = (told.puts, told.calls)
 ends_count node (Ok serve_ends.TurnsSpent) IsSpent before after es ls told = (told.puts, told.calls)
 ends_count node (Err stops.OutOfMemory) (IsCut stops.OutOfMemory) before after es ls told = (told.puts, told.calls)
+ends_count node (Err stops.Unnoted) (IsCut stops.Unnoted) before after es ls told =
+    (told.gains.puts, told.gains.calls)
+ends_count node (Err stops.Endless) (IsCut stops.Endless) before after es ls told = (told.puts, told.calls)
 ends_count node (Err stops.SinkFault) (IsCut stops.SinkFault) before after es ls told = (told.puts, told.calls)
 ends_count node (Err stops.SinkFault) IsUp before after es ls told = (told.puts, told.calls)
 ends_count node (Err stops.WireFault) (IsCut stops.WireFault) before after es ls told = (told.puts, told.calls)
@@ -122,6 +127,18 @@ faults_by turns (Err stops.OutOfMemory) outcome before after is k = rw is (recor
   wire_fault = λ e. absurd cc;
   no_wire_fault = λ ne. k.1;
 })
+faults_by turns (Err stops.Unnoted) outcome before after is k = rw is (record {
+  sink_fault = λ e. absurd cc;
+  no_sink_fault = λ ne. k.0;
+  wire_fault = λ e. absurd cc;
+  no_wire_fault = λ ne. k.1;
+})
+faults_by turns (Err stops.Endless) outcome before after is k = rw is (record {
+  sink_fault = λ e. absurd cc;
+  no_sink_fault = λ ne. k.0;
+  wire_fault = λ e. absurd cc;
+  no_wire_fault = λ ne. k.1;
+})
 
 -- serving counts a fault exactly where the outcome says so
 pub serve_faults : (terms : Setup → ℕ → Terms) (setup : Setup) (at : Host) (turns : ℕ)
@@ -139,6 +156,8 @@ CallCounts (Ok end) old new = new ≡ old
 CallCounts (Err stops.SinkFault) old new = ⊥
 CallCounts (Err stops.WireFault) old new = HasRisen old new
 CallCounts (Err stops.OutOfMemory) old new = new ≡ old
+CallCounts (Err stops.Unnoted) old new = new ≡ old
+CallCounts (Err stops.Endless) old new = new ≡ old
 
 call_ends_count : (node : ℕ) (result : Result CallEnd Stop) (came : CallCame) (before after : Told) (es : List Event)
     (ls : List Logged) → CallEnds node result came before after es ls
@@ -146,13 +165,17 @@ call_ends_count : (node : ℕ) (result : Result CallEnd Stop) (came : CallCame) 
 call_ends_count node (Ok (call_ends.Ended v)) (IsEnded w) before after es ls told = told.1.calls
 call_ends_count node (Ok call_ends.TurnsSpent) IsCallSpent before after es ls told = told.calls
 call_ends_count node (Err stops.OutOfMemory) (IsCallCut stops.OutOfMemory) before after es ls told = told.calls
+call_ends_count node (Err stops.Unnoted) (IsCallCut stops.Unnoted) before after es ls told = told.gains.calls
+call_ends_count node (Err stops.Endless) (IsCallCut stops.Endless) before after es ls told = told.calls
 call_ends_count node (Err stops.WireFault) (IsCallCut stops.WireFault) before after es ls told = told.calls
 call_ends_count node _ _ before after es ls told = absurd told
 
 call_bound_counts : (w : Calling) (request : List ℕ) (s : Setup) (result : Result CallEnd Stop) (before after : Told)
     → CallsBound w request s result before after → CallCounts result before.wire.faults after.wire.faults
-call_bound_counts w request s result before after (inl wants) = rw wants.0 wants.1.4.calls
-call_bound_counts w request s result before after (inr goes) =
+call_bound_counts w request s result before after (inl wants) =
+    rw wants.0 (ap (λ (t : Told). t.wire.faults) wants.1)
+call_bound_counts w request s result before after (inr (inl refuses)) = rw refuses.0 refuses.1.4.gains.calls
+call_bound_counts w request s result before after (inr (inr goes)) =
     let made = goes.6 in
     subst (λ (old : ℕ). CallCounts result old after.wire.faults) goes.5.calls
     (call_ends_count 1 result made.came goes.3 after made.events made.log made.ends)
@@ -183,6 +206,8 @@ same_unless (Ok end) old new counted not = counted
 same_unless (Err stops.SinkFault) old new counted not = absurd counted
 same_unless (Err stops.WireFault) old new counted not = absurd (not refl)
 same_unless (Err stops.OutOfMemory) old new counted not = counted
+same_unless (Err stops.Unnoted) old new counted not = counted
+same_unless (Err stops.Endless) old new counted not = counted
 
 -- and none where it doesn't
 pub call_same : (w : Calling) (request : List ℕ) (class : Class) (result : Result CallEnd Stop)

@@ -164,13 +164,19 @@ EndsByEnd a reply (Some (ends.Dead silence)) outcome before after =
     (outcome ≡ outcomes.Dead silence) × (after ≡ before)
 EndsByEnd a reply (Some (ends.Cancelled code)) outcome before after =
     (outcome ≡ outcomes.BadReply) × (after ≡ before)
-EndsByEnd a reply None outcome before after = (outcome ≡ outcomes.OutOfMemory) × (after ≡ before)
+EndsByEnd a reply None outcome before after = ⊥
+
+-- a call ended with a caller that is finished, if it ended with its caller
+abbrev pub IsFinished : CallEnd → Type 0
+IsFinished (call_ends.Ended v) = is_some v.end ≡ true
+IsFinished call_ends.TurnsSpent = ⊤
 
 -- how it ends by its caller
 abbrev pub EndsByCaller : CallAsked → CallerState → WireOutcome → SinkTells → SinkTells → Type 0
 EndsByCaller a v = EndsByEnd a v.reply v.end
 
--- how it ends by how a call with so many takes at most ended, and what was put
+-- how it ends by how a call with so many takes at most ended, and what was put: out of memory too where the journal
+-- refused a note, and where a polling has no end
 abbrev pub EndsByCall : CallAsked → ℕ → Result CallEnd Stop → WireOutcome → SinkTells → SinkTells → Type 0
 EndsByCall a turns (Ok (call_ends.Ended v)) outcome before after = EndsByCaller a v outcome before after
 EndsByCall a turns (Ok call_ends.TurnsSpent) outcome before after =
@@ -178,6 +184,8 @@ EndsByCall a turns (Ok call_ends.TurnsSpent) outcome before after =
 EndsByCall a turns (Err stops.WireFault) outcome before after = (outcome ≡ outcomes.WireFault) × (after ≡ before)
 EndsByCall a turns (Err stops.OutOfMemory) outcome before after =
     (outcome ≡ outcomes.OutOfMemory) × (after ≡ before)
+EndsByCall a turns (Err stops.Unnoted) outcome before after = (outcome ≡ outcomes.OutOfMemory) × (after ≡ before)
+EndsByCall a turns (Err stops.Endless) outcome before after = (outcome ≡ outcomes.OutOfMemory) × (after ≡ before)
 EndsByCall a turns (Err stops.SinkFault) outcome before after = ⊥
 
 -- a call was made with this request, and `call` ended as that did; of a call that ended, the caller tells by a legal

@@ -28,13 +28,16 @@ pub record CanServe (w : Serving) : Type 0 where
   pub few : w.jumbo ≤ JUMBO_PARTS
   pub span : w.span ≤ 2 ^ 40
 
--- how `serve` ends, by how serving with so many takes at most ended
+-- how `serve` ends, by how serving with so many takes at most ended: out of memory too where the journal refused a note,
+-- and where a polling or a turn has no end
 abbrev pub EndsByServing : ℕ → Result ServeEnd Stop → WireOutcome → Type 0
 EndsByServing turns (Ok serve_ends.TimeUp) outcome = outcome ≡ outcomes.Done
 EndsByServing turns (Ok serve_ends.TurnsSpent) outcome = outcome ≡ outcomes.TurnsSpent turns
 EndsByServing turns (Err stops.SinkFault) outcome = outcome ≡ outcomes.SinkFault
 EndsByServing turns (Err stops.WireFault) outcome = outcome ≡ outcomes.WireFault
 EndsByServing turns (Err stops.OutOfMemory) outcome = outcome ≡ outcomes.OutOfMemory
+EndsByServing turns (Err stops.Unnoted) outcome = outcome ≡ outcomes.OutOfMemory
+EndsByServing turns (Err stops.Endless) outcome = outcome ≡ outcomes.OutOfMemory
 
 -- over an interface, a script and a class, a node was served as the words say, and `serve` ended as that did
 pub record ServesNode (m : Meant) (s : List Answering) (class : Class) (w : Serving) (outcome : WireOutcome)

@@ -1,6 +1,6 @@
 //! The call itself, and what is put of its reply.
 
-ghost use Rattle.std.specs.Prelude.{◌≡◌, ◌≢◌, ◌++◌, codes, Err};
+ghost use Rattle.std.specs.Prelude.{◌≡◌, ◌≢◌, ◌++◌, codes, is_some, true, Err, IfOk};
 ghost use Rattle.std.specs.List.{Contains};
 ghost use Rattle.rx_base.specs.Sink.{HasRisen};
 ghost use Rattle.rx_passes.specs.Tells.{sink_tells, told, wire_tells};
@@ -8,7 +8,8 @@ ghost use Rattle.rx_reply.specs.Replies.{printed_line, printed_of};
 ghost use Rattle.rx_token.specs.Chosen.{chosen, secret_of};
 ghost use Rattle.xdr_value.specs.View.{proc_of, procs_of};
 ghost use Rattle.xg_check.specs.Meaning.{interface_of};
-ghost use Rattle.rx_top.specs.Calls.{CallsServer, CanCall, EndsByCall, EndsByCaller, EndsByPut, EndsByReply, asked_of};
+ghost use Rattle.rx_top.specs.Calls.{CallsServer, CanCall, EndsByCall, EndsByCaller, EndsByPut, EndsByReply};
+ghost use Rattle.rx_top.specs.Calls.{IsFinished, asked_of};
 ghost use Rattle.rx_top.specs.Wires.{wire_status};
 
 use crate::ok_line::put_ok_line;
@@ -69,6 +70,7 @@ fn called<'a, O: Sink>(
 ) -> WireOutcome<'a>
     requires one { Contains (procs_of iface.now.procs.items) (proc_of p.now) }
     requires no_sink { got ≢ Err Stop.SinkFault }
+    requires finished { IfOk got IsFinished }
     ensures ends { EndsByCall (asked_of iface.now p.now down)
         turns got result (sink_tells (O.told out.old) (O.faults out.old))
         (sink_tells (O.told out.new) (O.faults out.new)) }
@@ -83,7 +85,7 @@ fn called<'a, O: Sink>(
         Ok(CallEnd::TurnsSpent) => WireOutcome::TurnsSpent { turns },
         Err(Stop::SinkFault) => unreachable!(),
         Err(Stop::WireFault) => WireOutcome::WireFault,
-        Err(Stop::OutOfMemory) => WireOutcome::OutOfMemory,
+        Err(Stop::OutOfMemory | Stop::Unnoted | Stop::Endless) => WireOutcome::OutOfMemory,
     }
 }
 
@@ -96,7 +98,8 @@ fn ended<'a, O: Sink>(
     caller: &Caller,
     out: &mut O,
 ) -> WireOutcome<'a>
-    requires { Contains (procs_of iface.now.procs.items) (proc_of p.now) }
+    requires one { Contains (procs_of iface.now.procs.items) (proc_of p.now) }
+    requires finished { is_some caller.now.end ≡ true }
     ensures ended { EndsByCaller (asked_of iface.now p.now down)
         caller.now result (sink_tells (O.told out.old) (O.faults out.old))
         (sink_tells (O.told out.new) (O.faults out.new)) }
@@ -110,7 +113,7 @@ fn ended<'a, O: Sink>(
         Some(End::Abort(code)) => WireOutcome::Aborted { code },
         Some(End::Dead(silence)) => WireOutcome::Dead { silence },
         Some(End::Cancelled(_)) => WireOutcome::BadReply,
-        None => WireOutcome::OutOfMemory,
+        None => unreachable!(),
     }
 }
 

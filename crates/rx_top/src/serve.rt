@@ -170,6 +170,6 @@ fn served<'a>(got: Result<ServeEnd, Stop>, turns: u64) -> WireOutcome<'a>
         Ok(ServeEnd::TurnsSpent) => WireOutcome::TurnsSpent { turns },
         Err(Stop::SinkFault) => WireOutcome::SinkFault,
         Err(Stop::WireFault) => WireOutcome::WireFault,
-        Err(Stop::OutOfMemory) => WireOutcome::OutOfMemory,
+        Err(Stop::OutOfMemory | Stop::Unnoted | Stop::Endless) => WireOutcome::OutOfMemory,
     }
 }

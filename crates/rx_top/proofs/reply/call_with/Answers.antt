@@ -5,7 +5,7 @@ use Rattle.rx_passes.specs.Tells.{SinkTells, Told, sink_tells, told, wire_tells}
 use Rattle.rx_passes.specs.ToldCalls.{CallTold}
 use Rattle.rx_token.specs.Chosen.{chosen, secret_of}
 use Rattle.rx_top.specs.Calls.{CallAsked, asked_of}
-use Rattle.rx_top.proofs.SilenceLemmas.{call_long, ended_told}
+use Rattle.rx_top.proofs.SilenceLemmas.{call_long, ended_told, told_finished}
 use Rattle.rx_top.proofs.WireLemmas.{call_risen, call_same, no_sink_ends}
 use Rattle.rx_top.proofs.reply.call_with.Goals as goal
 
@@ -17,7 +17,20 @@ called-requires-clause-no_sink g c =
     (g.W.Wire.faults c.args.wire.now) (g.W.Wire.moment c.args.wire.now)))
     (told (g.J.Journal.told c.call-result.new.book) sink (wire_tells (g.W.Wire.told c.call-result.new.wire)
     (g.W.Wire.faults c.call-result.new.wire) (g.W.Wire.moment c.call-result.new.wire)))
-    (c.call-result.ensures sink)
+    (c.call-result.ensures.calls sink)
+
+pub called-requires-clause-finished : goal.called-requires-clause-finished
+called-requires-clause-finished g c =
+    let sink : SinkTells = sink_tells (g.O.Sink.told c.args.out.now) (g.O.Sink.faults c.args.out.now) in
+    let before : Told =
+    told (g.J.Journal.told c.args.book.now) sink (wire_tells (g.W.Wire.told c.args.wire.now)
+    (g.W.Wire.faults c.args.wire.now) (g.W.Wire.moment c.args.wire.now)) in
+    let after : Told =
+    told (g.J.Journal.told c.call-result.new.book) sink (wire_tells (g.W.Wire.told c.call-result.new.wire)
+    (g.W.Wire.faults c.call-result.new.wire) (g.W.Wire.moment c.call-result.new.wire)) in
+    told_finished c.args.calling.now c.args.request.items (chosen (secret_of c.args.class)) c.call-result.result before
+    after (ended_told c.args.calling.now c.args.request.items (secret_of c.args.class) c.call-result.result before after
+    c.calls_tell.ensures c.requires.calling (c.call-result.ensures.calls sink))
 
 pub returns : goal.returns
 returns g c =
@@ -33,12 +46,12 @@ returns g c =
     let tells : (v : CallerState) → c.call-result.result ≡ Ok (call_ends.Ended v)
     → CallTold c.args.calling.now c.args.request.items (chosen (secret_of c.args.class)) v before after =
     ended_told c.args.calling.now c.args.request.items (secret_of c.args.class) c.call-result.result before after
-    c.calls_tell.ensures c.requires.calling (c.call-result.ensures sink) in
+    c.calls_tell.ensures c.requires.calling (c.call-result.ensures.calls sink) in
     record {
       call =
           record {
             result = c.call-result.result;
-            made = c.call-result.ensures sink;
+            made = c.call-result.ensures.calls sink;
             ends = c.called.ensures.ends;
             told = tells;
             long = λ n is. call_long asked c.args.calling.now c.args.request.items (secret_of c.args.class)
@@ -49,7 +62,7 @@ returns g c =
       sink_fault = c.called.ensures.sink_fault;
       no_sink_fault = c.called.ensures.no_sink_fault;
       wire_fault = λ is. call_risen c.args.calling.now c.args.request.items (chosen (secret_of c.args.class))
-          c.call-result.result before after (c.call-result.ensures sink) (c.called.ensures.wire_fault is);
+          c.call-result.result before after (c.call-result.ensures.calls sink) (c.called.ensures.wire_fault is);
       no_wire_fault = λ not. call_same c.args.calling.now c.args.request.items (chosen (secret_of c.args.class))
-          c.call-result.result before after (c.call-result.ensures sink) (c.called.ensures.no_wire_fault not);
+          c.call-result.result before after (c.call-result.ensures.calls sink) (c.called.ensures.no_wire_fault not);
     }
