@@ -29,8 +29,8 @@ rx_pool       rx_rtt     .         .         rx_packet_bench stub_table xdr_code
 WINGS = [("the program", "#fdeee0", 5, 7, 7, 11), ("the protocol", "#e8f0fb", 0, 4, 0, 8),
          ("values", "#e9f6ea", 5, 6, 0, 4), ("interface files", "#f5ebf8", 7, 7, 0, 3)]
 FLOORS = ["what is said", "rules, bytes", "laws, rates, slots", "windows, moments", "one end of a call",
-          "ends, connections", "what both nodes share", "the two nodes", "around the nodes", "runs, passes", "the commands",
-          "what runs"]
+          "ends, connections", "what both nodes share", "the two nodes", "around the nodes", "runs, passes",
+          "the commands", "what runs"]
 ASIDE = {"rx_examples", "rx_pair"}
 SAID = "rx_model"
 LEGEND = ["A line leads down to a crate that is used, unless another", "one that is used stands on it.",

@@ -70,7 +70,7 @@ class Trace:
         lines = lines_of(path)
         self.hosts = hosts_of_plan(plan) if plan else hosts_of(lines)
         self.events, self.datagrams = [], []
-        self.moments = {}
+        self.moments, self.same = {}, {}
         for number, line in enumerate(lines, 1):
             if line.startswith("answer #"):
                 continue
@@ -101,22 +101,26 @@ class Trace:
         self.events.append(Event(number, node, f"clock {moment}", moment))
 
     def give(self, number, node, source, target, data):
-        given = Datagram(number, node, source, target, data, self.moments.get(node, 0), [])
-        self.datagrams.append(given)
-        self.events.append(given)
+        self.events.append(self.new(number, node, source, target, data, self.moments.get(node, 0)))
+
+    def new(self, *parts):
+        """A further datagram, which is found by its hosts and bytes too."""
+        datagram = Datagram(*parts, [])
+        self.datagrams.append(datagram)
+        self.same.setdefault((datagram.source, datagram.target, datagram.bytes), []).append(datagram)
+        return datagram
 
     def take(self, number, node, source, data, answer):
         """A datagram comes of the oldest giving that it can come of and that this node didn't take, else of the latest
         one that it can come of, as a repeat. Else no node gave it: it's forged."""
         host = self.host(node, number)
-        same = [it for it in self.datagrams if (it.source, it.target, it.bytes) == (source, host, data)]
-        fresh = [it for it in same if all(it.node != node for it in it.takes)]
+        same = self.same.get((source, host, data), [])
+        fresh = [it for it in same if all(take.node != node for take in it.takes)]
         moment = self.moments.get(node, 0)
-        if fresh or same:
+        if same:
             datagram = fresh[0] if fresh else same[-1]
         else:
-            datagram = Datagram(number, None, source, host, data, moment, [])
-            self.datagrams.append(datagram)
+            datagram = self.new(number, None, source, host, data, moment)
         taken = Take(number, node, answer, moment, datagram)
         datagram.takes.append(taken)
         self.events.append(taken)
