@@ -1,5 +1,5 @@
 -- What a contract sees of a `UdpWire`. Public clauses cite this module.
-use Rattle.std.specs.Prelude.{ℕ, ◌≤◌, ◌+◌, ◌-◌, ◌*◌, ◌/◌, ⊤, Bool, true, false, Option, Some, None}
+use Rattle.std.specs.Prelude.{ℕ, ◌≤◌, ◌+◌, ◌-◌, ◌*◌, ◌/◌, ⊤, Bool, Option, None}
 use Rattle.rx_udp.specs.declared.udp_wire.Got.{Got}
 use Rattle.rx_udp.specs.declared.udp_wire.Got.TheVariants as gots
 use Rattle.rx_udp.specs.Wire.{Traffic}
@@ -12,21 +12,16 @@ pub record UdpWireState : Type 0 where
   pub faults : ℕ
   pub timeout : ℕ
 
--- whether there is one
-abbrev pub is_there : {T : Type 0} → Option T → Bool
-is_there None = false
-is_there (Some one) = true
-
 -- what a wire tells that tells nothing of what it carries
 abbrev pub untold : Option Traffic
 untold = None
 
 -- how long to wait from a moment for another, in whole steps of 4 milliseconds
-abbrev pub wait_of : ℕ → ℕ → ℕ
-wait_of moment until = ((until - moment) / 4 + 1) * 4
+abbrev pub timeout_for : ℕ → ℕ → ℕ
+timeout_for moment until = ((until - moment) / 4 + 1) * 4
 
 -- what came, if anything did, has at most so many bytes
-abbrev pub IsWithin : ℕ → Got → Type 0
-IsWithin most (gots.Came from count) = count ≤ most
-IsWithin most gots.Late = ⊤
-IsWithin most gots.Again = ⊤
+abbrev pub IsGotWithin : ℕ → Got → Type 0
+IsGotWithin most (gots.Came from count) = count ≤ most
+IsGotWithin most gots.Late = ⊤
+IsGotWithin most gots.Again = ⊤

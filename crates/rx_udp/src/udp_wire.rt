@@ -1,14 +1,14 @@
 //! A wire over a UDP socket of the system.
 //! No clause can say what a socket carries: tests over loopback look at it.
 ghost use Rattle.std.specs.Prelude.{◌≡◌, ◌≢◌, ◌⊎◌, ◌+◌, ◌-◌, ◌/◌, ◌<◌, ◌≤◌, ◌^◌, length, min};
-ghost use Rattle.std.specs.Prelude.{IfOk, IfSome, IfNone, OnOk, OnErr, IsTrue, true, false};
+ghost use Rattle.std.specs.Prelude.{IfOk, IfSome, IfNone, OnOk, OnErr, IsTrue, is_some, true, false};
 ghost use Rattle.std.specs.Net.Addr.{IsIpv4OfBits, ipv4_bits};
 ghost use Rattle.std.specs.Net.Socket.{v4_ip, v4_port};
 ghost use Rattle.std.specs.Time.{instant_nanos};
 ghost use Rattle.rx_base.specs.Count.{one_more};
 ghost use Rattle.rx_base.specs.Sink.{HasRisen};
 ghost use Rattle.rx_udp.specs.Wire.{HasBound, HasLogged, GaveTo, TookUntil, came_in};
-ghost use Rattle.rx_udp.specs.UdpWire.{IsWithin, UdpWireState, is_there, untold, wait_of};
+ghost use Rattle.rx_udp.specs.UdpWire.{IsGotWithin, UdpWireState, timeout_for, untold};
 
 use crate::refusal::Refusal;
 use crate::wire::Wire;
@@ -74,7 +74,7 @@ impl<'a, R: Net + Clock> Model for UdpWire<'a, R> {
     ghost Value = { UdpWireState };
 
     ghost view = { λ s. record {
-      is_bound = is_there s.socket;
+      is_bound = is_some s.socket;
       moment = s.moment;
       faults = s.faults;
       timeout = s.timeout_ms;
@@ -125,7 +125,7 @@ impl<'a, R: Net + Clock> UdpWire<'a, R> {
     fn wait_until(&mut self, until: u64) -> io::Result<()>
         requires { until < 2 ^ 62 }
         ensures same { self.new ≡ record self.old { timeout = self.new.timeout } }
-        ensures set { OnOk result (self.new.timeout ≡ wait_of self.old.moment until) }
+        ensures set { OnOk result (self.new.timeout ≡ timeout_for self.old.moment until) }
     {
         let Some(socket) = &self.socket else {
             return Err(io::Error::from(ErrorKind::NotConnected));
@@ -140,7 +140,7 @@ impl<'a, R: Net + Clock> UdpWire<'a, R> {
 
     // What the socket receives.
     fn receive(&self, to: &mut [u8]) -> io::Result<Got>
-        ensures { IfOk result (IsWithin (length to.new)) }
+        ensures { IfOk result (IsGotWithin (length to.new)) }
     {
         let Some(socket) = &self.socket else {
             return Err(io::Error::from(ErrorKind::NotConnected));
@@ -160,7 +160,7 @@ impl<'a, R: Net + Clock> UdpWire<'a, R> {
         ensures same_bound { self.new.is_bound ≡ self.old.is_bound }
         ensures same_faults { self.new.faults ≡ self.old.faults }
         ensures no_earlier { self.old.moment ≤ self.new.moment }
-        ensures within { IfOk result (IsWithin (length to.new)) }
+        ensures within { IfOk result (IsGotWithin (length to.new)) }
         ensures enough { OnOk result (until < self.new.moment + self.new.timeout) }
         ensures no_longer { OnOk result (self.new.timeout ≤ (until - self.old.moment) + 4) }
     {
@@ -201,7 +201,7 @@ impl<'a, R: Net + Clock> UdpWire<'a, R> {
 // How long to wait from a moment for another, in whole steps. No timeout may be 0.
 fn wait_ms(moment: u64, until: u64) -> u64
     requires { until < 2 ^ 62 }
-    ensures exact { result ≡ wait_of moment until }
+    ensures exact { result ≡ timeout_for moment until }
     ensures enough { until < moment + result }
     ensures within { result ≤ (until - moment) + 4 }
 {
@@ -255,7 +255,7 @@ fn open<R: Net>(rt: &R, at: Host) -> io::Result<(UdpSocket, Host)>
 // What an error of a receive came to: of an earlier datagram, or of a wait that a signal ended, it says nothing of what
 // is to come.
 fn got_of(error: io::Error) -> io::Result<Got>
-    ensures { IfOk result (IsWithin 0) }
+    ensures { IfOk result (IsGotWithin 0) }
 {
     match Refusal::of(&error) {
         Refusal::NotNow => Ok(Got::Late),

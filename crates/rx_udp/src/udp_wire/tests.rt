@@ -7,7 +7,7 @@ use crate::wire::Wire;
 use rx_base::Failed;
 use rx_model::Host;
 use std::fs::File;
-use std::net::UdpSocket;
+use std::net::{Ipv6Addr, SocketAddrV6, UdpSocket};
 use std::os::fd::OwnedFd;
 use std::test::Fail;
 use std::time::{Duration, Instant};
@@ -18,9 +18,9 @@ const LOOPBACK: Host = Host {
     port: 0,
 };
 
-/// A host that no way leads to from a loopback address.
+/// A host that no way leads to, and never from a loopback address.
 const FAR: Host = Host {
-    addr: 0xcb00_7101,
+    addr: 0xf000_0001,
     port: 7000,
 };
 
@@ -127,6 +127,30 @@ fn no_way_is_a_fault_until_something_has_passed(rt: HostRuntime) -> Result<(), F
     );
     assert_eq!(rt; server.give(FAR, b"far"), Ok(()));
     assert_eq!(rt; server.faults, 0);
+    // A bind begins anew.
+    server.bind(LOOPBACK)?;
+    assert_eq!(rt; server.give(FAR, b"far"), Err(Failed));
+    Ok(())
+}
+
+#[test]
+fn a_wait_goes_on_behind_a_hundred_that_are_passed_over(rt: HostRuntime) -> Result<(), Fail> {
+    let any = SocketAddrV6::new(Ipv6Addr::LOCALHOST, 0, 0, 0);
+    let (Ok(socket), Ok(other)) = (UdpSocket::bind(&rt, any), UdpSocket::bind(&rt, any)) else {
+        // A machine without IPv6 has no such source.
+        return Ok(());
+    };
+    let to = socket.local_addr()?;
+    for _ in 0..100 {
+        other.send_to(b"abc", to)?;
+    }
+    let mut wire = UdpWire::make(&rt);
+    wire.bind(LOOPBACK)?;
+    wire.socket = Some(socket);
+    let until = (wire.now() + 60).min(10_000);
+    assert_eq!(rt; wire.take(until, &mut [0; 8]), Ok(None));
+    assert!(rt; until <= wire.now());
+    assert_eq!(rt; wire.faults, 0);
     Ok(())
 }
 
