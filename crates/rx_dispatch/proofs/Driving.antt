@@ -24,11 +24,11 @@ use Rattle.rx_dispatch.proofs.LifeLaws.{lives_exact}
 -- ---- the calls of jobs differ
 
 -- a call is none of these
-abbrev Apart : CallName → List CallName → Type 0
+abbrev pub Apart : CallName → List CallName → Type 0
 Apart c cs = Every (λ d. same_name d c ≡ false) cs
 
 -- each is none of those behind it
-abbrev Differ : List CallName → Type 0
+abbrev pub Differ : List CallName → Type 0
 Differ [] = Unit {0}
 Differ (c ∷ cs) = Apart c cs × Differ cs
 
@@ -72,15 +72,15 @@ calls-append xs ys = map-append (λ (j : JobState). j.call) xs ys
 -- ---- lives in a history
 
 -- a job that waits for its next step lives
-abbrev Waits : Handlers → List Event → JobState → Type 0
+abbrev pub Waits : Handlers → List Event → JobState → Type 0
 Waits g h j = Lives g j.call (life_of j.call h) (moving g j)
 
 -- one in its step does
-abbrev Acts : Handlers → List Event → Moving → Type 0
+abbrev pub Acts : Handlers → List Event → Moving → Type 0
 Acts g h m = Lives g m.job.call (life_of m.job.call h) m
 
 -- each job of a turn lives, and their calls differ
-abbrev Lived : Handlers → List Event → Turning → Type 0
+abbrev pub Lived : Handlers → List Event → Turning → Type 0
 Lived g h (accepts jobs) = Every (Waits g h) jobs × Differ (calls_of jobs)
 Lived g h (serves done m todo) =
     Every (Waits g h) done × Acts g h m × Every (Waits g h) todo × Differ (calls_of done ++ m.job.call ∷ calls_of todo)
@@ -300,7 +300,7 @@ leaves_lived g (over jobs) e h other apart live =
 
 -- ---- along a history
 
-drives_lived : (g : Handlers) (t : Turning) (h : List Event) → Drives g t h → Lived g h t
+pub drives_lived : (g : Handlers) (t : Turning) (h : List Event) → Drives g t h → Lived g h t
 drives_lived g t h (starts at) = (tt, tt)
 drives_lived g t h (begins jobs at before) = drives_lived g (over jobs) at before
 drives_lived g t h (makes from a e at asked is count new before) =

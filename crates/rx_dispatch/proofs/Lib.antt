@@ -9,3 +9,4 @@ pub mod KeptLaws
 pub mod LifeKeeps
 pub mod LifeLaws
 pub mod Driving
+pub mod KeptTurns

@@ -231,10 +231,10 @@ module _ (g : Handlers) (c : CallName) (h : List Event) (j : JobState) (max n : 
   came_read : kept_of g (j.request ++ came) ≡ kept_of g (bytes_read h ++ came)
   came_read = ap (λ (q : List ℕ). kept_of g (q ++ came)) k.read ∙ kept_more g (bytes_read h) came
 
-  came_keeps_by : (o : Option ℤ) → early_code g (kept_of g (j.request ++ came)) false ≡ o
-      → Keeps g c (events.HasRead c max (readers.Server (reads.Got n)) came ∷ h)
-      (maybe_coded o (record j { request = kept_of g (j.request ++ came) }))
-  came_keeps_by None is =
+  -- where it decides nothing behind them
+  came_keeps_none : Keeps g c (events.HasRead c max (readers.Server (reads.Got n)) came ∷ h)
+      (record j { request = kept_of g (j.request ++ came) })
+  came_keeps_none =
       let nil : (bytes_written h ≡ []) × (j.reply ≡ []) =
       none_coded g (bytes_read h) (bytes_written h) j.reply j.ended j.code none k.coded in
       let said : bytes_written h ++ [] ≡ [] = append-nil (bytes_written h) ∙ nil.0 in
@@ -245,6 +245,11 @@ module _ (g : Handlers) (c : CallName) (h : List Event) (j : JobState) (max n : 
         coded = subst (λ (o : Option ℤ).
             Coded g (bytes_read h ++ came) (bytes_written h ++ []) j.reply j.ended o) (sym none) (said, nil.1);
       }
+
+  came_keeps_by : (o : Option ℤ) → early_code g (kept_of g (j.request ++ came)) false ≡ o
+      → Keeps g c (events.HasRead c max (readers.Server (reads.Got n)) came ∷ h)
+      (maybe_coded o (record j { request = kept_of g (j.request ++ came) }))
+  came_keeps_by None is = came_keeps_none
   came_keeps_by (Some d) is =
       let nil : (bytes_written h ≡ []) × (j.reply ≡ []) =
       none_coded g (bytes_read h) (bytes_written h) j.reply j.ended j.code none k.coded in
@@ -258,21 +263,6 @@ module _ (g : Handlers) (c : CallName) (h : List Event) (j : JobState) (max n : 
         read = came_read;
         ended = k.ended;
         coded = inl (said, nil.1, subst (λ (b : Bool). CodeIs g (bytes_read h ++ came) b d) (sym more) code);
-      }
-
-  -- where it keeps none of them it decides nothing
-  came_keeps_none : Keeps g c (events.HasRead c max (readers.Server (reads.Got n)) came ∷ h)
-      (record j { request = kept_of g (j.request ++ came) })
-  came_keeps_none =
-      let nil : (bytes_written h ≡ []) × (j.reply ≡ []) =
-      none_coded g (bytes_read h) (bytes_written h) j.reply j.ended j.code none k.coded in
-      let said : bytes_written h ++ [] ≡ [] = append-nil (bytes_written h) ∙ nil.0 in
-      record {
-        own = k.own;
-        read = came_read;
-        ended = k.ended;
-        coded = subst (λ (o : Option ℤ).
-            Coded g (bytes_read h ++ came) (bytes_written h ++ []) j.reply j.ended o) (sym none) (said, nil.1);
       }
 
   came_keeps : (b : Bool)

@@ -8,7 +8,8 @@ use Rattle.rx_rules.proofs.EveryLaws.{Every}
 use Rattle.rx_dispatch.specs.Handlers.{Handlers}
 use Rattle.rx_dispatch.specs.Jobs.{Ask, JobState, moving}
 use Rattle.rx_dispatch.specs.Dispatching.{Turning, accepts, serves, over, dispatching}
-use Rattle.rx_dispatch.specs.Lives.{HasCount, IsExact}
+use Rattle.rx_dispatch.specs.Keeping.{kept_of}
+use Rattle.rx_dispatch.specs.Lives.{HasCount, IsExact, bytes_read}
 
 -- ---- the events of a call
 
@@ -70,3 +71,16 @@ IsExactTurn g h (accepts jobs) = Every (WaitsExact g h) jobs
 IsExactTurn g h (serves done m todo) =
     Every (WaitsExact g h) done × IsExact g m.job.call (life_of m.job.call h) m × Every (WaitsExact g h) todo
 IsExactTurn g h (over jobs) = Every (WaitsExact g h) jobs
+
+-- ---- what is kept of requests
+
+-- a job has of its request what is kept of the bytes read for its call
+abbrev pub HasKept : Handlers → List Event → JobState → Type 0
+HasKept g h j = j.request ≡ kept_of g (bytes_read (life_of j.call h))
+
+-- each job of a turn does
+abbrev pub HaveKept : Handlers → List Event → Turning → Type 0
+HaveKept g h (accepts jobs) = Every (HasKept g h) jobs
+HaveKept g h (serves done m todo) =
+    Every (HasKept g h) done × HasKept g h m.job × Every (HasKept g h) todo
+HaveKept g h (over jobs) = Every (HasKept g h) jobs

@@ -7,7 +7,7 @@ ghost use Rattle.rx_model.specs.declared.names.CallName.{CallName as Name};
 ghost use Rattle.rx_script.specs.Served.{refusal};
 ghost use Rattle.rx_dispatch.specs.Dispatching.{Turning};
 ghost use Rattle.rx_dispatch.specs.Handlers.{Handlers, early_code, served_for, wait_of};
-ghost use Rattle.rx_dispatch.specs.History.{Drives, IsExactTurn};
+ghost use Rattle.rx_dispatch.specs.History.{Drives, HaveKept, IsExactTurn};
 ghost use Rattle.rx_dispatch.specs.Jobs.{Moving};
 ghost use Rattle.rx_dispatch.specs.Keeping.{has_upload, kept_of};
 ghost use Rattle.rx_dispatch.specs.Lives.{IsExact, Lives, bytes_read};
@@ -47,6 +47,12 @@ pub fn kept_requests_serve()
 pub fn lives_keep_what_counts()
     ensures { (g : Handlers) (c : Name) (h : List Event) (m : Moving) → Lives g c h m
         → m.job.request ≡ kept_of g (bytes_read h) }
+{}
+
+/// In each history of a server that a dispatcher drives each of its jobs, in its step or not, has of its request what is
+/// kept of the bytes that were read for its call.
+pub fn turns_keep_what_counts()
+    ensures { (g : Handlers) (t : Turning) (h : List Event) → Drives g t h → HaveKept g h t }
 {}
 
 /// Whatever a server answers a job, what the job writes begins the reply of its request, and it finishes with that

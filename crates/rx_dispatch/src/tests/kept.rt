@@ -5,7 +5,6 @@ use super::scene::{Scene, make_scene, serve};
 use crate::TurnFault;
 use crate::desk::Desk;
 use crate::job::{Job, OFFER_BYTES, Phase, Want};
-use crate::keeping::kept_of;
 use rx_class::Null;
 use rx_due::Steps;
 use rx_model::{Event, ReadAns};
@@ -117,88 +116,29 @@ fn bytes_behind_a_request_are_dropped(rt: HostRuntime) -> Result<(), Fail> {
     Ok(())
 }
 
-/// A request, of which more comes than is looked at for its arguments, and what is served for it.
-struct Case {
-    script: &'static str,
-    upload: Option<u32>,
-    junk: u32,
-    end: ReadAns,
-    reply_bytes: usize,
-}
-
-static CASES: [Case; 3] = [
-    Case {
-        script: "",
-        upload: None,
-        junk: 100_000,
-        end: ReadAns::End,
-        reply_bytes: 8,
-    },
-    Case {
-        script: "on Give\nup\ndown\necho",
-        upload: Some(100_000),
-        junk: 0,
-        end: ReadAns::End,
-        reply_bytes: 100_012,
-    },
-    Case {
-        script: "on Give\nup\ndown\necho",
-        upload: Some(70_000),
-        junk: 100_000,
-        end: ReadAns::End,
-        reply_bytes: 70_012,
-    },
-];
-
-/// A case goes as it is told.
-fn check(rt: &impl Abort, alloc: Global, case: &Case) -> Result<(), TurnFault> {
-    let mut scene = make_scene(rt, alloc, case.script)?;
-    let request = request_with(alloc, case.upload, case.junk)?;
-    let (end, reply) = serve::<Brand>(rt, alloc, &mut scene, &request, 100, Blank::new(1))?;
-    assert_eq!(rt; end, case.end);
-    assert_eq!(rt; reply.len(), case.reply_bytes);
-    assert_eq!(rt; scene.dispatcher.jobs(), 0);
-    Ok(())
-}
-
-#[test]
-fn long_requests_are_served(rt: HostRuntime) -> Result<(), Fail> {
-    for case in &CASES {
-        check(&rt, rt.alloc(), case)?;
-    }
-    Ok(())
-}
-
-/// How many bytes are kept of so many that begin with these, under a script.
-fn count_kept(
+/// How many bytes of a reply a client reads for a request with so long an upload, if any, and so many bytes behind it.
+fn served(
     rt: &impl Abort,
     alloc: Global,
     script: &str,
-    start: &[u8],
-    bytes: usize,
-) -> Result<usize, AllocError> {
-    let scene = make_scene(rt, alloc, script)?;
-    let script = read_script(alloc, &scene.iface, script).expect(rt, "a script");
-    let desk = Desk {
-        alloc,
-        iface: &scene.iface,
-        script: &script,
-    };
-    let mut request = Vec::from_slice(alloc, start)?;
-    request.resize(bytes, 0)?;
-    Ok(kept_of(&desk, &request).len())
+    upload: Option<u32>,
+    junk: u32,
+) -> Result<usize, TurnFault> {
+    let mut scene = make_scene(rt, alloc, script)?;
+    let request = request_with(alloc, upload, junk)?;
+    let (end, reply) = serve::<Brand>(rt, alloc, &mut scene, &request, 100, Blank::new(1))?;
+    assert_eq!(rt; end, ReadAns::End);
+    assert_eq!(rt; scene.dispatcher.jobs(), 0);
+    Ok(reply.len())
 }
 
-/// 65,536 bytes, and with an upload its count and 16,777,216 bytes more.
+/// More comes than is looked at for the arguments: an upload, bytes behind them, and both.
 #[test]
-fn as_much_is_kept_as_is_looked_at(rt: HostRuntime) -> Result<(), Fail> {
+fn long_requests_are_served(rt: HostRuntime) -> Result<(), Fail> {
     let alloc = rt.alloc();
-    let up = "on Give\nup";
-    assert_eq!(rt; count_kept(&rt, alloc, up, &GIVE, 16_842_757)?, 16_842_756);
-    assert_eq!(rt; count_kept(&rt, alloc, up, &GIVE, 65_537)?, 65_537);
-    assert_eq!(rt; count_kept(&rt, alloc, up, &[0, 0, 0, 8], 65_537)?, 65_536);
-    assert_eq!(rt; count_kept(&rt, alloc, "", &GIVE, 65_537)?, 65_536);
-    assert_eq!(rt; count_kept(&rt, alloc, "", &GIVE, 65_536)?, 65_536);
-    assert_eq!(rt; count_kept(&rt, alloc, "", &[], 3)?, 3);
+    let echo = "on Give\nup\ndown\necho";
+    assert_eq!(rt; served(&rt, alloc, "", None, 100_000)?, 8);
+    assert_eq!(rt; served(&rt, alloc, echo, Some(100_000), 0)?, 100_012);
+    assert_eq!(rt; served(&rt, alloc, echo, Some(70_000), 100_000)?, 70_012);
     Ok(())
 }

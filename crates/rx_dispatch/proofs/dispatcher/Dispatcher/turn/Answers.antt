@@ -29,8 +29,8 @@ returns-then-not-branch-clause-turned g c =
     let none : c.in_ok-note_step.field-0 ≡ false = search rules in
     turn_over (handlers_of c.args.iface.now) (state_of c.args.self.now).script (state_of c.calls.self).script
     (state_of c.args.self.now).node (state_of c.calls.self).node c.calls.invariant.script c.calls.invariant.node
-    c.calls.made _ (state_of c.calls.self).round (state_of c.note_step.new.self).round _ _ _ _ _ _ c.calls.invariant.advances
-    c.in_ok-note_step.field-0 none c.in_ok-note_step.ensures.noted
+    c.calls.made _ (state_of c.calls.self).round (state_of c.note_step.new.self).round _ _ _ _ _ _
+    c.calls.invariant.advances c.in_ok-note_step.field-0 none c.in_ok-note_step.ensures.noted
 
 pub calls-preserved : goal.calls-preserved
 calls-preserved g c =
