@@ -18,11 +18,11 @@ use Rattle.rx_world.specs.declared.stop.Stop.{Stop}
 use Rattle.rx_world.specs.declared.stop.Stop.TheVariants as stops
 use Rattle.rx_world.specs.Lines.{clocks, clocks_all, is_back, sets_clocks}
 use Rattle.rx_world.specs.Network.{below}
-use Rattle.rx_world.specs.Parts.{Cut, Part, Ran, Refused, each, ends, stop_of}
+use Rattle.rx_world.specs.Parts.{Part, Ran, Refused, each, ends, stop_of}
 use Rattle.rx_world.specs.Rounds.{clients_first}
 use Rattle.rx_world.specs.Stages.{Plays, Shows, Stage, WorldState, event}
 use Rattle.rx_world.specs.Tells.{Told}
-use Rattle.rx_world.proofs.Making.{each_cut, event_cut, stop_is, where_fails, where_holds}
+use Rattle.rx_world.proofs.Making.{stop_is, where_fails, where_holds}
 use Rattle.rx_world.proofs.Ordering.{AroundClient, around_client, clients_one, clients_shown}
 use Rattle.rx_world.proofs.Playing.{each_one, each_stops}
 use Rattle.rx_world.proofs.Running.{ran_refused}

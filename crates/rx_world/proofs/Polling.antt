@@ -1,6 +1,6 @@
 -- Polls of a node, one by one, and then all of them.
-use Rattle.std.proofs.Common.{◌≡◌, ◌∙◌, ◌+◌, ℕ, List, [], Bool, true, false, Option, Some, None, Result, Ok, Err}
-use Rattle.std.proofs.Common.{refl, inr, sym, subst, ap}
+use Rattle.std.proofs.Common.{◌≡◌, ◌∙◌, ◌+◌, ℕ, List, Bool, true, false, Option, Some, None, Result, Ok, Err}
+use Rattle.std.proofs.Common.{refl, sym, subst, ap}
 use Rattle.std.specs.Prelude.{IfOk, IfErr, IsErr, IsErrAnd}
 use Rattle.rx_model.specs.declared.event.Event.{Event}
 use Rattle.rx_model.specs.declared.names.Host.{Host}
@@ -10,15 +10,15 @@ use Rattle.rx_nodes.specs.Nodes.{IsNodeThere, Makes, NodesState, host_of}
 use Rattle.rx_wire.specs.Turns.{noted}
 use Rattle.rx_world.specs.declared.stop.Stop.{Stop}
 use Rattle.rx_world.specs.declared.stop.Stop.TheVariants as stops
-use Rattle.rx_world.specs.Parts.{Cut, Ran, To, ends}
-use Rattle.rx_world.specs.Programs.{CallStops, CallsNext, CallsTold, Knows, PlaysTurn, Turn, cut_there}
+use Rattle.rx_world.specs.Parts.{Ran}
+use Rattle.rx_world.specs.Programs.{CallStops, CallsNext, CallsTold, Knows, PlaysTurn, Turn}
 use Rattle.rx_world.specs.Programs.{stops_told, wants_behind, wants_first}
-use Rattle.rx_world.specs.Rounds.{Polled, PlaysGiven, Polling, PollsOn, ShowsGiven, ended_with, heard_poll, more_from}
+use Rattle.rx_world.specs.Rounds.{PlaysGiven, Polling, PollsOn, ShowsGiven, ended_with, heard_poll, more_from}
 use Rattle.rx_world.specs.Rounds.{polling}
 use Rattle.rx_world.specs.Rounds.{polls_at, polls_out}
-use Rattle.rx_world.specs.Stages.{Stage, WorldState, host_at}
+use Rattle.rx_world.specs.Stages.{Stage, WorldState}
 use Rattle.rx_world.specs.Tells.{GainsOne, IsTold, Told}
-use Rattle.rx_world.proofs.Following.{ran_as, then_cut}
+use Rattle.rx_world.proofs.Following.{ran_as}
 use Rattle.rx_world.proofs.Going.{Going, going_told, turn_whole}
 use Rattle.rx_world.proofs.Numbers.{host_shown}
 

@@ -17,9 +17,8 @@ use Rattle.rx_nodes.specs.Waits.{any_lives, latest, least_wait, moments_of, over
 use Rattle.rx_nodes.specs.declared.nodes.ClientAt.{ClientAt}
 use Rattle.rx_nodes.proofs.Times.{moment_is, moments_are}
 use Rattle.rx_world.specs.declared.stop.Stop.{Stop}
-use Rattle.rx_world.specs.declared.stop.Stop.TheVariants as stops
 use Rattle.rx_world.specs.Network.{below, delivers}
-use Rattle.rx_world.specs.Parts.{Cut, Part, Ran, Then, To, each, ends, stop_of}
+use Rattle.rx_world.specs.Parts.{Part, Ran, Then, To, each, ends, stop_of}
 use Rattle.rx_world.specs.Rounds.{PlaysGiven, Polled, ShowsGiven, clients_first, may_move, moves_by, moves_on, polls}
 use Rattle.rx_world.specs.Rounds.{polls_out, round, rounds, settles, turns, waits}
 use Rattle.rx_world.specs.Stages.{Plays, Shows, Stage, WorldState, event}
@@ -27,7 +26,7 @@ use Rattle.rx_world.specs.Tells.{Told}
 use Rattle.rx_world.specs.Turned.{dispatches, turns_all}
 use Rattle.rx_world.proofs.Clocking.{moment_kept}
 use Rattle.rx_world.proofs.Following.{PlaysOn, on_listed, on_one, on_stops}
-use Rattle.rx_world.proofs.Making.{cut_off, each_cut, event_cut, stop_is, where_fails, where_holds}
+use Rattle.rx_world.proofs.Making.{stop_is, where_fails, where_holds}
 use Rattle.rx_world.proofs.Numbers.{At, clients_listed, others_at, others_more}
 use Rattle.rx_world.proofs.Playing.{plays_none, plays_stops, plays_then}
 use Rattle.rx_world.proofs.Running.{ran_stops, ran_then}
