@@ -109,12 +109,12 @@ fn interface(alloc: Global) -> Result<Interface, AllocError> {
 }
 
 /// Serves by an interface without procedures and an empty script.
-fn serve_none(
+fn serve_none<J: Journal>(
     alloc: Global,
     serving: &Serving,
     wire: &mut MemWire,
     out: &mut MemSink,
-    book: &mut MemJournal,
+    book: &mut J,
 ) -> Result<ServeEnd, Stop>
     requires limits { FitsLimits serving.now.limits }
     requires some { 1 ≤ serving.now.jumbo }
@@ -369,6 +369,20 @@ fn a_refused_note_ends_a_call(rt: HostRuntime) -> Result<(), Fail> {
             Ok(_) => assert!(rt; false, "behind {left} notes"),
             Err(got) => assert_eq!(rt; got, stop, "behind {left} notes"),
         }
+    }
+    Ok(())
+}
+
+// The notes of the clock, the polls, the takings and the handlers' calls.
+#[test]
+fn a_refused_note_ends_serving(rt: HostRuntime) -> Result<(), Fail> {
+    let alloc = rt.alloc();
+    for left in 0..12 {
+        let request = data(alloc, FROM_CLIENT + LAST, &OPCODE)?;
+        let mut wire = wire_with(alloc, comes(alloc, 0, CLIENT, request)?, &[])?;
+        let mut out = MemSink::make(alloc, ROOM, Vec::new(alloc))?;
+        let got = serve_none(alloc, &SERVING, &mut wire, &mut out, &mut Short { left });
+        assert_eq!(rt; got, Err(Stop::Unnoted), "behind {left} notes");
     }
     Ok(())
 }
