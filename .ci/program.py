@@ -314,7 +314,7 @@ def robust():
         expect("a call behind strange datagrams and a stop", got, "Ok", b'ok ["a"]\n')
         lines.append(f"accept {at}/1/4/0/1\nfinish {at}/1/4/0/1 0\ntime up\n")
     took = time.monotonic() - began
-    if not 4 <= took < 5.5:
+    if not 4 <= took < 9:
         failed.append("the time of a server")
         print(f"a server for 4000 ms served for {took:.1f} s")
     # a pipe is read once, where a file could be read again and again
@@ -326,6 +326,7 @@ def robust():
         expect("a call with a pipe for its key", got, "Ok", b'ok ["a"]\n')
         lines.append(f"accept {at}/2/4/0/1\nfinish {at}/2/4/0/1 0\ntime up\n")
     began = time.monotonic()
+    # no datagram leaves: from a loopback address the system has no way to another
     got = run("call", xg, "P", '[1,"a"]', "--to", "240.0.0.1:9", "--epoch", "1")
     expect("a call to nowhere", got, "WireFault")
     if time.monotonic() - began > 2:

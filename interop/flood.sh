@@ -120,7 +120,7 @@ worked() {
 come_back() {
     local until=$((SECONDS + BACK_SECONDS))
     while worked 'behind the flood' sleep 2; do
-        ((10 * echoes * ms_without < echoes_without * ms)) || break
+        ((ms > 0 && 10 * echoes * ms_without >= echoes_without * ms)) && break
         ((SECONDS < until)) || { fault "the client has not come back within $BACK_SECONDS s"; break; }
     done
     echo "a new client behind the flood: $(timeout 30 "$work/peers/client" "$PORT" 60 echo 1 1 20)"
@@ -133,6 +133,7 @@ beside() {
     start client "$work/peers/client" "$PORT" 60 steady $((span + 4 * BACK_SECONDS)) "$STREAM"
     sleep 0.5
     worked 'no flood' sleep_ms $((2 * part))
+    ((echoes > 0)) || { fault 'the client makes no echoes without the flood'; return; }
     echoes_without=$echoes ms_without=$ms before=$(memory ours)
     forget_most ours
     for kind in $KINDS; do
@@ -180,6 +181,8 @@ never_ends() {
     survives endless || return
     echo "a request that never ends: $said"
     [[ $said != *silence* ]] || fault 'the server was silent on a request that never ends'
+    [[ ${said%% *} =~ ^[0-9]+$ ]] && ((${said%% *} >= 4096 * MOST_KB)) ||
+        fault "only this of a request that never ends was taken: $said"
     within "${said%% *} bytes of a request that never ends" "$before" "$(most_memory ours)"
     good_calls
 }

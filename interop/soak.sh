@@ -60,6 +60,7 @@ compare() {
     local name=$1 wanted=$2 got
     shift 2
     got=$("$@" 2>&1 </dev/null)
+    got=${got//$'\n'/ }
     # shellcheck disable=SC2053
     if [[ $got == $wanted ]]; then
         echo "passed: $name"
@@ -70,7 +71,9 @@ compare() {
 
 # ask NAME WANTED COMMAND..: the same in the background, once there is room for one more.
 ask() {
+    local until=$((SECONDS + CALL_SECONDS + 10))
     while ((asked - $(wc -l <"$work/answers") >= MOST_CALLS)); do
+        ((SECONDS < until)) || give_up 'calls have no answers'
         sleep 0.1
     done
     asked=$((asked + 1))
@@ -179,7 +182,7 @@ note_memory() {
 
 # A client for each server at a time, so many a minute.
 ask_all() {
-    local minute=0 pause
+    local minute=0 pause until
     while ((SECONDS < minutes * 60)); do
         sleep_ms $((60000 / PACE)) &
         pause=$!
@@ -191,7 +194,9 @@ ask_all() {
         tell "minute $((++minute))"
         ((minute > 1)) || note_memory
     done
+    until=$((SECONDS + CALL_SECONDS + 10))
     while ((asked > $(wc -l <"$work/answers"))); do
+        ((SECONDS < until)) || { faults+=("$((asked - $(wc -l <"$work/answers"))) calls have no answers"); break; }
         sleep 0.5
     done
 }

@@ -125,11 +125,13 @@ tell_faults() {
 # Builds the peers, and has the network namespace speak with itself.
 prepare() {
     "$here/build.sh" "$work/peers" >"$work/build" 2>&1 || { cat "$work/build"; give_up 'the peers are not built'; }
+    [ -z "$(ip -o link show up | grep -v ': lo:')" ] || give_up 'this is no network of its own'
     ip link set lo up || give_up 'there is no loopback'
 }
 
 # own_network WORD..: has the script run anew, with the words --inside WORD.., in a network namespace of its own, where
-# nothing but this machine is spoken to. Ends with 1 where something is missing that it needs.
+# nothing but this machine is spoken to, and as the first of its processes, so that none outlives it. Ends with 1 where
+# something is missing that it needs.
 own_network() {
     local tool
     for tool in cc ip unshare rxgen; do
@@ -138,5 +140,5 @@ own_network() {
     unshare -n true 2>/dev/null || give_up 'no network namespace can be made'
     RX=$(program ${RX:+"$RX"})
     export RX
-    exec unshare -n "$BASH" "$0" --inside "$@"
+    exec unshare -n -p -f --mount-proc --kill-child "$BASH" "$0" --inside "$@"
 }
