@@ -90,7 +90,7 @@ pub fn returns(mode: Mode) -> bool
 fn is_counter(iface: &Interface, ty: &Ty) -> bool
     ensures { result ≡ is_counter (head_of (types_of iface.now.types.items) (kind_of ty.now)) }
 {
-    match resolve(&iface.types, ty) {
+    match resolve(iface, ty) {
         Head::Basic(basic) => match basic {
             Basic::Int | Basic::Uint => true,
             Basic::Hyper | Basic::Uhyper | Basic::Short | Basic::Ushort => false,
@@ -105,7 +105,7 @@ fn is_counter(iface: &Interface, ty: &Ty) -> bool
 fn is_content(iface: &Interface, ty: &Ty) -> bool
     ensures { result ≡ is_content (head_of (types_of iface.now.types.items) (kind_of ty.now)) }
 {
-    match resolve(&iface.types, ty) {
+    match resolve(iface, ty) {
         Head::Basic(basic) => match basic {
             Basic::Opaque(_) | Basic::OpaqueUpTo(_) | Basic::Text(_) => true,
             Basic::Int | Basic::Uint | Basic::Hyper | Basic::Uhyper => false,

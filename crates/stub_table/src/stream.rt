@@ -102,7 +102,7 @@ pub fn read_values<'a>(
     let mut rest = bytes;
     for arg in args {
         if goes_with(stream, arg.mode) {
-            let (value, after) = read_value(alloc, &iface.types, &arg.ty, rest)?;
+            let (value, after) = read_value(alloc, iface, &arg.ty, rest)?;
             values.push(value)?;
             rest = after;
         }

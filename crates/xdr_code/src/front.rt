@@ -49,14 +49,14 @@ pub fn decode_front(alloc: Global, iface: &Interface, ty: &Ty, bytes: &[u8]) -> 
     // Where the 65th level begins, unless memory runs out.
     ensures deep { Opens 64 (types_of iface.now.types.items) (kind_of ty.now) bytes.now → IsDeep result }
 {
-    exact_front(alloc, &iface.types, ty, bytes)
+    exact_front(alloc, iface, ty, bytes)
 }
 
-fn exact_front(alloc: Global, types: &[Def], ty: &Ty, bytes: &[u8]) -> Front
-    ensures exact { IsRead (types_of types.now) (kind_of ty.now) bytes.now result }
+fn exact_front(alloc: Global, iface: &Interface, ty: &Ty, bytes: &[u8]) -> Front
+    ensures exact { IsRead (types_of iface.now.types.items) (kind_of ty.now) bytes.now result }
     ensures bytes { IsBytes bytes.now }
 {
-    match read_value(alloc, types, ty, bytes) {
+    match read_value(alloc, iface, ty, bytes) {
         Ok((value, rest)) => Front::Whole(value, bytes.len() - rest.len()),
         Err(Stop::Memory) => Front::OutOfMemory,
         Err(Stop::Fault(fault)) => match fault {

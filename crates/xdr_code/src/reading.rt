@@ -14,22 +14,22 @@ use crate::items::{limited, read_tag, word};
 use crate::leaves::{basic, leaf, member, signed_number, unsigned_number};
 use std::alloc::{AllocError, Global};
 use xdr_value::{
-    Arm, Basic, Def, Field, Head, Interface, MAX_LEVELS, Ty, Value, arm_of, list_limit, resolve,
+    Arm, Basic, Field, Head, Interface, MAX_LEVELS, Ty, Value, arm_of, list_limit, resolve,
     tag_number,
 };
 
 #[cycle(value)]
 fn value<'a>(
     alloc: Global,
-    types: &[Def],
+    iface: &Interface,
     levels: u32,
     ty: &Ty,
     bytes: &'a [u8],
 ) -> Result<(Value, &'a [u8]), Stop>
     ensures { Gives (λ x. (value_of x.0, x.1.now)) result
-        (value_at levels (types_of types.now) (kind_of ty.now) bytes.now) }
+        (value_at levels (types_of iface.now.types.items) (kind_of ty.now) bytes.now) }
 {
-    headed(alloc, types, levels, resolve(types, ty), bytes)
+    headed(alloc, iface, levels, resolve(iface, ty), bytes)
 }
 
 // A value of a type whose head was looked up.
@@ -37,19 +37,19 @@ fn value<'a>(
 #[tactic(auto, unfolding(crate::specs::Reading::value_at))]
 fn headed<'a>(
     alloc: Global,
-    types: &[Def],
+    iface: &Interface,
     levels: u32,
     head: Head<'_>,
     bytes: &'a [u8],
 ) -> Result<(Value, &'a [u8]), Stop>
-    ensures { (k : Kind) → head_view head.entry ≡ head_of (types_of types.now) k
+    ensures { (k : Kind) → head_view head.entry ≡ head_of (types_of iface.now.types.items) k
         → Gives (λ x. (value_of x.0, x.1.now)) result
-        (value_at levels (types_of types.now) k bytes.now) }
+        (value_at levels (types_of iface.now.types.items) k bytes.now) }
 {
     if levels == 0 {
         leaf(alloc, head, bytes)
     } else {
-        inside(alloc, types, levels - 1, head, bytes)
+        inside(alloc, iface, levels - 1, head, bytes)
     }
 }
 
@@ -60,16 +60,16 @@ fn headed<'a>(
 fn struct_onto<'a>(
     items: &mut Vec<Value>,
     alloc: Global,
-    types: &[Def],
+    iface: &Interface,
     levels: u32,
     fields: &Vec<Field>,
     bytes: &'a [u8],
 ) -> Result<&'a [u8], Stop>
     ensures { Adds items.old.items items.new.items (λ r. r.now) result
-        (head_at (types_of types.now) (Some (value_at levels (types_of types.now)))
+        (head_at (types_of iface.now.types.items) (Some (value_at levels (types_of iface.now.types.items)))
         (is_struct (map part_of fields.now.items)) bytes.now) }
 {
-    let (values, rest) = parts(alloc, types, levels, fields, bytes)?;
+    let (values, rest) = parts(alloc, iface, levels, fields, bytes)?;
     items.push(Value::List(values))?;
     Ok(rest)
 }
@@ -81,21 +81,21 @@ fn struct_onto<'a>(
 fn headed_onto<'a>(
     items: &mut Vec<Value>,
     alloc: Global,
-    types: &[Def],
+    iface: &Interface,
     levels: u32,
     head: Head<'_>,
     bytes: &'a [u8],
 ) -> Result<&'a [u8], Stop>
-    ensures { (k : Kind) → head_view head.entry ≡ head_of (types_of types.now) k
+    ensures { (k : Kind) → head_view head.entry ≡ head_of (types_of iface.now.types.items) k
         → Adds items.old.items items.new.items (λ r. r.now) result
-        (value_at levels (types_of types.now) k bytes.now) }
+        (value_at levels (types_of iface.now.types.items) k bytes.now) }
 {
     match head {
         Head::Struct(fields) if levels > 0 => {
-            struct_onto(items, alloc, types, levels - 1, fields, bytes)
+            struct_onto(items, alloc, iface, levels - 1, fields, bytes)
         }
         _ => {
-            let (item, rest) = headed(alloc, types, levels, head, bytes)?;
+            let (item, rest) = headed(alloc, iface, levels, head, bytes)?;
             items.push(item)?;
             Ok(rest)
         }
@@ -132,18 +132,18 @@ fn uint_onto<'a>(items: &mut Vec<Value>, bytes: &'a [u8]) -> Result<&'a [u8], St
 fn part_onto<'a>(
     items: &mut Vec<Value>,
     alloc: Global,
-    types: &[Def],
+    iface: &Interface,
     levels: u32,
     ty: &Ty,
     bytes: &'a [u8],
 ) -> Result<&'a [u8], Stop>
     ensures { Adds items.old.items items.new.items (λ r. r.now) result
-        (value_at levels (types_of types.now) (kind_of ty.now) bytes.now) }
+        (value_at levels (types_of iface.now.types.items) (kind_of ty.now) bytes.now) }
 {
     match ty {
         Ty::Int => int_onto(items, bytes),
         Ty::Uint => uint_onto(items, bytes),
-        _ => headed_onto(items, alloc, types, levels, resolve(types, ty), bytes),
+        _ => headed_onto(items, alloc, iface, levels, resolve(iface, ty), bytes),
     }
 }
 
@@ -153,19 +153,19 @@ fn part_onto<'a>(
 fn element_onto<'a>(
     items: &mut Vec<Value>,
     alloc: Global,
-    types: &[Def],
+    iface: &Interface,
     levels: u32,
     head: Head<'_>,
     bytes: &'a [u8],
 ) -> Result<&'a [u8], Stop>
-    ensures { (k : Kind) → head_view head.entry ≡ head_of (types_of types.now) k
+    ensures { (k : Kind) → head_view head.entry ≡ head_of (types_of iface.now.types.items) k
         → Adds items.old.items items.new.items (λ r. r.now) result
-        (value_at levels (types_of types.now) k bytes.now) }
+        (value_at levels (types_of iface.now.types.items) k bytes.now) }
 {
     match head {
         Head::Basic(Basic::Int) => int_onto(items, bytes),
         Head::Basic(Basic::Uint) => uint_onto(items, bytes),
-        _ => headed_onto(items, alloc, types, levels, head, bytes),
+        _ => headed_onto(items, alloc, iface, levels, head, bytes),
     }
 }
 
@@ -174,75 +174,75 @@ fn element_onto<'a>(
 #[tactic(auto, unfolding(crate::specs::Reading::head_at))]
 fn inside<'a>(
     alloc: Global,
-    types: &[Def],
+    iface: &Interface,
     levels: u32,
     head: Head<'_>,
     bytes: &'a [u8],
 ) -> Result<(Value, &'a [u8]), Stop>
     ensures { Gives (λ x. (value_of x.0, x.1.now)) result
-        (head_at (types_of types.now) (Some (value_at levels (types_of types.now))) (head_view head.entry) bytes.now) }
+        (head_at (types_of iface.now.types.items) (Some (value_at levels (types_of iface.now.types.items))) (head_view head.entry) bytes.now) }
 {
     match head {
         Head::Basic(kind) => basic(alloc, kind, bytes),
         Head::Enum(members) => member(members, bytes),
         Head::Unknown => Err(Stop::Fault(Fault::Short)),
         Head::Struct(fields) => {
-            let (items, rest) = parts(alloc, types, levels, fields, bytes)?;
+            let (items, rest) = parts(alloc, iface, levels, fields, bytes)?;
             Ok((Value::List(items), rest))
         }
         Head::Union(kind, arms) => {
             let (chosen, rest) = read_tag(kind, arms, bytes)?;
-            chosen_arm(alloc, types, levels, arms, chosen, rest)
+            chosen_arm(alloc, iface, levels, arms, chosen, rest)
         }
         Head::Array(of, n) => {
-            let (items, rest) = elements(alloc, types, levels, of, n, bytes)?;
+            let (items, rest) = elements(alloc, iface, levels, of, n, bytes)?;
             Ok((Value::List(items), rest))
         }
         Head::ArrayUpTo(of, limit) => {
-            let (n, rest) = limited(bytes, list_limit(types, of, limit), Why::Length)?;
-            let (items, rest) = elements(alloc, types, levels, of, n, rest)?;
+            let (n, rest) = limited(bytes, list_limit(iface, of, limit), Why::Length)?;
+            let (items, rest) = elements(alloc, iface, levels, of, n, rest)?;
             Ok((Value::List(items), rest))
         }
-        Head::Maybe(of) => optional(alloc, types, levels, of, bytes),
+        Head::Maybe(of) => optional(alloc, iface, levels, of, bytes),
     }
 }
 
 #[cycle(value)]
 fn optional<'a>(
     alloc: Global,
-    types: &[Def],
+    iface: &Interface,
     levels: u32,
     of: &Ty,
     bytes: &'a [u8],
 ) -> Result<(Value, &'a [u8]), Stop>
     ensures { Gives (λ x. (value_of x.0, x.1.now)) result
-        (maybe_at (value_at levels (types_of types.now)) (kind_of of.now) bytes.now) }
+        (maybe_at (value_at levels (types_of iface.now.types.items)) (kind_of of.now) bytes.now) }
 {
     let (n, rest) = limited(bytes, 1, Why::Bool)?;
     if n == 0 {
         return Ok((Value::Maybe(None), rest));
     }
-    let (inner, rest) = value(alloc, types, levels, of, rest)?;
+    let (inner, rest) = value(alloc, iface, levels, of, rest)?;
     Ok((Value::there(alloc, inner)?, rest))
 }
 
 #[cycle(value)]
 fn chosen_arm<'a>(
     alloc: Global,
-    types: &[Def],
+    iface: &Interface,
     levels: u32,
     arms: &Vec<Arm>,
     chosen: Value,
     bytes: &'a [u8],
 ) -> Result<(Value, &'a [u8]), Stop>
     ensures { Gives (λ x. (value_of x.0, x.1.now)) result
-        (chosen_at (value_at levels (types_of types.now)) (map choice_of arms.now.items) (value_of chosen, bytes.now)) }
+        (chosen_at (value_at levels (types_of iface.now.types.items)) (map choice_of arms.now.items) (value_of chosen, bytes.now)) }
 {
     match arm_of(arms, tag_number(&chosen)) {
         // No tag that is read lacks its arm.
         None => Err(Stop::Fault(Fault::Short)),
         Some(of) => {
-            let (inner, rest) = arm(alloc, types, levels, of, bytes)?;
+            let (inner, rest) = arm(alloc, iface, levels, of, bytes)?;
             Ok((Value::chosen(alloc, chosen, inner)?, rest))
         }
     }
@@ -251,17 +251,17 @@ fn chosen_arm<'a>(
 #[cycle(value)]
 fn arm<'a>(
     alloc: Global,
-    types: &[Def],
+    iface: &Interface,
     levels: u32,
     arm: &Arm,
     bytes: &'a [u8],
 ) -> Result<(Value, &'a [u8]), Stop>
     ensures { Gives (λ x. (value_of x.0, x.1.now)) result
-        (value_at levels (types_of types.now) (arm_kind (choice_of arm.now)) bytes.now) }
+        (value_at levels (types_of iface.now.types.items) (arm_kind (choice_of arm.now)) bytes.now) }
 {
     match &arm.field {
-        None => value(alloc, types, levels, &Ty::Void, bytes),
-        Some(field) => value(alloc, types, levels, &field.ty, bytes),
+        None => value(alloc, iface, levels, &Ty::Void, bytes),
+        Some(field) => value(alloc, iface, levels, &field.ty, bytes),
     }
 }
 
@@ -270,18 +270,18 @@ fn arm<'a>(
 #[cycle(value)]
 fn parts<'a>(
     alloc: Global,
-    types: &[Def],
+    iface: &Interface,
     levels: u32,
     fields: &Vec<Field>,
     bytes: &'a [u8],
 ) -> Result<(Vec<Value>, &'a [u8]), Stop>
     ensures { Gives (λ x. (values_of x.0.items, x.1.now)) result
-        (parts_at (value_at levels (types_of types.now)) (map part_of fields.now.items) bytes.now) }
+        (parts_at (value_at levels (types_of iface.now.types.items)) (map part_of fields.now.items) bytes.now) }
 {
     let mut items = Vec::with_capacity(alloc, fields.len())?;
     let mut rest = bytes;
     for field in fields {
-        rest = part_onto(&mut items, alloc, types, levels, &field.ty, rest)?;
+        rest = part_onto(&mut items, alloc, iface, levels, &field.ty, rest)?;
     }
     Ok((items, rest))
 }
@@ -299,17 +299,17 @@ fn room_for(alloc: Global, n: u32, bytes: &[u8]) -> Result<Vec<Value>, AllocErro
 #[cycle(value)]
 fn elements<'a>(
     alloc: Global,
-    types: &[Def],
+    iface: &Interface,
     levels: u32,
     of: &Ty,
     n: u32,
     bytes: &'a [u8],
 ) -> Result<(Vec<Value>, &'a [u8]), Stop>
     ensures { Gives (λ x. (values_of x.0.items, x.1.now)) result
-        (elements_at (value_at levels (types_of types.now)) (kind_of of.now) n bytes.now) }
+        (elements_at (value_at levels (types_of iface.now.types.items)) (kind_of of.now) n bytes.now) }
 {
     let room = room_for(alloc, n, bytes)?;
-    elements_in(room, alloc, types, levels, of, n, bytes)
+    elements_in(room, alloc, iface, levels, of, n, bytes)
 }
 
 // The elements in an empty list, whose room is no more than the bytes can hold.
@@ -318,7 +318,7 @@ fn elements<'a>(
 fn elements_in<'a>(
     room: Vec<Value>,
     alloc: Global,
-    types: &[Def],
+    iface: &Interface,
     levels: u32,
     of: &Ty,
     n: u32,
@@ -327,13 +327,13 @@ fn elements_in<'a>(
     requires empty { room.items ≡ [] }
     requires held { vec_capacity room ≤ length bytes.now / 4 }
     ensures { Gives (λ x. (values_of x.0.items, x.1.now)) result
-        (elements_at (value_at levels (types_of types.now)) (kind_of of.now) n bytes.now) }
+        (elements_at (value_at levels (types_of iface.now.types.items)) (kind_of of.now) n bytes.now) }
 {
-    let head = resolve(types, of);
+    let head = resolve(iface, of);
     let mut items = room;
     let mut rest = bytes;
     for _ in 0..n {
-        rest = element_onto(&mut items, alloc, types, levels, head, rest)?;
+        rest = element_onto(&mut items, alloc, iface, levels, head, rest)?;
     }
     Ok((items, rest))
 }
@@ -349,18 +349,18 @@ pub fn read_fields<'a>(
     ensures { Gives (λ x. (values_of x.0.items, x.1.now)) result
         (parts_at (value_at MAX_LEVELS (types_of iface.now.types.items)) (map part_of fields.now.items) bytes.now) }
 {
-    parts(alloc, &iface.types, MAX_LEVELS, fields, bytes)
+    parts(alloc, iface, MAX_LEVELS, fields, bytes)
 }
 
 /// A value of the type and the bytes behind it.
 pub fn read_value<'a>(
     alloc: Global,
-    types: &[Def],
+    iface: &Interface,
     ty: &Ty,
     bytes: &'a [u8],
 ) -> Result<(Value, &'a [u8]), Stop>
     ensures { Gives (λ x. (value_of x.0, x.1.now)) result
-        (value_at MAX_LEVELS (types_of types.now) (kind_of ty.now) bytes.now) }
+        (value_at MAX_LEVELS (types_of iface.now.types.items) (kind_of ty.now) bytes.now) }
 {
-    value(alloc, types, MAX_LEVELS, ty, bytes)
+    value(alloc, iface, MAX_LEVELS, ty, bytes)
 }

@@ -19,7 +19,7 @@ pub fn is_word(ty: &Ty) -> bool
         Ty::Int | Ty::Uint => true,
         Ty::Hyper | Ty::Uhyper | Ty::Short | Ty::Ushort | Ty::Char | Ty::Uchar => false,
         Ty::Bool | Ty::Void | Ty::Opaque(_) | Ty::OpaqueUpTo(_) | Ty::Text(_) => false,
-        Ty::Array(_, _) | Ty::ArrayUpTo(_, _) | Ty::Maybe(_) | Ty::Named(_) => false,
+        Ty::Array(_, _) | Ty::ArrayUpTo(_, _) | Ty::Maybe(_) | Ty::Named(_, _) => false,
     }
 }
 

@@ -14,8 +14,7 @@ ghost use Rattle.xdr_value.specs.Spelling.{octets_spelling, items_spelling, tag_
 use crate::words::{are_words, is_word, low_word, put_one, put_rows, put_word, put_words};
 use std::alloc::{AllocError, Global};
 use xdr_value::{
-    Arm, Basic, Def, Field, Head, Interface, MAX_LEVELS, Tag, Ty, Value, arm_of, resolve,
-    tag_number,
+    Arm, Basic, Field, Head, Interface, MAX_LEVELS, Tag, Ty, Value, arm_of, resolve, tag_number,
 };
 
 fn put_hyper(out: &mut Vec<u8>, n: i128) -> Result<(), AllocError>
@@ -99,30 +98,30 @@ fn put_octets(out: &mut Vec<u8>, bytes: &Vec<u8>, head: Head) -> Result<(), Allo
 }
 
 #[cycle(put)]
-fn put_value(out: &mut Vec<u8>, v: &Value, types: &[Def], ty: &Ty) -> Result<(), AllocError>
-    requires { Fits (types_of types.now) (kind_of ty.now) (value_of v.now) }
+fn put_value(out: &mut Vec<u8>, v: &Value, iface: &Interface, ty: &Ty) -> Result<(), AllocError>
+    requires { Fits (types_of iface.now.types.items) (kind_of ty.now) (value_of v.now) }
     ensures { OnOk result (out.new.items ≡ out.old.items
-        ++ spelling (types_of types.now) (kind_of ty.now) (value_of v.now)) }
+        ++ spelling (types_of iface.now.types.items) (kind_of ty.now) (value_of v.now)) }
 {
     if is_word(ty) {
         return put_one(out, v);
     }
     match v {
-        Value::Number(n) => put_number(out, *n, resolve(types, ty)),
+        Value::Number(n) => put_number(out, *n, resolve(iface, ty)),
         Value::Flag(b) => put_word(out, if *b { 1 } else { 0 }),
-        Value::Octets(bytes) => put_octets(out, bytes, resolve(types, ty)),
-        Value::List(items) => put_items(out, items, types, resolve(types, ty)),
-        Value::Union(chosen, inner) => match resolve(types, ty) {
-            Head::Union(tag, arms) => put_union(out, inner, chosen, types, tag, arms),
+        Value::Octets(bytes) => put_octets(out, bytes, resolve(iface, ty)),
+        Value::List(items) => put_items(out, items, iface, resolve(iface, ty)),
+        Value::Union(chosen, inner) => match resolve(iface, ty) {
+            Head::Union(tag, arms) => put_union(out, inner, chosen, iface, tag, arms),
             Head::Basic(_) | Head::Enum(_) | Head::Struct(_) | Head::Array(_, _) => Ok(()),
             Head::ArrayUpTo(_, _) | Head::Maybe(_) | Head::Unknown => Ok(()),
         },
         Value::Maybe(inner) => match inner {
             None => put_word(out, 0),
-            Some(inner) => match resolve(types, ty) {
+            Some(inner) => match resolve(iface, ty) {
                 Head::Maybe(of) => {
                     put_word(out, 1)?;
-                    put_value(out, inner, types, of)?;
+                    put_value(out, inner, iface, of)?;
                     Ok(())
                 }
                 Head::Basic(_) | Head::Enum(_) | Head::Struct(_) | Head::Union(_, _) => Ok(()),
@@ -137,22 +136,22 @@ fn put_value(out: &mut Vec<u8>, v: &Value, types: &[Def], ty: &Ty) -> Result<(),
 fn put_items(
     out: &mut Vec<u8>,
     items: &Vec<Value>,
-    types: &[Def],
+    iface: &Interface,
     head: Head,
 ) -> Result<(), AllocError>
-    requires { ItemsFit (types_of types.now) (head_view head)
-        (λ ps. PartsFit (types_of types.now) ps (values_of items.now.items))
-        (λ k. AllFit (types_of types.now) k (values_of items.now.items)) (count (values_of items.now.items)) }
+    requires { ItemsFit (types_of iface.now.types.items) (head_view head)
+        (λ ps. PartsFit (types_of iface.now.types.items) ps (values_of items.now.items))
+        (λ k. AllFit (types_of iface.now.types.items) k (values_of items.now.items)) (count (values_of items.now.items)) }
     ensures { OnOk result (out.new.items ≡ out.old.items ++ items_spelling (head_view head.entry)
-        (λ ps. parts_spelling (types_of types.now) ps (values_of items.now.items))
-        (λ k. all_spelling (types_of types.now) k (values_of items.now.items)) (count (values_of items.now.items))) }
+        (λ ps. parts_spelling (types_of iface.now.types.items) ps (values_of items.now.items))
+        (λ k. all_spelling (types_of iface.now.types.items) k (values_of items.now.items)) (count (values_of items.now.items))) }
 {
     match head {
-        Head::Struct(fields) => put_parts(out, items, types, fields),
-        Head::Array(of, _) => put_all(out, items, types, of),
+        Head::Struct(fields) => put_parts(out, items, iface, fields),
+        Head::Array(of, _) => put_all(out, items, iface, of),
         Head::ArrayUpTo(of, _) => {
             put_word(out, items.len() as u32)?;
-            put_all(out, items, types, of)?;
+            put_all(out, items, iface, of)?;
             Ok(())
         }
         Head::Basic(_) | Head::Enum(_) | Head::Union(_, _) => Ok(()),
@@ -166,18 +165,18 @@ fn put_items(
 fn put_element(
     out: &mut Vec<u8>,
     v: &Value,
-    types: &[Def],
+    iface: &Interface,
     ty: &Ty,
     head: Head,
 ) -> Result<(), AllocError>
-    requires head { head_view head ≡ head_of (types_of types.now) (kind_of ty.now) }
-    requires fits { Fits (types_of types.now) (kind_of ty.now) (value_of v.now) }
+    requires head { head_view head ≡ head_of (types_of iface.now.types.items) (kind_of ty.now) }
+    requires fits { Fits (types_of iface.now.types.items) (kind_of ty.now) (value_of v.now) }
     ensures { OnOk result (out.new.items ≡ out.old.items
-        ++ spelling (types_of types.now) (kind_of ty.now) (value_of v.now)) }
+        ++ spelling (types_of iface.now.types.items) (kind_of ty.now) (value_of v.now)) }
 {
     match v {
-        Value::List(items) => put_items(out, items, types, head),
-        _ => put_value(out, v, types, ty),
+        Value::List(items) => put_items(out, items, iface, head),
+        _ => put_value(out, v, iface, ty),
     }
 }
 
@@ -186,37 +185,37 @@ fn put_union(
     out: &mut Vec<u8>,
     inner: &Value,
     chosen: &Value,
-    types: &[Def],
+    iface: &Interface,
     tag: Tag,
     arms: &Vec<Arm>,
 ) -> Result<(), AllocError>
     requires tag { TagFits (tag_view tag) (value_of chosen.now) }
     requires arm { ArmFits (arm_of (tag_number (value_of chosen.now)) (map choice_of arms.now.items))
-        (λ k. Fits (types_of types.now) k (value_of inner.now)) }
+        (λ k. Fits (types_of iface.now.types.items) k (value_of inner.now)) }
     ensures { OnOk result (out.new.items ≡ out.old.items
         ++ (tag_spelling (value_of chosen.now)
         ++ arm_spelling (arm_of (tag_number (value_of chosen.now)) (map choice_of arms.now.items))
-        (λ k. spelling (types_of types.now) k (value_of inner.now)))) }
+        (λ k. spelling (types_of iface.now.types.items) k (value_of inner.now)))) }
 {
     put_tag(out, chosen, tag)?;
     match arm_of(arms, tag_number(chosen)) {
         None => Ok(()),
         Some(arm) => {
-            put_arm(out, inner, types, arm)?;
+            put_arm(out, inner, iface, arm)?;
             Ok(())
         }
     }
 }
 
 #[cycle(put)]
-fn put_arm(out: &mut Vec<u8>, inner: &Value, types: &[Def], arm: &Arm) -> Result<(), AllocError>
-    requires { Fits (types_of types.now) (arm_kind (choice_of arm.now)) (value_of inner.now) }
+fn put_arm(out: &mut Vec<u8>, inner: &Value, iface: &Interface, arm: &Arm) -> Result<(), AllocError>
+    requires { Fits (types_of iface.now.types.items) (arm_kind (choice_of arm.now)) (value_of inner.now) }
     ensures { OnOk result (out.new.items ≡ out.old.items
-        ++ spelling (types_of types.now) (arm_kind (choice_of arm.now)) (value_of inner.now)) }
+        ++ spelling (types_of iface.now.types.items) (arm_kind (choice_of arm.now)) (value_of inner.now)) }
 {
     match &arm.field {
-        None => put_value(out, inner, types, &Ty::Void),
-        Some(field) => put_value(out, inner, types, &field.ty),
+        None => put_value(out, inner, iface, &Ty::Void),
+        Some(field) => put_value(out, inner, iface, &field.ty),
     }
 }
 
@@ -224,39 +223,44 @@ fn put_arm(out: &mut Vec<u8>, inner: &Value, types: &[Def], arm: &Arm) -> Result
 fn put_parts(
     out: &mut Vec<u8>,
     items: &Vec<Value>,
-    types: &[Def],
+    iface: &Interface,
     fields: &Vec<Field>,
 ) -> Result<(), AllocError>
-    requires { PartsFit (types_of types.now) (map part_of fields.now.items) (values_of items.now.items) }
+    requires { PartsFit (types_of iface.now.types.items) (map part_of fields.now.items) (values_of items.now.items) }
     ensures { OnOk result (out.new.items ≡ out.old.items
-        ++ parts_spelling (types_of types.now) (map part_of fields.now.items) (values_of items.now.items)) }
+        ++ parts_spelling (types_of iface.now.types.items) (map part_of fields.now.items) (values_of items.now.items)) }
 {
     if are_words(fields) {
         return put_words(out, items);
     }
     for i in 0..items.len() {
-        put_value(out, &items[i], types, &fields[i].ty)?;
+        put_value(out, &items[i], iface, &fields[i].ty)?;
     }
     Ok(())
 }
 
 #[cycle(put)]
-fn put_all(out: &mut Vec<u8>, items: &Vec<Value>, types: &[Def], of: &Ty) -> Result<(), AllocError>
-    requires { AllFit (types_of types.now) (kind_of of.now) (values_of items.now.items) }
+fn put_all(
+    out: &mut Vec<u8>,
+    items: &Vec<Value>,
+    iface: &Interface,
+    of: &Ty,
+) -> Result<(), AllocError>
+    requires { AllFit (types_of iface.now.types.items) (kind_of of.now) (values_of items.now.items) }
     ensures { OnOk result (out.new.items ≡ out.old.items
-        ++ all_spelling (types_of types.now) (kind_of of.now) (values_of items.now.items)) }
+        ++ all_spelling (types_of iface.now.types.items) (kind_of of.now) (values_of items.now.items)) }
 {
     if is_word(of) {
         return put_words(out, items);
     }
-    let head = resolve(types, of);
+    let head = resolve(iface, of);
     if let Head::Struct(fields) = head {
         if are_words(fields) {
             return put_rows(out, items, fields.len());
         }
     }
     for item in items {
-        put_element(out, item, types, of, head)?;
+        put_element(out, item, iface, of, head)?;
     }
     Ok(())
 }
@@ -269,6 +273,6 @@ pub fn encode(alloc: Global, iface: &Interface, ty: &Ty, v: &Value) -> Result<Ve
         spelling (types_of iface.now.types.items) (kind_of ty.now) (value_of v.now)) }
 {
     let mut out = Vec::new(alloc);
-    put_value(&mut out, v, &iface.types, ty)?;
+    put_value(&mut out, v, iface, ty)?;
     Ok(out)
 }

@@ -6,3 +6,4 @@ pub mod Answers
 pub mod Bytes
 pub mod Args
 pub mod Says
+pub mod TagSteps

@@ -57,10 +57,15 @@ fn unfit(alloc: Global) -> Stop
 }
 
 // One value for each IN or INOUT argument.
-fn values(alloc: Global, types: &[Def], items: &[Json], args: &[Arg]) -> Result<Vec<Value>, Stop>
+fn values(
+    alloc: Global,
+    iface: &Interface,
+    items: &[Json],
+    args: &[Arg],
+) -> Result<Vec<Value>, Stop>
     requires { items_depth (items_view items.now) ≤ 126 }
     ensures { Gives (λ v. values_of v.items) result
-        (args_judged (types_of types.now) (in_kinds (map param_of args.now)) (items_view items.now) 0) }
+        (args_judged (types_of iface.now.types.items) (in_kinds (map param_of args.now)) (items_view items.now) 0) }
 {
     let mut values = Vec::new(alloc);
     let mut left = items;
@@ -69,7 +74,7 @@ fn values(alloc: Global, types: &[Def], items: &[Json], args: &[Arg]) -> Result<
             match left {
                 [] => return Err(unfit(alloc)),
                 [json, others @ ..] => {
-                    let judged = judge(alloc, types, ELEMENT_NESTING, json, &arg.ty);
+                    let judged = judge(alloc, iface, ELEMENT_NESTING, json, &arg.ty);
                     let value = above_index(alloc, values.len(), judged)?;
                     values.push(value)?;
                     left = others;
@@ -80,29 +85,39 @@ fn values(alloc: Global, types: &[Def], items: &[Json], args: &[Arg]) -> Result<
     Ok(values)
 }
 
-fn array_values(alloc: Global, types: &[Def], args: &[Arg], json: &Json) -> Result<Vec<Value>, Stop>
+fn array_values(
+    alloc: Global,
+    iface: &Interface,
+    args: &[Arg],
+    json: &Json,
+) -> Result<Vec<Value>, Stop>
     requires { nesting (view json.now) ≤ 127 }
     ensures { Gives (λ v. values_of v.items) result
-        (array_of_args (types_of types.now) (in_kinds (map param_of args.now)) (view json.now)) }
+        (array_of_args (types_of iface.now.types.items) (in_kinds (map param_of args.now)) (view json.now)) }
 {
     match json {
         Json::Array(items) => {
             if array_len(items) != in_count(args) {
                 return Err(unfit(alloc));
             }
-            values(alloc, types, items, args)
+            values(alloc, iface, items, args)
         }
         Json::Null | Json::Bool(_) | Json::Number(_) => Err(unfit(alloc)),
         Json::String(_) | Json::Object(_) => Err(unfit(alloc)),
     }
 }
 
-fn whole_values(alloc: Global, types: &[Def], args: &[Arg], json: &Json) -> Result<Vec<Value>, Stop>
+fn whole_values(
+    alloc: Global,
+    iface: &Interface,
+    args: &[Arg],
+    json: &Json,
+) -> Result<Vec<Value>, Stop>
     requires { nesting (view json.now) ≤ 127 }
     ensures { Gives (λ v. values_of v.items) result
-        (below (codes "$") (array_of_args (types_of types.now) (in_kinds (map param_of args.now)) (view json.now))) }
+        (below (codes "$") (array_of_args (types_of iface.now.types.items) (in_kinds (map param_of args.now)) (view json.now))) }
 {
-    match array_values(alloc, types, args, json) {
+    match array_values(alloc, iface, args, json) {
         Ok(values) => Ok(values),
         Err(stop) => Err(below_root(alloc, stop)),
     }
@@ -128,16 +143,16 @@ pub fn args_from_json(
     ensures only { (ds : Data) → EachFits (types_of iface.now.types.items) (in_kinds (map param_of args.now)) ds
         → TextSaysArgs (types_of iface.now.types.items) (map param_of args.now) text.now ds → IsValues ds result }
 {
-    read_args(alloc, &iface.types, args, text)
+    read_args(alloc, iface, args, text)
 }
 
 fn read_args(
     alloc: Global,
-    types: &[Def],
+    iface: &Interface,
     args: &[Arg],
     text: &str,
 ) -> Result<Vec<Value>, JsonFault>
-    ensures { AreArgs (types_of types.now) (map param_of args.now) text.now result }
+    ensures { AreArgs (types_of iface.now.types.items) (map param_of args.now) text.now result }
 {
     match Json::from_str(alloc, text) {
         Err(e) => Err(if e.is_memory() {
@@ -145,7 +160,7 @@ fn read_args(
         } else {
             JsonFault::NotJson
         }),
-        Ok(json) => match whole_values(alloc, types, args, &json) {
+        Ok(json) => match whole_values(alloc, iface, args, &json) {
             Ok(values) => Ok(values),
             Err(stop) => match stop {
                 Stop::Memory => Err(JsonFault::OutOfMemory),

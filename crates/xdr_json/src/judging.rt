@@ -24,8 +24,8 @@ use crate::objects::{array_len, has_fields, has_union, hex_form, member, tag_typ
 use serde_json::{Map, Value as Json};
 use std::alloc::Global;
 use xdr_value::{
-    Arm, Basic, Def, Field, Head, Interface, Tag, Ty, Value, arm_of, is_length, list_limit,
-    resolve, tag_number,
+    Arm, Basic, Field, Head, Interface, Tag, Ty, Value, arm_of, is_length, list_limit, resolve,
+    tag_number,
 };
 
 /// How deep arrays and objects may nest in JSON that is read.
@@ -61,11 +61,17 @@ pub fn above_index(alloc: Global, index: usize, judged: Result<Value, Stop>) -> 
 
 /// The value of the type that JSON is, which nests at most so deep.
 #[cycle(judge)]
-pub fn judge(alloc: Global, types: &[Def], levels: u32, json: &Json, ty: &Ty) -> Result<Value, Stop>
+pub fn judge(
+    alloc: Global,
+    iface: &Interface,
+    levels: u32,
+    json: &Json,
+    ty: &Ty,
+) -> Result<Value, Stop>
     requires { nesting (view json.now) ≤ levels }
-    ensures { Gives value_of result (judged (types_of types.now) (view json.now) (kind_of ty.now)) }
+    ensures { Gives value_of result (judged (types_of iface.now.types.items) (view json.now) (kind_of ty.now)) }
 {
-    let head = resolve(types, ty);
+    let head = resolve(iface, ty);
     match json {
         Json::Null => or_misfit(alloc, ty, null_value(head)),
         Json::Bool(b) => or_misfit(alloc, ty, bool_value(head, *b)),
@@ -74,36 +80,36 @@ pub fn judge(alloc: Global, types: &[Def], levels: u32, json: &Json, ty: &Ty) ->
             let value = string_value(alloc, head, s.as_str())?;
             or_misfit(alloc, ty, value)
         }
-        Json::Array(items) => judge_array(alloc, types, levels - 1, items, ty, head),
-        Json::Object(members) => judge_object(alloc, types, levels - 1, members, ty, head),
+        Json::Array(items) => judge_array(alloc, iface, levels - 1, items, ty, head),
+        Json::Object(members) => judge_object(alloc, iface, levels - 1, members, ty, head),
     }
 }
 
 #[cycle(judge)]
 fn judge_array(
     alloc: Global,
-    types: &[Def],
+    iface: &Interface,
     levels: u32,
     items: &Vec<Json>,
     ty: &Ty,
     head: Head<'_>,
 ) -> Result<Value, Stop>
     requires { items_depth (items_view items.now.items) ≤ levels }
-    ensures { Gives value_of result (array_judged (types_of types.now) (kind_of ty.now) (head_view head.entry)
+    ensures { Gives value_of result (array_judged (types_of iface.now.types.items) (kind_of ty.now) (head_view head.entry)
         (items_len (items_view items.now.items))
-        (λ k. elements_judged (types_of types.now) (items_view items.now.items) k 0)
-        (λ k. first_judged (types_of types.now) (items_view items.now.items) k)) }
+        (λ k. elements_judged (types_of iface.now.types.items) (items_view items.now.items) k 0)
+        (λ k. first_judged (types_of iface.now.types.items) (items_view items.now.items) k)) }
 {
     match head {
         Head::Array(of, n) => {
             let fits = array_len(items) == n as usize;
-            judge_list(alloc, types, levels, items, ty, of, fits)
+            judge_list(alloc, iface, levels, items, ty, of, fits)
         }
         Head::ArrayUpTo(of, n) => {
-            let fits = is_length(array_len(items), list_limit(types, of, n));
-            judge_list(alloc, types, levels, items, ty, of, fits)
+            let fits = is_length(array_len(items), list_limit(iface, of, n));
+            judge_list(alloc, iface, levels, items, ty, of, fits)
         }
-        Head::Maybe(of) => judge_optional(alloc, types, levels, items, ty, of),
+        Head::Maybe(of) => judge_optional(alloc, iface, levels, items, ty, of),
         Head::Basic(_) | Head::Enum(_) | Head::Struct(_) => Err(unfit(alloc, ty)),
         Head::Union(_, _) | Head::Unknown => Err(unfit(alloc, ty)),
     }
@@ -112,7 +118,7 @@ fn judge_array(
 #[cycle(judge)]
 fn judge_list(
     alloc: Global,
-    types: &[Def],
+    iface: &Interface,
     levels: u32,
     items: &Vec<Json>,
     ty: &Ty,
@@ -121,30 +127,30 @@ fn judge_list(
 ) -> Result<Value, Stop>
     requires { items_depth (items_view items.now.items) ≤ levels }
     ensures { Gives value_of result (list_judged fits (kind_of ty.now)
-        (elements_judged (types_of types.now) (items_view items.now.items) (kind_of of.now) 0)) }
+        (elements_judged (types_of iface.now.types.items) (items_view items.now.items) (kind_of of.now) 0)) }
 {
     if !fits {
         return Err(unfit(alloc, ty));
     }
-    let values = elements(alloc, types, levels, items, of)?;
+    let values = elements(alloc, iface, levels, items, of)?;
     Ok(Value::List(values))
 }
 
 #[cycle(judge)]
 fn elements(
     alloc: Global,
-    types: &[Def],
+    iface: &Interface,
     levels: u32,
     items: &Vec<Json>,
     of: &Ty,
 ) -> Result<Vec<Value>, Stop>
     requires { items_depth (items_view items.now.items) ≤ levels }
     ensures { Gives (λ v. values_of v.items) result
-        (elements_judged (types_of types.now) (items_view items.now.items) (kind_of of.now) 0) }
+        (elements_judged (types_of iface.now.types.items) (items_view items.now.items) (kind_of of.now) 0) }
 {
     let mut values = Vec::new(alloc);
     for i in 0..items.len() {
-        let judged = judge(alloc, types, levels, &items[i], of);
+        let judged = judge(alloc, iface, levels, &items[i], of);
         let value = above_index(alloc, i, judged)?;
         values.push(value)?;
     }
@@ -154,7 +160,7 @@ fn elements(
 #[cycle(judge)]
 fn judge_optional(
     alloc: Global,
-    types: &[Def],
+    iface: &Interface,
     levels: u32,
     items: &Vec<Json>,
     ty: &Ty,
@@ -162,7 +168,7 @@ fn judge_optional(
 ) -> Result<Value, Stop>
     requires { items_depth (items_view items.now.items) ≤ levels }
     ensures { Gives value_of result (optional_judged (kind_of ty.now) (items_len (items_view items.now.items))
-        (first_judged (types_of types.now) (items_view items.now.items) (kind_of of.now))) }
+        (first_judged (types_of iface.now.types.items) (items_view items.now.items) (kind_of of.now))) }
 {
     if items.is_empty() {
         return Ok(Value::Maybe(None));
@@ -171,7 +177,7 @@ fn judge_optional(
     if !is_single {
         return Err(unfit(alloc, ty));
     }
-    let judged = judge(alloc, types, levels, &items[0], of);
+    let judged = judge(alloc, iface, levels, &items[0], of);
     let value = above_index(alloc, 0, judged)?;
     Ok(Value::there(alloc, value)?)
 }
@@ -179,30 +185,30 @@ fn judge_optional(
 #[cycle(judge)]
 fn judge_object(
     alloc: Global,
-    types: &[Def],
+    iface: &Interface,
     levels: u32,
     members: &Map<String, Json>,
     ty: &Ty,
     head: Head<'_>,
 ) -> Result<Value, Stop>
     requires { members_depth (members_view members.now.entries) ≤ levels }
-    ensures { Gives value_of result (object_judged (types_of types.now) (kind_of ty.now) (head_view head.entry)
+    ensures { Gives value_of result (object_judged (types_of iface.now.types.items) (kind_of ty.now) (head_view head.entry)
         (members_view members.now.entries)
-        (member_judge (types_of types.now) (members_view members.now.entries))) }
+        (member_judge (types_of iface.now.types.items) (members_view members.now.entries))) }
 {
     match head {
         Head::Struct(fields) => {
             if !has_fields(members, fields) {
                 return Err(unfit(alloc, ty));
             }
-            let values = parts(alloc, types, levels, members, fields)?;
+            let values = parts(alloc, iface, levels, members, fields)?;
             Ok(Value::List(values))
         }
         Head::Union(tag, arms) => {
             if !has_union(members) {
                 return Err(unfit(alloc, ty));
             }
-            judge_union(alloc, types, levels, members, ty, tag, arms)
+            judge_union(alloc, iface, levels, members, ty, tag, arms)
         }
         Head::Basic(basic) => judge_hex(alloc, members, ty, basic),
         Head::Enum(_) | Head::Array(_, _) | Head::ArrayUpTo(_, _) => Err(unfit(alloc, ty)),
@@ -234,7 +240,7 @@ fn judge_hex(
 #[cycle(judge)]
 fn judge_member(
     alloc: Global,
-    types: &[Def],
+    iface: &Interface,
     levels: u32,
     members: &Map<String, Json>,
     name: &str,
@@ -242,12 +248,12 @@ fn judge_member(
 ) -> Result<Value, Stop>
     requires { members_depth (members_view members.now.entries) ≤ levels }
     ensures { Gives value_of result (below (field_step name.now)
-        (asked (member_judge (types_of types.now) (members_view members.now.entries) name.now) (kind_of ty.now))) }
+        (asked (member_judge (types_of iface.now.types.items) (members_view members.now.entries) name.now) (kind_of ty.now))) }
 {
     match member(members, name) {
         None => above_field(alloc, name, Err(unfit(alloc, ty))),
         Some(json) => {
-            let judged = judge(alloc, types, levels, json, ty);
+            let judged = judge(alloc, iface, levels, json, ty);
             above_field(alloc, name, judged)
         }
     }
@@ -256,20 +262,20 @@ fn judge_member(
 #[cycle(judge)]
 fn parts(
     alloc: Global,
-    types: &[Def],
+    iface: &Interface,
     levels: u32,
     members: &Map<String, Json>,
     fields: &Vec<Field>,
 ) -> Result<Vec<Value>, Stop>
     requires { members_depth (members_view members.now.entries) ≤ levels }
     ensures { Gives (λ v. values_of v.items) result (parts_judged (map part_of fields.now.items)
-        (member_judge (types_of types.now) (members_view members.now.entries))) }
+        (member_judge (types_of iface.now.types.items) (members_view members.now.entries))) }
 {
     let mut values = Vec::new(alloc);
     for field in fields {
         let value = judge_member(
             alloc,
-            types,
+            iface,
             levels,
             members,
             field.name.as_str(),
@@ -293,7 +299,7 @@ fn judge_tag(tag: Tag<'_>, members: &Map<String, Json>) -> Option<Value>
 #[cycle(judge)]
 fn judge_union(
     alloc: Global,
-    types: &[Def],
+    iface: &Interface,
     levels: u32,
     members: &Map<String, Json>,
     ty: &Ty,
@@ -301,20 +307,20 @@ fn judge_union(
     arms: &Vec<Arm>,
 ) -> Result<Value, Stop>
     requires { members_depth (members_view members.now.entries) ≤ levels }
-    ensures { Gives value_of result (chosen_judged (types_of types.now) (kind_of ty.now) (map choice_of arms.now.items)
+    ensures { Gives value_of result (chosen_judged (types_of iface.now.types.items) (kind_of ty.now) (map choice_of arms.now.items)
         (tag_found (tag_view tag.entry) (get_member (codes "case") (members_view members.now.entries)))
-        (member_judge (types_of types.now) (members_view members.now.entries) (codes "value"))) }
+        (member_judge (types_of iface.now.types.items) (members_view members.now.entries) (codes "value"))) }
 {
     match judge_tag(tag, members) {
-        None => Err(below_field(alloc, "case", unfit(alloc, tag_type(types, ty)))),
-        Some(chosen) => judge_arm(alloc, types, levels, members, ty, arms, chosen),
+        None => Err(below_field(alloc, "case", unfit(alloc, tag_type(iface, ty)))),
+        Some(chosen) => judge_arm(alloc, iface, levels, members, ty, arms, chosen),
     }
 }
 
 #[cycle(judge)]
 fn judge_arm(
     alloc: Global,
-    types: &[Def],
+    iface: &Interface,
     levels: u32,
     members: &Map<String, Json>,
     ty: &Ty,
@@ -324,25 +330,25 @@ fn judge_arm(
     requires { members_depth (members_view members.now.entries) ≤ levels }
     ensures { Gives value_of result (arm_judged (kind_of ty.now) (value_of chosen)
         (arm_of (tag_number (value_of chosen)) (map choice_of arms.now.items))
-        (member_judge (types_of types.now) (members_view members.now.entries) (codes "value"))) }
+        (member_judge (types_of iface.now.types.items) (members_view members.now.entries) (codes "value"))) }
 {
     match arm_of(arms, tag_number(&chosen)) {
         None => Err(unfit(alloc, ty)),
         Some(arm) => {
             let value = match &arm.field {
-                None => judge_member(alloc, types, levels, members, "value", &Ty::Void)?,
-                Some(field) => judge_member(alloc, types, levels, members, "value", &field.ty)?,
+                None => judge_member(alloc, iface, levels, members, "value", &Ty::Void)?,
+                Some(field) => judge_member(alloc, iface, levels, members, "value", &field.ty)?,
             };
             Ok(Value::chosen(alloc, chosen, value)?)
         }
     }
 }
 
-fn judge_whole(alloc: Global, types: &[Def], json: &Json, ty: &Ty) -> Result<Value, Stop>
+fn judge_whole(alloc: Global, iface: &Interface, json: &Json, ty: &Ty) -> Result<Value, Stop>
     requires { nesting (view json.now) ≤ 127 }
-    ensures { Gives value_of result (below (codes "$") (judged (types_of types.now) (view json.now) (kind_of ty.now))) }
+    ensures { Gives value_of result (below (codes "$") (judged (types_of iface.now.types.items) (view json.now) (kind_of ty.now))) }
 {
-    match judge(alloc, types, MAX_NESTING, json, ty) {
+    match judge(alloc, iface, MAX_NESTING, json, ty) {
         Ok(value) => Ok(value),
         Err(stop) => Err(below(alloc, "$", stop)),
     }
@@ -361,11 +367,11 @@ pub fn from_json(alloc: Global, iface: &Interface, ty: &Ty, text: &str) -> Resul
     ensures only { (d : Datum) → Fits (types_of iface.now.types.items) (kind_of ty.now) d
         → TextSays (types_of iface.now.types.items) (kind_of ty.now) text.now d → IsValue d result }
 {
-    read_text(alloc, &iface.types, ty, text)
+    read_text(alloc, iface, ty, text)
 }
 
-fn read_text(alloc: Global, types: &[Def], ty: &Ty, text: &str) -> Result<Value, JsonFault>
-    ensures { IsJudged (types_of types.now) (kind_of ty.now) text.now result }
+fn read_text(alloc: Global, iface: &Interface, ty: &Ty, text: &str) -> Result<Value, JsonFault>
+    ensures { IsJudged (types_of iface.now.types.items) (kind_of ty.now) text.now result }
 {
     match Json::from_str(alloc, text) {
         Err(e) => Err(if e.is_memory() {
@@ -373,7 +379,7 @@ fn read_text(alloc: Global, types: &[Def], ty: &Ty, text: &str) -> Result<Value,
         } else {
             JsonFault::NotJson
         }),
-        Ok(json) => match judge_whole(alloc, types, &json, ty) {
+        Ok(json) => match judge_whole(alloc, iface, &json, ty) {
             Ok(value) => Ok(value),
             Err(stop) => match stop {
                 Stop::Memory => Err(JsonFault::OutOfMemory),

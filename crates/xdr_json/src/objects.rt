@@ -1,6 +1,6 @@
 //! What an object or an array has.
 
-ghost use Rattle.std.specs.Prelude.{◌≡◌, map, option_map, IfOk};
+ghost use Rattle.std.specs.Prelude.{◌≡◌, ℕ, suc, map, option_map, IfOk};
 ghost use Rattle.serde_json.specs.Find.{get_member};
 ghost use Rattle.serde_json.specs.Events.{items_len, members_len};
 ghost use Rattle.serde_json.specs.View.{view, items_view, members_view};
@@ -8,11 +8,12 @@ ghost use Rattle.xdr_value.specs.View.{kind_of, types_of, value_of, part_of};
 ghost use Rattle.xdr_value.specs.Heads.{is_basic};
 ghost use Rattle.xdr_json.specs.Judging.{all_there, has_fields, has_union, hex_string, hex_form, tag_kind};
 ghost use Rattle.xdr_json.specs.Judging.{tag_kind_within};
+ghost use Rattle.xdr_json.specs.TagSteps.{stepped};
 
 use crate::leaves::hex_value;
 use serde_json::{Map, Value as Json};
 use std::alloc::{AllocError, Global};
-use xdr_value::{Basic, Def, Field, Shape, Ty, Value, shape_of};
+use xdr_value::{Basic, Field, Interface, Shape, Ty, Value, shape_of};
 
 /// The member of the name.
 pub fn member<'a>(members: &'a Map<String, Json>, name: &str) -> Option<&'a Json>
@@ -80,36 +81,47 @@ pub fn hex_form(
     }
 }
 
-// Where at most so many names are followed; any other type stands for itself.
+/// What a type leads to on the way to a union's tag.
+pub enum TagStep<'a> {
+    Tag(&'a Ty),
+    Next(&'a Ty),
+}
+
 #[tactic(auto, unfolding(crate::specs::Judging::tag_kind_within))]
-fn tag_type_within<'a>(types: &'a [Def], ty: &'a Ty, hops: usize) -> &'a Ty
-    ensures { kind_of result.now ≡ tag_kind_within hops (types_of types.now) (kind_of ty.now) }
+fn tag_step<'a>(iface: &'a Interface, ty: &'a Ty) -> TagStep<'a>
+    ensures { (n : ℕ) → tag_kind_within (suc n) (types_of iface.now.types.items) (kind_of ty.now)
+        ≡ stepped n (types_of iface.now.types.items) result }
 {
     match ty {
-        Ty::Named(name) => {
-            if hops == 0 {
-                return ty;
-            }
-            match shape_of(types, name.as_str()) {
-                None => ty,
-                Some(shape) => match shape {
-                    Shape::Alias(other) => tag_type_within(types, other, hops - 1),
-                    Shape::Union { tag, .. } => tag,
-                    Shape::Enum(_) | Shape::Struct(_) => ty,
-                },
-            }
-        }
-        Ty::Array(_, _) | Ty::ArrayUpTo(_, _) | Ty::Maybe(_) => ty,
-        Ty::Int | Ty::Uint | Ty::Hyper | Ty::Uhyper => ty,
-        Ty::Short | Ty::Ushort | Ty::Char | Ty::Uchar | Ty::Bool | Ty::Void => ty,
-        Ty::Opaque(_) | Ty::OpaqueUpTo(_) | Ty::Text(_) => ty,
+        Ty::Named(name, place) => match shape_of(iface, name.as_str(), *place) {
+            None => TagStep::Tag(ty),
+            Some(shape) => match shape {
+                Shape::Alias(other) => TagStep::Next(other),
+                Shape::Union { tag, .. } => TagStep::Tag(tag),
+                Shape::Enum(_) | Shape::Struct(_) => TagStep::Tag(ty),
+            },
+        },
+        Ty::Array(_, _) | Ty::ArrayUpTo(_, _) | Ty::Maybe(_) => TagStep::Tag(ty),
+        Ty::Int | Ty::Uint | Ty::Hyper | Ty::Uhyper => TagStep::Tag(ty),
+        Ty::Short | Ty::Ushort | Ty::Char | Ty::Uchar => TagStep::Tag(ty),
+        Ty::Bool | Ty::Void => TagStep::Tag(ty),
+        Ty::Opaque(_) | Ty::OpaqueUpTo(_) | Ty::Text(_) => TagStep::Tag(ty),
     }
 }
 
 /// The type of a union's tag, as it is written.
-#[tactic(auto, unfolding(crate::specs::Judging::tag_kind))]
-pub fn tag_type<'a>(types: &'a [Def], ty: &'a Ty) -> &'a Ty
-    ensures { kind_of result.now ≡ tag_kind (types_of types.now) (kind_of ty.now) }
+#[tactic(auto, unfolding(crate::specs::Judging::tag_kind, crate::specs::Judging::tag_kind_within))]
+pub fn tag_type<'a>(iface: &'a Interface, ty: &'a Ty) -> &'a Ty
+    ensures { kind_of result.now ≡ tag_kind (types_of iface.now.types.items) (kind_of ty.now) }
 {
-    tag_type_within(types, ty, types.len())
+    let mut ty = ty;
+    let mut hops = iface.types.len();
+    while hops > 0 {
+        match tag_step(iface, ty) {
+            TagStep::Tag(tag) => return tag,
+            TagStep::Next(next) => ty = next,
+        }
+        hops -= 1;
+    }
+    ty
 }

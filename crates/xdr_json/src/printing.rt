@@ -22,7 +22,7 @@ ghost use Rattle.xdr_json.specs.Json.{tag_json, union_object, arm_json, json_of,
 use serde_json::{Map, Value as Json};
 use std::alloc::{AllocError, Global};
 use xdr_value::{
-    Arm, Basic, Def, Field, Head, Interface, MAX_LEVELS, Member, Tag, Ty, Value, arm_of, resolve,
+    Arm, Basic, Field, Head, Interface, MAX_LEVELS, Member, Tag, Ty, Value, arm_of, resolve,
     tag_number,
 };
 
@@ -134,33 +134,33 @@ fn union_object(alloc: Global, tag: Json, arm: Json) -> Result<Json, AllocError>
 
 // The clause `held` says what Rust's types do: each octet of a value is a byte.
 #[cycle(json)]
-fn value_json(v: &Value, alloc: Global, types: &[Def], ty: &Ty) -> Result<Json, AllocError>
-    requires { Fits (types_of types.now) (kind_of ty.now) (value_of v.now) }
-    ensures json { IfOk result (λ j. view j ≡ json_of (types_of types.now) (kind_of ty.now) (value_of v.now)) }
+fn value_json(v: &Value, alloc: Global, iface: &Interface, ty: &Ty) -> Result<Json, AllocError>
+    requires { Fits (types_of iface.now.types.items) (kind_of ty.now) (value_of v.now) }
+    ensures json { IfOk result (λ j. view j ≡ json_of (types_of iface.now.types.items) (kind_of ty.now) (value_of v.now)) }
     ensures held { OnOk result (OctetsAreBytes (value_of v.now)) }
 {
     match v {
-        Value::Number(n) => number_json(alloc, resolve(types, ty), *n),
+        Value::Number(n) => number_json(alloc, resolve(iface, ty), *n),
         Value::Flag(b) => Ok(Json::Bool(*b)),
-        Value::Octets(bytes) => octets_json(alloc, resolve(types, ty), bytes),
-        Value::List(items) => match resolve(types, ty) {
-            Head::Struct(fields) => Ok(Json::Object(members_json(items, alloc, types, fields)?)),
-            Head::Array(of, _) => Ok(Json::Array(elements_json(items, alloc, types, of)?)),
-            Head::ArrayUpTo(of, _) => Ok(Json::Array(elements_json(items, alloc, types, of)?)),
+        Value::Octets(bytes) => octets_json(alloc, resolve(iface, ty), bytes),
+        Value::List(items) => match resolve(iface, ty) {
+            Head::Struct(fields) => Ok(Json::Object(members_json(items, alloc, iface, fields)?)),
+            Head::Array(of, _) => Ok(Json::Array(elements_json(items, alloc, iface, of)?)),
+            Head::ArrayUpTo(of, _) => Ok(Json::Array(elements_json(items, alloc, iface, of)?)),
             Head::Basic(_) | Head::Enum(_) | Head::Union(_, _) => Ok(Json::Null),
             Head::Maybe(_) | Head::Unknown => Ok(Json::Null),
         },
-        Value::Union(chosen, inner) => match resolve(types, ty) {
-            Head::Union(tag, arms) => union_json(inner, alloc, chosen, types, tag, arms),
+        Value::Union(chosen, inner) => match resolve(iface, ty) {
+            Head::Union(tag, arms) => union_json(inner, alloc, chosen, iface, tag, arms),
             Head::Basic(_) | Head::Enum(_) | Head::Struct(_) => Ok(Json::Null),
             Head::Array(_, _) | Head::ArrayUpTo(_, _) => Ok(Json::Null),
             Head::Maybe(_) | Head::Unknown => Ok(Json::Null),
         },
         Value::Maybe(inner) => match inner {
             None => Ok(Json::Array(Vec::new(alloc))),
-            Some(inner) => match resolve(types, ty) {
+            Some(inner) => match resolve(iface, ty) {
                 Head::Maybe(of) => {
-                    let item = value_json(inner, alloc, types, of)?;
+                    let item = value_json(inner, alloc, iface, of)?;
                     one_item(alloc, item)
                 }
                 Head::Basic(_) | Head::Enum(_) | Head::Struct(_) => Ok(Json::Null),
@@ -185,36 +185,41 @@ fn union_json(
     inner: &Value,
     alloc: Global,
     chosen: &Value,
-    types: &[Def],
+    iface: &Interface,
     tag: Tag<'_>,
     arms: &Vec<Arm>,
 ) -> Result<Json, AllocError>
     requires tag { TagFits (tag_view tag) (value_of chosen.now) }
     requires arm { ArmFits (arm_of (tag_number (value_of chosen.now)) (map choice_of arms.now.items))
-        (λ k. Fits (types_of types.now) k (value_of inner.now)) }
+        (λ k. Fits (types_of iface.now.types.items) k (value_of inner.now)) }
     ensures json { IfOk result (λ j. view j ≡ union_object (tag_json (tag_view tag.entry) (value_of chosen.now))
         (arm_json (arm_of (tag_number (value_of chosen.now)) (map choice_of arms.now.items))
-        (λ k. json_of (types_of types.now) k (value_of inner.now)))) }
+        (λ k. json_of (types_of iface.now.types.items) k (value_of inner.now)))) }
     ensures held { OnOk result (OctetsAreBytes (value_of inner.now)) }
 {
     let case = tag_json(alloc, tag, chosen)?;
     let value = match arm_of(arms, tag_number(chosen)) {
         None => Json::Null,
-        Some(arm) => chosen_json(inner, alloc, types, arm)?,
+        Some(arm) => chosen_json(inner, alloc, iface, arm)?,
     };
     union_object(alloc, case, value)
 }
 
 #[cycle(json)]
-fn chosen_json(inner: &Value, alloc: Global, types: &[Def], arm: &Arm) -> Result<Json, AllocError>
-    requires { Fits (types_of types.now) (arm_kind (choice_of arm.now)) (value_of inner.now) }
+fn chosen_json(
+    inner: &Value,
+    alloc: Global,
+    iface: &Interface,
+    arm: &Arm,
+) -> Result<Json, AllocError>
+    requires { Fits (types_of iface.now.types.items) (arm_kind (choice_of arm.now)) (value_of inner.now) }
     ensures json { IfOk result (λ j. view j
-        ≡ json_of (types_of types.now) (arm_kind (choice_of arm.now)) (value_of inner.now)) }
+        ≡ json_of (types_of iface.now.types.items) (arm_kind (choice_of arm.now)) (value_of inner.now)) }
     ensures held { OnOk result (OctetsAreBytes (value_of inner.now)) }
 {
     match &arm.field {
-        None => value_json(inner, alloc, types, &Ty::Void),
-        Some(field) => value_json(inner, alloc, types, &field.ty),
+        None => value_json(inner, alloc, iface, &Ty::Void),
+        Some(field) => value_json(inner, alloc, iface, &field.ty),
     }
 }
 
@@ -222,17 +227,17 @@ fn chosen_json(inner: &Value, alloc: Global, types: &[Def], arm: &Arm) -> Result
 fn members_json(
     items: &Vec<Value>,
     alloc: Global,
-    types: &[Def],
+    iface: &Interface,
     fields: &Vec<Field>,
 ) -> Result<Map<String, Json>, AllocError>
-    requires { PartsFit (types_of types.now) (map part_of fields.now.items) (values_of items.now.items) }
+    requires { PartsFit (types_of iface.now.types.items) (map part_of fields.now.items) (values_of items.now.items) }
     ensures json { IfOk result (λ m. members_view m.entries
-        ≡ members_json (types_of types.now) (map part_of fields.now.items) (values_of items.now.items) no_members) }
+        ≡ members_json (types_of iface.now.types.items) (map part_of fields.now.items) (values_of items.now.items) no_members) }
     ensures held { OnOk result (AllAreBytes (values_of items.now.items)) }
 {
     let mut members = Map::new(alloc);
     for i in 0..items.len() {
-        let member = value_json(&items[i], alloc, types, &fields[i].ty)?;
+        let member = value_json(&items[i], alloc, iface, &fields[i].ty)?;
         serde_json::put(&mut members, alloc, fields[i].name.as_str(), member)?;
     }
     Ok(members)
@@ -242,17 +247,17 @@ fn members_json(
 fn elements_json(
     items: &Vec<Value>,
     alloc: Global,
-    types: &[Def],
+    iface: &Interface,
     of: &Ty,
 ) -> Result<Vec<Json>, AllocError>
-    requires { AllFit (types_of types.now) (kind_of of.now) (values_of items.now.items) }
+    requires { AllFit (types_of iface.now.types.items) (kind_of of.now) (values_of items.now.items) }
     ensures json { IfOk result (λ js. items_view js.items
-        ≡ elements_json (types_of types.now) (kind_of of.now) (values_of items.now.items)) }
+        ≡ elements_json (types_of iface.now.types.items) (kind_of of.now) (values_of items.now.items)) }
     ensures held { OnOk result (AllAreBytes (values_of items.now.items)) }
 {
     let mut elements = Vec::new(alloc);
     for item in items {
-        let element = value_json(item, alloc, types, of)?;
+        let element = value_json(item, alloc, iface, of)?;
         elements.push(element)?;
     }
     Ok(elements)
@@ -272,6 +277,6 @@ pub fn to_json(alloc: Global, iface: &Interface, ty: &Ty, v: &Value) -> Result<S
     ensures says { IfOk result (λ s. TextSays (types_of iface.now.types.items) (kind_of ty.now) (string_bytes s)
         (value_of v.now)) }
 {
-    let json = value_json(v, alloc, &iface.types, ty)?;
+    let json = value_json(v, alloc, iface, ty)?;
     json.to_string(alloc)
 }

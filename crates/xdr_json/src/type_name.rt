@@ -57,6 +57,6 @@ pub fn write_type(alloc: Global, ty: &Ty, out: &mut String) -> Result<(), AllocE
             out.push_str("*")?;
             Ok(())
         }
-        Ty::Named(name) => out.push_str(name.as_str()),
+        Ty::Named(name, _) => out.push_str(name.as_str()),
     }
 }

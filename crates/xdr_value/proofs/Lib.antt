@@ -7,3 +7,5 @@ pub mod FitsLaw
 pub mod Filled
 pub mod Lists
 pub mod Called
+pub mod PlaceLaws
+pub mod ChainLaws

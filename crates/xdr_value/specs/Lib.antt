@@ -2,6 +2,8 @@ pub mod Data
 pub mod View
 pub mod Heads
 pub mod HeadView
+pub mod Links
+pub mod Chains
 pub mod Ranges
 pub mod Hollow
 pub mod Fits

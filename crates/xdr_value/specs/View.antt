@@ -35,7 +35,7 @@ ty_step (Ty-F.Text n) = basic (basics.Text n)
 ty_step (Ty-F.Array k n) = array k.value n
 ty_step (Ty-F.ArrayUpTo k n) = array_up_to k.value n
 ty_step (Ty-F.Maybe k) = maybe k.value
-ty_step (Ty-F.Named s) = named (string_bytes s)
+ty_step (Ty-F.Named s place) = named (string_bytes s)
 
 -- the type
 abbrev pub kind_of : Ty → Kind

@@ -56,11 +56,20 @@ pub enum Shape {
     Union { tag: Ty, arms: Vec<Arm> },
 }
 
-/// A name with what it stands for.
+/// Where a chain of names ends: the place of the definition there, and how many names lead to it.
+#[derive(Clone, Copy, Debug)]
+pub struct Link {
+    pub end: usize,
+    pub hops: usize,
+}
+
+/// A name with what it stands for. In an interface it has the link of the chain of names that begins with
+/// what it stands for; it is the same definition whatever its link is.
 #[derive(Debug, Drop)]
 pub struct Def {
     pub name: String,
     pub shape: Shape,
+    pub link: Link,
 }
 
 impl Def {
@@ -69,7 +78,8 @@ impl Def {
         ensures { IfOk result (λ d. def_of d ≡ (name.now, form_of shape)) }
     {
         let name = String::from_str(alloc, name)?;
-        Ok(Def { name, shape })
+        let link = Link { end: 0, hops: 0 };
+        Ok(Def { name, shape, link })
     }
 }
 

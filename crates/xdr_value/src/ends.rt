@@ -8,7 +8,7 @@ ghost use Rattle.xdr_value.specs.Facts.{part_kinds};
 ghost use Rattle.xdr_value.specs.Tests.{core_ends, kinds_end, name_ends, all_end};
 
 use crate::def::{Arm, Def, Field, Shape};
-use crate::head::shape_of;
+use crate::head::shape_among;
 use crate::ty::Ty;
 
 /// The type of what fixed arrays hold.
@@ -17,7 +17,7 @@ pub fn core_of(ty: &Ty) -> &Ty
 {
     match ty {
         Ty::Array(of, _) => core_of(of),
-        Ty::ArrayUpTo(_, _) | Ty::Maybe(_) | Ty::Named(_) => ty,
+        Ty::ArrayUpTo(_, _) | Ty::Maybe(_) | Ty::Named(_, _) => ty,
         Ty::Int | Ty::Uint | Ty::Hyper | Ty::Uhyper => ty,
         Ty::Short | Ty::Ushort | Ty::Char | Ty::Uchar | Ty::Bool | Ty::Void => ty,
         Ty::Opaque(_) | Ty::OpaqueUpTo(_) | Ty::Text(_) => ty,
@@ -30,7 +30,7 @@ fn ty_ends(types: &[Def], ty: &Ty, hops: usize) -> bool
 {
     let ty = core_of(ty);
     match ty {
-        Ty::Named(name) => chain_ends(types, name.as_str(), hops),
+        Ty::Named(name, _) => chain_ends(types, name.as_str(), hops),
         Ty::Array(_, _) | Ty::ArrayUpTo(_, _) | Ty::Maybe(_) => true,
         Ty::Int | Ty::Uint | Ty::Hyper | Ty::Uhyper => true,
         Ty::Short | Ty::Ushort | Ty::Char | Ty::Uchar | Ty::Bool | Ty::Void => true,
@@ -81,7 +81,7 @@ fn chain_ends(types: &[Def], name: &str, hops: usize) -> bool
     if hops == 0 {
         return false;
     }
-    match shape_of(types, name) {
+    match shape_among(types, name) {
         None => false,
         Some(shape) => match shape {
             Shape::Alias(ty) => ty_ends(types, ty, hops - 1),

@@ -12,8 +12,9 @@ ghost use Rattle.xdr_value.specs.Heads.{is_basic, arm_kind};
 ghost use Rattle.xdr_value.specs.declared.ty.Basic.TheVariants as basics;
 ghost use Rattle.std.specs.Prelude.{true};
 
-use crate::def::{Arm, Def, Field};
-use crate::head::{Head, Tag, arm_of, resolve};
+use crate::chains::resolve;
+use crate::def::{Arm, Field};
+use crate::head::{Head, Tag, arm_of};
 use crate::hollow::list_limit;
 use crate::interface::Interface;
 use crate::ranges::{has_number, is_below, is_within};
@@ -135,19 +136,19 @@ fn tag_fits(tag: Tag<'_>, value: &Value) -> bool
 }
 
 #[cycle(fits)]
-fn value_fits(value: &Value, types: &[Def], ty: &Ty) -> bool
-    ensures { result ≡ does_fit (types_of types.now) (kind_of ty.now) (value_of value.now) }
+fn value_fits(value: &Value, iface: &Interface, ty: &Ty) -> bool
+    ensures { result ≡ does_fit (types_of iface.now.types.items) (kind_of ty.now) (value_of value.now) }
 {
-    let head = resolve(types, ty);
+    let head = resolve(iface, ty);
     match value {
         Value::Number(n) => number_fits(head, *n),
         Value::Flag(_) => flag_fits(head),
         Value::Octets(bytes) => octets_fit(head, bytes.len()),
         Value::List(items) => match head {
-            Head::Struct(fields) => fields_fit(items, types, fields),
-            Head::Array(of, n) => items.len() == n as usize && elements_fit(items, types, of),
+            Head::Struct(fields) => fields_fit(items, iface, fields),
+            Head::Array(of, n) => items.len() == n as usize && elements_fit(items, iface, of),
             Head::ArrayUpTo(of, n) => {
-                is_length(items.len(), list_limit(types, of, n)) && elements_fit(items, types, of)
+                is_length(items.len(), list_limit(iface, of, n)) && elements_fit(items, iface, of)
             }
             Head::Basic(_) | Head::Enum(_) | Head::Union(_, _) => false,
             Head::Maybe(_) | Head::Unknown => false,
@@ -157,7 +158,7 @@ fn value_fits(value: &Value, types: &[Def], ty: &Ty) -> bool
                 tag_fits(tag, tag_value)
                     && match arm_of(arms, tag_number(tag_value)) {
                         None => false,
-                        Some(arm) => arm_fits(inner, types, arm),
+                        Some(arm) => arm_fits(inner, iface, arm),
                     }
             }
             Head::Basic(_) | Head::Enum(_) | Head::Struct(_) | Head::Array(_, _) => false,
@@ -166,7 +167,7 @@ fn value_fits(value: &Value, types: &[Def], ty: &Ty) -> bool
         Value::Maybe(inner) => match head {
             Head::Maybe(of) => match inner {
                 None => true,
-                Some(inner) => value_fits(inner, types, of),
+                Some(inner) => value_fits(inner, iface, of),
             },
             Head::Basic(_) | Head::Enum(_) | Head::Struct(_) | Head::Union(_, _) => false,
             Head::Array(_, _) | Head::ArrayUpTo(_, _) | Head::Unknown => false,
@@ -176,24 +177,24 @@ fn value_fits(value: &Value, types: &[Def], ty: &Ty) -> bool
 }
 
 #[cycle(fits)]
-fn arm_fits(inner: &Value, types: &[Def], arm: &Arm) -> bool
-    ensures { result ≡ does_fit (types_of types.now) (arm_kind (choice_of arm.now)) (value_of inner.now) }
+fn arm_fits(inner: &Value, iface: &Interface, arm: &Arm) -> bool
+    ensures { result ≡ does_fit (types_of iface.now.types.items) (arm_kind (choice_of arm.now)) (value_of inner.now) }
 {
     match &arm.field {
-        None => value_fits(inner, types, &Ty::Void),
-        Some(field) => value_fits(inner, types, &field.ty),
+        None => value_fits(inner, iface, &Ty::Void),
+        Some(field) => value_fits(inner, iface, &field.ty),
     }
 }
 
 #[cycle(fits)]
-fn fields_fit(items: &Vec<Value>, types: &[Def], fields: &Vec<Field>) -> bool
-    ensures { result ≡ parts_fit (types_of types.now) (map part_of fields.now.items) (values_of items.now.items) }
+fn fields_fit(items: &Vec<Value>, iface: &Interface, fields: &Vec<Field>) -> bool
+    ensures { result ≡ parts_fit (types_of iface.now.types.items) (map part_of fields.now.items) (values_of items.now.items) }
 {
     if fields.len() != items.len() {
         return false;
     }
     for i in 0..items.len() {
-        if !value_fits(&items[i], types, &fields[i].ty) {
+        if !value_fits(&items[i], iface, &fields[i].ty) {
             return false;
         }
     }
@@ -201,11 +202,11 @@ fn fields_fit(items: &Vec<Value>, types: &[Def], fields: &Vec<Field>) -> bool
 }
 
 #[cycle(fits)]
-fn elements_fit(items: &Vec<Value>, types: &[Def], of: &Ty) -> bool
-    ensures { result ≡ all_fit (types_of types.now) (kind_of of.now) (values_of items.now.items) }
+fn elements_fit(items: &Vec<Value>, iface: &Interface, of: &Ty) -> bool
+    ensures { result ≡ all_fit (types_of iface.now.types.items) (kind_of of.now) (values_of items.now.items) }
 {
     for item in items {
-        if !value_fits(item, types, of) {
+        if !value_fits(item, iface, of) {
             return false;
         }
     }
@@ -217,5 +218,5 @@ pub fn fits(iface: &Interface, ty: &Ty, value: &Value) -> bool
     requires { IsTrue (is_known (types_of iface.now.types.items) (kind_of ty.now)) }
     ensures { IsTrue result ↔ Fits (types_of iface.now.types.items) (kind_of ty.now) (value_of value.now) }
 {
-    value_fits(value, &iface.types, ty)
+    value_fits(value, iface, ty)
 }

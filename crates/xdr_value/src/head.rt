@@ -32,7 +32,7 @@ pub enum Head<'a> {
 }
 
 /// What a name stands for, if it is defined.
-pub fn shape_of<'a>(types: &'a [Def], name: &str) -> Option<&'a Shape>
+pub fn shape_among<'a>(types: &'a [Def], name: &str) -> Option<&'a Shape>
     ensures { option_map (λ s. form_of s.now) result ≡ form_named name.now (types_of types.now) }
 {
     for def in types {
@@ -43,9 +43,10 @@ pub fn shape_of<'a>(types: &'a [Def], name: &str) -> Option<&'a Shape>
     None
 }
 
-/// What the type is once its names are followed.
+/// What the type is once its names are followed. Of types that may be unsound, each name is looked for from the first
+/// type on.
 #[tactic(auto, unfolding(crate::specs::Heads::head_of))]
-pub fn resolve<'a>(types: &'a [Def], ty: &'a Ty) -> Head<'a>
+pub fn head_among<'a>(types: &'a [Def], ty: &'a Ty) -> Head<'a>
     ensures { head_view result ≡ head_of (types_of types.now) (kind_of ty.now) }
 {
     resolve_within(types, ty, types.len())
@@ -60,11 +61,11 @@ fn resolve_within<'a>(types: &'a [Def], ty: &'a Ty, hops: usize) -> Head<'a>
         Ty::Array(of, n) => Head::Array(of, *n),
         Ty::ArrayUpTo(of, n) => Head::ArrayUpTo(of, *n),
         Ty::Maybe(of) => Head::Maybe(of),
-        Ty::Named(name) => {
+        Ty::Named(name, _) => {
             if hops == 0 {
                 return Head::Unknown;
             }
-            match shape_of(types, name.as_str()) {
+            match shape_among(types, name.as_str()) {
                 None => Head::Unknown,
                 Some(shape) => match shape {
                     Shape::Alias(other) => resolve_within(types, other, hops - 1),

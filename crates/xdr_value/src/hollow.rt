@@ -5,9 +5,10 @@ ghost use Rattle.xdr_value.specs.View.{kind_of, types_of, part_of};
 ghost use Rattle.xdr_value.specs.Hollow.{core, has_zero, core_hollow, kind_hollow, parts_hollow, name_hollow};
 ghost use Rattle.xdr_value.specs.Hollow.{is_hollow, list_limit};
 
-use crate::def::{Def, Field, Shape};
+use crate::chains::reached;
+use crate::def::{Field, Shape};
 use crate::ends::core_of;
-use crate::head::shape_of;
+use crate::interface::Interface;
 use crate::ty::Ty;
 
 /// How many elements that take no bytes a variable array may have.
@@ -18,7 +19,7 @@ fn has_zero(ty: &Ty) -> bool
 {
     match ty {
         Ty::Array(of, n) => *n == 0 || has_zero(of),
-        Ty::ArrayUpTo(_, _) | Ty::Maybe(_) | Ty::Named(_) => false,
+        Ty::ArrayUpTo(_, _) | Ty::Maybe(_) | Ty::Named(_, _) => false,
         Ty::Int | Ty::Uint | Ty::Hyper | Ty::Uhyper => false,
         Ty::Short | Ty::Ushort | Ty::Char | Ty::Uchar | Ty::Bool | Ty::Void => false,
         Ty::Opaque(_) | Ty::OpaqueUpTo(_) | Ty::Text(_) => false,
@@ -26,11 +27,11 @@ fn has_zero(ty: &Ty) -> bool
 }
 
 #[cycle(hollow)]
-fn core_hollow(types: &[Def], ty: &Ty, hops: usize) -> bool
-    ensures { result ≡ core_hollow (name_hollow hops (types_of types.now)) (kind_of ty.now) }
+fn core_hollow(iface: &Interface, ty: &Ty, hops: usize) -> bool
+    ensures { result ≡ core_hollow (name_hollow hops (types_of iface.now.types.items)) (kind_of ty.now) }
 {
     match ty {
-        Ty::Named(name) => name_hollow(types, name.as_str(), hops),
+        Ty::Named(name, place) => name_hollow(iface, name.as_str(), *place, hops),
         Ty::Opaque(n) => *n == 0,
         Ty::Void => true,
         Ty::Array(_, _) | Ty::ArrayUpTo(_, _) | Ty::Maybe(_) => false,
@@ -41,18 +42,18 @@ fn core_hollow(types: &[Def], ty: &Ty, hops: usize) -> bool
 }
 
 #[cycle(hollow)]
-fn ty_hollow(types: &[Def], ty: &Ty, hops: usize) -> bool
-    ensures { result ≡ kind_hollow (name_hollow hops (types_of types.now)) (kind_of ty.now) }
+fn ty_hollow(iface: &Interface, ty: &Ty, hops: usize) -> bool
+    ensures { result ≡ kind_hollow (name_hollow hops (types_of iface.now.types.items)) (kind_of ty.now) }
 {
-    has_zero(ty) || core_hollow(types, core_of(ty), hops)
+    has_zero(ty) || core_hollow(iface, core_of(ty), hops)
 }
 
 #[cycle(hollow)]
-fn fields_hollow(types: &[Def], fields: &Vec<Field>, hops: usize) -> bool
-    ensures { result ≡ parts_hollow (name_hollow hops (types_of types.now)) (map part_of fields.now.items) }
+fn fields_hollow(iface: &Interface, fields: &Vec<Field>, hops: usize) -> bool
+    ensures { result ≡ parts_hollow (name_hollow hops (types_of iface.now.types.items)) (map part_of fields.now.items) }
 {
     for field in fields {
-        if !ty_hollow(types, &field.ty, hops) {
+        if !ty_hollow(iface, &field.ty, hops) {
             return false;
         }
     }
@@ -61,17 +62,14 @@ fn fields_hollow(types: &[Def], fields: &Vec<Field>, hops: usize) -> bool
 
 #[cycle(hollow)]
 #[tactic(auto, unfolding(crate::specs::Hollow::name_hollow))]
-fn name_hollow(types: &[Def], name: &str, hops: usize) -> bool
-    ensures { result ≡ name_hollow hops (types_of types.now) name.now }
+fn name_hollow(iface: &Interface, name: &str, place: usize, hops: usize) -> bool
+    ensures { result ≡ name_hollow hops (types_of iface.now.types.items) name.now }
 {
-    if hops == 0 {
-        return false;
-    }
-    match shape_of(types, name) {
+    match reached(iface, name, place, hops) {
         None => false,
-        Some(shape) => match shape {
-            Shape::Alias(ty) => ty_hollow(types, ty, hops - 1),
-            Shape::Struct(fields) => fields_hollow(types, fields, hops - 1),
+        Some(end) => match end.shape {
+            Shape::Alias(ty) => ty_hollow(iface, ty, end.hops),
+            Shape::Struct(fields) => fields_hollow(iface, fields, end.hops),
             Shape::Enum(_) => false,
             Shape::Union { .. } => false,
         },
@@ -79,19 +77,19 @@ fn name_hollow(types: &[Def], name: &str, hops: usize) -> bool
 }
 
 #[tactic(auto, unfolding(crate::specs::Hollow::is_hollow))]
-fn is_hollow(types: &[Def], ty: &Ty) -> bool
-    ensures { result ≡ is_hollow (types_of types.now) (kind_of ty.now) }
+fn is_hollow(iface: &Interface, ty: &Ty) -> bool
+    ensures { result ≡ is_hollow (types_of iface.now.types.items) (kind_of ty.now) }
 {
-    ty_hollow(types, ty, types.len())
+    ty_hollow(iface, ty, iface.types.len())
 }
 
 /// How many elements of this type a variable array of at most `limit` has at most: where they
 /// take no bytes, no bytes bound them.
 #[tactic(auto, unfolding(crate::specs::Hollow::list_limit))]
-pub fn list_limit(types: &[Def], of: &Ty, limit: u32) -> u32
-    ensures { result ≡ list_limit (types_of types.now) (kind_of of.now) limit }
+pub fn list_limit(iface: &Interface, of: &Ty, limit: u32) -> u32
+    ensures { result ≡ list_limit (types_of iface.now.types.items) (kind_of of.now) limit }
 {
-    if limit > MOST_HOLLOW && is_hollow(types, of) {
+    if limit > MOST_HOLLOW && is_hollow(iface, of) {
         MOST_HOLLOW
     } else {
         limit

@@ -3,8 +3,10 @@
 ghost use Rattle.std.specs.Prelude.{◌≡◌, IsTrue};
 ghost use Rattle.xdr_value.specs.View.{types_of, procs_of};
 ghost use Rattle.xdr_value.specs.Tests.{is_sound};
+ghost use Rattle.xdr_value.specs.Links.{all_linked};
 
 use crate::def::{Def, Proc};
+use crate::links::link_all;
 
 /// Types that name one another, and procedures over them.
 #[derive(Debug, Drop)]
@@ -14,10 +16,12 @@ pub struct Interface {
     pub types: Vec<Def>,
     pub procs: Vec<Proc>,
     pub ghost sound: { IsTrue (is_sound (types_of types.items) (procs_of procs.items)) },
+    pub ghost linked: { IsTrue (all_linked (types_of types.items) types.items) },
 }
 
 impl Interface {
-    /// An interface of these types and procedures, of which `sound` says yes.
+    /// An interface of these types and procedures, of which `sound` says yes. The types are given their
+    /// links. It takes no memory.
     pub fn make(
         package: Option<String>,
         prefix: Option<String>,
@@ -25,11 +29,13 @@ impl Interface {
         procs: Vec<Proc>,
     ) -> Interface
         requires { IsTrue (is_sound (types_of types.items) (procs_of procs.items)) }
-        ensures types { result.types ≡ types }
+        ensures types { types_of result.types.items ≡ types_of types.items }
         ensures procs { result.procs ≡ procs }
         ensures package { result.«package» ≡ «package» }
         ensures prefix { result.prefix ≡ prefix }
     {
+        let mut types = types;
+        link_all(types.as_mut_slice());
         Interface {
             package,
             prefix,

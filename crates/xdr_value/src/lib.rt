@@ -10,6 +10,7 @@
 //! and that test can't be parted, and `fits` and `zero` are said of interfaces.
 #![tactic(auto)]
 
+mod chains;
 mod def;
 mod differ;
 mod ends;
@@ -19,6 +20,7 @@ mod hollow;
 mod interface;
 mod laws;
 mod levels;
+mod links;
 mod names;
 mod ranges;
 mod soundness;
@@ -26,9 +28,10 @@ mod ty;
 mod value;
 mod zeros;
 
-pub use def::{Arg, Arm, Def, Field, Member, Mode, Proc, Shape};
+pub use chains::{resolve, shape_of};
+pub use def::{Arg, Arm, Def, Field, Link, Member, Mode, Proc, Shape};
 pub use fitting::{fits, is_length, number_fits, octets_fit};
-pub use head::{Head, Tag, arm_of, as_tag, default_arm, resolve, shape_of};
+pub use head::{Head, Tag, arm_of, as_tag, default_arm};
 pub use hollow::{MOST_HOLLOW, list_limit};
 pub use interface::Interface;
 pub use laws::{numbers, sound_is};

@@ -7,7 +7,7 @@ ghost use Rattle.xdr_value.specs.Facts.{part_kinds};
 ghost use Rattle.xdr_value.specs.Tests.{is_known, kinds_known, params_known};
 
 use crate::def::{Arg, Arm, Def, Field};
-use crate::head::shape_of;
+use crate::head::shape_among;
 use crate::ty::Ty;
 
 /// Whether each name in the type is a type of these.
@@ -18,7 +18,7 @@ pub fn known(types: &[Def], ty: &Ty) -> bool
         Ty::Array(of, _) => known(types, of),
         Ty::ArrayUpTo(of, _) => known(types, of),
         Ty::Maybe(of) => known(types, of),
-        Ty::Named(name) => shape_of(types, name.as_str()).is_some(),
+        Ty::Named(name, _) => shape_among(types, name.as_str()).is_some(),
         Ty::Int | Ty::Uint | Ty::Hyper | Ty::Uhyper => true,
         Ty::Short | Ty::Ushort | Ty::Char | Ty::Uchar | Ty::Bool | Ty::Void => true,
         Ty::Opaque(_) | Ty::OpaqueUpTo(_) | Ty::Text(_) => true,

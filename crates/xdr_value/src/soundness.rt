@@ -15,7 +15,7 @@ ghost use Rattle.xdr_value.specs.Tests.{is_tag};
 use crate::def::{Arg, Arm, Def, Field, Member, Proc, Shape};
 use crate::differ::{cases_differ, names_differ, opcodes_differ};
 use crate::ends::all_end;
-use crate::head::{Tag, as_tag, resolve};
+use crate::head::{Tag, as_tag, head_among};
 use crate::names::{args_known, arms_known, fields_known, known};
 use crate::ranges::{arms_in_range, members_in_range};
 use crate::ty::Ty;
@@ -82,7 +82,7 @@ fn union_sound(types: &[Def], tag: &Ty, arms: &Vec<Arm>) -> bool
     if arms.is_empty() || !(known(types, tag) && arms_known(types, arms)) {
         return false;
     }
-    let tag = as_tag(resolve(types, tag));
+    let tag = as_tag(head_among(types, tag));
     is_tag(tag) && cases_differ(arms) && arms_in_range(tag, arms)
 }
 

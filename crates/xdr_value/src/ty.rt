@@ -7,7 +7,8 @@ ghost use Rattle.xdr_value.specs.View.{kind_of};
 use std::alloc::{AllocError, Global};
 
 /// A type of an interface. The number of `Opaque` and `Array` is how many there are, that of
-/// `OpaqueUpTo`, `Text` and `ArrayUpTo` how many there are at most.
+/// `OpaqueUpTo`, `Text` and `ArrayUpTo` how many there are at most. A name has the place among the types
+/// of an interface where its definition is looked for first; it is the same type wherever it stands.
 #[derive(Debug, Drop)]
 pub enum Ty {
     Int,
@@ -26,7 +27,7 @@ pub enum Ty {
     Array(Box<Ty>, u32),
     ArrayUpTo(Box<Ty>, u32),
     Maybe(Box<Ty>),
-    Named(String),
+    Named(String, usize),
 }
 
 impl Ty {
@@ -34,7 +35,15 @@ impl Ty {
     pub fn named(alloc: Global, name: &str) -> Result<Ty, AllocError>
         ensures { IfOk result (λ t. kind_of t ≡ named name.now) }
     {
-        Ok(Ty::Named(String::from_str(alloc, name)?))
+        Ty::placed(alloc, name, 0)
+    }
+
+    /// The type of this name, which is copied, and is found at once where its definition stands at this
+    /// place among the types of an interface.
+    pub fn placed(alloc: Global, name: &str, place: usize) -> Result<Ty, AllocError>
+        ensures { IfOk result (λ t. kind_of t ≡ named name.now) }
+    {
+        Ok(Ty::Named(String::from_str(alloc, name)?, place))
     }
 
     /// So many elements.

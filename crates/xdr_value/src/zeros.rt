@@ -10,9 +10,10 @@ ghost use Rattle.xdr_value.specs.Zero.{copies, wrapped, basic_zero, core_zero, k
 ghost use Rattle.xdr_value.specs.Zero.{first_number, tag_zero, first_case, tag_value, union_zero, name_zero, zero_of};
 ghost use Rattle.xdr_value.specs.Tests.{is_known};
 
-use crate::def::{Arm, Def, Field, Member, Shape};
+use crate::chains::{reached, resolve};
+use crate::def::{Arm, Field, Member, Shape};
 use crate::ends::core_of;
-use crate::head::{Tag, arm_of, as_tag, resolve, shape_of};
+use crate::head::{Tag, arm_of, as_tag};
 use crate::interface::Interface;
 use crate::ty::Ty;
 use crate::value::Value;
@@ -36,7 +37,7 @@ fn wrapped(alloc: Global, ty: &Ty, inner: Value) -> Result<Value, AllocError>
             let item = wrapped(alloc, of, inner)?;
             Ok(Value::List(copies(alloc, *n, &item)?))
         }
-        Ty::ArrayUpTo(_, _) | Ty::Maybe(_) | Ty::Named(_) => Ok(inner),
+        Ty::ArrayUpTo(_, _) | Ty::Maybe(_) | Ty::Named(_, _) => Ok(inner),
         Ty::Int | Ty::Uint | Ty::Hyper | Ty::Uhyper => Ok(inner),
         Ty::Short | Ty::Ushort | Ty::Char | Ty::Uchar | Ty::Bool | Ty::Void => Ok(inner),
         Ty::Opaque(_) | Ty::OpaqueUpTo(_) | Ty::Text(_) => Ok(inner),
@@ -93,11 +94,11 @@ fn tag_value(tag: Tag<'_>, n: i64) -> Value
 }
 
 #[cycle(zero)]
-fn core_zero(alloc: Global, types: &[Def], ty: &Ty, hops: usize) -> Result<Value, AllocError>
-    ensures { IfOk result (λ v. value_of v ≡ core_zero (name_zero hops (types_of types.now)) (kind_of ty.now)) }
+fn core_zero(alloc: Global, iface: &Interface, ty: &Ty, hops: usize) -> Result<Value, AllocError>
+    ensures { IfOk result (λ v. value_of v ≡ core_zero (name_zero hops (types_of iface.now.types.items)) (kind_of ty.now)) }
 {
     match ty {
-        Ty::Named(name) => name_zero(alloc, types, name.as_str(), hops),
+        Ty::Named(name, place) => name_zero(alloc, iface, name.as_str(), *place, hops),
         Ty::Opaque(n) => zero_bytes(alloc, *n),
         Ty::OpaqueUpTo(_) | Ty::Text(_) => Ok(Value::Octets(Vec::new(alloc))),
         Ty::Array(_, _) | Ty::Void => Ok(Value::Void),
@@ -110,26 +111,26 @@ fn core_zero(alloc: Global, types: &[Def], ty: &Ty, hops: usize) -> Result<Value
 }
 
 #[cycle(zero)]
-fn ty_zero(alloc: Global, types: &[Def], ty: &Ty, hops: usize) -> Result<Value, AllocError>
-    ensures { IfOk result (λ v. value_of v ≡ kind_zero (name_zero hops (types_of types.now)) (kind_of ty.now)) }
+fn ty_zero(alloc: Global, iface: &Interface, ty: &Ty, hops: usize) -> Result<Value, AllocError>
+    ensures { IfOk result (λ v. value_of v ≡ kind_zero (name_zero hops (types_of iface.now.types.items)) (kind_of ty.now)) }
 {
-    let inner = core_zero(alloc, types, core_of(ty), hops)?;
+    let inner = core_zero(alloc, iface, core_of(ty), hops)?;
     Ok(wrapped(alloc, ty, inner)?)
 }
 
 #[cycle(zero)]
 fn fields_zero(
     alloc: Global,
-    types: &[Def],
+    iface: &Interface,
     fields: &Vec<Field>,
     hops: usize,
 ) -> Result<Vec<Value>, AllocError>
     ensures { IfOk result (λ v. values_of v.items ≡
-        parts_zero (name_zero hops (types_of types.now)) (map part_of fields.now.items)) }
+        parts_zero (name_zero hops (types_of iface.now.types.items)) (map part_of fields.now.items)) }
 {
     let mut items = Vec::new(alloc);
     for field in fields {
-        items.push(ty_zero(alloc, types, &field.ty, hops)?)?;
+        items.push(ty_zero(alloc, iface, &field.ty, hops)?)?;
     }
     Ok(items)
 }
@@ -137,18 +138,18 @@ fn fields_zero(
 #[cycle(zero)]
 fn arm_zero(
     alloc: Global,
-    types: &[Def],
+    iface: &Interface,
     arm: Option<&Arm>,
     hops: usize,
 ) -> Result<Value, AllocError>
     ensures { IfOk result (λ v. value_of v ≡
-        arm_zero (name_zero hops (types_of types.now)) (option_map (λ a. choice_of a.now) arm.entry)) }
+        arm_zero (name_zero hops (types_of iface.now.types.items)) (option_map (λ a. choice_of a.now) arm.entry)) }
 {
     match arm {
         None => Ok(Value::Void),
         Some(arm) => match &arm.field {
             None => Ok(Value::Void),
-            Some(field) => Ok(ty_zero(alloc, types, &field.ty, hops)?),
+            Some(field) => Ok(ty_zero(alloc, iface, &field.ty, hops)?),
         },
     }
 }
@@ -156,16 +157,16 @@ fn arm_zero(
 #[cycle(zero)]
 fn union_zero(
     alloc: Global,
-    types: &[Def],
+    iface: &Interface,
     tag: Tag<'_>,
     arms: &Vec<Arm>,
     hops: usize,
 ) -> Result<Value, AllocError>
     ensures { IfOk result (λ v. value_of v ≡
-        union_zero (name_zero hops (types_of types.now)) (tag_view tag.entry) (map choice_of arms.now.items)) }
+        union_zero (name_zero hops (types_of iface.now.types.items)) (tag_view tag.entry) (map choice_of arms.now.items)) }
 {
     let case = first_case(tag, arms);
-    let inner = arm_zero(alloc, types, arm_of(arms, case as i128), hops)?;
+    let inner = arm_zero(alloc, iface, arm_of(arms, case as i128), hops)?;
     Ok(Value::Union(
         Box::new(alloc, tag_value(tag, case))?,
         Box::new(alloc, inner)?,
@@ -174,31 +175,34 @@ fn union_zero(
 
 #[cycle(zero)]
 #[tactic(auto, unfolding(crate::specs::Zero::name_zero))]
-fn name_zero(alloc: Global, types: &[Def], name: &str, hops: usize) -> Result<Value, AllocError>
-    ensures { IfOk result (λ v. value_of v ≡ name_zero hops (types_of types.now) name.now) }
+fn name_zero(
+    alloc: Global,
+    iface: &Interface,
+    name: &str,
+    place: usize,
+    hops: usize,
+) -> Result<Value, AllocError>
+    ensures { IfOk result (λ v. value_of v ≡ name_zero hops (types_of iface.now.types.items) name.now) }
 {
-    if hops == 0 {
-        return Ok(Value::Void);
-    }
-    match shape_of(types, name) {
+    match reached(iface, name, place, hops) {
         None => Ok(Value::Void),
-        Some(shape) => match shape {
-            Shape::Alias(ty) => Ok(ty_zero(alloc, types, ty, hops - 1)?),
+        Some(end) => match end.shape {
+            Shape::Alias(ty) => Ok(ty_zero(alloc, iface, ty, end.hops)?),
             Shape::Enum(members) => Ok(Value::Number(first_number(members) as i128)),
-            Shape::Struct(fields) => Ok(Value::List(fields_zero(alloc, types, fields, hops - 1)?)),
+            Shape::Struct(fields) => Ok(Value::List(fields_zero(alloc, iface, fields, end.hops)?)),
             Shape::Union { tag, arms } => {
-                let tag = as_tag(resolve(types, tag));
-                Ok(union_zero(alloc, types, tag, arms, hops - 1)?)
+                let tag = as_tag(resolve(iface, tag));
+                Ok(union_zero(alloc, iface, tag, arms, end.hops)?)
             }
         },
     }
 }
 
 #[tactic(auto, unfolding(crate::specs::Zero::zero_of))]
-fn zero_among(alloc: Global, types: &[Def], ty: &Ty) -> Result<Value, AllocError>
-    ensures { IfOk result (λ v. value_of v ≡ zero_of (types_of types.now) (kind_of ty.now)) }
+fn zero_among(alloc: Global, iface: &Interface, ty: &Ty) -> Result<Value, AllocError>
+    ensures { IfOk result (λ v. value_of v ≡ zero_of (types_of iface.now.types.items) (kind_of ty.now)) }
 {
-    Ok(ty_zero(alloc, types, ty, types.len())?)
+    Ok(ty_zero(alloc, iface, ty, iface.types.len())?)
 }
 
 /// The zero value of the type: 0, false, the first member of an enum, zero bytes, empty variable
@@ -209,5 +213,5 @@ pub fn zero(alloc: Global, iface: &Interface, ty: &Ty) -> Result<Value, AllocErr
     ensures value { IfOk result (λ v. value_of v ≡ zero_of (types_of iface.now.types.items) (kind_of ty.now)) }
     ensures fits { IfOk result (λ v. Fits (types_of iface.now.types.items) (kind_of ty.now) (value_of v)) }
 {
-    Ok(zero_among(alloc, &iface.types, ty)?)
+    Ok(zero_among(alloc, iface, ty)?)
 }

@@ -4,6 +4,7 @@ ghost use Rattle.std.specs.Prelude.{◌≡◌, ◌≢◌, ℕ, ℤ, List, Option
 ghost use Rattle.xg_check.specs.Places.{HoldsNowhere};
 ghost use Rattle.xg_check.specs.Answers.{IsFaultOf, IsChecked};
 ghost use Rattle.xg_check.specs.Constants.{constants_in};
+ghost use Rattle.xg_check.specs.Typed.{types_in};
 ghost use Rattle.xg_check.specs.Meaning.{Meant, interface_of, Meaning, IsFirstFault, IsFaultless, opcodes_of, OpcodeAt};
 ghost use Rattle.xg_check.specs.Meaning.{OpcodeTwiceAt};
 
@@ -31,30 +32,35 @@ fn text(alloc: Global, name: &str) -> Result<Text, AllocError>
 }
 
 // The names, sizes and types of the tree, or their first fault.
-fn judge(alloc: Global, tree: &Tree, constants: &Constants<'_>) -> Result<(), CheckFault>
-    requires { constants.now ≡ constants_in tree.now.items }
+fn judge(
+    alloc: Global,
+    tree: &Tree,
+    found: &Types<'_>,
+    constants: &Constants<'_>,
+) -> Result<(), CheckFault>
+    requires found { found.now ≡ types_in tree.now.items }
+    requires constants { constants.now ≡ constants_in tree.now.items }
     ensures faultless { IfOk result (λ u. IsFaultless tree.now) }
     ensures fault { IfErr result (IsFaultOf tree.now) }
 {
-    let found = Types::of(alloc, tree)?;
     let marks = marks(alloc, tree)?;
     let marks = marks.as_slice();
     if let Some(name) = twice(alloc, constants, marks)? {
         let name = text(alloc, name)?;
         return Err(CheckFault::Twice { name });
     }
-    if let Some(name) = unknown(&found, constants, marks) {
+    if let Some(name) = unknown(found, constants, marks) {
         let name = text(alloc, name)?;
         return Err(CheckFault::Unknown { name });
     }
     let held = found.ways(alloc, Ways::Held)?;
     let order = ordered(alloc, &held)?;
-    let judge = Judge::of(alloc, &found, constants, &order)?;
-    if let Some(name) = judge.bad(alloc, &found, constants, marks)? {
+    let judge = Judge::of(alloc, found, constants, &order)?;
+    if let Some(name) = judge.bad(alloc, found, constants, marks)? {
         let name = text(alloc, name)?;
         return Err(CheckFault::Size { name });
     }
-    if let Some(name) = endless(alloc, &found, &held, &order)? {
+    if let Some(name) = endless(alloc, found, &held, &order)? {
         let name = text(alloc, name)?;
         return Err(CheckFault::Endless { name });
     }
@@ -91,10 +97,11 @@ fn checked(alloc: Global, tree: &Tree) -> Result<Interface, CheckFault>
     ensures { IsChecked tree.now result }
 {
     let constants = Constants::of(alloc, tree)?;
-    judge(alloc, tree, &constants)?;
+    let found = Types::of(alloc, tree)?;
+    judge(alloc, tree, &found, &constants)?;
     let opcodes = numbered(alloc, tree, &constants)?;
-    let types = types(alloc, &constants, tree)?;
-    let procs = procs(alloc, &constants, opcodes.as_slice(), tree)?;
+    let types = types(alloc, &found, &constants, tree)?;
+    let procs = procs(alloc, &found, &constants, opcodes.as_slice(), tree)?;
     let package = package(alloc, tree)?;
     let prefix = prefix(alloc, tree)?;
     Ok(Interface::make(package, prefix, types, procs))

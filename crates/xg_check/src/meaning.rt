@@ -12,6 +12,7 @@ ghost use Rattle.xg_check.specs.Views.{optional_type};
 
 use crate::bases::base;
 use crate::encoding::size;
+use crate::types::Types;
 use crate::values::Constants;
 use std::alloc::{AllocError, Global};
 use xdr_value::{Arm, Basic, Def, Field, Member, Shape, Ty};
@@ -38,8 +39,8 @@ fn basic_ty(of: Basic) -> Ty
     }
 }
 
-/// The type of the word.
-pub fn word_ty(alloc: Global, word: &TypeWord) -> Result<Ty, AllocError>
+/// The type of the word. A name is found at once at its place among the types.
+pub fn word_ty(alloc: Global, found: &Types<'_>, word: &TypeWord) -> Result<Ty, AllocError>
     ensures { IfOk result (λ t. kind_of t ≡ word_kind word.now) }
 {
     match word {
@@ -47,7 +48,10 @@ pub fn word_ty(alloc: Global, word: &TypeWord) -> Result<Ty, AllocError>
             Some(basic) => Ok(basic_ty(basic)),
             None => Ok(Ty::Void),
         },
-        TypeWord::Name(name) => Ty::named(alloc, name.as_str()),
+        TypeWord::Name(name) => {
+            let place = found.named(name.as_str()).unwrap_or(0);
+            Ty::placed(alloc, name.as_str(), place)
+        }
     }
 }
 
@@ -69,31 +73,46 @@ fn most(constants: &Constants<'_>, word: &Option<ConstWord>) -> u32
 }
 
 /// The type of what is declared so.
-pub fn form_ty(alloc: Global, constants: &Constants<'_>, form: &Form) -> Result<Ty, AllocError>
+pub fn form_ty(
+    alloc: Global,
+    found: &Types<'_>,
+    constants: &Constants<'_>,
+    form: &Form,
+) -> Result<Ty, AllocError>
     ensures { IfOk result (λ t. kind_of t ≡ form_kind constants.now form.now) }
 {
     match form {
-        Form::Plain(word) => word_ty(alloc, word),
-        Form::Star(word) => Ty::optional(alloc, word_ty(alloc, word)?),
+        Form::Plain(word) => word_ty(alloc, found, word),
+        Form::Star(word) => Ty::optional(alloc, word_ty(alloc, found, word)?),
         Form::Fixed(word, size) => {
-            Ty::array(alloc, word_ty(alloc, word)?, number(constants, size))
+            Ty::array(alloc, word_ty(alloc, found, word)?, number(constants, size))
         }
-        Form::UpTo(word, bound) => Ty::up_to(alloc, word_ty(alloc, word)?, most(constants, bound)),
+        Form::UpTo(word, bound) => Ty::up_to(
+            alloc,
+            word_ty(alloc, found, word)?,
+            most(constants, bound),
+        ),
         Form::Opaque(size) => Ok(Ty::Opaque(number(constants, size))),
         Form::OpaqueUpTo(bound) => Ok(Ty::OpaqueUpTo(most(constants, bound))),
         Form::Text(bound) => Ok(Ty::Text(most(constants, bound))),
     }
 }
 
-fn field(alloc: Global, constants: &Constants<'_>, decl: &Decl) -> Result<Field, AllocError>
+fn field(
+    alloc: Global,
+    found: &Types<'_>,
+    constants: &Constants<'_>,
+    decl: &Decl,
+) -> Result<Field, AllocError>
     ensures { IfOk result (λ f. part_of f ≡ field_meant constants.now decl.now) }
 {
-    let ty = form_ty(alloc, constants, &decl.form)?;
+    let ty = form_ty(alloc, found, constants, &decl.form)?;
     Field::make(alloc, decl.name.as_str(), ty)
 }
 
 fn fields(
     alloc: Global,
+    found: &Types<'_>,
     constants: &Constants<'_>,
     decls: &[Decl],
 ) -> Result<Vec<Field>, AllocError>
@@ -101,7 +120,7 @@ fn fields(
 {
     let mut fields = Vec::new(alloc);
     for decl in decls {
-        fields.push(field(alloc, constants, decl)?)?;
+        fields.push(field(alloc, found, constants, decl)?)?;
     }
     Ok(fields)
 }
@@ -134,6 +153,7 @@ fn members(
 
 fn held(
     alloc: Global,
+    found: &Types<'_>,
     constants: &Constants<'_>,
     decl: &Option<Decl>,
 ) -> Result<Option<Field>, AllocError>
@@ -141,13 +161,14 @@ fn held(
 {
     match decl {
         None => Ok(None),
-        Some(decl) => Ok(Some(field(alloc, constants, decl)?)),
+        Some(decl) => Ok(Some(field(alloc, found, constants, decl)?)),
     }
 }
 
 // One arm for each case.
 fn add_cases(
     alloc: Global,
+    found: &Types<'_>,
     constants: &Constants<'_>,
     arms: &mut Vec<Arm>,
     item: &ArmItem,
@@ -157,7 +178,7 @@ fn add_cases(
 {
     for case in item.cases.as_slice() {
         let case = Some(value_number(constants.value(case)));
-        let field = held(alloc, constants, &item.decl)?;
+        let field = held(alloc, found, constants, &item.decl)?;
         arms.push(Arm { case, field })?;
     }
     Ok(())
@@ -165,6 +186,7 @@ fn add_cases(
 
 fn arms(
     alloc: Global,
+    found: &Types<'_>,
     constants: &Constants<'_>,
     items: &[ArmItem],
     otherwise: &Option<ArmItem>,
@@ -174,21 +196,26 @@ fn arms(
 {
     let mut arms = Vec::new(alloc);
     for item in items {
-        add_cases(alloc, constants, &mut arms, item)?;
+        add_cases(alloc, found, constants, &mut arms, item)?;
     }
     if let Some(item) = otherwise {
-        let field = held(alloc, constants, &item.decl)?;
+        let field = held(alloc, found, constants, &item.decl)?;
         arms.push(Arm { case: None, field })?;
     }
     Ok(arms)
 }
 
-fn def(alloc: Global, constants: &Constants<'_>, part: &Part) -> Result<Option<Def>, AllocError>
+fn def(
+    alloc: Global,
+    found: &Types<'_>,
+    constants: &Constants<'_>,
+    part: &Part,
+) -> Result<Option<Def>, AllocError>
     ensures { IfOk result (λ o. optional_type o ≡ part_type constants.now part.now) }
 {
     match part {
         Part::Typedef(decl) => {
-            let ty = form_ty(alloc, constants, &decl.form)?;
+            let ty = form_ty(alloc, found, constants, &decl.form)?;
             Ok(Some(Def::make(alloc, decl.name.as_str(), Shape::Alias(ty))?))
         }
         Part::Enum {
@@ -202,7 +229,7 @@ fn def(alloc: Global, constants: &Constants<'_>, part: &Part) -> Result<Option<D
             name,
             fields: decls,
         } => {
-            let fields = fields(alloc, constants, decls.as_slice())?;
+            let fields = fields(alloc, found, constants, decls.as_slice())?;
             Ok(Some(Def::make(alloc, name.as_str(), Shape::Struct(fields))?))
         }
         Part::Union {
@@ -212,8 +239,8 @@ fn def(alloc: Global, constants: &Constants<'_>, part: &Part) -> Result<Option<D
             otherwise,
             ..
         } => {
-            let tag = word_ty(alloc, tag)?;
-            let arms = arms(alloc, constants, items.as_slice(), otherwise)?;
+            let tag = word_ty(alloc, found, tag)?;
+            let arms = arms(alloc, found, constants, items.as_slice(), otherwise)?;
             Ok(Some(Def::make(alloc, name.as_str(), Shape::Union { tag, arms })?))
         }
         Part::Package(_) | Part::Prefix(_) | Part::StatIndex(_) => Ok(None),
@@ -222,12 +249,17 @@ fn def(alloc: Global, constants: &Constants<'_>, part: &Part) -> Result<Option<D
 }
 
 /// The types of the tree, in the order of the text.
-pub fn types(alloc: Global, constants: &Constants<'_>, tree: &Tree) -> Result<Vec<Def>, AllocError>
+pub fn types(
+    alloc: Global,
+    found: &Types<'_>,
+    constants: &Constants<'_>,
+    tree: &Tree,
+) -> Result<Vec<Def>, AllocError>
     ensures { IfOk result (λ types. types_of types.items ≡ types_meant constants.now tree.now.items) }
 {
     let mut types = Vec::new(alloc);
     for item in tree.items.as_slice() {
-        if let Some(def) = def(alloc, constants, &item.part)? {
+        if let Some(def) = def(alloc, found, constants, &item.part)? {
             types.push(def)?;
         }
     }

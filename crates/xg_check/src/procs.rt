@@ -12,6 +12,7 @@ ghost use Rattle.xg_check.specs.Views.{optional_proc};
 
 use crate::meaning::{form_ty, word_ty};
 use crate::opcodes::number;
+use crate::types::Types;
 use crate::values::{Constants, value_in};
 use std::alloc::{AllocError, Global};
 use xdr_value::{Arg, Mode, Proc, Ty};
@@ -28,13 +29,22 @@ fn mode(word: ModeWord) -> Mode
 }
 
 // The type of an argument: a star there has no bytes.
-fn arg_ty(alloc: Global, constants: &Constants<'_>, form: &Form) -> Result<Ty, AllocError>
+fn arg_ty(
+    alloc: Global,
+    found: &Types<'_>,
+    constants: &Constants<'_>,
+    form: &Form,
+) -> Result<Ty, AllocError>
     ensures { IfOk result (λ t. kind_of t ≡ arg_kind constants.now form.now) }
 {
     match form {
-        Form::Star(word) => word_ty(alloc, word),
-        Form::Plain(_) | Form::Fixed(_, _) | Form::UpTo(_, _) => form_ty(alloc, constants, form),
-        Form::Opaque(_) | Form::OpaqueUpTo(_) | Form::Text(_) => form_ty(alloc, constants, form),
+        Form::Star(word) => word_ty(alloc, found, word),
+        Form::Plain(_) | Form::Fixed(_, _) | Form::UpTo(_, _) => form_ty(
+            alloc, found, constants, form,
+        ),
+        Form::Opaque(_) | Form::OpaqueUpTo(_) | Form::Text(_) => form_ty(
+            alloc, found, constants, form,
+        ),
     }
 }
 
@@ -48,14 +58,19 @@ fn mode_after(before: Mode, item: &ArgItem) -> Mode
     }
 }
 
-fn args(alloc: Global, constants: &Constants<'_>, items: &[ArgItem]) -> Result<Vec<Arg>, AllocError>
+fn args(
+    alloc: Global,
+    found: &Types<'_>,
+    constants: &Constants<'_>,
+    items: &[ArgItem],
+) -> Result<Vec<Arg>, AllocError>
     ensures { IfOk result (λ args. map param_of args.items ≡ args_meant constants.now modes.In items.now) }
 {
     let mut args = Vec::new(alloc);
     let mut mode = Mode::In;
     for item in items {
         mode = mode_after(mode, item);
-        let ty = arg_ty(alloc, constants, &item.decl.form)?;
+        let ty = arg_ty(alloc, found, constants, &item.decl.form)?;
         args.push(Arg::make(alloc, mode, item.decl.name.as_str(), ty)?)?;
     }
     Ok(args)
@@ -73,6 +88,7 @@ fn is_kind(kind: &Option<KindWord>, word: KindWord) -> bool
 
 fn proc(
     alloc: Global,
+    found: &Types<'_>,
     constants: &Constants<'_>,
     opcode: Option<i128>,
     part: &Part,
@@ -90,7 +106,7 @@ fn proc(
             opcode: number(opcode).unwrap_or(0),
             split: is_kind(kind, KindWord::Split),
             multi: is_kind(kind, KindWord::Multi),
-            args: args(alloc, constants, items.as_slice())?,
+            args: args(alloc, found, constants, items.as_slice())?,
         })),
         Part::Package(_) | Part::Prefix(_) | Part::StatIndex(_) | Part::StartingOpcode(_) => {
             Ok(None)
@@ -103,6 +119,7 @@ fn proc(
 // The procedure, if the part is one.
 fn add_proc(
     alloc: Global,
+    found: &Types<'_>,
     constants: &Constants<'_>,
     procs: &mut Vec<Proc>,
     opcode: Option<i128>,
@@ -111,7 +128,7 @@ fn add_proc(
     ensures { OnOk result (procs_of procs.new.items ≡ procs_of procs.old.items
         ++ part_proc constants.now opcode part.now) }
 {
-    match proc(alloc, constants, opcode, part)? {
+    match proc(alloc, found, constants, opcode, part)? {
         None => Ok(()),
         Some(one) => {
             procs.push(one)?;
@@ -123,6 +140,7 @@ fn add_proc(
 /// The procedures of the tree, in the order of the text, which have these opcodes.
 pub fn procs(
     alloc: Global,
+    found: &Types<'_>,
     constants: &Constants<'_>,
     opcodes: &[Option<i128>],
     tree: &Tree,
@@ -133,7 +151,7 @@ pub fn procs(
     let mut procs = Vec::new(alloc);
     for item in tree.items.as_slice() {
         let opcode = value_in(opcodes, procs.len());
-        add_proc(alloc, constants, &mut procs, opcode, &item.part)?;
+        add_proc(alloc, found, constants, &mut procs, opcode, &item.part)?;
     }
     Ok(procs)
 }

@@ -19,7 +19,7 @@ returns-in_err-value c =
     let goes = left_go c.args.stream _ _ c.arg-item.result left (sym c.goes_with.ensures ∙ c.if-goes_with.true) in
     rw (p.1, p.2) (parts_end read c.in_err-value.field-0.0 (values_of c.loop-arg.values.items)
     (part_for (param_of c.arg-item.result)) _ _ c.loop-arg.rest.now _ goes
-    (rw c.deref.ensures.value at c.in_err-value.ensures)
+    c.in_err-value.ensures
     c.loop-arg.invariant)
 
 pub loop-arg-preserved : goal.loop-arg-preserved
@@ -34,7 +34,7 @@ loop-arg-preserved c =
           w.in_ok-value.value in
           rw (w.values-is, w.rest-is, pushed) (parts_go_on read (values_of c.loop-arg.values.items)
           (part_for (param_of c.arg-item.result)) _ _ c.loop-arg.rest.now _ _ _ goes
-          (rw w.deref.ensures.value at w.in_ok-value.ensures)
+          w.in_ok-value.ensures
           c.loop-arg.invariant)
       | else-goes_with w ↦
           let stays = left_stay c.args.stream _ _ c.arg-item.result left

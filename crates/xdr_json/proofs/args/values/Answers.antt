@@ -15,7 +15,7 @@ loop-arg-preserved c =
     let left = in_left c.args.args.now c.loop-arg.arg-index c.arg-item.result c.loop-arg-test.true c.arg-item.is in
     elim c.if-comes_in.branch [
       | then-comes_in+in-len1-up+in_ok-value-in-len1-up+in_ok-push-in-len1-up w ↦
-          let types = types_of c.args.types.now in
+          let types = types_of c.args.iface.now.types.items in
           let values = c.loop-arg.values.items in
           let json = w.json-item.result in
           let value = w.in_ok-value-in-len1-up.value in
@@ -44,5 +44,5 @@ pub returns : goal.returns
 returns c =
     let none = ap (λ xs. in_kinds (map param_of xs))
     (drop_all c.loop-arg.arg-index c.args.args.now c.loop-arg-test.false) in
-    args_done (types_of c.args.types.now) (values_of c.loop-arg.values.items) _ _ c.loop-arg.left.now _ none
+    args_done (types_of c.args.iface.now.types.items) (values_of c.loop-arg.values.items) _ _ c.loop-arg.left.now _ none
     c.loop-arg.invariant.told

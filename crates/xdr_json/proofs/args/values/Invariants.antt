@@ -9,7 +9,7 @@ use Rattle.xdr_json.proofs.args.values.Given as goal
 abbrev pub invariant-loop-arg : goal.invariant-loop-arg
 invariant-loop-arg l = record {
   shallow : items_depth (items_view l.left) ≤ 126;
-  told : with_front (values_of l.values.items) (args_judged (types_of l.types)
+  told : with_front (values_of l.values.items) (args_judged (types_of l.iface.types.items)
       (in_kinds (map param_of (drop l.arg-index l.args))) (items_view l.left) (length l.values.items))
-      ≡ args_judged (types_of l.types) (in_kinds (map param_of l.args)) (items_view l.items) 0;
+      ≡ args_judged (types_of l.iface.types.items) (in_kinds (map param_of l.args)) (items_view l.items) 0;
 }

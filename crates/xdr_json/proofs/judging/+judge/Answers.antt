@@ -27,7 +27,7 @@ less_deep j js left n is deep =
 pub elements-loop-i-preserved : goal.elements-loop-i-preserved
 elements-loop-i-preserved t c =
     let items = c.args.items.now.items in
-    let types = types_of c.args.types.now in
+    let types = types_of c.args.iface.now.types.items in
     let of = kind_of c.args.of.now in
     let len : c.len-i-end.result ≡ length items = c.len-i-end.ensures ∙ c.args.items.now.ok.0 in
     let test = c.loop-i-test.true in
@@ -50,12 +50,12 @@ pub elements-returns : goal.elements-returns
 elements-returns t c =
     let len : c.len-i-end.result ≡ length c.args.items.now.items = c.len-i-end.ensures ∙ c.args.items.now.ok.0 in
     let test = c.loop-i-test.false in
-    elements_done (types_of c.args.types.now) (kind_of c.args.of.now) (values_of c.loop-i.values.items) c.loop-i.i _ _
+    elements_done (types_of c.args.iface.now.types.items) (kind_of c.args.of.now) (values_of c.loop-i.values.items) c.loop-i.i _ _
     (drop_all c.loop-i.i c.args.items.now.items (omega (arith, test, len))) c.loop-i.invariant.told
 
 pub parts-loop-field-preserved : goal.parts-loop-field-preserved
 parts-loop-field-preserved t c =
-    let found = member_judge (types_of c.args.types.now) (members_view c.args.members.now.entries) in
+    let found = member_judge (types_of c.args.iface.now.types.items) (members_view c.args.members.now.entries) in
     let left = in_left c.deref-field-items.result.now c.loop-field.field-index c.field-item.result
     c.loop-field-test.true c.field-item.is in
     let met = c.in_ok-value.ensures in
@@ -69,7 +69,7 @@ parts-loop-field-preserved t c =
 
 pub parts-returns : goal.parts-returns
 parts-returns t c =
-    parts_done (member_judge (types_of c.args.types.now) (members_view c.args.members.now.entries))
+    parts_done (member_judge (types_of c.args.iface.now.types.items) (members_view c.args.members.now.entries))
     (values_of c.loop-field.values.items) _ _
     (drop_all c.loop-field.field-index c.deref-field-items.result.now c.loop-field-test.false) c.loop-field.invariant
 
@@ -82,14 +82,14 @@ judge_member-judge-judged-requires t c =
 
 pub judge_member-returns-in-None : goal.judge_member-returns-in-None
 judge_member-returns-in-None t c =
-    let types = types_of c.args.types.now in
+    let types = types_of c.args.iface.now.types.items in
     let lacks = judge_of types (members_view c.args.members.now.entries) c.args.name.now
     ∙ ap (option_map (judged types)) (sym c.in-None.ensures) in
     rw lacks (c.above_field.ensures (misfit (kind_of c.args.ty.now)) c.unfit.ensures)
 
 pub judge_member-returns-in-Some : goal.judge_member-returns-in-Some
 judge_member-returns-in-Some t c =
-    let types = types_of c.args.types.now in
+    let types = types_of c.args.iface.now.types.items in
     let json = view c.in-Some.json.now in
     let has = judge_of types (members_view c.args.members.now.entries) c.args.name.now
     ∙ ap (option_map (judged types)) (sym c.in-Some.ensures) in
@@ -97,8 +97,8 @@ judge_member-returns-in-Some t c =
 
 pub judge_object-returns-in-Basic : goal.judge_object-returns-in-Basic
 judge_object-returns-in-Basic t c =
-    rw c.in-Basic.is (c.judge_hex.ensures (types_of c.args.types.now)
-    (member_judge (types_of c.args.types.now) (members_view c.args.members.now.entries)))
+    rw c.in-Basic.is (c.judge_hex.ensures (types_of c.args.iface.now.types.items)
+    (member_judge (types_of c.args.iface.now.types.items) (members_view c.args.members.now.entries)))
 
 pub judge_optional-returns-then-not-is_single : goal.judge_optional-returns-then-not-is_single
 judge_optional-returns-then-not-is_single t c =

@@ -40,12 +40,12 @@ abbrev pub invariant-elements-loop-i : goal.invariant-elements-loop-i
 invariant-elements-loop-i l = record {
   shallow : items_depth (items_view (drop l.i l.items.items)) ≤ l.levels;
   told : with_front (values_of l.values.items)
-      (elements_judged (types_of l.types) (items_view (drop l.i l.items.items)) (kind_of l.of) l.i)
-      ≡ elements_judged (types_of l.types) (items_view l.items.items) (kind_of l.of) 0;
+      (elements_judged (types_of l.iface.types.items) (items_view (drop l.i l.items.items)) (kind_of l.of) l.i)
+      ≡ elements_judged (types_of l.iface.types.items) (items_view l.items.items) (kind_of l.of) 0;
 }
 
 abbrev pub invariant-parts-loop-field : goal.invariant-parts-loop-field
 invariant-parts-loop-field l =
     with_front (values_of l.values.items) (parts_judged (map part_of (drop l.field-index l.field-items))
-    (member_judge (types_of l.types) (members_view l.members.entries)))
-    ≡ parts_judged (map part_of l.fields.items) (member_judge (types_of l.types) (members_view l.members.entries))
+    (member_judge (types_of l.iface.types.items) (members_view l.members.entries)))
+    ≡ parts_judged (map part_of l.fields.items) (member_judge (types_of l.iface.types.items) (members_view l.members.entries))

@@ -13,7 +13,7 @@ pub elements_json-loop-item-preserved : goal.elements_json-loop-item-preserved
 elements_json-loop-item-preserved t c =
     let left = in_left c.deref-item-items.result.now c.loop-item.item-index c.item-item.result c.loop-item-test.true
     c.item-item.is in
-    let types = types_of c.args.types.now in
+    let types = types_of c.args.iface.now.types.items in
     let of = kind_of c.args.of.now in
     let total = elements_json types of (values_of c.args.items.now.items) in
     record {
@@ -30,6 +30,6 @@ elements_json-loop-item-preserved t c =
 
 pub elements_json-returns-clause-json : goal.elements_json-returns-clause-json
 elements_json-returns-clause-json t c =
-    elements_end (types_of c.args.types.now) (kind_of c.args.of.now) c.loop-item.elements.items _ _
+    elements_end (types_of c.args.iface.now.types.items) (kind_of c.args.of.now) c.loop-item.elements.items _ _
     (ap values_of (drop_all c.loop-item.item-index c.deref-item-items.result.now c.loop-item-test.false))
     c.loop-item.invariant.told

@@ -16,8 +16,7 @@ returns-clause-text c =
     let types = types_of c.args.iface.now.types.items in
     let kind = kind_of c.args.ty.now in
     let value = value_of c.args.v.now in
-    let is : view c.in_ok-json.json ≡ json_of types kind value =
-    c.in_ok-json.ensures.json ∙ ap (λ ds. json_of (types_of ds) kind value) c.deref.ensures.value in
+    let is : view c.in_ok-json.json ≡ json_of types kind value = c.in_ok-json.ensures.json in
     let whole = no_float types kind value (view c.in_ok-json.json) is c.requires.shallow in
     IfOk-weaker c.to_string.result _ _ (λ s h. h whole ∙ ap compact_text is) c.to_string.ensures.text
 
@@ -26,8 +25,7 @@ returns-clause-read c =
     let types = types_of c.args.iface.now.types.items in
     let kind = kind_of c.args.ty.now in
     let value = value_of c.args.v.now in
-    let is : view c.in_ok-json.json ≡ json_of types kind value =
-    c.in_ok-json.ensures.json ∙ ap (λ ds. json_of (types_of ds) kind value) c.deref.ensures.value in
+    let is : view c.in_ok-json.json ≡ json_of types kind value = c.in_ok-json.ensures.json in
     IfOk-weaker c.to_string.result _ _ (λ s h. reads types kind value (view c.in_ok-json.json) (string_bytes s) is
     c.requires.shallow h) c.to_string.ensures.reads_back
 
@@ -36,8 +34,7 @@ returns-clause-back c =
     let types = types_of c.args.iface.now.types.items in
     let kind = kind_of c.args.ty.now in
     let value = value_of c.args.v.now in
-    let is : view c.in_ok-json.json ≡ json_of types kind value =
-    c.in_ok-json.ensures.json ∙ ap (λ ds. json_of (types_of ds) kind value) c.deref.ensures.value in
+    let is : view c.in_ok-json.json ≡ json_of types kind value = c.in_ok-json.ensures.json in
     let sound = (sound_says types (procs_of c.args.iface.now.procs.items)).0 c.args.iface.now.sound in
     let back = value_back types sound.forms kind value c.in_ok-json.ensures.held
     ((fits_is types kind value).1 c.requires.fits) in
@@ -50,8 +47,7 @@ returns-clause-says c =
     let types = types_of c.args.iface.now.types.items in
     let kind = kind_of c.args.ty.now in
     let value = value_of c.args.v.now in
-    let is : view c.in_ok-json.json ≡ json_of types kind value =
-    c.in_ok-json.ensures.json ∙ ap (λ ds. json_of (types_of ds) kind value) c.deref.ensures.value in
+    let is : view c.in_ok-json.json ≡ json_of types kind value = c.in_ok-json.ensures.json in
     let sound = (sound_says types (procs_of c.args.iface.now.procs.items)).0 c.args.iface.now.sound in
     IfOk-weaker c.to_string.result _ _ (λ s h. says types sound.forms kind value (string_bytes s)
     c.in_ok-json.ensures.held c.requires.fits (reads types kind value (view c.in_ok-json.json) (string_bytes s) is

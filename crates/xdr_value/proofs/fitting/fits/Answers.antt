@@ -3,5 +3,5 @@ use Rattle.xdr_value.proofs.FitsLaw.{fits_is}
 use Rattle.xdr_value.proofs.fitting.fits.Goals as goal
 
 pub returns : goal.returns
-returns c = rw (c.value_fits.ensures, c.deref.ensures.value)
+returns c = rw c.value_fits.ensures
     (fits_is (types_of c.args.iface.now.types.items) (kind_of c.args.ty.now) (value_of c.args.value.now))

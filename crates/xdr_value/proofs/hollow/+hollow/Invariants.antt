@@ -16,6 +16,6 @@ abbrev pub decreases-fields_hollow : goal.decreases-fields_hollow
 decreases-fields_hollow l = 4 * l.hops + 3
 
 abbrev pub invariant-fields_hollow-loop-field : goal.invariant-fields_hollow-loop-field
-invariant-fields_hollow-loop-field l = parts_hollow (name_hollow l.hops (types_of l.types))
-    (map part_of (drop l.field-index l.field-items)) ≡ parts_hollow (name_hollow l.hops (types_of l.types))
+invariant-fields_hollow-loop-field l = parts_hollow (name_hollow l.hops (types_of l.iface.types.items))
+    (map part_of (drop l.field-index l.field-items)) ≡ parts_hollow (name_hollow l.hops (types_of l.iface.types.items))
     (map part_of l.fields.items)

@@ -11,69 +11,69 @@ returns-in-Some-clause-fault c =
     let ms = marks_of c.as_slice-marks.result.now in
     let ms_is : ms ≡ marks_in tree.items = ap marks_of c.as_slice-marks.ensures.value ∙ c.in_ok-marks.ensures in
     twice_fault tree c.in-Some.name c.in_ok-name-2.name c.in_ok-name-2.ensures
-    (after_twice tree c.args.constants.now c.in_ok-found.found ms c.requires c.in_ok-found.ensures ms_is
+    (after_twice tree c.args.constants.now c.args.found.now ms c.requires.constants c.requires.found ms_is
     c.in_ok-name.field-0 (Some c.in-Some.name) c.in-Some.is c.in_ok-name.ensures)
 
 pub returns-in-Some-unknown-clause-fault : goal.returns-in-Some-unknown-clause-fault
 returns-in-Some-unknown-clause-fault c =
     let tree = c.args.tree.now in
     let cs = c.args.constants.now in
-    let ts = c.in_ok-found.found in
+    let ts = c.args.found.now in
     let ms = marks_of c.as_slice-marks.result.now in
     let ms_is : ms ≡ marks_in tree.items = ap marks_of c.as_slice-marks.ensures.value ∙ c.in_ok-marks.ensures in
     unknown_fault tree c.in-Some-unknown.name c.in_ok-name-3.name c.in_ok-name-3.ensures
-    (after_twice tree cs ts ms c.requires c.in_ok-found.ensures ms_is c.in_ok-name.field-0 None c.in_default.is
+    (after_twice tree cs ts ms c.requires.constants c.requires.found ms_is c.in_ok-name.field-0 None c.in_default.is
     c.in_ok-name.ensures)
-    (after_unknown tree cs ts ms c.requires c.in_ok-found.ensures ms_is c.unknown.result (Some c.in-Some-unknown.name)
+    (after_unknown tree cs ts ms c.requires.constants c.requires.found ms_is c.unknown.result (Some c.in-Some-unknown.name)
     c.in-Some-unknown.is c.unknown.ensures)
 
 pub returns-in-Some-2-clause-fault : goal.returns-in-Some-2-clause-fault
 returns-in-Some-2-clause-fault c =
     let tree = c.args.tree.now in
     let cs = c.args.constants.now in
-    let ts = c.in_ok-found.found in
+    let ts = c.args.found.now in
     let ms = marks_of c.as_slice-marks.result.now in
     let ms_is : ms ≡ marks_in tree.items = ap marks_of c.as_slice-marks.ensures.value ∙ c.in_ok-marks.ensures in
     size_fault tree c.in-Some-2.name c.in_ok-name-5.name c.in_ok-name-5.ensures
-    (after_twice tree cs ts ms c.requires c.in_ok-found.ensures ms_is c.in_ok-name.field-0 None c.in_default.is
+    (after_twice tree cs ts ms c.requires.constants c.requires.found ms_is c.in_ok-name.field-0 None c.in_default.is
     c.in_ok-name.ensures)
-    (after_unknown tree cs ts ms c.requires c.in_ok-found.ensures ms_is c.unknown.result None c.in_default-unknown.is
+    (after_unknown tree cs ts ms c.requires.constants c.requires.found ms_is c.unknown.result None c.in_default-unknown.is
     c.unknown.ensures)
-    (after_size tree cs ts ms c.requires c.in_ok-found.ensures ms_is c.in_ok-name-4.field-0 (Some c.in-Some-2.name)
+    (after_size tree cs ts ms c.requires.constants c.requires.found ms_is c.in_ok-name-4.field-0 (Some c.in-Some-2.name)
     c.in-Some-2.is c.in_ok-name-4.ensures)
 
 pub returns-in-Some-3-clause-fault : goal.returns-in-Some-3-clause-fault
 returns-in-Some-3-clause-fault c =
     let tree = c.args.tree.now in
     let cs = c.args.constants.now in
-    let ts = c.in_ok-found.found in
+    let ts = c.args.found.now in
     let ms = marks_of c.as_slice-marks.result.now in
     let ms_is : ms ≡ marks_in tree.items = ap marks_of c.as_slice-marks.ensures.value ∙ c.in_ok-marks.ensures in
     endless_fault tree c.in-Some-3.name c.in_ok-name-7.name c.in_ok-name-7.ensures
-    (after_twice tree cs ts ms c.requires c.in_ok-found.ensures ms_is c.in_ok-name.field-0 None c.in_default.is
+    (after_twice tree cs ts ms c.requires.constants c.requires.found ms_is c.in_ok-name.field-0 None c.in_default.is
     c.in_ok-name.ensures)
-    (after_unknown tree cs ts ms c.requires c.in_ok-found.ensures ms_is c.unknown.result None c.in_default-unknown.is
+    (after_unknown tree cs ts ms c.requires.constants c.requires.found ms_is c.unknown.result None c.in_default-unknown.is
     c.unknown.ensures)
-    (after_size tree cs ts ms c.requires c.in_ok-found.ensures ms_is c.in_ok-name-4.field-0 None c.in_default-2.is
+    (after_size tree cs ts ms c.requires.constants c.requires.found ms_is c.in_ok-name-4.field-0 None c.in_default-2.is
     c.in_ok-name-4.ensures)
-    (after_endless tree cs ts ms c.requires c.in_ok-found.ensures ms_is c.in_ok-name-6.field-0 (Some c.in-Some-3.name)
+    (after_endless tree cs ts ms c.requires.constants c.requires.found ms_is c.in_ok-name-6.field-0 (Some c.in-Some-3.name)
     c.in-Some-3.is c.in_ok-name-6.ensures)
 
 pub returns-clause-faultless : goal.returns-clause-faultless
 returns-clause-faultless c =
     let tree = c.args.tree.now in
     let cs = c.args.constants.now in
-    let ts = c.in_ok-found.found in
+    let ts = c.args.found.now in
     let ms = marks_of c.as_slice-marks.result.now in
     let ms_is : ms ≡ marks_in tree.items = ap marks_of c.as_slice-marks.ensures.value ∙ c.in_ok-marks.ensures in
     record {
-      twice = after_twice tree cs ts ms c.requires c.in_ok-found.ensures ms_is c.in_ok-name.field-0 None c.in_default.is
+      twice = after_twice tree cs ts ms c.requires.constants c.requires.found ms_is c.in_ok-name.field-0 None c.in_default.is
           c.in_ok-name.ensures;
-      unknown = after_unknown tree cs ts ms c.requires c.in_ok-found.ensures ms_is c.unknown.result None
+      unknown = after_unknown tree cs ts ms c.requires.constants c.requires.found ms_is c.unknown.result None
           c.in_default-unknown.is c.unknown.ensures;
-      size = after_size tree cs ts ms c.requires c.in_ok-found.ensures ms_is c.in_ok-name-4.field-0 None
+      size = after_size tree cs ts ms c.requires.constants c.requires.found ms_is c.in_ok-name-4.field-0 None
           c.in_default-2.is
           c.in_ok-name-4.ensures;
-      endless = after_endless tree cs ts ms c.requires c.in_ok-found.ensures ms_is c.in_ok-name-6.field-0 None
+      endless = after_endless tree cs ts ms c.requires.constants c.requires.found ms_is c.in_ok-name-6.field-0 None
           c.in_default-3.is c.in_ok-name-6.ensures;
     }
