@@ -2,6 +2,8 @@ use crate::{compile, table};
 use std::alloc::{AllocError, Global};
 use std::process::Abort;
 use std::test::*;
+use xdr_json::{from_json, to_json};
+use xdr_value::{Interface, Ty, fits, has_levels_within, known, zero};
 
 /// The table of the text, or its first fault behind its line.
 fn answer(alloc: Global, text: &str) -> Result<String, AllocError> {
@@ -386,4 +388,57 @@ fn many_ways_down_take_no_time(rt: HostRuntime) -> Result<(), AllocError> {
     );
     let text = each_twice(rt.alloc(), 2000, "")?;
     expect(&rt, rt.alloc(), &[(text.as_str(), "0: size S15")])
+}
+
+// So many typedefs, each of which names the one before, and a procedure with an argument of the last.
+fn chain(alloc: Global, names: u32) -> Result<String, AllocError> {
+    let mut text = String::from_str(alloc, "struct S { int a; string b<>; };\ntypedef S T0;\n")?;
+    for i in 1..names {
+        let before = i - 1;
+        let line = format!(in alloc; "typedef T{before} T{i};\n")?;
+        text.push_str(line.as_str())?;
+    }
+    Ok(text)
+}
+
+fn goes_round(alloc: Global, iface: &Interface, ty: &Ty, text: &str) -> Result<bool, AllocError> {
+    if !known(&iface.types, ty) {
+        return Ok(false);
+    }
+    match from_json(alloc, iface, ty, text) {
+        Err(_) => Ok(false),
+        Ok(value) => {
+            if !fits(iface, ty, &value) || !has_levels_within(&value, 64) {
+                return Ok(false);
+            }
+            let again = to_json(alloc, iface, ty, &value)?;
+            Ok(again.as_str() == text)
+        }
+    }
+}
+
+#[test]
+fn a_long_chain_of_names_is_followed(rt: HostRuntime) -> Result<(), AllocError> {
+    let alloc = rt.alloc();
+    let text = chain(alloc, 100000)?;
+    match compile(alloc, text.as_str()) {
+        Err(_) => assert!(rt; false),
+        Ok(iface) => {
+            let last = Ty::placed(alloc, "T99999", 100000)?;
+            let list = Ty::up_to(alloc, last, 4294967295)?;
+            assert!(rt;
+                goes_round(
+                    alloc,
+                    &iface,
+                    &list,
+                    "[{\"a\":1,\"b\":\"x\"},{\"a\":2,\"b\":\"\"}]"
+                )?
+            );
+            if known(&iface.types, &list) {
+                let zero = zero(alloc, &iface, &list)?;
+                assert!(rt; fits(&iface, &list, &zero));
+            }
+        }
+    }
+    Ok(())
 }
