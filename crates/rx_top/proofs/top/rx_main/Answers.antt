@@ -18,6 +18,12 @@ returns-in-Ok-clause-no_command_said g c is memory =
     let usage : c.do_job.result ≡ statuses.Usage = c.do_job.ensures.nothing nothing in
     absurd cc
 
+pub returns-in-Ok-clause-no_read : goal.returns-in-Ok-clause-no_read
+returns-in-Ok-clause-no_read g c is =
+    let nothing : is_job c.job_of.result ≡ false =
+    rw c.job_of.ensures (sym (there_by_job c.in-Ok.command) ∙ (rw c.in-Ok.ensures.ok at is)) in
+    c.do_job.ensures.nothing_read nothing
+
 pub returns-in-Ok-clause-no_wire : goal.returns-in-Ok-clause-no_wire
 returns-in-Ok-clause-no_wire g c is =
     let over : is_over_wire c.job_of.result ≡ false =
