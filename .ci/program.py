@@ -296,7 +296,7 @@ def from_port_0(host):
 
 def robust():
     """Strange datagrams, a stop and a pipe for a file end no server; and its time is that of the clock on the wall."""
-    xg, script = write("x.xg", "P(IN int a, INOUT string b<4>) = 1;"), write("s", "")
+    xg, script = write("x.xg", "P(IN int a, INOUT string b<4>) = 1;"), write("s", "on P\n")
     words = [xg, script, "--at", "127.0.0.1:0"]
     began = time.monotonic()
     with served_by("Ok", *words, "--for", "4000") as (server, host, lines):
