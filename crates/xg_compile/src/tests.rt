@@ -390,12 +390,13 @@ fn many_ways_down_take_no_time(rt: HostRuntime) -> Result<(), AllocError> {
     expect(&rt, rt.alloc(), &[(text.as_str(), "0: size S15")])
 }
 
-// So many typedefs, each of which names the one before, and a procedure with an argument of the last.
-fn chain(alloc: Global, names: u32) -> Result<String, AllocError> {
+// So many typedefs, each of which names another, which stands before it or behind it.
+fn chain(alloc: Global, names: u32, is_before: bool) -> Result<String, AllocError> {
     let mut text = String::from_str(alloc, "struct S { int a; string b<>; };\ntypedef S T0;\n")?;
     for i in 1..names {
-        let before = i - 1;
-        let line = format!(in alloc; "typedef T{before} T{i};\n")?;
+        let name = if is_before { i } else { names - i };
+        let other = name - 1;
+        let line = format!(in alloc; "typedef T{other} T{name};\n")?;
         text.push_str(line.as_str())?;
     }
     Ok(text)
@@ -412,7 +413,21 @@ fn goes_round(alloc: Global, iface: &Interface, ty: &Ty, text: &str) -> Result<b
                 return Ok(false);
             }
             let again = to_json(alloc, iface, ty, &value)?;
-            Ok(again.as_str() == text)
+            let zero = zero(alloc, iface, ty)?;
+            Ok(again.as_str() == text && fits(iface, ty, &zero))
+        }
+    }
+}
+
+fn is_followed(alloc: Global, is_before: bool) -> Result<bool, AllocError> {
+    let text = chain(alloc, 100000, is_before)?;
+    match compile(alloc, text.as_str()) {
+        Err(_) => Ok(false),
+        Ok(iface) => {
+            let last = Ty::named(alloc, "T99999")?;
+            let list = Ty::up_to(alloc, last, 4294967295)?;
+            let values = "[{\"a\":1,\"b\":\"x\"},{\"a\":2,\"b\":\"\"}]";
+            goes_round(alloc, &iface, &list, values)
         }
     }
 }
@@ -420,25 +435,7 @@ fn goes_round(alloc: Global, iface: &Interface, ty: &Ty, text: &str) -> Result<b
 #[test]
 fn a_long_chain_of_names_is_followed(rt: HostRuntime) -> Result<(), AllocError> {
     let alloc = rt.alloc();
-    let text = chain(alloc, 100000)?;
-    match compile(alloc, text.as_str()) {
-        Err(_) => assert!(rt; false),
-        Ok(iface) => {
-            let last = Ty::placed(alloc, "T99999", 100000)?;
-            let list = Ty::up_to(alloc, last, 4294967295)?;
-            assert!(rt;
-                goes_round(
-                    alloc,
-                    &iface,
-                    &list,
-                    "[{\"a\":1,\"b\":\"x\"},{\"a\":2,\"b\":\"\"}]"
-                )?
-            );
-            if known(&iface.types, &list) {
-                let zero = zero(alloc, &iface, &list)?;
-                assert!(rt; fits(&iface, &list, &zero));
-            }
-        }
-    }
+    assert!(rt; is_followed(alloc, true)?);
+    assert!(rt; is_followed(alloc, false)?);
     Ok(())
 }
