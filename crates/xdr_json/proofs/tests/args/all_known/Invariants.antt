@@ -5,5 +5,5 @@ use Rattle.xdr_json.proofs.tests.args.all_known.Given as goal
 
 abbrev pub invariant-loop-arg : goal.invariant-loop-arg
 invariant-loop-arg l =
-    params_known (types_of l.iface.types.items) (map param_of (drop l.arg-index l.args))
-    ≡ params_known (types_of l.iface.types.items) (map param_of l.args)
+    params_known (types_of l.types) (map param_of (drop l.arg-index l.args))
+    ≡ params_known (types_of l.types) (map param_of l.args)
