@@ -39,6 +39,7 @@ slots_of_all calls = flat_map slots_under calls.by_key
 abbrev pub beside_of : EndOfCall → ℕ
 beside_of c = length (slots_of c) - (if holds_lead c then 1 else 0)
 
+-- the slots that the call of a key holds beside its lead; none where no call is there
 abbrev pub beside_under : Option EndOfCall → ℕ
 beside_under None = 0
 beside_under (Some c) = beside_of c

@@ -33,6 +33,7 @@ is_next t last d =
     same_call t d && (((header_of t).seq + suc last == (header_of d).seq)
     && ((header_of t).serial + suc last == (header_of d).serial))
 
+-- whether a datagram of DATA continues the last part of a text of DATA
 abbrev pub goes_on : List ℕ → ℕ → List ℕ → Bool
 goes_on t last d = (is_data_datagram t && is_data_datagram d) && is_next t last d
 

@@ -32,6 +32,7 @@ pub fn byte_at(bytes: &[u8], place: usize) -> u8
     bytes.get(place).copied().unwrap_or(0)
 }
 
+/// Whether a datagram has a whole header, and that of DATA.
 pub fn is_data_datagram(bytes: &[u8]) -> bool
     ensures { result ≡ is_data_datagram bytes.now }
 {

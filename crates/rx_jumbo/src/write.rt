@@ -18,6 +18,7 @@ pub fn put(to: &mut [u8], at: usize, bytes: &[u8]) -> usize
     end
 }
 
+/// Writes a number in four bytes at a place, the highest byte first, and answers the place behind them.
 pub fn put_u32(to: &mut [u8], at: usize, number: u32) -> usize
     requires { at + 4 ≤ length to.old }
     ensures { Puts to.old to.new at result (big_bytes 4 number) }
@@ -27,6 +28,7 @@ pub fn put_u32(to: &mut [u8], at: usize, number: u32) -> usize
     put(to, at, &bytes)
 }
 
+/// Writes a number in two bytes at a place, the highest byte first, and answers the place behind them.
 pub fn put_u16(to: &mut [u8], at: usize, number: u16) -> usize
     requires { at + 2 ≤ length to.old }
     ensures { Puts to.old to.new at result (big_bytes 2 number) }

@@ -29,9 +29,11 @@ pub record Told : Type 0 where
 abbrev pub sink_tells : Option (List ℕ) → ℕ → SinkTells
 sink_tells put faults = record { put = put; faults = faults }
 
+-- what a wire tells, of its traffic, its faults and its moment
 abbrev pub wire_tells : Option Traffic → ℕ → ℕ → WireTells
 wire_tells traffic faults moment = record { traffic = traffic; faults = faults; moment = moment }
 
+-- what all three tell, of what each tells
 abbrev pub told : Option (List Noted) → SinkTells → WireTells → Told
 told noted sink wire = record { noted = noted; sink = sink; wire = wire }
 

@@ -115,18 +115,21 @@ impl Options {
         }
     }
 
+    /// The service that is named, or `DEFAULT_SERVICE`.
     pub fn service(&self) -> u16
         ensures { result ≡ service_in self.now }
     {
         self.service.unwrap_or(DEFAULT_SERVICE)
     }
 
+    /// The nonce that is named, or 0.
     pub fn nonce(&self) -> u64
         ensures { result ≡ nonce_in self.now }
     {
         self.nonce.unwrap_or(0)
     }
 
+    /// The call number with which a connection begins: the one that is named, or `DEFAULT_FIRST`.
     pub fn first(&self) -> u32
         ensures { result ≡ first_in self.now }
     {

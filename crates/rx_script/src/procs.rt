@@ -39,6 +39,7 @@ pub fn proc_named<'a>(procs: &'a [Proc], name: &str) -> Option<&'a Proc>
     None
 }
 
+/// The procedure that the next word names. Another text than a procedure's name is `Proc`.
 pub fn proc_word<'a>(iface: &'a Interface, words: &mut Pieces) -> Result<&'a Proc, LineWhy>
     ensures read { IsSeenWhole (λ p. proc_of p.now)
         (first_as (proc_word (procs_of iface.now.procs.items)) words.old) result }

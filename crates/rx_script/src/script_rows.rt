@@ -39,6 +39,7 @@ fn is_wait(line: &ScriptLine) -> bool
     }
 }
 
+/// Whether a line is `up`: the request ends with a counted stream.
 pub fn is_up(line: &ScriptLine) -> bool
     ensures { result ≡ is_up (saying_of line.now) }
 {
@@ -51,6 +52,7 @@ pub fn is_up(line: &ScriptLine) -> bool
     }
 }
 
+/// Whether a line is `down`: the reply begins with a counted stream.
 pub fn is_down(line: &ScriptLine) -> bool
     ensures { result ≡ is_down (saying_of line.now) }
 {
@@ -74,6 +76,7 @@ fn has_wait(before: &[Marked]) -> bool
     false
 }
 
+/// Whether one of the lines of a block is `up`.
 pub fn has_up(before: &[Marked]) -> bool
     ensures { result ≡ list_any is_up (before_of before.now) }
 {
@@ -85,6 +88,7 @@ pub fn has_up(before: &[Marked]) -> bool
     false
 }
 
+/// Whether one of the lines of a block is `down`.
 pub fn has_down(before: &[Marked]) -> bool
     ensures { result ≡ list_any is_down (before_of before.now) }
 {

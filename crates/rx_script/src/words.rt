@@ -101,6 +101,7 @@ pub fn seed_word(words: &mut Pieces) -> Result<u64, LineWhy>
     long_within(word, 0, u64::MAX).ok_or(LineWhy::Number)
 }
 
+/// A host, as `A.B.C.D:PORT`.
 pub fn host_word(words: &mut Pieces) -> Result<Host, LineWhy>
     ensures read { result ≡ first_as host_word words.old }
     ensures rest { words.new ≡ drop 1 words.old }
@@ -127,6 +128,7 @@ pub fn fault_word(words: &mut Pieces) -> Result<i32, LineWhy>
     fault_in(word).ok_or(LineWhy::Number)
 }
 
+/// Bytes: hex in lower case, `-` for none, or `N*BB` for N times the byte BB.
 pub fn bytes_word(alloc: Global, words: &mut Pieces) -> Result<Bytes, Refusal>
     ensures read { IsAnswer (first_as bytes_word words.old) result }
     ensures rest { words.new ≡ drop 1 words.old }
@@ -138,6 +140,7 @@ pub fn bytes_word(alloc: Global, words: &mut Pieces) -> Result<Bytes, Refusal>
     }
 }
 
+/// The epoch of a node, as `epoch=N`.
 pub fn epoch_word(words: &mut Pieces) -> Result<u32, LineWhy>
     ensures read { result ≡ first_as epoch_word words.old }
     ensures rest { words.new ≡ drop 1 words.old }

@@ -12,6 +12,7 @@ use Rattle.rx_token.specs.DigestLaws.{bytes_of_number, digest_fits}
 pub token_is_lawful : (key : List ℕ) → ClassLaw (token key)
 token_is_lawful key challenges c nonce answer responds = (bytes_decides answer _).1 (sym (same_Some _ _ responds))
 
+-- its index is 200, a challenge is the 8 bytes of the nonce, and a response is a digest
 pub token_fits : (key : List ℕ) → FitsClass (token key)
 token_fits key =
     record {
@@ -24,10 +25,12 @@ token_fits key =
           ];
     }
 
+-- whichever class was chosen, the response to one's own challenge is right
 pub chosen_is_lawful : (s : List ℕ) → ClassLaw (chosen s)
 chosen_is_lawful [] = null_is_lawful
 chosen_is_lawful (mark ∷ key) = token_is_lawful key
 
+-- whichever class was chosen, its index is a byte, and so is each that it writes
 pub chosen_fits : (s : List ℕ) → FitsClass (chosen s)
 chosen_fits [] = null_fits
 chosen_fits (mark ∷ key) = token_fits key

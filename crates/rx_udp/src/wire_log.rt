@@ -111,6 +111,7 @@ impl Model for WireLog {
 }
 
 impl WireLog {
+    /// A log without an entry, with room for so many entries and for so many bytes of them all.
     pub fn make(alloc: Global, room: usize) -> Result<WireLog, AllocError>
         ensures empty { IfOk result (λ s. s ≡ record { entries = []; room = room }) }
     {

@@ -21,6 +21,7 @@ fate_at (suc zero) = fates.Twice
 fate_at (suc (suc zero)) = fates.Held
 fate_at (suc (suc (suc n))) = fates.Once
 
+-- the fate that a word of the generator says, by its remainder of 16: 0 lost, 1 twice, 2 held, else once
 abbrev pub fate_of : ℕ → Fate
 fate_of word = fate_at (word % 16)
 

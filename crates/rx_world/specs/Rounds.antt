@@ -55,6 +55,7 @@ polls_at node (Some from) p =
     Then (Turn (polling from) node (record { again = true; given = p.given }) p.stage)
     (λ r. ends (To (record { stage = r.1; given = r.0.given })))
 
+-- the polls of the node of this number, if it is there
 abbrev pub polls_out : ℕ → Polled → Part Polled
 polls_out node p = polls_at node (host_at p.stage node) p
 

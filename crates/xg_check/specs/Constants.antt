@@ -18,6 +18,7 @@ pub data Given : Type 0 where
   first : Given
   next : Given
 
+-- a constant: its name, where its value is from, and whether it is a member of an enum
 pub record ConstantDef : Type 0 where
   pub name : List ℕ
   pub given : Given
@@ -36,6 +37,7 @@ members_from other [] = []
 members_from other (m ∷ ms) =
     record { name = m.name; given = given_or other m.value; is_member = true } ∷ members_from next ms
 
+-- the constants that a part defines: one, or the members of an enum
 abbrev pub part_constants : Part → List ConstantDef
 part_constants (parts.Const name value) = record { name = name; given = word value; is_member = false } ∷ []
 part_constants (parts.Enum name members) = members_from first members
@@ -48,9 +50,11 @@ part_constants (parts.Struct name fields) = []
 part_constants (parts.Union name tag tag_name arms otherwise) = []
 part_constants (parts.Proc name args kind opcode) = []
 
+-- the constants of a text, in its order
 abbrev pub constants_in : List Item → List ConstantDef
 constants_in items = flat_map (λ (i : Item). part_constants i.part) items
 
+-- the names of the constants, in order
 abbrev pub constant_names : List ConstantDef → List (List ℕ)
 constant_names cs = map (λ (c : ConstantDef). c.name) cs
 
@@ -71,11 +75,13 @@ abbrev pub value_behind : (ℕ → Option ℤ) → ℕ → Option ℤ
 value_behind held zero = None
 value_behind held (suc i) = option_map (λ z. z +ℤ pos 1) (held i)
 
+-- the value of the constant of this number by where it is from, where held gives the values of constants
 abbrev pub given_value : (ℕ → Option ℤ) → List ConstantDef → ℕ → Given → Option ℤ
 given_value held cs i (word w) = word_value held cs w
 given_value held cs i first = Some (pos 0)
 given_value held cs i next = value_behind held i
 
+-- the value of the constant of this number, if there is one, where held gives the values of constants
 abbrev pub constant_value : (ℕ → Option ℤ) → List ConstantDef → ℕ → Option ConstantDef → Option ℤ
 constant_value held cs i None = None
 constant_value held cs i (Some c) = given_value held cs i c.given
@@ -89,9 +95,11 @@ value_within (suc n) cs i = constant_value (value_within n cs) cs i (slice_get c
 unfoldable pub value_at : List ConstantDef → ℕ → Option ℤ
 value_at cs i = value_within (length cs) cs i
 
+-- the value of a word: a number, or the value of the constant that it names
 abbrev pub value_of : List ConstantDef → ConstWord → Option ℤ
 value_of cs w = word_value (value_at cs) cs w
 
+-- the value of the constant of this name
 abbrev pub value_named : List ConstantDef → List ℕ → Option ℤ
 value_named cs name = option_and_then (value_at cs) (place_of name (constant_names cs))
 
@@ -107,14 +115,17 @@ size_of cs w = in_32_bits (value_of cs w)
 
 -- ---- which others they lead to
 
+-- the number as a list, which is empty where there is none
 abbrev pub one_or_none : Option ℕ → List ℕ
 one_or_none None = []
 one_or_none (Some i) = i ∷ []
 
+-- the number before, if there is one
 abbrev pub before : ℕ → Option ℕ
 before zero = None
 before (suc i) = Some i
 
+-- the number of the constant that a word names
 abbrev pub word_source : List ConstantDef → ConstWord → Option ℕ
 word_source cs (consts.Literal minus n) = None
 word_source cs (consts.Name name) = place_of name (constant_names cs)
@@ -125,6 +136,7 @@ given_source cs i (word w) = word_source cs w
 given_source cs i first = None
 given_source cs i next = before i
 
+-- to which other each of these constants leads, of which the first has this number among all
 abbrev pub ways_from : List ConstantDef → ℕ → List ConstantDef → List (List ℕ)
 ways_from all i [] = []
 ways_from all i (c ∷ cs) = one_or_none (given_source all i c.given) ∷ ways_from all (suc i) cs

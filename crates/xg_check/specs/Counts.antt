@@ -33,6 +33,7 @@ IsCountBelow n counts.Nothing = Unit {0}
 IsCountBelow n (counts.Start value) = IfSome value (λ z. z <ℤ pos n)
 IsCountBelow n (counts.Last value) = IfSome value (λ z. z <ℤ pos n)
 
+-- what is counted from: nothing without a `startingopcode`, else its value, or the last opcode once one was counted
 abbrev pub count_from : List ConstantDef → Option ConstWord → Bool → Option ℤ → Count
 count_from cs None first last = counts.Nothing
 count_from cs (Some word) true last = counts.Start (value_of cs word)

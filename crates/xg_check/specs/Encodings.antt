@@ -23,10 +23,12 @@ abbrev pub place_hollow : (ℕ → Bool) → Option ℕ → Bool
 place_hollow held None = false
 place_hollow held (Some i) = held i
 
+-- the size is there, and is 0
 abbrev pub is_zero : Option ℕ → Bool
 is_zero None = false
 is_zero (Some n) = n == 0
 
+-- a declaration takes no bytes, where held says so of words of types: an array or opaque of size 0, or of such a type
 abbrev pub form_hollow : (TypeWord → Bool) → List ConstantDef → Form → Bool
 form_hollow held cs (forms.Plain t) = held t
 form_hollow held cs (forms.Star t) = false
@@ -36,10 +38,12 @@ form_hollow held cs (forms.Opaque size) = is_zero (size_of cs size)
 form_hollow held cs (forms.OpaqueUpTo most) = false
 form_hollow held cs (forms.Text most) = false
 
+-- none of the declarations takes bytes, where held says so of words of types
 abbrev pub decls_hollow : (TypeWord → Bool) → List ConstantDef → List Decl → Bool
 decls_hollow held cs [] = true
 decls_hollow held cs (d ∷ ds) = form_hollow held cs d.form && decls_hollow held cs ds
 
+-- the type that a part defines takes no bytes, where held says so of words of types
 abbrev pub part_hollow : (TypeWord → Bool) → List ConstantDef → Part → Bool
 part_hollow held cs (parts.Typedef decl) = form_hollow held cs decl.form
 part_hollow held cs (parts.Struct name fields) = decls_hollow held cs fields
@@ -52,6 +56,7 @@ part_hollow held cs (parts.StartingOpcode number) = false
 part_hollow held cs (parts.Const name value) = false
 part_hollow held cs (parts.Proc name args kind opcode) = false
 
+-- a part is there, and the type that it defines takes no bytes, where held says so of words of types
 abbrev pub optional_hollow : (TypeWord → Bool) → List ConstantDef → Option Part → Bool
 optional_hollow held cs None = false
 optional_hollow held cs (Some p) = part_hollow held cs p
@@ -62,6 +67,7 @@ hollow_within zero ts cs i = false
 hollow_within (suc n) ts cs i =
     optional_hollow (λ t. place_hollow (hollow_within n ts cs) (word_place ts t)) cs (slice_get ts i)
 
+-- the type of this number takes no bytes
 unfoldable pub hollow_at : List Part → List ConstantDef → ℕ → Bool
 hollow_at ts cs i = hollow_within (length ts) ts cs i
 
@@ -85,11 +91,14 @@ opaque_bytes n = if n == 0 then 1 else (n + 3) / 4 * 4
 abbrev pub array_bytes : ℕ → ℕ → ℕ
 array_bytes n bytes = if n == 0 then 1 else n * bytes
 
+-- what is made of two numbers, where both are there
 abbrev pub both : (ℕ → ℕ → ℕ) → Option ℕ → Option ℕ → Option ℕ
 both f None o = None
 both f (Some m) None = None
 both f (Some m) (Some n) = Some (f m n)
 
+-- the bytes of what is declared so, where held has those of words of types; what may be left out, or be of any length,
+-- has the 4 of its count (RFC 4506, sections 4.9 to 4.13 and 4.19)
 abbrev pub form_bytes : (TypeWord → Option ℕ) → List ConstantDef → Form → Option ℕ
 form_bytes held cs (forms.Plain t) = held t
 form_bytes held cs (forms.Star t) = Some 4
@@ -99,6 +108,7 @@ form_bytes held cs (forms.Opaque size) = option_map opaque_bytes (size_of cs siz
 form_bytes held cs (forms.OpaqueUpTo most) = Some 4
 form_bytes held cs (forms.Text most) = Some 4
 
+-- the bytes of the declarations together, where held has those of words of types
 abbrev pub decls_bytes : (TypeWord → Option ℕ) → List ConstantDef → List Decl → Option ℕ
 decls_bytes held cs [] = Some 0
 decls_bytes held cs (d ∷ ds) = both (λ m n. m + n) (form_bytes held cs d.form) (decls_bytes held cs ds)
@@ -108,10 +118,12 @@ abbrev pub struct_bytes : (TypeWord → Option ℕ) → List ConstantDef → Lis
 struct_bytes held cs [] = Some 1
 struct_bytes held cs (d ∷ ds) = decls_bytes held cs (d ∷ ds)
 
+-- the bytes of what an arm declares, where held has those of words of types; `void` has none
 abbrev pub held_bytes : (TypeWord → Option ℕ) → List ConstantDef → Option Decl → Option ℕ
 held_bytes held cs None = Some 0
 held_bytes held cs (Some d) = form_bytes held cs d.form
 
+-- the bytes of the default arm, where held has those of words of types; a union without one has none for it
 abbrev pub default_bytes : (TypeWord → Option ℕ) → List ConstantDef → Option ArmItem → Option ℕ
 default_bytes held cs None = Some 0
 default_bytes held cs (Some a) = held_bytes held cs a.decl

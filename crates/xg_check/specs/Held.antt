@@ -16,6 +16,7 @@ use Rattle.std.specs.declared.hash.FoldHasher.{FoldHasher}
 use Rattle.std.specs.declared.hash.BuildHasherDefault.{BuildHasherDefault}
 use Rattle.xg_check.specs.Tags.{tag_at, enum_has}
 
+-- what stands in an entry of a table, where the table has that entry
 abbrev pub flat : {A : Type 0} → Option (Option A) → Option A
 flat None = None
 flat (Some o) = o

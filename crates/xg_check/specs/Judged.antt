@@ -34,11 +34,13 @@ pub record Scope : Type 0 where
   pub constants : List ConstantDef
   pub types : List Part
 
+-- the constants and the types that a text defines
 abbrev pub scope_of : Tree → Scope
 scope_of tree = record { constants = constants_in tree.items; types = types_in tree.items }
 
 -- ---- twice
 
+-- two names stand among the types, the constants or the procedures, or in the list of one item
 abbrev pub same_space : Space → Space → Bool
 same_space spaces.Type spaces.Type = true
 same_space spaces.Constant spaces.Constant = true
@@ -69,14 +71,17 @@ pub record IsTwice (cs : List ConstantDef) (marks : List Mark) (k : ℕ) : Type 
 
 -- ---- unknown
 
+-- a type that is none of the language, and that the text doesn't define
 abbrev pub is_unknown_type : List Part → TypeWord → Bool
 is_unknown_type ts (types.Base words) = is_none (base_named words)
 is_unknown_type ts (types.Name n) = is_none (place_of n (type_names ts))
 
+-- a name for a value that no constant of the text has
 abbrev pub is_unknown_constant : List ConstantDef → ConstWord → Bool
 is_unknown_constant cs (consts.Literal minus n) = false
 is_unknown_constant cs (consts.Name n) = is_none (place_of n (constant_names cs))
 
+-- a type or a constant is used that isn't defined
 abbrev pub is_unknown : Scope → Mark → Bool
 is_unknown s (uses_type t) = is_unknown_type s.types t
 is_unknown s (uses_constant w) = is_unknown_constant s.constants w
@@ -109,6 +114,7 @@ abbrev pub is_out_of_range : List ConstantDef → Option ConstWord → Bool
 is_out_of_range cs None = false
 is_out_of_range cs (Some w) = is_some (value_of cs w) && is_none (size_of cs w)
 
+-- the bound or the size of a declaration, if one is written
 abbrev pub form_bound_word : Form → Option ConstWord
 form_bound_word (forms.Fixed t size) = Some size
 form_bound_word (forms.Opaque size) = Some size
@@ -147,14 +153,17 @@ pub record IsTypeTooLarge (s : Scope) (n : List ℕ) : Type 0 where
   pub ends : HoldsNoEndless s.types (Some place)
   pub too_large : passes_most (bytes_at s.types s.constants place) ≡ true
 
+-- an arm has a case
 abbrev pub has_case_word : List ConstWord → Bool
 has_case_word [] = false
 has_case_word (c ∷ cs) = true
 
+-- one of the arms at least has a case
 abbrev pub has_arm : List ArmItem → Bool
 has_arm [] = false
 has_arm (a ∷ more) = has_case_word a.cases || has_arm more
 
+-- a union may have the tag: an int, an unsigned, a bool or an enum
 abbrev pub is_tag : Tag → Bool
 is_tag tags.Other = false
 is_tag _ = true

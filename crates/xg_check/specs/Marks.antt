@@ -16,6 +16,7 @@ use Rattle.xg_parse.specs.declared.tree.Item.{Item}
 use Rattle.xg_check.specs.declared.marks.Space.{Space}
 use Rattle.xg_check.specs.declared.marks.Space.TheVariants as spaces
 
+-- what stands at a place of a text and is judged there
 pub data Mark : Type 0 where
   -- a name is declared: a type, a constant, a procedure, or one of the list of the item of a number
   declares : Space → List ℕ → Mark
@@ -34,10 +35,12 @@ pub data Mark : Type 0 where
   struct_type : List ℕ → Mark
   union_type : List ℕ → TypeWord → List ArmItem → Bool → Mark
 
+-- the name of a type: its words, or the one that was defined
 abbrev pub type_word_name : TypeWord → List ℕ
 type_word_name (types.Base words) = words
 type_word_name (types.Name name) = name
 
+-- the name of a constant; a number has the empty one
 abbrev pub const_word_name : ConstWord → List ℕ
 const_word_name (consts.Literal minus n) = []
 const_word_name (consts.Name name) = name
@@ -54,10 +57,12 @@ mark_name (enum_type n members) = n
 mark_name (struct_type n) = n
 mark_name (union_type n tag arms has_default) = n
 
+-- the use of a constant, if one is written
 abbrev pub optional_constant : Option ConstWord → List Mark
 optional_constant None = []
 optional_constant (Some w) = uses_constant w ∷ []
 
+-- the use of the type in a declaration; opaque and string use none
 abbrev pub form_type : Form → List Mark
 form_type (forms.Plain t) = uses_type t ∷ []
 form_type (forms.Star t) = uses_type t ∷ []
@@ -67,6 +72,7 @@ form_type (forms.Opaque size) = []
 form_type (forms.OpaqueUpTo most) = []
 form_type (forms.Text most) = []
 
+-- the use of the constant that is the bound or the size of a declaration, if it has one
 abbrev pub form_bound : Form → List Mark
 form_bound (forms.Plain t) = []
 form_bound (forms.Star t) = []
@@ -76,6 +82,7 @@ form_bound (forms.Opaque size) = uses_constant size ∷ []
 form_bound (forms.OpaqueUpTo most) = optional_constant most
 form_bound (forms.Text most) = optional_constant most
 
+-- a name where it has to be the only one; the name of an arm's field needn't be
 abbrev pub optional_name : Option Space → List ℕ → List Mark
 optional_name None n = []
 optional_name (Some space) n = declares space n ∷ []
@@ -84,6 +91,7 @@ optional_name (Some space) n = declares space n ∷ []
 abbrev pub decl_marks : Option Space → Decl → List Mark
 decl_marks space d = form_type d.form ++ (optional_name space d.name ++ (sized d ∷ form_bound d.form))
 
+-- a member of an enum: its name, its value, and the constant that gives the value, if one is written
 abbrev pub member_marks : MembItem → List Mark
 member_marks m = declares spaces.Constant m.name ∷ valued m.name true ∷ optional_constant m.value
 
@@ -91,9 +99,11 @@ member_marks m = declares spaces.Constant m.name ∷ valued m.name true ∷ opti
 abbrev pub field_marks : ℕ → Decl → List Mark
 field_marks item d = decl_marks (Some (spaces.List item)) d
 
+-- an argument of the item of this number
 abbrev pub arg_marks : ℕ → ArgItem → List Mark
 arg_marks item a = decl_marks (Some (spaces.List item)) a.decl
 
+-- a case of the union of this name and tag, in the item of this number, and the constant that it uses
 abbrev pub case_marks : ℕ → List ℕ → TypeWord → ConstWord → List Mark
 case_marks item n tag c = union_case item n tag c ∷ uses_constant c ∷ []
 
@@ -102,9 +112,11 @@ abbrev pub held_marks : Option Decl → List Mark
 held_marks None = []
 held_marks (Some d) = decl_marks None d
 
+-- an arm of the union of this name and tag, in the item of this number: its cases and what it declares
 abbrev pub arm_marks : ℕ → List ℕ → TypeWord → ArmItem → List Mark
 arm_marks item n tag a = flat_map (case_marks item n tag) a.cases ++ held_marks a.decl
 
+-- what the default arm of a union declares, if there is one
 abbrev pub default_marks : Option ArmItem → List Mark
 default_marks None = []
 default_marks (Some a) = held_marks a.decl

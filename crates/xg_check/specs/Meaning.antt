@@ -22,6 +22,7 @@ pub record Meant : Type 0 where
   pub types : Types
   pub procs : Procs
 
+-- an interface that lies in memory, as what it stands for
 abbrev pub interface_of : Interface → Meant
 interface_of i = record {
   «package» = option_map string_bytes i.«package»;
@@ -32,18 +33,23 @@ interface_of i = record {
 
 -- ---- the faults of a text, by their places
 
+-- what is judged in a text, in its order
 abbrev pub marks_of : Tree → List Mark
 marks_of tree = marks_in tree.items
 
+-- the name and the opcode of each procedure of a text
 abbrev pub opcodes_of : Tree → List (List ℕ × Option ℤ)
 opcodes_of tree = opcodes_in (constants_in tree.items) tree.items
 
+-- at this place stands the second of two of one name, or of two cases of one value
 abbrev pub TwiceAt : Tree → ℕ → Type 0
 TwiceAt tree = IsTwice (constants_in tree.items) (marks_of tree)
 
+-- at this place a type or a constant is used that isn't defined
 abbrev pub UnknownAt : Tree → ℕ → Type 0
 UnknownAt tree = IsUnknown (scope_of tree) (marks_of tree)
 
+-- at this place stands what is wrong by its size, value, case or encoding
 abbrev pub SizeAt : Tree → ℕ → Type 0
 SizeAt tree = IsSizeFault (scope_of tree) (marks_of tree)
 
@@ -51,9 +57,11 @@ SizeAt tree = IsSizeFault (scope_of tree) (marks_of tree)
 abbrev pub EndlessAt : Tree → ℕ → Type 0
 EndlessAt tree = IsEndless (types_in tree.items)
 
+-- the procedure of this number has no opcode
 abbrev pub OpcodeAt : Tree → ℕ → Type 0
 OpcodeAt tree = IsWithoutOpcode (opcodes_of tree)
 
+-- the procedure of this number has the opcode of one before it
 abbrev pub OpcodeTwiceAt : Tree → ℕ → Type 0
 OpcodeTwiceAt tree = IsOpcodeTwice (opcodes_of tree)
 
@@ -63,9 +71,11 @@ OpcodeTwiceAt tree = IsOpcodeTwice (opcodes_of tree)
 abbrev pub MarkNamed : Tree → ℕ → List ℕ → Type 0
 MarkNamed tree k name = (m : Mark) × (slice_get (marks_of tree) k ≡ Some m) × (name ≡ mark_name m)
 
+-- the type of this number has this name
 abbrev pub TypeNamed : Tree → ℕ → List ℕ → Type 0
 TypeNamed tree k name = slice_get (type_names (types_in tree.items)) k ≡ Some name
 
+-- the procedure of this number has this name
 abbrev pub ProcNamed : Tree → ℕ → List ℕ → Type 0
 ProcNamed tree k name =
     slice_get (map (λ (p : List ℕ × Option ℤ). p.0) (opcodes_of tree)) k ≡ Some name
@@ -100,6 +110,7 @@ pub record IsFaultless (tree : Tree) : Type 0 where
 
 -- ---- the interface
 
+-- the interface that a text means, if it has no fault
 abbrev pub meant_by : Tree → Meant
 meant_by tree = record {
   «package» = package_in tree.items;

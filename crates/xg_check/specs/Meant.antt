@@ -37,6 +37,7 @@ abbrev pub base_kind : Option Basic → Kind
 base_kind None = basic basics.Void
 base_kind (Some b) = basic b
 
+-- the type that a word means: one of the language, or one by its name
 abbrev pub word_kind : TypeWord → Kind
 word_kind (types.Base words) = base_kind (base_named words)
 word_kind (types.Name name) = named name
@@ -50,6 +51,7 @@ abbrev pub bound_number : List ConstantDef → Option ConstWord → ℕ
 bound_number cs None = 4294967295
 bound_number cs (Some w) = size_number cs w
 
+-- the type of what is declared so
 abbrev pub form_kind : List ConstantDef → Form → Kind
 form_kind cs (forms.Plain t) = word_kind t
 form_kind cs (forms.Star t) = maybe (word_kind t)
@@ -59,6 +61,7 @@ form_kind cs (forms.Opaque size) = basic (basics.Opaque (size_number cs size))
 form_kind cs (forms.OpaqueUpTo most) = basic (basics.OpaqueUpTo (bound_number cs most))
 form_kind cs (forms.Text most) = basic (basics.Text (bound_number cs most))
 
+-- the field that a declaration means
 abbrev pub field_meant : List ConstantDef → Decl → Field
 field_meant cs d = record { name = d.name; kind = form_kind cs d.form }
 
@@ -67,12 +70,15 @@ abbrev pub value_or_zero : Option ℤ → ℤ
 value_or_zero None = pos 0
 value_or_zero (Some z) = if is_within (2 ^ 63) z then z else pos 0
 
+-- the name and the value of a member of an enum
 abbrev pub member_meant : List ConstantDef → MembItem → List ℕ × ℤ
 member_meant cs m = (m.name, value_or_zero (value_named cs m.name))
 
+-- the field that an arm declares, unless it is `void`
 abbrev pub held_meant : List ConstantDef → Option Decl → Option Field
 held_meant cs d = option_map (field_meant cs) d
 
+-- the arm for one case, with what it holds
 abbrev pub case_meant : List ConstantDef → Option Field → ConstWord → Choice
 case_meant cs held w = record { case = Some (value_or_zero (value_of cs w)); part = held }
 
@@ -80,6 +86,7 @@ case_meant cs held w = record { case = Some (value_or_zero (value_of cs w)); par
 abbrev pub arm_meant : List ConstantDef → ArmItem → List Choice
 arm_meant cs a = map (case_meant cs (held_meant cs a.decl)) a.cases
 
+-- the default arm, if there is one
 abbrev pub default_meant : List ConstantDef → Option ArmItem → List Choice
 default_meant cs None = []
 default_meant cs (Some a) = record { case = None; part = held_meant cs a.decl } ∷ []
@@ -98,11 +105,13 @@ part_type cs (parts.StartingOpcode number) = []
 part_type cs (parts.Const name value) = []
 part_type cs (parts.Proc name args kind opcode) = []
 
+-- the types that a text defines, in its order
 abbrev pub types_meant : List ConstantDef → List Item → Types
 types_meant cs items = flat_map (λ (i : Item). part_type cs i.part) items
 
 -- ---- procedures
 
+-- the direction that a word means
 abbrev pub mode_meant : ModeWord → Mode
 mode_meant mode_words.In = modes.In
 mode_meant mode_words.Out = modes.Out
@@ -130,6 +139,7 @@ args_meant cs before (a ∷ more) =
     record { name = a.decl.name; mode = mode_behind before a.mode; kind = arg_kind cs a.decl.form }
     ∷ args_meant cs (mode_behind before a.mode) more
 
+-- the two words behind arguments are one
 abbrev pub same_kind : KindWord → KindWord → Bool
 same_kind kinds.Split kinds.Split = true
 same_kind kinds.Multi kinds.Multi = true
@@ -161,11 +171,13 @@ abbrev pub procs_behind : List ConstantDef → List Part → List Item → Procs
 procs_behind cs front [] = []
 procs_behind cs front (i ∷ is) = with_proc cs front i.part (procs_behind cs (i.part ∷ front) is)
 
+-- the procedures that a text defines, in its order
 abbrev pub procs_meant : List ConstantDef → List Item → Procs
 procs_meant cs items = procs_behind cs [] items
 
 -- ---- the package and the prefix: the last counts
 
+-- the name that stands behind, or else this one
 abbrev pub or_name : Option (List ℕ) → List ℕ → Option (List ℕ)
 or_name None name = Some name
 or_name (Some behind) name = Some behind
@@ -175,14 +187,17 @@ abbrev pub part_package : Part → Option (List ℕ) → Option (List ℕ)
 part_package (parts.Package name) behind = or_name behind name
 part_package _ behind = behind
 
+-- the last name that a text gives its package, if it gives one
 abbrev pub package_in : List Item → Option (List ℕ)
 package_in [] = None
 package_in (i ∷ is) = part_package i.part (package_in is)
 
+-- the prefix that a part names, unless one is named behind it
 abbrev pub part_prefix : Part → Option (List ℕ) → Option (List ℕ)
 part_prefix (parts.Prefix name) behind = or_name behind name
 part_prefix _ behind = behind
 
+-- the last prefix that a text names, if it names one
 abbrev pub prefix_in : List Item → Option (List ℕ)
 prefix_in [] = None
 prefix_in (i ∷ is) = part_prefix i.part (prefix_in is)

@@ -20,9 +20,11 @@ abbrev pub is_case_at : List ConstantDef → ℕ → ℤ → Mark → Bool
 is_case_at cs i z (union_case j n u w) = nat_eq i j && same_value (Some z) (value_of cs w)
 is_case_at cs i z _ = false
 
+-- two names are one
 abbrev pub same_text : Bor (List ℕ) → Bor (List ℕ) → Bool
 same_text a b = bytes_eq a.now b.now
 
+-- two names are one, and stand in the list of one item
 abbrev pub same_listed : ℕ × Bor (List ℕ) → ℕ × Bor (List ℕ) → Bool
 same_listed a b = nat_eq a.0 b.0 && bytes_eq a.1.now b.1.now
 

@@ -25,6 +25,7 @@ base_tag (Some basics.Uint) = tags.Uint
 base_tag (Some basics.Bool) = tags.Bool
 base_tag _ = tags.Other
 
+-- the tag that the type of this number is, where held has those of types; no union may have one that isn't defined
 abbrev pub place_tag : (ℕ → Tag) → Option ℕ → Tag
 place_tag held None = tags.Other
 place_tag held (Some i) = held i
@@ -55,6 +56,7 @@ unfoldable pub tag_within : ℕ → List Part → ℕ → Tag
 tag_within zero ts i = tags.Other
 tag_within (suc n) ts i = part_tag (word_tag (tag_within n ts) ts) i (slice_get ts i)
 
+-- the tag that the type of this number is
 unfoldable pub tag_at : List Part → ℕ → Tag
 tag_at ts i = tag_within (length ts) ts i
 
@@ -62,6 +64,7 @@ tag_at ts i = tag_within (length ts) ts i
 abbrev pub tag_of : List Part → TypeWord → Tag
 tag_of ts t = word_tag (tag_at ts) ts t
 
+-- the value is there, and is this one
 abbrev pub is_value : Option ℤ → ℤ → Bool
 is_value None z = false
 is_value (Some y) z = int_eq y z
@@ -71,6 +74,7 @@ abbrev pub members_have : List ConstantDef → List MembItem → ℤ → Bool
 members_have cs [] z = false
 members_have cs (m ∷ ms) z = is_value (value_named cs m.name) z || members_have cs ms z
 
+-- the part is an enum, and one of its members has the value
 abbrev pub enum_has : List ConstantDef → Option Part → ℤ → Bool
 enum_has cs (Some (parts.Enum name members)) z = members_have cs members z
 enum_has cs _ z = false

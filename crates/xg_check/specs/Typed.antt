@@ -28,6 +28,7 @@ type_name (parts.StartingOpcode number) = None
 type_name (parts.Const name value) = None
 type_name (parts.Proc name args kind opcode) = None
 
+-- the name of the type that a part defines, or the empty one
 abbrev pub name_in : Part → List ℕ
 name_in p = unwrap_or (type_name p) []
 
@@ -35,6 +36,7 @@ name_in p = unwrap_or (type_name p) []
 abbrev pub types_in : List Item → List Part
 types_in items = filter (λ p. is_some (type_name p)) (map (λ (i : Item). i.part) items)
 
+-- the names of the types, in order
 abbrev pub type_names : List Part → List (List ℕ)
 type_names ts = map name_in ts
 
@@ -57,23 +59,29 @@ form_word w (forms.Opaque size) = None
 form_word w (forms.OpaqueUpTo most) = None
 form_word w (forms.Text most) = None
 
+-- the type that a declaration names, by its number, if it names one
 abbrev pub decl_places : List Part → Ways → Decl → List ℕ
 decl_places ts w d = one_or_none (option_and_then (word_place ts) (form_word w d.form))
 
+-- the types that declarations name, by their numbers
 abbrev pub decls_places : List Part → Ways → List Decl → List ℕ
 decls_places ts w ds = flat_map (decl_places ts w) ds
 
+-- the type that an arm's field names, by its number, if it has a field that names one
 abbrev pub held_places : List Part → Ways → Option Decl → List ℕ
 held_places ts w None = []
 held_places ts w (Some d) = decl_places ts w d
 
+-- the types that the fields of arms name, by their numbers
 abbrev pub arms_places : List Part → Ways → List ArmItem → List ℕ
 arms_places ts w arms = flat_map (λ (a : ArmItem). held_places ts w a.decl) arms
 
+-- the type that the field of the default arm names, by its number, if it names one
 abbrev pub default_places : List Part → Ways → Option ArmItem → List ℕ
 default_places ts w None = []
 default_places ts w (Some a) = held_places ts w a.decl
 
+-- the types that the type of a part names, by their numbers
 abbrev pub part_places : List Part → Ways → Part → List ℕ
 part_places ts w (parts.Typedef decl) = decl_places ts w decl
 part_places ts w (parts.Enum name members) = []

@@ -13,17 +13,21 @@ use Rattle.xg_check.specs.Constants.{Given, word, first, next, ConstantDef}
 use Rattle.xg_check.specs.Marks.{Mark, declares, union_case, uses_type, uses_constant, valued, sized, enum_type}
 use Rattle.xg_check.specs.Marks.{struct_type, union_type}
 
+-- where a constant has its value from, as the code keeps it
 abbrev pub given_of : CodeGiven → Given
 given_of (givens.Word w) = word w.now
 given_of givens.First = first
 given_of givens.Next = next
 
+-- a constant, as the code keeps it
 abbrev pub constant_of : CodeConstant → ConstantDef
 constant_of c = record { name = c.name.now; given = given_of c.given; is_member = c.is_member }
 
+-- constants, as the code keeps them
 abbrev pub constants_of : List CodeConstant → List ConstantDef
 constants_of cs = map constant_of cs
 
+-- what is judged at a place, as the code keeps it
 abbrev pub mark_of : CodeMark → Mark
 mark_of (marks.Name space n) = declares space n.now
 mark_of (marks.Case item n tag w) = union_case item n.now tag.now w.now
@@ -35,6 +39,7 @@ mark_of (marks.Enum n ms) = enum_type n.now ms.now
 mark_of (marks.Struct n) = struct_type n.now
 mark_of (marks.Union n tag arms has_default) = union_type n.now tag.now arms.now has_default
 
+-- what is judged in a text, as the code keeps it
 abbrev pub marks_of : List CodeMark → List Mark
 marks_of ms = map mark_of ms
 

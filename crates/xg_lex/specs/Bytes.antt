@@ -3,33 +3,43 @@ use Rattle.std.specs.Prelude.{ℕ, Bool, ◌==◌, ◌||◌, not, codes}
 use Rattle.std.specs.List.{list_any}
 use Rattle.std.specs.Char.{is_ascii_alphabetic, is_ascii_alphanumeric}
 
+-- the code of a tab
 abbrev pub tab : ℕ
 tab = 9
 
+-- the code that ends a line
 abbrev pub line_feed : ℕ
 line_feed = 10
 
+-- the code of a space
 abbrev pub space : ℕ
 space = 32
 
+-- the code of `"`, which opens and closes the text of a line mark
 abbrev pub quote : ℕ
 quote = 34
 
+-- the code of `#`, with which a line mark begins
 abbrev pub hash : ℕ
 hash = 35
 
+-- the code of `%`, with which a line begins that counts for nothing
 abbrev pub percent : ℕ
 percent = 37
 
+-- the code of `*`, which opens a comment behind a `/` and closes it before one
 abbrev pub star : ℕ
 star = 42
 
+-- the code of `/`, with which a comment begins and ends
 abbrev pub slash : ℕ
 slash = 47
 
+-- the code of `0`, with which a number begins that isn't decimal
 abbrev pub zero_digit : ℕ
 zero_digit = 48
 
+-- the code of `_`, which names may have beside letters and digits
 abbrev pub underscore : ℕ
 underscore = 95
 

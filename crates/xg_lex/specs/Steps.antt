@@ -18,9 +18,11 @@ use Rattle.xg_lex.specs.declared.part.Step.{Step}
 use Rattle.xg_lex.specs.declared.part.Why.{Why}
 use Rattle.xg_lex.specs.declared.part.Why.TheVariants as whys
 
+-- the step over a part of so many bytes that is no token
 abbrev pub gap_step : ℕ → Result Step Why
 gap_step len = Ok (record { len = len; kind = None })
 
+-- the step over a token of the kind that has so many bytes
 abbrev pub token_step : TokenKind → ℕ → Result Step Why
 token_step kind len = Ok (record { len = len; kind = Some kind })
 
@@ -41,13 +43,16 @@ number_of word =
     else if slice_index word 0 == zero_digit then numeral 8 word
     else numeral 10 word
 
+-- the step over a word of so many bytes that writes this number, or the fault where it writes none
 abbrev pub numbered : ℕ → Option ℕ → Result Step Why
 numbered len None = Err whys.Number
 numbered len (Some n) = token_step (kinds.Number n) len
 
+-- at a digit: all letters and digits that stand there are one number
 abbrev pub number_step : List ℕ → Result Step Why
 number_step text = numbered (prefix_len is_in_number text) (number_of (take (prefix_len is_in_number text) text))
 
+-- the bytes begin with this one
 abbrev pub begins_with : ℕ → List ℕ → Bool
 begins_with c [] = false
 begins_with c (b ∷ bs) = b == c
@@ -57,6 +62,7 @@ unfoldable pub close_len : List ℕ → Option ℕ
 close_len [] = None
 close_len (b ∷ bs) = if b == star && begins_with slash bs then Some 2 else option_map (λ n. 1 + n) (close_len bs)
 
+-- the step over a comment that closes so many bytes behind its `/*`, or the fault where it doesn't close
 abbrev pub closed : Option ℕ → Result Step Why
 closed None = Err whys.Char
 closed (Some n) = gap_step (2 + n)
@@ -76,6 +82,7 @@ abbrev pub is_quoted : List ℕ → Bool
 is_quoted [] = false
 is_quoted (b ∷ bs) = b == quote && list_any (λ c. c == quote) bs
 
+-- bytes are left, and a text in double quotes stands there
 abbrev pub has_quoted : Option (List ℕ) → Bool
 has_quoted None = false
 has_quoted (Some bytes) = is_quoted bytes

@@ -5,6 +5,7 @@ ghost use Rattle.std.specs.List.{prefix_len};
 ghost use Rattle.std.specs.Char.{is_ascii_digit};
 ghost use Rattle.xg_lex.specs.Bytes.{is_space, is_blank, is_in_line, begins_name, is_in_name, is_in_number, is_sign};
 
+/// Whether a byte is a space, a tab or a line end.
 pub fn is_blank(byte: u8) -> bool
     ensures { result ≡ is_blank byte }
 {
@@ -17,6 +18,7 @@ fn is_in_line(byte: u8) -> bool
     byte != b'\n'
 }
 
+/// Whether a name may begin with a byte: a letter or `_`.
 pub fn begins_name(byte: u8) -> bool
     ensures { result ≡ begins_name byte }
 {
@@ -29,6 +31,7 @@ fn is_in_name(byte: u8) -> bool
     byte.is_ascii_alphanumeric() || byte == b'_'
 }
 
+/// Whether a byte is a sign, which is a token of its own.
 pub fn is_sign(byte: u8) -> bool
     ensures { result ≡ is_sign byte }
 {

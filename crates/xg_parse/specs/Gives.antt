@@ -16,9 +16,11 @@ use Rattle.xg_parse.specs.declared.fault.ParseFault.TheVariants.{Unexpected, Out
 use Rattle.xg_parse.specs.Grammar.{IsTreeOf}
 use Rattle.xg_parse.specs.Refusals.{fault_before, IsFirstRefusal}
 
+-- the place at which a cursor stands
 abbrev pub cursor_place : Cursor → Place
 cursor_place c = record { rest = c.rest.now; next = c.next; tried = c.tried }
 
+-- a reader stopped rightly: the reading is refused at its place, or there was no memory
 abbrev pub Fails : {A : Type 0} → Stop → Read A → Type 0
 Fails Memory reading = ⊤
 Fails (Refused c) reading = reading ≡ Err (cursor_place c)

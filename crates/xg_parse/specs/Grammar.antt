@@ -41,6 +41,7 @@ optional t = maybe (the t)
 abbrev pub is_between : Terminal → Terminal → Terminal → Bool
 is_between low high t = nat_le (order_of low) (order_of t) && nat_le (order_of t) (order_of high)
 
+-- NAME, by its text
 unfoldable pub name : Rule (List ℕ)
 name = change (λ t. t.text) (the terms.Name)
 
@@ -61,6 +62,7 @@ const_word =
 unfoldable pub value : Rule ConstWord
 value = change (λ x. x.1) (the terms.Equals ▹ const_word)
 
+-- [ "=" CONST ]
 unfoldable pub optional_value : Rule (Option ConstWord)
 optional_value = maybe value
 
@@ -81,9 +83,11 @@ abbrev pub two_words : List ℕ → Option Token → List ℕ
 two_words first None = first
 two_words first (Some second) = first ++ 32 ∷ second.text
 
+-- [ "int" | "long" | "short" | "char" | "hyper" ]
 unfoldable pub optional_integer : Rule (Option Token)
 optional_integer = maybe (word is_integer)
 
+-- [ "struct" | "enum" | "union" ]
 unfoldable pub optional_tag : Rule (Option Token)
 optional_tag = maybe (word is_tag_word)
 
@@ -104,9 +108,11 @@ bounded =
     change (λ x. x.1) (the terms.Less
     ▹ (change (λ t. None) (the terms.Greater) ∣ change (λ x. Some x.0) (const_word ▹ the terms.Greater)))
 
+-- "[" CONST "]" | "<" [ CONST ] ">"
 unfoldable pub bound : Rule Bound
 bound = change (λ c. bounds.Fixed c) fixed ∣ change (λ c. bounds.UpTo c) bounded
 
+-- [ "[" CONST "]" | "<" [ CONST ] ">" ]
 unfoldable pub optional_bound : Rule (Option Bound)
 optional_bound = maybe bound
 
@@ -167,6 +173,7 @@ cases = change (λ x. record { cases = x.0; decl = x.1 }) (case_list ▹ arm)
 unfoldable pub otherwise : Rule ArmItem
 otherwise = change (λ x. record { cases = []; decl = x.1.1 }) (the terms.Default ▹ the terms.Colon ▹ arm)
 
+-- [ "default" ":" ARM ]
 unfoldable pub optional_otherwise : Rule (Option ArmItem)
 optional_otherwise = maybe otherwise
 
@@ -180,6 +187,7 @@ mode =
     change (λ t. modes.In) (the terms.In) ∣ change (λ t. modes.Out) (the terms.Out)
     ∣ change (λ t. modes.InOut) (the terms.InOut)
 
+-- [ "IN" | "OUT" | "INOUT" ]
 unfoldable pub optional_mode : Rule (Option ModeWord)
 optional_mode = maybe mode
 
@@ -191,6 +199,7 @@ argument = change (λ x. record { mode = x.0; decl = x.1 }) (optional_mode ▹ d
 unfoldable pub next_argument : Rule ArgItem
 next_argument = change (λ x. x.1) (the terms.Comma ▹ argument)
 
+-- { "," ARG }
 unfoldable pub next_arguments : Rule (List ArgItem)
 next_arguments = many next_argument
 
@@ -209,6 +218,7 @@ arguments =
 unfoldable pub kind : Rule KindWord
 kind = change (λ t. kind_words.Split) (the terms.Split) ∣ change (λ t. kind_words.Multi) (the terms.Multi)
 
+-- [ "split" | "multi" ]
 unfoldable pub optional_kind : Rule (Option KindWord)
 optional_kind = maybe kind
 
@@ -251,6 +261,7 @@ typedef_item =
 unfoldable pub next_member : Rule MembItem
 next_member = change (λ x. x.1) (the terms.Comma ▹ member)
 
+-- { "," MEMB }
 unfoldable pub next_members : Rule (List MembItem)
 next_members = many next_member
 
@@ -323,6 +334,7 @@ number_item = stat_index_item ∣ starting_opcode_item ∣ const_item
 unfoldable pub type_item : Rule Item
 type_item = typedef_item ∣ enum_item ∣ struct_item ∣ union_item
 
+-- an item: what the file is called, a number or a constant, a type, or a procedure
 unfoldable pub item : Rule Item
 item = named_item ∣ number_item ∣ type_item ∣ proc_item
 

@@ -59,10 +59,12 @@ pub record Place : Type 0 where
   pub next : Option Terminal
   pub tried : Option Terminal
 
+-- the terminal of the first token, if there is one
 abbrev pub next_of : List Token → Option Terminal
 next_of [] = None
 next_of (token ∷ tokens) = terminal_of token
 
+-- the place before the tokens, where nothing was looked for yet
 abbrev pub place_at : List Token → Place
 place_at tokens = record { rest = tokens; next = next_of tokens; tried = None }
 
@@ -90,6 +92,7 @@ abbrev pub Read : Type 0 → Type 0
 Read A = Result (A × Place) Place
 
 infixl 10 ◌>>=◌
+-- what is read next, where the first was read
 abbrev pub ◌>>=◌ : {A B : Type 0} → Read A → (A × Place → Read B) → Read B
 (Ok x) >>= f = f x
 (Err p) >>= f = Err p
@@ -106,6 +109,7 @@ many_at read set (suc n) p =
     if has set p.next then (read p >>= λ x. many_at read set n x.1 >>= λ xs. Ok (x.0 ∷ xs.0, xs.1))
     else Ok ([], without set p)
 
+-- the reading of a rule from a place: the next terminal decides which way to go
 abbrev pub read_rule : {A : Type 0} → Rule A → Place → Read A
 read_rule (word set) p = word_at set p p.rest
 read_rule (pair g h) p = read_rule g p >>= λ x. read_rule h x.1 >>= λ y. Ok ((x.0, y.0), y.1)

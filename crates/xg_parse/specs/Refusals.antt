@@ -28,6 +28,7 @@ abbrev pub IsRefused : List Token → List Token → Type 0
 IsRefused front [] = (tree : Tree) → IsTreeOf front tree → ⊥
 IsRefused front (token ∷ rest) = BeginsText (front ++ token ∷ []) → ⊥
 
+-- the fault on a line: the word that is out by name, or else what is wanted
 abbrev pub fault_by : Option OutWord → ℕ → Terminal → ParseFault
 fault_by None line want = Unexpected line want
 fault_by (Some word) line want = OutByName line word

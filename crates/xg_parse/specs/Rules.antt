@@ -45,11 +45,12 @@ Derives (maybe g) (Some a) tokens = Derives g a tokens
 Derives (many g) items tokens = EachHas (Derives g) items tokens
 Derives (change {A} f g) b tokens = (a : A) × (b ≡ f a) × Derives g a tokens
 
--- one rule and then another, and one rule or another, as they are written in a grammar
 infixr 14 ◌▹◌
+-- one rule and then another, as a grammar has them side by side
 abbrev pub ◌▹◌ : {A B : Type 0} → Rule A → Rule B → Rule (A × B)
 g ▹ h = pair g h
 
 infixr 12 ◌∣◌
+-- one rule or another, as a grammar has them with a bar between them
 abbrev pub ◌∣◌ : {A : Type 0} → Rule A → Rule A → Rule A
 g ∣ h = either g h

@@ -72,6 +72,7 @@ word_terminal text =
     first_there_of (looked_up text item_words) (first_there_of (looked_up text part_words)
     (first_there_of (looked_up text type_words) (name_unless (looked_up text out_words))))
 
+-- the terminal that a token of this kind with this text is
 unfoldable pub terminal_by : TokenKind → List ℕ → Option Terminal
 terminal_by kinds.Name text = word_terminal text
 terminal_by (kinds.Number n) text = Some terms.Number
@@ -81,6 +82,7 @@ terminal_by kinds.Sign text = looked_up text signs
 abbrev pub terminal_of : Token → Option Terminal
 terminal_of token = terminal_by token.kind token.text
 
+-- the word that a token of this kind with this text is, if it is one that is out by name
 abbrev pub out_by : TokenKind → List ℕ → Option OutWord
 out_by kinds.Name text = looked_up text out_words
 out_by (kinds.Number n) text = None

@@ -21,6 +21,7 @@ fn is_between(low: Terminal, high: Terminal, terminal: Terminal) -> bool
     low.rank() <= terminal.rank() && terminal.rank() <= high.rank()
 }
 
+/// Whether the next token is a type of one word, from `int` to `bool` or from `u_int` to `afs_uint64`.
 pub fn is_simple(cursor: Cursor<'_>) -> bool
     ensures { result ≡ has is_simple cursor.entry.next }
 {
@@ -42,6 +43,7 @@ fn is_integer(cursor: Cursor<'_>) -> bool
     }
 }
 
+/// Whether the next token is `struct`, `enum` or `union`.
 pub fn is_tag(cursor: Cursor<'_>) -> bool
     ensures { result ≡ has is_tag_word cursor.entry.next }
 {
