@@ -2,8 +2,8 @@
 """Prints docs/PROVED.md: each public function of each crate with its clauses and what they say, from the sources.
 
 What a clause says is what docs/meanings.tsv says of it, or the comment above it; where there is neither, the doc
-comment of its function says it. Without arguments: tells where docs/PROVED.md differs, and which lines of
-docs/meanings.tsv name no clause. With --write: writes docs/PROVED.md.
+comment of its function says it. Without arguments: tells where docs/PROVED.md differs, which lines of
+docs/meanings.tsv name no clause, and which public functions have no doc comment. With --write: writes docs/PROVED.md.
 """
 import sys
 
@@ -123,8 +123,16 @@ def lost(said):
             yield f"docs/meanings.tsv: {crate} has no {name} with the clause {label or '(without a label)'}"
 
 
+def bare():
+    """The public functions without a doc comment, but for those of traits, whose trait says it."""
+    for crate in listed_crates():
+        for it in functions_of(crate):
+            if it.has_pub and not it.doc:
+                yield f"{it.path}: no doc comment stands above {it.name}"
+
+
 if __name__ == "__main__":
-    said, notes, _ = meanings()
-    complaints = list(lost(said))
+    said, notes = meanings()
+    complaints = [*lost(said), *bare()]
     print("\n".join(complaints), end="\n" if complaints else "")
     sys.exit(differs(top / "docs" / "PROVED.md", page(said, notes), __file__) or bool(complaints))

@@ -14,7 +14,8 @@ class Clause:
 
 class Function:
     """A function: its crate, its name behind its type's, its file, its doc comment, its clauses, the trait that it is
-    of, whether it is a law (a contract with an empty body), and whether the crate's users see it."""
+    of, whether it is a law (a contract with an empty body), whether it has the word `pub`, and whether the crate's
+    users see it."""
 
     def __init__(self, **parts):
         self.__dict__.update(parts)
@@ -123,7 +124,8 @@ def functions_in(crate, path, exported):
         clauses, is_law = contract_at(lines, at)
         is_seen = (owner or found[3]) in exported and (bool(found[2]) or trait is not None)
         yield Function(crate=crate, name=f"{owner}::{found[3]}" if owner else found[3], path=path.relative_to(top),
-                       doc=doc_above(lines, at), clauses=clauses, trait=trait, is_law=is_law, is_public=is_seen)
+                       doc=doc_above(lines, at), clauses=clauses, trait=trait, is_law=is_law,
+                       has_pub=bool(found[2]), is_public=is_seen)
 
 
 def exported_by(crate):

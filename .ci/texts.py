@@ -7,11 +7,10 @@ from sources import top
 
 
 def meanings():
-    """What docs/meanings.tsv says: of clauses, by crate, function and label; the notes of crates; and of definitions,
-    by crate, file and name. A line has four fields: crate, function, label and words. Without function and label it is
-    a note of its crate; the function `*` stands for each function with that label of which no line speaks; where the
-    label is a file of specs/, the second field names a definition."""
-    said, notes, defined = {}, {}, {}
+    """What docs/meanings.tsv says: of clauses, by crate, function and label; and the notes of crates. A line has four
+    fields: crate, function, label and words. Without function and label it is a note of its crate; the function `*`
+    stands for each function with that label of which no line speaks."""
+    said, notes = {}, {}
     for number, line in enumerate((top / "docs" / "meanings.tsv").read_text().splitlines(), 1):
         if not line or line.startswith("#"):
             continue
@@ -21,13 +20,11 @@ def meanings():
         crate, name, label, words = fields
         if not name and not label:
             notes.setdefault(crate, []).append(words)
-        elif label.endswith(".antt"):
-            defined[crate, label, name] = words
         elif (crate, name, label) in said:
             sys.exit(f"docs/meanings.tsv:{number}: this clause has a line already")
         else:
             said[crate, name, label] = words
-    return said, notes, defined
+    return said, notes
 
 
 def cell(words):
