@@ -2,8 +2,9 @@
 # shellcheck shell=bash disable=SC2154,SC2034
 #
 # rt ci does it, as in the gate, over a copy of the crates that the program stands on: it proves each from nothing once
-# those below it are, takes what the gate has passed on this machine, and keeps for the gate what passes here. The copy
-# has no must-fail edits. The tests come beside the proofs, and behind them; rt ci is ended once the program is there.
+# those below it are. Where the kit's rt ci keeps what passed, it takes what the gate has passed on this machine, and
+# keeps for the gate what passes here. The copy has no must-fail edits. The tests come beside the proofs, and behind
+# them; rt ci is ended once the program is there.
 
 # The crates as they are, as a repository of their own.
 copy_sources() (
@@ -63,7 +64,7 @@ follow() {
 build_it() {
   room=$(mktemp -d) && copy_sources "$room" && sum=$(sum_of_sources "$room") || stop 'the sources cannot be copied'
   count_lines
-  say "proving the ${#lines_of[@]} crates of the program, in $(cost), less what was proved before"
+  say "proving the ${#lines_of[@]} crates of the program, in $(cost), less what the toolchain has kept"
   SECONDS=0
   : >"$kept/log-proved"
   exec 7< <(cd -- "$room" && TMPDIR=$room/tmp exec rt ci 2>&1 </dev/null 9>&-)
