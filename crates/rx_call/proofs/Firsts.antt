@@ -164,6 +164,10 @@ lesser_rank None (Some a) = Some a.rank
 lesser_rank (Some p) None = Some p
 lesser_rank (Some p) (Some a) = Some (min p a.rank)
 
+pub rank_alone : (p : Option ℕ) → lesser_rank p None ≡ p
+rank_alone None = refl
+rank_alone (Some p) = refl
+
 rank_lesser : (p : Option CallItem) (a : Option Owed) → rank_in (lesser p (ack_item a)) ≡ lesser_rank (rank_in p) a
 rank_lesser None None = refl
 rank_lesser None (Some a) = refl
@@ -252,6 +256,14 @@ ack_first now p a le lt =
     let due : nat_le a.rank now ≡ true = grind (arith, nat_tests, le) in
     let first : nat_le p a.rank ≡ false = grind (arith, nat_tests, lt) in
     rw (due, first) refl
+
+pub ack_later : (now : ℕ) (p : Option ℕ) (a : Owed) → now < a.rank → ack_given now p (Some a) ≡ None
+ack_later now p a lt =
+    let late : nat_le a.rank now ≡ false = grind (arith, nat_tests, lt) in
+    elim p as (λ o. ack_given now o (Some a) ≡ None) [
+      | None ↦ rw late refl
+      | Some rank ↦ rw late refl
+    ]
 
 pub ack_alone : (now : ℕ) (a : Owed) → a.rank ≤ now → ack_given now None (Some a) ≡ Some a
 ack_alone now a le =

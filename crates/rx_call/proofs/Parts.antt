@@ -1,13 +1,14 @@
 -- What is done to one part of a call, seen of the whole call.
-use Rattle.std.proofs.Common.{◌≡◌, inl, inr, ◌<◌, ◌∙◌, cond, not, min, nat_le, nat_lt, Bool, true, false, ℕ}
+use Rattle.std.proofs.Common.{◌≡◌, inl, inr, ◌<◌, ◌∙◌, cond, not, min, nat_lt, Bool, true, false, ℕ}
 use Rattle.std.proofs.Common.{Option, None, refl, sym, ap, subst, arith}
 use Rattle.std.proofs.lemmas.Bool.{cases_lt}
 use Rattle.std.proofs.lemmas.Bool.Decides.{nat_tests}
-use Rattle.rx_rules.specs.CallLooks.{CallLooks, found, slowed, after_piece, after_ack_given}
+use Rattle.rx_rules.specs.CallLooks.{CallLooks, found, is_timed_out, slowed, after_piece, after_ack_given}
 use Rattle.rx_rules.specs.CallItems.{Sending}
 use Rattle.rx_rules.specs.Owing.{Owed}
 use Rattle.rx_rules.specs.Received.{Received}
-use Rattle.rx_rules.specs.Sent.{Sent, after_all, after_giving, given_of}
+use Rattle.rx_rules.specs.Lost.{halves}
+use Rattle.rx_rules.specs.Sent.{Sent, after_all, after_giving, after_time}
 use Rattle.rx_pool.specs.Pool.{Slots}
 use Rattle.rx_pool.specs.Held.{Holds, Keeps}
 use Rattle.rx_pool.proofs.Beside.{bytes_beside, bytes_before}
@@ -90,14 +91,35 @@ pub found_client : (pool : Slots) (c : EndOfCall) (k : CallLooks) (client : Bool
     StandsCall pool c (record k { sent = after_all k.sent }) → StandsCall pool c (found client k)
 found_client pool c k client is st = subst (λ b. StandsCall pool c (found b k)) (sym is) st
 
+-- its window stands for another stream
+pub now_sent : (pool : Slots) (c : EndOfCall) (k : CallLooks) (w : SendWindow) (s : Sent) → StandsSent pool w s →
+    StandsCall pool c k → StandsCall pool (record c { sent = w }) (record k { sent = s })
+now_sent pool c k w s sent st =
+    record {
+      received = st.received;
+      sent = sent;
+      rtt = st.rtt;
+      cwnd = st.cwnd;
+      owed = st.owed;
+      heard = st.heard;
+      spoke = st.spoke;
+    }
+
+-- the time of the piece that is given next is up, or it isn't
+pub now_timed : (pool : Slots) (c : EndOfCall) (k : CallLooks) (up t : Bool) → up ≡ t →
+    StandsCall pool c (record k { sent = after_time t k.sent }) →
+    StandsCall pool c (record k { sent = after_time up k.sent })
+now_timed pool c k up t is st = subst (λ b. StandsCall pool c (record k { sent = after_time b k.sent })) (sym is) st
+
 -- a piece was given
-pub piece_given : (pool : Slots) (c : EndOfCall) (k : CallLooks) (w : SendWindow) (now seq : ℕ) (again : Bool) →
-    again ≡ nat_le seq (given_of k.sent) → StandsCall pool c (slowed again k) →
-    StandsSent pool w (after_giving now seq k.sent) →
+pub piece_given : (pool : Slots) (c : EndOfCall) (k : CallLooks) (w : SendWindow) (now seq : ℕ) (up half : Bool) →
+    up ≡ is_timed_out k seq → half ≡ halves k.cwnd k.sent seq →
+    StandsCall pool c (record (slowed up half k) { sent = after_time up k.sent }) →
+    StandsSent pool w (after_giving now seq (after_time up k.sent)) →
     StandsCall pool (record c { sent = w; spoke = now }) (after_piece now seq k)
-piece_given pool c k w now seq again is st sent =
+piece_given pool c k w now seq up half is closes st sent =
     let given : StandsCall pool (record c { sent = w; spoke = now })
-    (record (slowed again k) { sent = after_giving now seq k.sent; spoke = now }) = (
+    (record (slowed up half k) { sent = after_giving now seq (after_time up k.sent); spoke = now }) = (
     record {
       received = st.received;
       sent = sent;
@@ -107,9 +129,20 @@ piece_given pool c k w now seq again is st sent =
       heard = st.heard;
       spoke = refl;
     }) in
+    let timed : StandsCall pool (record c { sent = w; spoke = now })
+    (record (slowed (is_timed_out k seq) half k) {
+      sent = after_giving now seq (after_time (is_timed_out k seq) k.sent);
+      spoke = now;
+    }) = (
     subst
     (λ b. StandsCall pool (record c { sent = w; spoke = now })
-    (record (slowed b k) { sent = after_giving now seq k.sent; spoke = now })) is given
+    (record (slowed b half k) { sent = after_giving now seq (after_time b k.sent); spoke = now })) is given) in
+    subst
+    (λ b. StandsCall pool (record c { sent = w; spoke = now })
+    (record (slowed (is_timed_out k seq) b k) {
+      sent = after_giving now seq (after_time (is_timed_out k seq) k.sent);
+      spoke = now;
+    })) closes timed
 
 pub is_not : (b : Bool) → not b ≡ true → b ≡ false
 is_not true e = sym e

@@ -1,14 +1,16 @@
 -- The piece that a sending window gives next, as the rules have it.
-use Rattle.std.proofs.Common.{◌≡◌, nat_le, cond, true, false, ℕ, suc}
+use Rattle.std.proofs.Common.{◌≡◌, ◌&&◌, not, nat_le, cond, true, false, ℕ, suc, ap}
 use Rattle.std.proofs.Common.{List, [], ◌∷◌, ◌++◌, Option, Some, None, refl, sym, arith}
 use Rattle.std.specs.Prelude.{filter, option_map, option_and_then}
 use Rattle.std.proofs.lemmas.Bool.Decides.{nat_tests}
-use Rattle.rx_rules.specs.CallItems.{CallItem, Sending, piece_items, fresh_items, again_items, can_give, asks}
+use Rattle.rx_rules.specs.CallItems.{CallItem, Sending, piece_items, lost_items, fresh_items, again_items, can_give, asks}
 use Rattle.rx_rules.specs.CallItems as items
 use Rattle.rx_rules.specs.CallLooks.{CallLooks}
 use Rattle.rx_rules.specs.Least.{least_by, lesser_by}
+use Rattle.rx_rules.specs.Lost.{lost_of, is_lost, halves}
 use Rattle.rx_rules.specs.Rates.{Cwnd}
 use Rattle.rx_rules.specs.Sent.{Sent, LastGiving, given_of, last_giving, lowest_of}
+use Rattle.rx_rules.proofs.LostLaws.{lost_within}
 use Rattle.rx_rules.proofs.SentLaws.{given-within}
 use Rattle.rx_sendwin.specs.declared.next.NextPiece.{NextPiece}
 use Rattle.rx_sendwin.specs.Next.{next_piece_item, next_piece, piece_of}
@@ -60,16 +62,30 @@ right_again s rto (Some g) is =
     let test : nat_le (lowest_of s) (given_of s) ≡ true = grind (arith, nat_tests, most) in
     (sym test, tt)
 
+right_lost : (c : Cwnd) (s : Sent) (o : Option ℕ) → lost_of c s ≡ o → AllRight s (lost_items o)
+right_lost c s None is = tt
+right_lost c s (Some k) is =
+    let given = lost_within c s k is in
+    let at = given.is in
+    let low = given.low in
+    let test : nat_le k (given_of s) ≡ true = grind (arith, nat_tests, at, low) in
+    (sym test, tt)
+
+right_both : (s : Sent) (is js : List CallItem) → AllRight s is → AllRight s js → AllRight s (is ++ js)
+right_both s [] js a b = b
+right_both s (i ∷ is) js a b = (a.0, right_both s is js a.1 b)
+
 right_pieces : (rto : ℕ) (c : Cwnd) (s : Sent) → AllRight s (piece_items rto c s)
 right_pieces rto c s =
     let rest = right_again s rto (last_giving s.givings (lowest_of s)) refl in
     let again : List CallItem = again_items rto (lowest_of s) (last_giving s.givings (lowest_of s)) in
     let fresh : CallItem = record { rank = 0; sending = items.Piece (suc (given_of s)) false } in
     let test : nat_le (suc (given_of s)) (given_of s) ≡ false = grind (arith, nat_tests) in
-    elim (can_give c s) as (λ b. AllRight s (cond b (fresh ∷ []) [] ++ again)) [
+    right_both s (lost_items (lost_of c s)) (fresh_items c s ++ again) (right_lost c s (lost_of c s) refl)
+    (elim (can_give c s) as (λ b. AllRight s (cond b (fresh ∷ []) [] ++ again)) [
       | true ↦ (sym test, rest)
       | false ↦ rest
-    ]
+    ])
 
 -- the sending of a piece that the window tells
 abbrev pub told : Option NextPiece → Option Sending
@@ -79,11 +95,14 @@ told (Some p) = Some (items.Piece p.seq p.again)
 -- what the window tells of it is right
 abbrev pub IsTold : Cwnd → Sent → Option NextPiece → Type 0
 IsTold c s None = Unit {0}
-IsTold c s (Some p) = (p.asks ≡ asks c s p.seq p.again) × (p.again ≡ nat_le p.seq (given_of s))
+IsTold c s (Some p) =
+    (p.asks ≡ asks c s p.seq p.again)
+    × (p.up ≡ (nat_le p.seq (given_of s) && not (is_lost c s p.seq)))
+    × (p.half ≡ halves c s p.seq)
 
 told_one : (c : Cwnd) (s : Sent) (x : Sending) → IsRight s x →
     (Some x ≡ told (piece_of c s x)) × IsTold c s (piece_of c s x)
-told_one c s (items.Piece seq again) r = (refl, (refl, r))
+told_one c s (items.Piece seq again) r = (refl, (refl, ap (λ b. b && not (is_lost c s seq)) r, refl))
 told_one c s (items.Ack reason serial) r = absurd r
 
 told_item : (c : Cwnd) (s : Sent) (o : Option CallItem) → RightItem s o →

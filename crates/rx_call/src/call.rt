@@ -1,7 +1,7 @@
 ghost use Rattle.std.specs.Prelude.{◌≡◌, ◌≤◌, ◌<◌, ◌+◌, ◌-◌, ◌^◌, length, [], false, IfOk};
-ghost use Rattle.rx_rules.specs.CallLooks.{CallLooks, fresh_call, held, lead, has_lead};
+ghost use Rattle.rx_rules.specs.CallLooks.{CallLooks, fresh_call, held, lead, has_lead, is_delivered};
 ghost use Rattle.rx_rules.specs.Received.{used_of, marks_of};
-ghost use Rattle.rx_rules.specs.Sent.{is_all_acked, piece_at};
+ghost use Rattle.rx_rules.specs.Sent.{piece_at};
 ghost use Rattle.rx_pool.specs.Pool.{Slots};
 ghost use Rattle.rx_pool.specs.Held.{Holds, Keeps};
 ghost use Rattle.rx_call.specs.Standing.{EndOfCall, StandsCall, IsIdle, IsSameEnd, HoldsPiece, slots_of, holds_lead};
@@ -81,7 +81,7 @@ impl Call {
             pace,
             received,
             sent,
-            rtt: Rtt::new(),
+            rtt: Rtt::new(pace.prompt),
             cwnd: Cwnd::new(pace.window, pace.prompt),
             owed: None,
             heard: 0,
@@ -121,11 +121,12 @@ impl Call {
         self.received.all_read()
     }
 
-    /// Whether its own stream is shut, and each piece of it hard acknowledged.
-    pub fn acked(&self) -> bool
-        ensures answered { (pool : Slots) (k : CallLooks) → StandsCall pool self.now k → result ≡ is_all_acked k.sent }
+    /// Whether the other end has its whole stream, which is shut: each piece is hard acknowledged, and of a prompt node
+    /// soft acknowledgements count too.
+    pub fn is_delivered(&self) -> bool
+        ensures answered { (pool : Slots) (k : CallLooks) → StandsCall pool self.now k → result ≡ is_delivered k }
     {
-        self.sent.all_acked()
+        self.sent.all_acked() || (self.cwnd.recovers() && self.sent.all_known())
     }
 
     /// The moment at which its silence reaches 12,000 milliseconds.
@@ -171,7 +172,7 @@ impl Call {
         ensures unshut { self.new.sent.shut ≡ false }
     {
         self.side = side;
-        self.rtt = Rtt::new();
+        self.rtt = Rtt::new(self.pace.prompt);
         self.cwnd = Cwnd::new(self.pace.window, self.pace.prompt);
         self.owed = None;
         self.heard = now;

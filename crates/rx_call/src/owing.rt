@@ -53,10 +53,17 @@ pub fn owe_later(now: u64, serial: u32, owed: Option<OwedAck>) -> Option<OwedAck
     }
 }
 
-/// What is owed behind a packet that was kept, where all up to `front` stood without a gap before it.
-fn owe_for_kept(now: u64, head: &Head, front: u32, owed: Option<OwedAck>) -> Option<OwedAck>
+/// What is owed behind a packet that was kept, where all up to `front` stood without a gap before it. One that `fills` a
+/// hole is acknowledged at once.
+fn owe_for_kept(
+    now: u64,
+    fills: bool,
+    head: &Head,
+    front: u32,
+    owed: Option<OwedAck>,
+) -> Option<OwedAck>
     requires { now < 2 ^ 62 }
-    ensures { (body : Body) → owed_of result ≡ owed_for_kept now (message_with_head head.now body) front
+    ensures { (body : Body) → owed_of result ≡ owed_for_kept now fills (message_with_head head.now body) front
         (owed_of owed) }
 {
     if head.seq as u64 != front as u64 + 1 {
@@ -65,23 +72,28 @@ fn owe_for_kept(now: u64, head: &Head, front: u32, owed: Option<OwedAck>) -> Opt
     if has_flag(head.flags, REQUEST_ACK) {
         return owe_now(ACK_REQUESTED, head.serial);
     }
+    if fills {
+        return owe_now(ACK_DELAY, head.serial);
+    }
     owe_later(now, head.serial, owed)
 }
 
-/// What is owed behind a data packet with this answer.
+/// What is owed behind a data packet with this answer, where the packet behind the front `fills` a hole of a prompt node
+/// or doesn't.
 pub fn owe_for(
     took: Took,
     now: u64,
+    fills: bool,
     head: &Head,
     front: u32,
     owed: Option<OwedAck>,
 ) -> Option<OwedAck>
     requires { now < 2 ^ 62 }
-    ensures { (body : Body) → owed_of result ≡ owed_for took now (message_with_head head.now body) front
+    ensures { (body : Body) → owed_of result ≡ owed_for took now fills (message_with_head head.now body) front
         (owed_of owed) }
 {
     match took {
-        Took::Kept => owe_for_kept(now, head, front, owed),
+        Took::Kept => owe_for_kept(now, fills, head, front, owed),
         Took::Repeat => owe_now(ACK_DUPLICATE, head.serial),
         Took::Beyond => owe_now(ACK_EXCEEDS_WINDOW, head.serial),
         Took::NoSlot => owe_now(ACK_NOSPACE, head.serial),

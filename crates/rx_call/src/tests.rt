@@ -10,6 +10,7 @@ use std::process::Abort;
 use std::test::*;
 
 mod acks;
+mod losses;
 mod packets;
 mod pieces;
 
@@ -21,6 +22,13 @@ pub fn of_window(window: u32) -> Pace
         window,
         prompt: false,
     }
+}
+
+/// The pace of a node with a window of 32 that is prompt or isn't.
+pub fn of_prompt(prompt: bool) -> Pace
+    ensures { result ≡ record { window = 32; prompt = prompt } }
+{
+    Pace { window: 32, prompt }
 }
 
 /// The header of a message of call 1 on channel 0.
@@ -114,7 +122,7 @@ fn what_is_lost_is_given_again_between_pings(rt: HostRuntime) -> Result<(), Fail
     ] {
         assert_eq!(rt; poll(&mut call, moment), giving);
     }
-    assert!(rt; call.dies() == 12_000 && call.is_shut() && !call.acked());
+    assert!(rt; call.dies() == 12_000 && call.is_shut() && !call.is_delivered());
     Ok(())
 }
 
@@ -151,7 +159,7 @@ fn reply_data_acknowledges_the_request(rt: HostRuntime) -> Result<(), Fail> {
         take(&mut call, &mut pool, 5, &head(1, 1, 4), b"ok"),
         Took::Kept
     );
-    assert!(rt; call.acked() && call.held() == 1 && call.due() == Some(105));
+    assert!(rt; call.is_delivered() && call.held() == 1 && call.due() == Some(105));
     assert_eq!(rt; call.read(&mut pool, 6, &mut to), CallRead::Got(2));
     assert!(rt; to[0] == b'o' && to[1] == b'k' && call.held() == 1);
     assert_eq!(rt; call.read(&mut pool, 7, &mut to), CallRead::End);

@@ -26,7 +26,7 @@ pub fn moved(alloc: Global, bytes: u64, window: u32) -> Result<Option<u64>, Allo
         let _acknowledged = server.give(now, &mut client);
         said = say(&mut client, &block, said, bytes);
         sum = hear(&mut server, now, &mut client, &mut to, sum);
-        if client.call.acked() && server.call.all_read() {
+        if client.call.is_delivered() && server.call.all_read() {
             return Ok(Some(sum));
         }
     }

@@ -16,7 +16,7 @@ use Rattle.rx_rules.specs.After.{enters, prepared, settled}
 use Rattle.rx_rules.specs.After.{stopped_all, taken_at, taken_behind, taken_data, taken_heard, taken_message}
 use Rattle.rx_rules.specs.After.{taken_over, taken_stopped, taken_unserved, taken_with, turned_away, with_first}
 use Rattle.rx_rules.specs.CallLooks.{CallLooks, NodeView, after_body, after_chunk}
-use Rattle.rx_rules.specs.CallLooks.{after_taken, found, fresh_call}
+use Rattle.rx_rules.specs.CallLooks.{after_taken, found, fresh_call, is_delivered}
 use Rattle.rx_rules.specs.Judging.{opened, outer_row}
 use Rattle.rx_rules.specs.Life.{Life, after_acks, after_cancel, after_code, after_end, after_later, after_silence}
 use Rattle.rx_rules.specs.Life as lives
@@ -24,7 +24,7 @@ use Rattle.rx_rules.specs.Looks.{CallRecord, ConnLooks, Looks, call_at, channel_
 use Rattle.rx_rules.specs.Looks.{latest_name, on_call, on_channel, on_life}
 use Rattle.rx_rules.specs.Records.{entered, fresh_conn, idle_conn, is_full, placed}
 use Rattle.rx_rules.specs.Records.{started, started_later, with_conn}
-use Rattle.rx_rules.specs.Sent.{Sent, is_all_acked}
+use Rattle.rx_rules.specs.Sent.{Sent}
 use Rattle.rx_rules.specs.Sent as streams
 use Rattle.rx_rules.specs.Setup.{Setup, Kind, Server, Client, is_client, named}
 use Rattle.rx_rules.specs.Slots.{node_view}
@@ -101,7 +101,7 @@ kept-data s got c d m l =
     kept-then c l at (challenged s d first) (kept-taken_at s got c d m l) (kept-challenged s c d first)
 
 settled-kept : (k : CallRecord) → KeptRecord k (settled k)
-settled-kept k = record { spoken = refl; life = on-acks (is_all_acked k.looks.sent) k.life }
+settled-kept k = record { spoken = refl; life = on-acks (is_delivered k.looks) k.life }
 
 kept-heard : (s : Setup) (c d : CallName) (body : Body) (l : Looks) → KeptAt c l (taken_heard s d body l)
 kept-heard s c d (bodies.Ack a) l =

@@ -1,6 +1,7 @@
 -- The ends of a node's calls, by key, over the slots that they share. Public clauses cite this module.
 use Rattle.std.specs.Prelude.{◌≡◌, ◌≢◌, ◌≤◌, ◌+◌, ◌-◌, ℕ, Bool, false, true, length, Option, Some, is_some}
 use Rattle.std.specs.Prelude.{IsSomeAnd}
+use Rattle.rx_rules.specs.CallItems.{call_due}
 use Rattle.rx_rules.specs.CallLooks.{CallLooks, NodeView, held, lead}
 use Rattle.rx_pool.specs.Pool.{Slots}
 use Rattle.rx_pool.specs.Held.{Holds}
@@ -80,6 +81,13 @@ pub record StepsEnd (old new : EndsState) (key : ℕ) (step : CallLooks → Call
   pub stands : (k : CallLooks) → StandsEnd old key k → StandsEnd new key (step k)
   pub common : (k : CallLooks) → StandsEnd old key k → new.common + beside_looks k ≡ old.common + beside_looks (step k)
   pub keeps : KeepsEnds old new key
+
+-- ---- when a call is due
+
+-- an end of a call has something to give from this moment on, or has nothing: so it is of all that it can stand for,
+-- whatever bytes its pool has
+abbrev pub IsDueOf : EndOfCall → Option ℕ → Type 0
+IsDueOf c moment = (pool : Slots) (k : CallLooks) → StandsCall pool c k → moment ≡ call_due c.client k
 
 -- ---- what a call holds
 

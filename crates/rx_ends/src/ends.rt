@@ -1,19 +1,20 @@
 ghost use Rattle.std.specs.Prelude.{◌≡◌, ◌≤◌, ◌<◌, ◌+◌, ◌-◌, ◌^◌, ◌↔◌, ℕ, length, take, drop, min, Some, None};
-ghost use Rattle.std.specs.Prelude.{IfOk, IfSome, IsNone, IfNone, false};
+ghost use Rattle.std.specs.Prelude.{IfOk, IfSome, IsNone, IfNone, IsSomeAnd, false};
 ghost use Rattle.rx_packet.specs.Seen.{message_of, body_of};
 ghost use Rattle.rx_rules.specs.CallItems.{call_due, next_sending};
 ghost use Rattle.rx_rules.specs.CallLooks.{CallLooks, after_read, after_shut, after_taken, after_write, call_row};
-ghost use Rattle.rx_rules.specs.CallLooks.{fresh_call, lead};
+ghost use Rattle.rx_rules.specs.CallLooks.{fresh_call, is_delivered, lead};
 ghost use Rattle.rx_rules.specs.Received.{read_of, used_of, marks_of};
-ghost use Rattle.rx_rules.specs.Sent.{is_all_acked, piece_at, room_of};
+ghost use Rattle.rx_rules.specs.Sent.{piece_at, room_of};
 ghost use Rattle.rx_recvwin.specs.Window.{given_count, tells_end};
 ghost use Rattle.rx_call.specs.Kept.{call_under, live_count};
 ghost use Rattle.rx_call.specs.Standing.{FitsSlot, after_given, giving_of, is_client};
 ghost use Rattle.rx_ends.specs.Ends.{EndsState, IsThere, IsIdleAt, IsUnshut, StandsEnd, KeepsEnds, StepsEnd};
 ghost use Rattle.rx_ends.specs.Ends.{beside_looks};
-ghost use Rattle.rx_ends.specs.Ends.{GivesAt, HasShutSlot, HoldsAt, view_at};
+ghost use Rattle.rx_ends.specs.Ends.{GivesAt, HasShutSlot, HoldsAt, IsDueOf, view_at};
 
 use crate::counters::call;
+use crate::ends::counted::beside;
 use rx_call::{AckView, Calls, Giving, Pace, Side};
 use rx_due::Steps;
 use rx_model::{CallRead, Limits, Took};
@@ -124,7 +125,7 @@ impl Ends {
     }
 
     /// Gives the slots of a call back; it is idle, and its key is still there.
-    pub fn clear(&mut self, key: usize)
+    pub fn clear<L: Ledger>(&mut self, key: usize, steps: &mut Steps<L>)
         requires { IsThere self.old key }
         ensures idle { IsIdleAt self.new key }
         ensures common { (k : CallLooks) → StandsEnd self.old key k →
@@ -132,8 +133,11 @@ impl Ends {
         ensures again { IsIdleAt self.old key → self.new.common ≡ self.old.common }
         ensures keeps { KeepsEnds self.old self.new key }
         ensures live { live_count self.new.calls ≡ live_count self.old.calls }
+        ensures steps { steps.new ≡ steps.old + 1 }
     {
-        self.clear_counted::<Brand>(key, Blank::new(1));
+        let call = self.calls.at_mut(key, steps);
+        self.common -= beside(call);
+        call.clear(&mut self.pool);
     }
 
     /// The key of a call that is idle is there no longer.
@@ -215,18 +219,20 @@ impl Ends {
         call(&self.calls, key).all_read()
     }
 
-    /// Whether the own stream of a call is shut, and each piece of it hard acknowledged.
-    pub fn acked(&self, key: usize) -> bool
+    /// Whether the other end has all that a call said: its stream is shut, and each piece of it hard acknowledged, or
+    /// at a prompt node soft acknowledged.
+    pub fn is_delivered(&self, key: usize) -> bool
         requires { IsThere self.now key }
-        ensures { (k : CallLooks) → StandsEnd self.now key k → result ≡ is_all_acked k.sent }
+        ensures { (k : CallLooks) → StandsEnd self.now key k → result ≡ is_delivered k }
     {
-        call(&self.calls, key).acked()
+        call(&self.calls, key).is_delivered()
     }
 
     /// The moment at which a call's silence is too long.
     pub fn dies<L: Ledger>(&self, key: usize, steps: &mut Steps<L>) -> u64
         requires { IsThere self.now key }
         ensures value { (k : CallLooks) → StandsEnd self.now key k → result ≡ k.heard + SILENCE_MS }
+        ensures heard { IsSomeAnd (call_under self.now.calls key) (λ c. result ≡ c.heard + SILENCE_MS) }
         ensures steps { steps.new ≡ steps.old + 1 }
     {
         self.calls.at(key, steps).dies()
@@ -236,6 +242,7 @@ impl Ends {
     pub fn due<L: Ledger>(&self, key: usize, steps: &mut Steps<L>) -> Option<u64>
         requires { IsThere self.now key }
         ensures answered { (k : CallLooks) → StandsEnd self.now key k → result ≡ call_due self.now.client k }
+        ensures rank { IsSomeAnd (call_under self.now.calls key) (λ c. IsDueOf c result) }
         ensures steps { steps.new ≡ steps.old + 1 }
     {
         self.calls.at(key, steps).due()

@@ -11,3 +11,4 @@ mod Places
 mod Wide
 mod Keys
 mod Rates
+mod Losses

@@ -19,7 +19,7 @@ rtos [] r = []
 rtos (ms ∷ trips) r = (after_sample ms r).rto ∷ rtos trips (after_sample ms r)
 
 -- three round trips
-round_trips : rtos (100 ∷ 180 ∷ 900 ∷ []) first_rtt ≡ 350 ∷ 350 ∷ 1171 ∷ []
+round_trips : rtos (100 ∷ 180 ∷ 900 ∷ []) (first_rtt false) ≡ 350 ∷ 350 ∷ 1171 ∷ []
 round_trips = refl
 
 -- what three round trips leave: in eighths 800, 880, 1,670; in quarters 200, 230, 963
@@ -28,12 +28,12 @@ estimates [] r = []
 estimates (ms ∷ trips) r =
     option_map (λ e. (e.smoothed, e.variance)) (after_sample ms r).estimate ∷ estimates trips (after_sample ms r)
 
-smoothed_and_variance : estimates (100 ∷ 180 ∷ 900 ∷ []) first_rtt
+smoothed_and_variance : estimates (100 ∷ 180 ∷ 900 ∷ []) (first_rtt false)
     ≡ Some (800, 200) ∷ Some (880, 230) ∷ Some (1670, 963) ∷ []
 smoothed_and_variance = refl
 
 -- a round trip of more than a minute counts as one
-long_round_trip : after_sample 60001 first_rtt ≡ after_sample 60000 first_rtt
+long_round_trip : after_sample 60001 (first_rtt false) ≡ after_sample 60000 (first_rtt false)
 long_round_trip = refl
 
 -- what congestion windows become with acknowledgements of so many pieces
@@ -60,7 +60,7 @@ abbrev backed_off : ℕ → Rtt → Rtt
 backed_off zero r = r
 backed_off (suc n) r = after_backoff (backed_off n r)
 
-backoffs : map (λ (n : ℕ). (backed_off n first_rtt).rto) (1 ∷ 2 ∷ 3 ∷ []) ≡ 2000 ∷ 4000 ∷ 4000 ∷ []
+backoffs : map (λ (n : ℕ). (backed_off n (first_rtt false)).rto) (1 ∷ 2 ∷ 3 ∷ []) ≡ 2000 ∷ 4000 ∷ 4000 ∷ []
 backoffs = refl
 
 -- ---- prompt nodes

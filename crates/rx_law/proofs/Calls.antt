@@ -7,13 +7,13 @@ use Rattle.rx_model.specs.declared.names.CallName.{CallName}
 use Rattle.rx_rules.specs.After.{challenged, settled, stopped_all, taken_heard, taken_over}
 use Rattle.rx_model.specs.Body.{Body}
 use Rattle.rx_model.specs.Body as bodies
-use Rattle.rx_rules.specs.CallLooks.{CallLooks, after_body, found}
+use Rattle.rx_rules.specs.CallLooks.{CallLooks, after_body, found, is_delivered}
 use Rattle.rx_rules.specs.Life.{Life, after_code, after_silence}
 use Rattle.rx_rules.specs.Looks.{CallRecord, Looks, call_at, is_proved, on_call, on_calls, on_channel, on_life}
 use Rattle.rx_model.specs.Message.{Message}
 use Rattle.rx_model.specs.Names.{Connection, channel_of, connection_of, same_connection, same_name}
 use Rattle.rx_rules.specs.Records.{is_silent, silence_of, silenced, unless_silent}
-use Rattle.rx_rules.specs.Sent.{Sent, is_all_acked, is_marked, with_window}
+use Rattle.rx_rules.specs.Sent.{Sent, is_marked, with_window}
 use Rattle.rx_rules.specs.Setup.{Setup, is_client}
 use Rattle.rx_rules.proofs.CallsLaws.{KeepsNames, changed_if, changed_if-name, call_at-on_calls, call_at-on_call}
 use Rattle.rx_rules.proofs.FindLaws.{find_passes}
@@ -124,7 +124,7 @@ calls-challenged Cause s c d l =
     (on_channel (channel_of d) (λ q. record q { owed_challenge = true }) l) (calls-refl Cause (call_at l c))
 
 settled-quiet : (Cause : End → Type 0) (k : CallRecord) → Quiet Cause k (settled k)
-settled-quiet Cause k = record { streams = refl; life = acks-moves Cause (is_all_acked k.looks.sent) k.life }
+settled-quiet Cause k = record { streams = refl; life = acks-moves Cause (is_delivered k.looks) k.life }
 
 calls-settled : (Cause : End → Type 0) (c d : CallName) (l : Looks)
     → Calls Cause (call_at l c) (call_at (on_call d settled l) c)

@@ -15,7 +15,7 @@ use Rattle.rx_model.specs.declared.wire.TheConstants.{ACK_PING, CLIENT_INITIATED
 use Rattle.rx_model.specs.Body.{Body}
 use Rattle.rx_model.specs.Body as bodies
 use Rattle.rx_rules.specs.CallItems.{CallItem, Sending, ack_items, again_items, asks, call_items, can_give, flags_of}
-use Rattle.rx_rules.specs.CallItems.{fresh_items, item_at}
+use Rattle.rx_rules.specs.CallItems.{fresh_items, item_at, lost_items}
 use Rattle.rx_rules.specs.CallItems.{piece_items, ping_items, sending_body, sending_flags, sending_seq}
 use Rattle.rx_rules.specs.CallItems as sendings
 use Rattle.rx_rules.specs.CallLooks.{packet_of}
@@ -26,6 +26,7 @@ use Rattle.rx_rules.specs.Items.{where_owed}
 use Rattle.rx_rules.specs.Life.{is_live, is_active}
 use Rattle.rx_rules.specs.Looks.{CallRecord, ChannelLooks, ConnLooks, Looks, call_at, call_named, channel_at, conn_at}
 use Rattle.rx_rules.specs.Looks.{is_call, latest}
+use Rattle.rx_rules.specs.Lost.{lost_of}
 use Rattle.rx_model.specs.Message.{Message, has_flag}
 use Rattle.rx_model.specs.Names.{Channel, Connection, connection_of, same_connection, same_name}
 use Rattle.rx_rules.specs.Owing.{Owed}
@@ -39,6 +40,7 @@ use Rattle.rx_model.specs.Spelling.{IsPlain, IsPlainBody, kind_of, made}
 use Rattle.rx_model.specs.Strays.{stray_message}
 use Rattle.rx_rules.proofs.FindLaws.{find_passes}
 use Rattle.rx_rules.proofs.LeastLaws.{least-keeps}
+use Rattle.rx_rules.proofs.LostLaws.{lost_within}
 use Rattle.rx_rules.proofs.SentLaws.{given-within}
 use Rattle.rx_model.proofs.MessageLaws.{reads_back}
 use Rattle.rx_model.proofs.NameLaws.{both, connection_is, name_is, not_true}
@@ -318,14 +320,24 @@ module _ (s : Setup) (l : Looks) (good : (c : CallName) → GoodCall s l c) wher
       let high : suc below ≤ given_of k.looks.sent = given-within k.looks.sent.givings (suc below) g is in
       ((below, refl, omega arith), tt)
 
+  lost-sound : (k : CallRecord) (o : Option ℕ) → given_of k.looks.sent ≤ counting_of k.looks.sent
+      → lost_of k.looks.cwnd k.looks.sent ≡ o → Every (λ i. Sound k i.sending) (lost_items o)
+  lost-sound k None counts is = tt
+  lost-sound k (Some seq) counts is =
+      let given = lost_within k.looks.cwnd k.looks.sent seq is in
+      ((given.behind, given.is, (let low = given.low in omega arith)), tt)
+
   pieces-sound : (k : CallRecord) → SendsOf (ends_of (Some k))
       → Every (λ i. Sound k i.sending) (piece_items k.looks.rtt.rto k.looks.cwnd k.looks.sent)
   pieces-sound k sends =
-      every-append (λ i. Sound k i.sending) (fresh_items k.looks.cwnd k.looks.sent)
-      (again_items k.looks.rtt.rto (lowest_of k.looks.sent) (last_giving k.looks.sent.givings (lowest_of k.looks.sent)))
-      (fresh-sound k)
+      let again : List CallItem = again_items k.looks.rtt.rto (lowest_of k.looks.sent)
+      (last_giving k.looks.sent.givings (lowest_of k.looks.sent)) in
+      every-append (λ i. Sound k i.sending) (lost_items (lost_of k.looks.cwnd k.looks.sent))
+      (fresh_items k.looks.cwnd k.looks.sent ++ again)
+      (lost-sound k (lost_of k.looks.cwnd k.looks.sent) sends.counts refl)
+      (every-append (λ i. Sound k i.sending) (fresh_items k.looks.cwnd k.looks.sent) again (fresh-sound k)
       (again-sound k k.looks.rtt.rto (reach (is_acked k.looks.sent) (given_of k.looks.sent))
-      (last_giving k.looks.sent.givings (lowest_of k.looks.sent)) sends.counts refl)
+      (last_giving k.looks.sent.givings (lowest_of k.looks.sent)) sends.counts refl))
 
   acks-sound : (k : CallRecord) (o : Option Owed) → Every (λ i. Sound k i.sending) (ack_items o)
   acks-sound k None = tt

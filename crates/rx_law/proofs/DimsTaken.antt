@@ -1,5 +1,5 @@
 -- A datagram that starts no call and enters no connection brings no call to life.
-use Rattle.std.proofs.Common.{◌≡◌, ◌&&◌, ◌==◌, ℕ, ℤ, if◌then◌else◌, not, is_some, Bool, true, false, List, ◌∷◌, Option}
+use Rattle.std.proofs.Common.{◌≡◌, ◌&&◌, ◌==◌, ℕ, ℤ, if◌then◌else◌, not, is_some, Bool, true, false, List, Option}
 use Rattle.std.proofs.Common.{Some, None}
 use Rattle.std.proofs.Common.{refl}
 use Rattle.rx_model.specs.declared.answers.Took.{Took}
@@ -17,17 +17,16 @@ use Rattle.rx_rules.specs.After.{stopped_all}
 use Rattle.rx_rules.specs.After.{taken_at, taken_busy, taken_data, taken_heard, taken_over, taken_stopped}
 use Rattle.rx_rules.specs.After.{taken_unserved, taken_with}
 use Rattle.rx_rules.specs.After.{turned_away}
-use Rattle.rx_rules.specs.CallLooks.{CallLooks, NodeView, after_body, after_chunk, after_taken}
+use Rattle.rx_rules.specs.CallLooks.{NodeView, after_body, after_chunk, after_taken, is_delivered}
 use Rattle.rx_rules.specs.Life.{after_acks, after_code}
 use Rattle.rx_rules.specs.Looks.{CallRecord, Looks, call_at, is_proved, latest_name, on_call, on_channel}
 use Rattle.rx_rules.specs.Looks.{on_life}
 use Rattle.rx_rules.specs.Records.{used}
 use Rattle.rx_rules.specs.Received.{Packet, packet_at, with_packet}
-use Rattle.rx_rules.specs.Sent.{is_all_acked}
 use Rattle.rx_rules.specs.Setup.{Setup, is_client}
 use Rattle.rx_rules.specs.Slots.{node_view}
 use Rattle.rx_law.proofs.Dims.{Dims, dims_all, dims_call, dims_channel, dims_conn, dims_if, dims_life, dims_looks}
-use Rattle.rx_law.proofs.Dims.{KeepsFirst, dims_refl, dims_trans, fades_if, fades_life, has_first}
+use Rattle.rx_law.proofs.Dims.{KeepsFirst, dims_refl, dims_trans, fades_if, fades_life}
 use Rattle.rx_law.proofs.LifeFalls.{acks_falls, code_falls}
 use Rattle.rx_law.proofs.RowsInFront.{may_start}
 use Rattle.rx_law.proofs.TakenLaws.{abort-number, again-number}
@@ -77,7 +76,7 @@ data_dims s got c m l =
 settled-dims : (c : CallName) (l : Looks) → Dims l (on_call c settled l)
 settled-dims c l =
     dims_call c settled l
-    (λ k. fades_life k (after_acks (is_all_acked k.looks.sent) k.life) (acks_falls (is_all_acked k.looks.sent) k.life))
+    (λ k. fades_life k (after_acks (is_delivered k.looks) k.life) (acks_falls (is_delivered k.looks) k.life))
 
 heard-dims : (s : Setup) (c : CallName) (body : Body) (l : Looks) → Dims l (taken_heard s c body l)
 heard-dims s c (bodies.Ack a) l =

@@ -18,11 +18,10 @@ use Rattle.rx_model.specs.Spells.{FitsHeader, SpellsBody}
 use Rattle.rx_rules.specs.After.{challenged, prepared, settled, stopped_all, taken_at, taken_behind, taken_data}
 use Rattle.rx_rules.specs.After.{taken_heard, taken_message}
 use Rattle.rx_rules.specs.After.{taken_over, taken_stopped, taken_with, turned_away}
-use Rattle.rx_rules.specs.CallLooks.{after_taken}
+use Rattle.rx_rules.specs.CallLooks.{after_taken, is_delivered}
 use Rattle.rx_rules.specs.Judging.{else_row, facts_of, opened, outer_row, own_row, took_named, took_reading}
 use Rattle.rx_rules.specs.Life.{after_acks, after_code}
 use Rattle.rx_rules.specs.Looks.{CallRecord, Looks, call_at, latest_name, on_call, on_life}
-use Rattle.rx_rules.specs.Sent.{is_all_acked}
 use Rattle.rx_rules.specs.Setup.{Setup, FitsSetup, named, receiving_window}
 use Rattle.rx_rules.specs.Slots.{node_view}
 use Rattle.rx_model.proofs.SpelledLaws.{spelled}
@@ -109,8 +108,8 @@ fit-kept s c m l fits is head all =
 fit-settled : (c : CallName) (l : Looks) → CallsFit l.calls → CallsFit (on_call c settled l).calls
 fit-settled c l all =
     fit_call c settled l (λ k. refl)
-    (λ k there f. life_fits k (after_acks (is_all_acked k.looks.sent) k.life)
-    (acks_life (is_all_acked k.looks.sent) k.life f.life) f) all
+    (λ k there f. life_fits k (after_acks (is_delivered k.looks) k.life)
+    (acks_life (is_delivered k.looks) k.life f.life) f) all
 
 fit-heard : (s : Setup) (c : CallName) (body : Body) (l : Looks) → CallsFit l.calls
     → CallsFit (taken_heard s c body l).calls

@@ -96,18 +96,22 @@ if-owed true x y here there = here
 if-owed false x y here there = there
 
 -- a data packet was judged
-pub owed_fits : (got : Took) (now : ℕ) (m : Message) (front : ℕ) (o : Option Owed) → m.serial < 2 ^ 32 → OwedFits o
-    → OwedFits (owed_for got now m front o)
-owed_fits tooks.Kept now m front o low f =
+pub owed_fits : (got : Took) (now : ℕ) (fills : Bool) (m : Message) (front : ℕ) (o : Option Owed) → m.serial < 2 ^ 32
+    → OwedFits o → OwedFits (owed_for got now fills m front o)
+owed_fits tooks.Kept now fills m front o low f =
+    let own : Option Owed = delayed now m.serial o in
+    let filled : Option Owed = if fills then at_once 8 m.serial else own in
     if-owed (not (m.seq == suc front)) (at_once 3 m.serial)
-    (if has_flag REQUEST_ACK m.flags then at_once 1 m.serial else delayed now m.serial o)
+    (if has_flag REQUEST_ACK m.flags then at_once 1 m.serial else filled)
     (once-fits 3 m.serial (omega arith) (omega arith) low)
-    (if-owed (has_flag REQUEST_ACK m.flags) (at_once 1 m.serial) (delayed now m.serial o)
-    (once-fits 1 m.serial (omega arith) (omega arith) low) (delayed-fits now m.serial o low f))
-owed_fits tooks.Repeat now m front o low f = once-fits 2 m.serial (omega arith) (omega arith) low
-owed_fits tooks.Beyond now m front o low f = once-fits 4 m.serial (omega arith) (omega arith) low
-owed_fits tooks.NoSlot now m front o low f = once-fits 5 m.serial (omega arith) (omega arith) low
-owed_fits _ now m front o low f = f
+    (if-owed (has_flag REQUEST_ACK m.flags) (at_once 1 m.serial) filled
+    (once-fits 1 m.serial (omega arith) (omega arith) low)
+    (if-owed fills (at_once 8 m.serial) own (once-fits 8 m.serial (omega arith) (omega arith) low)
+    (delayed-fits now m.serial o low f)))
+owed_fits tooks.Repeat now fills m front o low f = once-fits 2 m.serial (omega arith) (omega arith) low
+owed_fits tooks.Beyond now fills m front o low f = once-fits 4 m.serial (omega arith) (omega arith) low
+owed_fits tooks.NoSlot now fills m front o low f = once-fits 5 m.serial (omega arith) (omega arith) low
+owed_fits _ now fills m front o low f = f
 
 -- an ACK was heard
 pub pinged_fits : (reason serial : ℕ) (o : Option Owed) → serial < 2 ^ 32 → OwedFits o

@@ -7,12 +7,13 @@ use Rattle.rx_model.specs.Body.{Body}
 use Rattle.rx_model.specs.Body as bodies
 use Rattle.rx_model.specs.Spelling.{IsCode, IsPlainAck, IsPlainBody}
 use Rattle.rx_rules.specs.CallItems.{CallItem, Sending, ack_body, ack_items, again_items, asks, call_items, can_give}
-use Rattle.rx_rules.specs.CallItems.{fresh_items, item_at}
+use Rattle.rx_rules.specs.CallItems.{fresh_items, item_at, lost_items}
 use Rattle.rx_rules.specs.CallItems.{piece_items, ping_items}
 use Rattle.rx_rules.specs.CallItems as sendings
 use Rattle.rx_rules.specs.Classes.{FitsAnswer}
 use Rattle.rx_rules.specs.Items.{where_owed}
 use Rattle.rx_rules.specs.Looks.{CallRecord}
+use Rattle.rx_rules.specs.Lost.{lost_of}
 use Rattle.rx_rules.specs.Owing.{Owed}
 use Rattle.rx_rules.specs.Received.{Packet, Received, greatest, marks_from, marks_of, packet_at, used_of}
 use Rattle.rx_rules.specs.Sent.{LastGiving, last_giving, lowest_of}
@@ -134,6 +135,10 @@ AckFits (sendings.Ack reason serial) = (1 ≤ reason) × (reason ≤ 8) × (seri
 abbrev pub AcksFit : List CallItem → Type 0
 AcksFit is = Every (λ i. AckFits i.sending) is
 
+lost-fit : (o : Option ℕ) → AcksFit (lost_items o)
+lost-fit None = tt
+lost-fit (Some k) = (tt, tt)
+
 again-fit : (rto k : ℕ) (o : Option LastGiving) → AcksFit (again_items rto k o)
 again-fit rto k None = tt
 again-fit rto k (Some g) = (tt, tt)
@@ -158,7 +163,10 @@ acks_fit client k f =
     let low : ℕ = lowest_of k.looks.sent in
     every-append P (piece_items rto k.looks.cwnd k.looks.sent)
     (ack_items k.looks.owed_ack ++ ping_items client k.looks.spoke)
+    (every-append P (lost_items (lost_of k.looks.cwnd k.looks.sent))
+    (fresh_items k.looks.cwnd k.looks.sent ++ again_items rto low (last_giving k.looks.sent.givings low))
+    (lost-fit (lost_of k.looks.cwnd k.looks.sent))
     (every-append P (fresh_items k.looks.cwnd k.looks.sent) (again_items rto low (last_giving k.looks.sent.givings low))
-    (fresh-fit (can_give k.looks.cwnd k.looks.sent) _) (again-fit rto low (last_giving k.looks.sent.givings low)))
+    (fresh-fit (can_give k.looks.cwnd k.looks.sent) _) (again-fit rto low (last_giving k.looks.sent.givings low))))
     (every-append P (ack_items k.looks.owed_ack) (ping_items client k.looks.spoke) (ack-fit k.looks.owed_ack f.owed)
     (ping-fit client k.looks.spoke))

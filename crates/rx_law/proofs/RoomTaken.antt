@@ -15,12 +15,11 @@ use Rattle.rx_model.specs.Names.{Connection, channel_of, connection_of, same_con
 use Rattle.rx_rules.specs.After.{challenged, prepared, settled, stopped_all, taken_at, taken_behind, taken_data}
 use Rattle.rx_rules.specs.After.{taken_heard, taken_message}
 use Rattle.rx_rules.specs.After.{taken_over, taken_stopped, taken_with, turned_away}
-use Rattle.rx_rules.specs.CallLooks.{after_taken}
+use Rattle.rx_rules.specs.CallLooks.{after_taken, is_delivered}
 use Rattle.rx_rules.specs.Judging.{else_row, facts_of, opened, outer_row, own_row, took_named, took_reading}
 use Rattle.rx_rules.specs.Life.{after_acks, after_code}
 use Rattle.rx_rules.specs.Looks.{CallRecord, Looks, call_at, is_proved, latest_name, on_call, on_channel}
 use Rattle.rx_rules.specs.Looks.{on_life}
-use Rattle.rx_rules.specs.Sent.{is_all_acked}
 use Rattle.rx_rules.specs.Setup.{Setup, is_client, named, shared_slots}
 use Rattle.rx_rules.specs.Slots.{node_view}
 use Rattle.rx_rules.proofs.CallsLaws.{changed_if}
@@ -83,8 +82,8 @@ roomy-kept s c m l is r =
 roomy-settled : (s : Setup) (c : CallName) (l : Looks) → RoomyAt s l → RoomyAt s (on_call c settled l)
 roomy-settled s c l r =
     roomy_one (is_client s.kind) (shared_slots s) c settled l.calls
-    (λ k. gives_life (is_client s.kind) k (after_acks (is_all_acked k.looks.sent) k.life)
-    (acks_falls (is_all_acked k.looks.sent) k.life)) r
+    (λ k. gives_life (is_client s.kind) k (after_acks (is_delivered k.looks) k.life)
+    (acks_falls (is_delivered k.looks) k.life)) r
 
 roomy-heard : (s : Setup) (c : CallName) (body : Body) (l : Looks) → RoomyAt s l → RoomyAt s (taken_heard s c body l)
 roomy-heard s c (bodies.Ack a) l r =

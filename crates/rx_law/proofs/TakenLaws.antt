@@ -13,7 +13,7 @@ use Rattle.rx_rules.specs.After.{taken_with}
 use Rattle.rx_rules.specs.After.{enters, told_code}
 use Rattle.rx_model.specs.Body.{Body}
 use Rattle.rx_model.specs.Body as bodies
-use Rattle.rx_rules.specs.CallLooks.{after_taken, fresh_call}
+use Rattle.rx_rules.specs.CallLooks.{after_taken, fresh_call, is_delivered}
 use Rattle.rx_rules.specs.Judging.{opened}
 use Rattle.rx_rules.specs.Life.{Life, after_acks, after_code, after_later, is_waiting}
 use Rattle.rx_rules.specs.Life as lives
@@ -23,7 +23,6 @@ use Rattle.rx_rules.specs.Looks.{on_call, on_channel, on_life}
 use Rattle.rx_model.specs.Message.{Message}
 use Rattle.rx_model.specs.Names.{Connection, channel_of, connection_of, same_connection, same_name}
 use Rattle.rx_rules.specs.Records.{started, started_later}
-use Rattle.rx_rules.specs.Sent.{is_all_acked}
 use Rattle.rx_rules.specs.Setup.{Setup, is_client}
 use Rattle.rx_rules.specs.Slots.{node_view}
 use Rattle.rx_rules.proofs.ConnsLaws.{channel_number, number_of}
@@ -55,7 +54,7 @@ keeps-data s got c d m l =
 
 keeps-settled : (c d : CallName) (l : Looks) → Keeps c l (on_call d settled l)
 keeps-settled c d l =
-    keeps-on_call c d settled l (λ k. refl) (λ k. acks_wait (is_all_acked k.looks.sent) k.life)
+    keeps-on_call c d settled l (λ k. refl) (λ k. acks_wait (is_delivered k.looks) k.life)
 
 pub keeps-heard : (s : Setup) (c d : CallName) (body : Body) (l : Looks) → Keeps c l (taken_heard s d body l)
 keeps-heard s c d (bodies.Ack a) l =

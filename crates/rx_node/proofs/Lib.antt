@@ -46,3 +46,5 @@ pub mod PollSteps
 pub mod PollLeaves
 pub mod Arguments
 pub mod UsedConns
+pub mod MomentSteps
+pub mod SameChannels

@@ -15,8 +15,7 @@ use Rattle.rx_rules.specs.After.{after, counted, given_body, looks}
 use Rattle.rx_rules.specs.Classes.{Class}
 use Rattle.rx_rules.specs.Items.{Item, datagram_for, datagram_on, items, message_on, next_item, poll_answer, poll_with}
 use Rattle.rx_rules.specs.Least.{least_by}
-use Rattle.rx_rules.specs.Life.{Life, after_silence, is_active}
-use Rattle.rx_rules.specs.Life as lives
+use Rattle.rx_rules.specs.Life.{after_silence}
 use Rattle.rx_rules.specs.Looks.{CallRecord, Looks, conn_at}
 use Rattle.rx_rules.specs.Records.{is_silent, silence_of, silenced, unless_silent}
 use Rattle.rx_rules.specs.Rules.{Allowed, AllowedAt, Legal}
@@ -32,24 +31,16 @@ use Rattle.rx_node.specs.declared.item.Due.{Due}
 use Rattle.rx_node.proofs.DueMoment.{NoneSilent, items_same}
 use Rattle.rx_node.proofs.KeptKeys.{kept_setup}
 use Rattle.rx_node.proofs.LeastItems.{least_within, within_rank}
+use Rattle.rx_node.proofs.MomentSteps.{ended_idle}
 use Rattle.rx_node.proofs.SmallSteps.{mirrors_strays}
 
 -- ---- silent calls ended
-
-ended-idle : (n : ℕ) (x : Life) → is_active (after_silence n x) ≡ false
-ended-idle n lives.Calling = refl
-ended-idle n (lives.Ended end) = refl
-ended-idle n lives.Waiting = refl
-ended-idle n lives.Accepted = refl
-ended-idle n lives.Finished = refl
-ended-idle n (lives.Broken code) = refl
-ended-idle n (lives.Over code) = refl
 
 quiet-now : (now : ℕ) (k : CallRecord) → is_silent now (unless_silent now k) ≡ false
 quiet-now now k =
     (elim (is_silent now k) as (λ b. is_silent now k ≡ b
     → is_silent now (if b then record k { life = after_silence (silence_of now k) k.life } else k) ≡ false) [
-      | true ↦ λ is. ap (λ (b : Bool). b && nat_le SILENCE_MS (silence_of now k)) (ended-idle (silence_of now k) k.life)
+      | true ↦ λ is. ap (λ (b : Bool). b && nat_le SILENCE_MS (silence_of now k)) (ended_idle (silence_of now k) k.life)
       | false ↦ λ is. is
     ]) refl
 

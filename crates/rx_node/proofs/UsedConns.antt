@@ -1,5 +1,5 @@
 -- What a use of a connection leaves of it, and of the rows of its calls.
-use Rattle.std.proofs.Common.{◌≡◌, ◌⊎◌, ◌-◌, ℕ, cond, Bool, true, false, Option, Some, None, option_map, refl, ◌∙◌}
+use Rattle.std.proofs.Common.{◌≡◌, ◌⊎◌, ◌-◌, cond, Bool, true, false, Option, Some, None, option_map, refl, ◌∙◌}
 use Rattle.std.proofs.Common.{ap}
 use Rattle.std.proofs.Common.{inl, inr}
 use Rattle.std.specs.Prelude.{unwrap_or}

@@ -1,4 +1,4 @@
--- What is due at a node, as the code keeps it and as the rules have it. No public clause cites this module.
+-- What is due at a node, as the code keeps it and as the rules have it. Public clauses cite this module.
 use Rattle.std.specs.Prelude.{◌≡◌, ◌+◌, ◌&&◌, not, if◌then◌else◌, ℕ, ℤ, Bool, List, Option, Some, None, is_some}
 use Rattle.std.specs.Prelude.{IsSomeAnd}
 use Rattle.rx_model.specs.declared.names.CallName.{CallName}

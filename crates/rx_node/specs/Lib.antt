@@ -4,3 +4,4 @@ pub mod Node
 pub mod Mirrors
 pub mod Steps
 pub mod Due
+pub mod Moments

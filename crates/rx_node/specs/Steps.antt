@@ -38,6 +38,11 @@ is_acking (bodies.Ack a) = true
 is_acking bodies.AckAll = true
 is_acking _ = false
 
+-- whether it is a RESPONSE
+abbrev pub is_response : Body → Bool
+is_response (bodies.Response bytes) = true
+is_response _ = false
+
 -- whether it is an answer to data that was judged
 abbrev pub is_judged : Took → Bool
 is_judged tooks.Kept = true

@@ -16,6 +16,7 @@ mod strays;
 mod tests;
 
 pub use facts::Facts;
+pub use item::{Due, Item};
 pub use kind::Kind;
 pub use life::{Life, Turn};
 pub use link::Link;

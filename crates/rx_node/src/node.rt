@@ -16,6 +16,7 @@ ghost use Rattle.rx_law.proofs.Orderly.{Orderly};
 ghost use Rattle.rx_table.specs.Records.{IsLongestIdle, idle_since, place_of, record_at, seat_at};
 ghost use Rattle.rx_node.specs.Kinds.{kind_of};
 ghost use Rattle.rx_node.specs.Mirrors.{IsChannel, IsKey, Mirrors, StepsNode};
+ghost use Rattle.rx_node.specs.Moments.{PlacesSame, SameChannel};
 ghost use Rattle.rx_node.specs.Node.{KeepsNode, KeepsSetup, setup_of};
 
 use crate::kind::Kind;
@@ -47,7 +48,7 @@ pub use taking::is_data;
 pub struct Node<C: Class> {
     kind: Kind,
     limits: Limits,
-    /// Whether it asks for an acknowledgement behind the last piece that a call can hold.
+    /// As the `Pace` of its calls has it.
     prompt: bool,
     class: C,
     /// In milliseconds.
@@ -116,8 +117,8 @@ impl<C: Class> Node<C> {
     ghost use Rattle.rx_table.specs.Lending.{LendsSeat};
     ghost use Rattle.rx_table.specs.declared.seat.TheConstants.{CHANNELS};
 
-    /// A node to which nothing happened yet, with all the memory that it will need; a prompt one asks for
-    /// an acknowledgement behind each half of a call's window.
+    /// A node to which nothing happened yet, with all the memory that it will need, prompt or not, as the `Pace` of its
+    /// calls has it.
     pub fn make(
         alloc: Global,
         kind: Kind,
@@ -244,6 +245,7 @@ impl<C: Class> Node<C> {
         requires cid { c.now.cid + 3 < 2 ^ 32 }
         ensures place { result ≡ length self.old.table.conns }
         ensures conns { length self.new.table.conns ≡ length self.old.table.conns + 1 }
+        ensures places { PlacesSame self.old self.new (length self.old.table.conns) }
         ensures setup { KeepsSetup self.old self.new }
         ensures steps { (l : Looks) → Mirrors C.class_of self.old l
             → nonce ≡ nonce_of self.old.kind l.entered
@@ -265,6 +267,7 @@ impl<C: Class> Node<C> {
         requires idle { IsLongestIdle self.old.moment self.old.table place }
         requires cid { c.now.cid + 3 < 2 ^ 32 }
         ensures conns { length self.new.table.conns ≡ length self.old.table.conns }
+        ensures places { PlacesSame self.old self.new place }
         ensures setup { KeepsSetup self.old self.new }
         ensures steps { (l : Looks) (x : rules.ConnLooks) → Mirrors C.class_of self.old l
             → slice_get l.conns place ≡ Some x
@@ -284,6 +287,7 @@ impl<C: Class> Node<C> {
         requires { place < length self.old.table.conns }
         ensures steps { (l : Looks) (x : rules.ConnLooks) → Mirrors C.class_of self.old l
             → slice_get l.conns place ≡ Some x → Mirrors C.class_of self.new (used x.connection l) }
+        ensures channels { (q : ℕ) → SameChannel self.old self.new q }
         ensures same { KeepsNode self.old self.new }
     {
         self.table.touch(place, self.moment);
@@ -348,6 +352,7 @@ impl<C: Class> Node<C> {
         ensures steps { (body : models.Body) → StepsNode C.class_of self.old self.new (λ l. record l {
           strays = last_of STRAYS (l.strays ++ rules_stray_of from (message_with_head head.now body) ∷ []);
         }) }
+        ensures channels { (q : ℕ) → SameChannel self.old self.new q }
         ensures same { KeepsNode self.old self.new }
     {
         self.strays.push_back(stray_of(from, head));

@@ -27,7 +27,7 @@ fn out_of_order_packets_are_read_in_order(rt: HostRuntime) -> Result<(), Fail> {
     let mut win = RecvWin::make(rt.alloc(), 32)?;
     let mut to = [0; 2000];
     assert_eq!(rt; keep(&mut win, &mut pool, 2, b"k", true), Took::Kept);
-    assert!(rt; win.front() == 0 && !win.lead() && win.held() == 1);
+    assert!(rt; win.front() == 0 && !win.lead() && win.held() == 1 && win.has_hole());
     let view = win.ack_view();
     assert!(rt; view.first == 1 && view.previous == 2);
     assert_eq!(rt; view.marks.as_slice(), [false, true].as_slice());
@@ -36,7 +36,7 @@ fn out_of_order_packets_are_read_in_order(rt: HostRuntime) -> Result<(), Fail> {
         keep(&mut win, &mut pool, 1, &[0x5a; 1412], false),
         Took::Kept
     );
-    assert!(rt; win.front() == 2 && win.lead());
+    assert!(rt; win.front() == 2 && win.lead() && !win.has_hole());
     assert_eq!(rt; win.read(&mut pool, &mut to), CallRead::Got(1413));
     assert!(rt; to[0] == 0x5a && to[1411] == 0x5a && to[1412] == b'k' && to[1413] == 0);
     assert!(rt; win.held() == 1 && pool.free() == 2 && !win.all_read());

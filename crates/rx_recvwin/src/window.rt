@@ -1,6 +1,7 @@
 ghost use Rattle.std.specs.Prelude.{◌≡◌, ◌≤◌, ◌<◌, ◌+◌, nat_lt, suc, length, is_some, [], Option, Some, None, true};
 ghost use Rattle.std.specs.Prelude.{false, IfOk};
 ghost use Rattle.rx_rules.specs.Received.{Received, nothing_received, front_of, used_of, marks_of, count_above};
+ghost use Rattle.rx_rules.specs.Received.{has_hole};
 ghost use Rattle.rx_pool.specs.Pool.{Slots};
 ghost use Rattle.rx_pool.specs.Held.{Holds, Keeps};
 ghost use Rattle.rx_recvwin.specs.Places.{place_at, leading, count_in, is_open_done, HasSizes};
@@ -119,6 +120,13 @@ impl RecvWin {
             result ≡ nat_lt (used_of r) (front_of r.kept) }
     {
         self.used < self.front
+    }
+
+    /// Whether a packet above the front is kept.
+    pub fn has_hole(&self) -> bool
+        ensures answered { (pool : Slots) (r : Received) → StandsReceived pool self.now r → result ≡ has_hole r }
+    {
+        self.front < self.greatest
     }
 
     /// Whether the stream was read to its end.

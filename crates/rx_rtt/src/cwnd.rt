@@ -1,5 +1,5 @@
 ghost use Rattle.std.specs.Prelude.{◌≡◌, ◌≤◌, nat_lt};
-ghost use Rattle.rx_rules.specs.Rates.{first_cwnd, after_acked, after_timeout};
+ghost use Rattle.rx_rules.specs.Rates.{first_cwnd, after_acked, after_loss, after_timeout};
 ghost use Rattle.rx_rules.specs.CallItems.{prompts};
 
 use rx_model::wire::{FIRST_CWND, MIN_SSTHRESH};
@@ -13,7 +13,8 @@ pub struct Cwnd {
     ssthresh: u32,
     /// The node's own window, which the window never passes.
     most: u32,
-    /// Whether the node asks behind each half of its own window.
+    /// Whether the node is prompt: it asks behind each half of its own window, and gives again at once what it takes
+    /// for lost.
     prompt: bool,
 }
 
@@ -60,12 +61,27 @@ impl Cwnd {
         self.window = self.window.saturating_add(growth).min(self.most);
     }
 
-    /// A piece had to be sent again: slow start begins anew.
+    /// A piece was lost: the window closes by half.
+    pub fn lost(&mut self)
+        ensures { self.new ≡ after_loss self.old }
+    {
+        self.window = (self.window / 2).max(MIN_SSTHRESH);
+        self.ssthresh = self.window;
+    }
+
+    /// A piece's time was up: slow start begins anew.
     pub fn timed_out(&mut self)
         ensures { self.new ≡ after_timeout self.old }
     {
         self.ssthresh = (self.window / 2).max(MIN_SSTHRESH);
         self.window = 1;
+    }
+
+    /// Whether the node gives again at once what it takes for lost.
+    pub fn recovers(&self) -> bool
+        ensures { result ≡ self.now.prompt }
+    {
+        self.prompt
     }
 
     /// Whether another piece may be sent where so many are in flight.

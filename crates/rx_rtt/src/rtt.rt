@@ -5,6 +5,10 @@ ghost use Rattle.rx_rtt.specs.Estimates.{IsBounded, IsBoundedWithin, estimate_of
 use rx_model::wire::{FIRST_RTO_MS, MAX_ROUND_TRIP_MS, MAX_RTO_MS, MIN_RTO_MS};
 use std::marker::Model;
 
+/// The least variance of a prompt node, in milliseconds: a peer may delay an acknowledgement by 100, whatever the round
+/// trip.
+const LEAST_VARIANCE_MS: u32 = 120;
+
 /// A smoothed round trip, in eighths of a millisecond, and its variance, in quarters.
 #[derive(Clone, Copy, Debug)]
 pub struct Estimate {
@@ -18,6 +22,7 @@ pub struct Rtt {
     /// None until a round trip was measured.
     estimate: Option<Estimate>,
     rto: u32,
+    prompt: bool,
 }
 
 impl Model for Rtt {
@@ -27,19 +32,20 @@ impl Model for Rtt {
 
     ghost Value = { RttLooks };
 
-    ghost view = { λ r. record { estimate = measured_of r.estimate; rto = r.rto } };
+    ghost view = { λ r. record { estimate = measured_of r.estimate; rto = r.rto; prompt = r.prompt } };
 
     ghost invariant = { λ r. IsBoundedWithin r.estimate × (r.rto ≤ 4000) };
 }
 
 impl Rtt {
-    /// Of a call that starts: nothing is measured yet.
-    pub fn new() -> Rtt
-        ensures { result ≡ first_rtt }
+    /// Of a call that starts, at a node that is prompt or isn't: nothing is measured yet.
+    pub fn new(prompt: bool) -> Rtt
+        ensures { result ≡ first_rtt prompt }
     {
         Rtt {
             estimate: None,
             rto: FIRST_RTO_MS as u32,
+            prompt,
         }
     }
 
@@ -49,7 +55,7 @@ impl Rtt {
     {
         let trip = ms.min(MAX_ROUND_TRIP_MS) as u32;
         let estimate = with_trip(trip, self.estimate);
-        self.rto = rto_by(estimate);
+        self.rto = rto_by(self.prompt, estimate);
         self.estimate = Some(estimate);
     }
 
@@ -91,13 +97,17 @@ fn with_trip(ms: u32, estimate: Option<Estimate>) -> Estimate
     }
 }
 
-/// The time to wait that an estimate gives: 350 to 4,000 milliseconds.
-fn rto_by(estimate: Estimate) -> u32
+/// The time to wait that an estimate gives: 350 to 4,000 milliseconds, at a prompt node 120 to 4,000.
+fn rto_by(prompt: bool, estimate: Estimate) -> u32
     requires { IsBounded estimate }
-    ensures value { result ≡ rto_of (estimate_of estimate) }
+    ensures value { result ≡ rto_of prompt (estimate_of estimate) }
     ensures most { result ≤ 4000 }
 {
-    (estimate.smoothed / 8 + estimate.variance)
+    let trip = estimate.smoothed / 8;
+    if prompt {
+        return (trip + estimate.variance.max(LEAST_VARIANCE_MS)).min(MAX_RTO_MS as u32);
+    }
+    (trip + estimate.variance)
         .min(MAX_RTO_MS as u32)
         .max(MIN_RTO_MS as u32)
 }

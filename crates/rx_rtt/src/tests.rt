@@ -4,7 +4,7 @@ use std::test::*;
 
 #[test]
 fn round_trips_give_the_time_to_wait(rt: HostRuntime) -> Result<(), Fail> {
-    let mut rtt = Rtt::new();
+    let mut rtt = Rtt::new(false);
     assert_eq!(rt; rtt.rto(), 1000);
     for (ms, rto) in [(100, 350), (180, 350), (900, 1171)] {
         rtt.sample(ms);
@@ -24,7 +24,25 @@ fn a_first_round_trip_counts_three_times(rt: HostRuntime) -> Result<(), Fail> {
         (60_001, 4000),
         (u64::MAX, 4000),
     ] {
-        let mut rtt = Rtt::new();
+        let mut rtt = Rtt::new(false);
+        rtt.sample(ms);
+        assert_eq!(rt; rtt.rto(), rto);
+    }
+    Ok(())
+}
+
+#[test]
+fn a_prompt_node_waits_less_for_a_short_round_trip(rt: HostRuntime) -> Result<(), Fail> {
+    for (ms, rto) in [
+        (0, 120),
+        (60, 180),
+        (61, 183),
+        (117, 351),
+        (1334, 4000),
+        (u64::MAX, 4000),
+    ] {
+        let mut rtt = Rtt::new(true);
+        assert_eq!(rt; rtt.rto(), 1000);
         rtt.sample(ms);
         assert_eq!(rt; rtt.rto(), rto);
     }
@@ -33,7 +51,7 @@ fn a_first_round_trip_counts_three_times(rt: HostRuntime) -> Result<(), Fail> {
 
 #[test]
 fn each_resend_doubles_the_time_to_wait(rt: HostRuntime) -> Result<(), Fail> {
-    let mut rtt = Rtt::new();
+    let mut rtt = Rtt::new(false);
     for rto in [2000, 4000, 4000] {
         rtt.backoff();
         assert_eq!(rt; rtt.rto(), rto);
@@ -59,6 +77,33 @@ fn round_trips_widen_the_window_and_a_resend_closes_it(rt: HostRuntime) -> Resul
     for (n, window) in [(0, 1), (1, 2), (2, 4), (4, 5)] {
         cwnd.acked(n);
         assert!(rt; is_wide(&cwnd, window));
+    }
+    Ok(())
+}
+
+#[test]
+fn a_lost_piece_halves_the_window_and_never_below_two(rt: HostRuntime) -> Result<(), Fail> {
+    let mut cwnd = Cwnd::new(32, true);
+    cwnd.acked(19);
+    assert!(rt; is_wide(&cwnd, 21));
+    for window in [10, 5, 2, 2] {
+        cwnd.lost();
+        assert!(rt; is_wide(&cwnd, window));
+    }
+    for (n, window) in [(2, 3), (3, 4)] {
+        cwnd.acked(n);
+        assert!(rt; is_wide(&cwnd, window));
+    }
+    cwnd.timed_out();
+    cwnd.lost();
+    assert!(rt; is_wide(&cwnd, 2));
+    Ok(())
+}
+
+#[test]
+fn a_prompt_node_alone_recovers(rt: HostRuntime) -> Result<(), Fail> {
+    for prompt in [false, true] {
+        assert_eq!(rt; Cwnd::new(32, prompt).recovers(), prompt);
     }
     Ok(())
 }

@@ -1,6 +1,6 @@
 -- Changes of calls, seen at one name: a change of all records is one of each, and the slots that they hold are summed
 -- anew.
-use Rattle.std.proofs.Common.{◌≡◌, ◌+◌, cond, Bool, true, false, List, [], ◌∷◌, map, Option, Some, option_map}
+use Rattle.std.proofs.Common.{◌≡◌, cond, Bool, true, false, List, [], ◌∷◌, map, Option, Some, option_map}
 use Rattle.std.proofs.Common.{refl, ◌∙◌, ap, if◌then◌else◌}
 use Rattle.std.specs.List.{find}
 use Rattle.rx_model.specs.declared.names.CallName.{CallName}

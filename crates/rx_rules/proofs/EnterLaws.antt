@@ -1,6 +1,6 @@
 -- What entering a connection leaves and makes, where none is forgotten for it.
 use Rattle.std.proofs.Common.{◌≡◌, ◌≤◌, ℕ, zero, suc, cond, if◌then◌else◌, Bool, true, false, List, [], length, map}
-use Rattle.std.proofs.Common.{Option, Some, None, refl, ◌∙◌, ap, arith, sym, subst, is_some}
+use Rattle.std.proofs.Common.{Option, Some, None, refl, ap, arith, sym, subst, is_some}
 use Rattle.rx_model.specs.declared.names.CallName.{CallName}
 use Rattle.rx_rules.specs.Looks.{ChannelLooks, ConnLooks, Looks, conn_at, fresh_channel}
 use Rattle.rx_rules.specs.Looks.{call_at}

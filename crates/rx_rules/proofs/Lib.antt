@@ -8,6 +8,7 @@ pub mod EnterLaws
 pub mod EveryLaws
 pub mod LeastLaws
 pub mod SentLaws
+pub mod LostLaws
 pub mod ReachLaws
 pub mod PacketLaws
 pub mod Replay

@@ -19,6 +19,7 @@ use Rattle.rx_model.specs.declared.wire.TheConstants.{STRAYS, RX_CALL_DEAD, RX_P
 use Rattle.rx_model.specs.Body.{Body}
 use Rattle.rx_model.specs.Body as bodies
 use Rattle.rx_rules.specs.CallLooks.{after_taken, after_write, after_shut, after_read, after_piece, after_ack_given}
+use Rattle.rx_rules.specs.CallLooks.{is_delivered}
 use Rattle.rx_rules.specs.Judging.{outer_row, opened}
 use Rattle.rx_rules.specs.Life.{Life, after_code, after_acks, after_accept, after_finish, after_gone, after_end}
 use Rattle.rx_rules.specs.Life.{after_cancel, is_calling}
@@ -29,7 +30,6 @@ use Rattle.rx_model.specs.Message.{Message}
 use Rattle.rx_model.specs.Names.{Connection, connection_of, channel_of, same_connection}
 use Rattle.rx_model.specs.Reading.{reading_of}
 use Rattle.rx_rules.specs.Records.{entered, fresh_conn, placed, silenced, started, used}
-use Rattle.rx_rules.specs.Sent.{is_all_acked}
 use Rattle.rx_rules.specs.Setup.{Setup, Kind, Server, Client, is_client, named}
 use Rattle.rx_rules.specs.Slots.{node_view}
 use Rattle.rx_model.specs.Strays.{is_stray, last_of, stray_of}
@@ -72,9 +72,9 @@ abbrev pub taken_data : Setup → Took → CallName → Message → Looks → Lo
 taken_data s got c m l =
     challenged s c (record (taken_at s got c m l) { firsts = with_first got c m.seq l.firsts })
 
--- a finished call ends once all its pieces are acknowledged
+-- a finished call ends once the other end has all its pieces
 abbrev pub settled : CallRecord → CallRecord
-settled k = record k { life = after_acks (is_all_acked k.looks.sent) k.life }
+settled k = record k { life = after_acks (is_delivered k.looks) k.life }
 
 -- what another message that is heard changes beside its call: a right RESPONSE proves the client, a CHALLENGE is
 -- answered

@@ -6,6 +6,7 @@ use Rattle.rx_model.specs.Body.{Body, AckBody}
 use Rattle.rx_model.specs.Body as bodies
 use Rattle.rx_rules.specs.CallLooks.{CallLooks, NodeView, after_ack_given, after_piece}
 use Rattle.rx_rules.specs.Least.{least_by}
+use Rattle.rx_rules.specs.Lost.{lost_of}
 use Rattle.rx_rules.specs.Owing.{Owed}
 use Rattle.rx_rules.specs.Rates.{Cwnd}
 use Rattle.rx_rules.specs.Received.{Received, used_of, marks_of}
@@ -36,6 +37,11 @@ can_give c s =
 abbrev pub fresh_items : Cwnd → Sent → List CallItem
 fresh_items c s = if can_give c s then item_at 0 (Piece (suc (given_of s)) false) else []
 
+-- a piece that is taken for lost is given again at once
+abbrev pub lost_items : Option ℕ → List CallItem
+lost_items None = []
+lost_items (Some k) = item_at 0 (Piece k true)
+
 -- a piece that was given is given again one RTO behind its last giving
 abbrev pub again_items : ℕ → ℕ → Option LastGiving → List CallItem
 again_items rto k None = []
@@ -50,9 +56,12 @@ ack_items (Some owed) = item_at owed.rank (Ack owed.reason owed.serial)
 abbrev pub ping_items : Bool → ℕ → List CallItem
 ping_items client spoke = if client then item_at (spoke + PING_MS) (Ack ACK_PING 0) else []
 
--- the pieces that a sending window owes: the next one, and the lowest that isn't acknowledged
+-- the pieces that a sending window owes: the one that is taken for lost, the next one, and the lowest that isn't
+-- acknowledged
 abbrev pub piece_items : ℕ → Cwnd → Sent → List CallItem
-piece_items rto c s = fresh_items c s ++ again_items rto (lowest_of s) (last_giving s.givings (lowest_of s))
+piece_items rto c s =
+    lost_items (lost_of c s)
+    ++ (fresh_items c s ++ again_items rto (lowest_of s) (last_giving s.givings (lowest_of s)))
 
 -- in the order in which ties are broken
 abbrev pub call_items : Bool → CallLooks → List CallItem

@@ -9,12 +9,13 @@ use Rattle.rx_model.specs.Body as bodies
 use Rattle.rx_model.specs.Message.{Message, has_flag}
 use Rattle.rx_rules.specs.Owing.{Owed, owed_for, owed_for_ack, owed_for_read}
 use Rattle.rx_rules.specs.Rates.{Rtt, Cwnd, first_rtt, first_cwnd, after_sample, after_backoff, after_acked}
-use Rattle.rx_rules.specs.Rates.{after_timeout}
+use Rattle.rx_rules.specs.Lost.{is_lost, halves}
+use Rattle.rx_rules.specs.Rates.{after_timeout, after_loss}
 use Rattle.rx_rules.specs.Received.{Received, Packet, Arrival, nothing_received, after_packet, arrival_of, arrival_row}
-use Rattle.rx_rules.specs.Received.{has_slot, front_of, is_no_seq, used_of, count_above}
+use Rattle.rx_rules.specs.Received.{has_slot, has_hole, front_of, is_no_seq, used_of, count_above}
 use Rattle.rx_rules.specs.Received as packets
 use Rattle.rx_rules.specs.Sent.{Sent, Newly, nothing_sent, held_pieces, given_of, is_all_given, is_strange_ack}
-use Rattle.rx_rules.specs.Sent.{newly_of}
+use Rattle.rx_rules.specs.Sent.{newly_of, is_all_acked, is_all_known}
 use Rattle.rx_rules.specs.Sent as streams
 
 -- what it received and what it said; its rates; the acknowledgement that it owes; the moment at which it was last
@@ -34,7 +35,7 @@ fresh_call window prompt now =
     record {
       received = nothing_received;
       sent = nothing_sent;
-      rtt = first_rtt;
+      rtt = first_rtt prompt;
       cwnd = first_cwnd window prompt;
       owed_ack = None;
       heard = now;
@@ -62,6 +63,13 @@ has_lead k = nat_lt (used_of k.received) (front_of k.received.kept) || nat_lt 0 
 -- 1 for a call with a lead
 abbrev pub lead : CallLooks → ℕ
 lead k = if has_lead k then 1 else 0
+
+-- ---- the end of what it said
+
+-- the other end has all of it: each piece is hard acknowledged; of a prompt node soft acknowledgements count too, as
+-- OpenAFS's do (rxi_ReceiveAckPacket in its rx.c)
+abbrev pub is_delivered : CallLooks → Bool
+is_delivered k = is_all_acked k.sent || (k.cwnd.prompt && is_all_known k.sent)
 
 -- ---- a message comes
 
@@ -101,7 +109,8 @@ abbrev pub after_data : Took → ℕ → Message → List ℕ → CallLooks → 
 after_data got now m payload k =
     record k {
       received = after_packet got (packet_of m payload) k.received;
-      owed_ack = owed_for got now m (front_of k.received.kept) k.owed_ack;
+      owed_ack =
+          owed_for got now (k.cwnd.prompt && has_hole k.received) m (front_of k.received.kept) k.owed_ack;
       heard = now;
     }
 
@@ -168,15 +177,23 @@ after_read now end bytes k =
 abbrev pub after_ack_given : ℕ → CallLooks → CallLooks
 after_ack_given now k = record k { owed_ack = None; spoke = now }
 
--- a piece that was given before waits longer for its next time, and the window closes
-abbrev pub slowed : Bool → CallLooks → CallLooks
-slowed again k =
+-- piece seq is given as its time is up: it was given before, and isn't taken for lost
+abbrev pub is_timed_out : CallLooks → ℕ → Bool
+is_timed_out k seq = nat_le seq (given_of k.sent) && not (is_lost k.cwnd k.sent seq)
+
+-- a piece whose time was up waits longer for its next time, and the window closes; one that is taken for lost may close
+-- it by half
+abbrev pub slowed : Bool → Bool → CallLooks → CallLooks
+slowed up half k =
     record k {
-      rtt = (if again then after_backoff k.rtt else k.rtt);
-      cwnd = (if again then after_timeout k.cwnd else k.cwnd);
+      rtt = (if up then after_backoff k.rtt else k.rtt);
+      cwnd = (if up then after_timeout k.cwnd else if half then after_loss k.cwnd else k.cwnd);
     }
 
 -- piece seq was given
 abbrev pub after_piece : ℕ → ℕ → CallLooks → CallLooks
 after_piece now seq k =
-    record (slowed (nat_le seq (given_of k.sent)) k) { sent = streams.after_giving now seq k.sent; spoke = now }
+    record (slowed (is_timed_out k seq) (halves k.cwnd k.sent seq) k) {
+      sent = streams.after_giving now seq (streams.after_time (is_timed_out k seq) k.sent);
+      spoke = now;
+    }

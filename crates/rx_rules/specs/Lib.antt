@@ -4,6 +4,7 @@ pub mod Least
 pub mod Received
 pub mod Rates
 pub mod Sent
+pub mod Lost
 pub mod Owing
 pub mod CallLooks
 pub mod CallItems

@@ -10,14 +10,16 @@ pub record Estimate : Type 0 where
   pub smoothed : ℕ
   pub variance : ℕ
 
--- the estimate, once a round trip was measured, and the milliseconds after which a piece is given again
+-- the estimate, once a round trip was measured, and the milliseconds after which a piece is given again; whether the node
+-- is prompt
 pub record Rtt : Type 0 where
   pub estimate : Option Estimate
   pub rto : ℕ
+  pub prompt : Bool
 
--- of a call that starts
-abbrev pub first_rtt : Rtt
-first_rtt = record { estimate = None; rto = FIRST_RTO_MS }
+-- of a call that starts, at a node that is prompt or isn't
+abbrev pub first_rtt : Bool → Rtt
+first_rtt prompt = record { estimate = None; rto = FIRST_RTO_MS; prompt = prompt }
 
 -- how far apart two numbers are
 abbrev pub apart : ℕ → ℕ → ℕ
@@ -32,21 +34,24 @@ estimate_with ms (Some e) =
       variance = (e.variance - e.variance / 4) + apart ms (e.smoothed / 8);
     }
 
--- the least and the greatest RTO hold it in between
-abbrev pub rto_of : Estimate → ℕ
-rto_of e = max MIN_RTO_MS (min MAX_RTO_MS (e.smoothed / 8 + e.variance))
+-- the least and the greatest RTO hold it in between; at a prompt node the least variance takes the place of the least
+-- RTO: a peer may delay an acknowledgement by 100 ms, whatever the round trip
+abbrev pub rto_of : Bool → Estimate → ℕ
+rto_of prompt e =
+    if prompt then min MAX_RTO_MS (e.smoothed / 8 + max 120 e.variance)
+    else max MIN_RTO_MS (min MAX_RTO_MS (e.smoothed / 8 + e.variance))
 
 -- a round trip as it counts: a longer one is cut
 abbrev pub as_trip : ℕ → ℕ
 as_trip ms = min ms MAX_ROUND_TRIP_MS
 
 -- an estimate, and the RTO that it gives
-abbrev pub rtt_of : Estimate → Rtt
-rtt_of e = record { estimate = Some e; rto = rto_of e }
+abbrev pub rtt_of : Estimate → Rtt → Rtt
+rtt_of e r = record r { estimate = Some e; rto = rto_of r.prompt e }
 
 -- a round trip was measured
 abbrev pub after_sample : ℕ → Rtt → Rtt
-after_sample ms r = rtt_of (estimate_with (as_trip ms) r.estimate)
+after_sample ms r = rtt_of (estimate_with (as_trip ms) r.estimate) r
 
 -- a piece had to be given again
 abbrev pub after_backoff : Rtt → Rtt
@@ -74,6 +79,10 @@ growth n c = if n == 0 then 0 else if nat_lt c.window c.ssthresh then n else 1
 abbrev pub after_acked : ℕ → Cwnd → Cwnd
 after_acked n c = record c { window = min (c.window + growth n c) c.most }
 
--- a piece had to be given again: slow start begins anew
+-- a piece was lost: the window closes by half
+abbrev pub after_loss : Cwnd → Cwnd
+after_loss c = record c { window = max MIN_SSTHRESH (c.window / 2); ssthresh = max MIN_SSTHRESH (c.window / 2) }
+
+-- a piece's time was up: slow start begins anew
 abbrev pub after_timeout : Cwnd → Cwnd
 after_timeout c = record c { window = 1; ssthresh = max MIN_SSTHRESH (c.window / 2) }

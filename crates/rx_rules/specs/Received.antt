@@ -61,6 +61,10 @@ reach test (suc n) = if (reach test n == n) && test (suc n) then suc n else reac
 abbrev pub front_of : List Packet → ℕ
 front_of kept = reach (λ k. is_some (packet_at kept k)) (greatest kept)
 
+-- a packet above the front is kept, so that the next one fills a hole
+abbrev pub has_hole : Received → Bool
+has_hole r = nat_lt (front_of r.kept) (greatest r.kept)
+
 -- the payloads of 1 to k joined
 abbrev pub bytes_to : List Packet → ℕ → List ℕ
 bytes_to kept zero = []

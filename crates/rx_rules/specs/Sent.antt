@@ -14,7 +14,8 @@ pub record Giving : Type 0 where
   pub moment : ℕ
 
 -- the bytes accepted; whether the stream is shut; the pieces given, the newest first; how many pieces are hard
--- acknowledged; which seqs are soft acknowledged; the peer's window
+-- acknowledged; which seqs are soft acknowledged; the peer's window; how many givings there were before the latest that
+-- was made as a piece's time was up
 pub record Sent : Type 0 where
   pub said : List ℕ
   pub shut : Bool
@@ -22,11 +23,20 @@ pub record Sent : Type 0 where
   pub acked : ℕ
   pub soft : ℕ → Bool
   pub peer_window : ℕ
+  pub since : ℕ
 
 -- nothing said yet
 abbrev pub nothing_sent : Sent
 nothing_sent =
-    record { said = []; shut = false; givings = []; acked = 0; soft = λ k. false; peer_window = FIRST_PEER_WINDOW }
+    record {
+      said = [];
+      shut = false;
+      givings = [];
+      acked = 0;
+      soft = λ k. false;
+      peer_window = FIRST_PEER_WINDOW;
+      since = 0;
+    }
 
 -- ---- pieces
 
@@ -88,16 +98,27 @@ greatest_given (g ∷ gs) = max g.seq (greatest_given gs)
 abbrev pub given_of : Sent → ℕ
 given_of s = greatest_given s.givings
 
--- when a piece was last given, and whether it was given before
+-- the greatest number of 64 bits that another follows
+abbrev pub LAST_ORDER : ℕ
+LAST_ORDER = 18446744073709551614
+
+-- how many givings there were: a count that stands still there
+abbrev pub orders_of : List Giving → ℕ
+orders_of gs = min (length gs) LAST_ORDER
+
+-- when a piece was last given, whether it was given before, and which of all givings that was, from 1 on
 pub record LastGiving : Type 0 where
   pub moment : ℕ
   pub again : Bool
+  pub order : ℕ
 
 -- of piece k, where it was given
 abbrev pub last_giving : List Giving → ℕ → Option LastGiving
 last_giving [] k = None
 last_giving (g ∷ gs) k =
-    if g.seq == k then Some (record { moment = g.moment; again = is_some (last_giving gs k) }) else last_giving gs k
+    if g.seq == k
+    then Some (record { moment = g.moment; again = is_some (last_giving gs k); order = suc (orders_of gs) })
+    else last_giving gs k
 
 -- it is shut, and each piece was given
 abbrev pub is_all_given : Sent → Bool
@@ -125,6 +146,10 @@ in_flight s = count_to (λ k. not (is_acked s k)) (given_of s)
 -- the lowest piece that isn't acknowledged
 abbrev pub lowest_of : Sent → ℕ
 lowest_of s = suc (reach (is_acked s) (given_of s))
+
+-- it is shut, and each piece was given and is acknowledged
+abbrev pub is_all_known : Sent → Bool
+is_all_known s = is_all_given s && (in_flight s == 0)
 
 -- the peer's window lets piece k go
 abbrev pub is_let : Sent → ℕ → Bool
@@ -164,6 +189,10 @@ after_shut s = record s { shut = true }
 -- piece k was given
 abbrev pub after_giving : ℕ → ℕ → Sent → Sent
 after_giving now k s = record s { givings = record { seq = k; moment = now } ∷ s.givings }
+
+-- the time of the piece that is given next is up, or it isn't
+abbrev pub after_time : Bool → Sent → Sent
+after_time up s = record s { since = (if up then orders_of s.givings else s.since) }
 
 -- of an ACK below what is hard acknowledged marks and window are ignored
 abbrev pub after_ack : ℕ → List Bool → Option ℕ → Sent → Sent

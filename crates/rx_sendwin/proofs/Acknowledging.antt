@@ -58,6 +58,8 @@ dropped_stands old new w s acked n peer soft pieces marks told st at same is sof
           ∙ ap (λ k. payload_at s.said (suc k)) (omega (arith, at));
       givings = λ i. ap (λ hs. giving_in hs i) is ∙ dropped_giving w.pieces n i ∙ st.givings (n + i)
           ∙ ap (λ k. last_giving s.givings (suc k)) (omega (arith, at));
+      orders = st.orders;
+      since = st.since;
     }
 
 -- ---- an ACK
@@ -181,4 +183,6 @@ ack_tied w low flight first marks soft pieces low2 flight2 peer tied valid le is
       timed = subst AllTimed (sym is) (timed_drop n w.pieces tied.timed);
       marks = omega (arith, few);
       peer = peer_most;
+      orders = tied.orders;
+      since = tied.since;
     }

@@ -39,6 +39,8 @@ all_tied w low flight soft pieces tied all soft_is is =
       timed = subst AllTimed (sym is) (timed_drop (length w.pieces) w.pieces tied.timed);
       marks = subst (λ ms. length ms ≤ MAX_WINDOW) (sym soft_is) (omega arith);
       peer = tied.peer;
+      orders = tied.orders;
+      since = tied.since;
     }
 
 pub all_stands : (old new : Slots) (w : SendWindow) (s : Sent) (low flight : ℕ) (soft : List Bool)

@@ -28,7 +28,7 @@ known_alike acked a b same = λ j k. nat_le k acked || same (k - suc acked) j
 -- ---- counts
 
 -- nothing is counted where no test passes
-count_nothing : (test : ℕ → Bool) (n : ℕ) → ((k : ℕ) → k < n → test (suc k) ≡ false) → count_to test n ≡ 0
+pub count_nothing : (test : ℕ → Bool) (n : ℕ) → ((k : ℕ) → k < n → test (suc k) ≡ false) → count_to test n ≡ 0
 count_nothing test zero fails = refl
 count_nothing test (suc n) fails =
     rw (fails n (omega arith)) (count_nothing test n (λ k lt. fails k (omega (arith, lt))))
@@ -49,7 +49,7 @@ count_most test (suc n) =
     ]
 
 -- what no test passes behind u isn't counted
-count_cut : (test : ℕ → Bool) (u n : ℕ) → u ≤ n → ((k : ℕ) → u < k → k ≤ n → test k ≡ false) →
+pub count_cut : (test : ℕ → Bool) (u n : ℕ) → u ≤ n → ((k : ℕ) → u < k → k ≤ n → test k ≡ false) →
     count_to test n ≡ count_to test u
 count_cut test u zero le fails = (let is : zero ≡ u = omega (arith, le) in ap (count_to test) is)
 count_cut test u (suc n) le fails =

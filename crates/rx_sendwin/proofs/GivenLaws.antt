@@ -1,6 +1,6 @@
 -- A piece is given.
 use Rattle.std.proofs.Common.{◌==◌, ◌≡◌, inl, inr, ◌<◌, ◌≤◌, ◌+◌, ◌-◌}
-use Rattle.std.proofs.Common.{max, is_some, map, Bool, true, false, ℕ, suc, zero, List, [], ◌∷◌, length, get_or}
+use Rattle.std.proofs.Common.{max, min, is_some, map, Bool, true, false, ℕ, suc, zero, List, [], ◌∷◌, length, get_or}
 use Rattle.std.proofs.Common.{set}
 use Rattle.std.proofs.Common.{take, Option, Some, None, refl, sym, ap, ◌∙◌, arith}
 use Rattle.std.proofs.lemmas.Bool.Decides.{nat_tests}
@@ -8,7 +8,7 @@ use Rattle.std.proofs.lemmas.Bool.{cases_eq}
 use Rattle.std.proofs.lemmas.List.{length-map, map-set, get_or-set_same, get_or-set_other, length-set}
 use Rattle.rx_rules.specs.Sent.{Sent, Giving, opened, pieces_by, counting_by, pieces_of, counting_of, payload_at}
 use Rattle.rx_rules.specs.Sent.{piece_at}
-use Rattle.rx_rules.specs.Sent.{given_of, last_giving, is_acked, in_flight, after_write, after_giving}
+use Rattle.rx_rules.specs.Sent.{LAST_ORDER, orders_of, given_of, last_giving, is_acked, in_flight, after_write, after_giving}
 use Rattle.rx_rules.specs.Sent as rules
 use Rattle.rx_pool.specs.Pool.{Slots, bytes_at}
 use Rattle.rx_sendwin.specs.declared.piece.HeldPiece.{HeldPiece}
@@ -42,15 +42,16 @@ some_giving None = refl
 some_giving (Some g) = refl
 
 -- a piece that was given now
-abbrev pub given_now : HeldPiece → ℕ → Bool → HeldPiece
-given_now h now again = record h { given = Some (record { moment = now; again = again }) }
+abbrev pub given_now : HeldPiece → ℕ → Bool → ℕ → HeldPiece
+given_now h now again order = record h { given = Some (record { moment = now; again = again; order = order }) }
 
 -- the last giving behind one more
 own_giving : (gs : List Giving) (seq now : ℕ) (before : Option rules.LastGiving) → last_giving gs seq ≡ before →
-    last_giving (record { seq = seq; moment = now } ∷ gs) seq ≡ Some (record { moment = now; again = is_some before })
+    last_giving (record { seq = seq; moment = now } ∷ gs) seq
+    ≡ Some (record { moment = now; again = is_some before; order = suc (orders_of gs) })
 own_giving gs seq now before is =
     let test : (seq == seq) ≡ true = grind (arith, nat_tests) in
-    rw test (ap (λ o. Some (record { moment = now; again = is_some o })) is)
+    rw test (ap (λ o. Some (record { moment = now; again = is_some o; order = suc (orders_of gs) })) is)
 
 other_giving : (gs : List Giving) (seq now k : ℕ) → (seq ≡ k → ⊥) →
     last_giving (record { seq = seq; moment = now } ∷ gs) k ≡ last_giving gs k
@@ -58,13 +59,23 @@ other_giving gs seq now k apart =
     let test : (seq == k) ≡ false = grind (arith, nat_tests, apart) in
     rw test refl
 
+-- a count that stands still at its end
+min_again : (n most : ℕ) → min (suc (min n most)) most ≡ min (suc n) most
+min_again n most = omega arith
+
 pub sent_stands : (pool : Slots) (w : SendWindow) (s : Sent) (seq now place most : ℕ) (again : Bool) (h : HeldPiece) →
     StandsSent pool w s → w.acked < seq → place ≡ seq - w.acked - 1 → place < length w.pieces →
     h ≡ get_or w.pieces place h → again ≡ is_some h.given → most ≡ max seq w.given →
-    StandsSent pool (record w { given = most; pieces = set w.pieces place (given_now h now again) })
+    (orders : ℕ) → orders ≡ min (w.orders + 1) LAST_ORDER →
+    StandsSent pool (record w {
+      given = most;
+      pieces = set w.pieces place (given_now h now again (w.orders + 1));
+      orders = orders;
+    })
     (after_giving now seq s)
-sent_stands pool w s seq now place most again h st above at within read before is =
-    let g = given_now h now again in
+sent_stands pool w s seq now place most again h st above at within read before is orders count =
+    let g = given_now h now again (w.orders + 1) in
+    let next : w.orders + 1 ≡ suc (orders_of s.givings) = ap (λ n. n + 1) st.orders ∙ omega arith in
     let all = map giving_at w.pieces in
     let here : suc (w.acked + place) ≡ seq = omega (arith, above, at) in
     let old : last_giving s.givings seq ≡ as_giving h.given = (
@@ -72,7 +83,7 @@ sent_stands pool w s seq now place most again h st above at within read before i
     let len : length all ≡ length w.pieces = length-map w.pieces giving_at in
     let more : List Giving = record { seq = seq; moment = now } ∷ s.givings in
     let now_given : giving_at g ≡ last_giving more seq = (
-    ap (λ b. Some (record { moment = now; again = b })) (before ∙ sym (some_giving h.given))
+    (λ i. Some (record { moment = now; again = (before ∙ sym (some_giving h.given)) i; order = next i }))
     ∙ sym (own_giving s.givings seq now (as_giving h.given) old)) in
     record {
       total = st.total;
@@ -94,17 +105,22 @@ sent_stands pool w s seq now place most again h st above at within read before i
                 get_or-set_other all place i (giving_at g) None (λ e. apart (sym e)) ∙ st.givings i
                 ∙ sym (other_giving s.givings seq now (suc (w.acked + i)) (λ e. apart (omega (arith, e, here)))))
           ]);
+      orders = count ∙ ap (λ n. min n LAST_ORDER) next ∙ min_again (length s.givings) LAST_ORDER;
+      since = st.since;
     }
 
-pub sent_tied : (w : SendWindow) (low flight place most flight2 : ℕ) (h g : HeldPiece) → IsTied w low flight →
+pub sent_tied : (w : SendWindow) (low flight place most flight2 orders : ℕ) (h g : HeldPiece) → IsTied w low flight →
     h ≡ get_or w.pieces place h → place < length w.pieces → g.size ≡ h.size → IsTimed g.given → w.given ≤ most →
     most ≤ counting_by w.total w.shut → flight2 ≡ flight_by (is_acked_by w.acked w.soft) most →
-    IsTied (record w { given = most; pieces = set w.pieces place g }) low flight2
-sent_tied w low flight place most flight2 h g tied read within same timed more counts is =
+    orders ≡ min (w.orders + 1) LAST_ORDER →
+    IsTied (record w { given = most; pieces = set w.pieces place g; orders = orders }) low flight2
+sent_tied w low flight place most flight2 orders h g tied read within same timed more counts is count =
     let size : length (set w.pieces place g) ≡ length w.pieces = length-set w.pieces place g in
     let held = tied.held in
     let few = tied.within in
     let least = tied.acked_most in
+    let upto = tied.orders in
+    let since = tied.since in
     let small = sized_at w.pieces place h read within tied.sized in
     record {
       least = tied.least;
@@ -125,4 +141,6 @@ sent_tied w low flight place most flight2 h g tied read within same timed more c
       timed = timed_set w.pieces place g timed tied.timed;
       marks = tied.marks;
       peer = tied.peer;
+      orders = omega (arith, count);
+      since = omega (arith, count, upto, since);
     }

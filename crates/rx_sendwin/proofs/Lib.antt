@@ -1,4 +1,5 @@
 pub mod Counts
+pub mod Losing
 pub mod Acks
 pub mod PieceLaws
 pub mod PieceSlots
@@ -9,5 +10,8 @@ pub mod GivenLaws
 pub mod Acknowledging
 pub mod AllAcked
 pub mod Lowest
+pub mod LostLaws
+pub mod LostStanding
+pub mod LostGiven
 pub mod Nexts
 pub mod Undisturbed

@@ -17,4 +17,6 @@ stands_undisturbed old new w s st same =
       peer = st.peer;
       pieces = λ i. ap (λ (ps : List (List ℕ)). get_or ps i []) (seen_same old new w.pieces same) ∙ st.pieces i;
       givings = st.givings;
+      orders = st.orders;
+      since = st.since;
     }

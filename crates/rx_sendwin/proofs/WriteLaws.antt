@@ -34,6 +34,8 @@ push_stands old new w s chunk pieces st seen givings full fits =
           pushed (map (seen_at old) w.pieces) (map (seen_at new) pieces) s.said chunk w.acked seen
           (omega (arith, total, full, size)) fits st.pieces;
       givings = λ i. none_behind (map giving_at w.pieces) (map giving_at pieces) i givings ∙ st.givings i;
+      orders = st.orders;
+      since = st.since;
     }
 
 pub fill_stands : (old new : Slots) (w : SendWindow) (s : Sent) (chunk : List ℕ) (pieces : List HeldPiece) (place : ℕ) →
@@ -57,6 +59,8 @@ fill_stands old new w s chunk pieces place st seen givings within from fits =
           filled (map (seen_at old) w.pieces) (map (seen_at new) pieces) s.said chunk w.acked place seen
           (omega (arith, within, size)) (omega (arith, from, total)) (omega (arith, fits, total)) st.pieces;
       givings = λ i. ap (λ xs. get_or xs i None) givings ∙ st.givings i;
+      orders = st.orders;
+      since = st.since;
     }
 
 pub write_start : (pool : Slots) (w : SendWindow) (s : Sent) (bytes : List ℕ) → StandsSent pool w s →

@@ -1,8 +1,9 @@
 -- The piece that is due, among the items that the rules know of a call. Public clauses cite this module.
-use Rattle.std.specs.Prelude.{nat_le, filter, ℕ, Option, Some, None, option_map, option_and_then}
+use Rattle.std.specs.Prelude.{◌&&◌, not, nat_le, filter, ℕ, Option, Some, None, option_map, option_and_then}
 use Rattle.rx_rules.specs.CallItems.{CallItem, Sending, piece_items, asks}
 use Rattle.rx_rules.specs.CallItems as items
 use Rattle.rx_rules.specs.Least.{least_by}
+use Rattle.rx_rules.specs.Lost.{is_lost, halves}
 use Rattle.rx_rules.specs.Rates.{Cwnd}
 use Rattle.rx_rules.specs.Sent.{Sent, LastGiving, last_giving, lowest_of}
 use Rattle.rx_sendwin.specs.declared.next.NextPiece.{NextPiece}
@@ -11,9 +12,17 @@ use Rattle.rx_sendwin.specs.declared.next.NextPiece.{NextPiece}
 abbrev pub next_piece_item : ℕ → ℕ → Cwnd → Sent → Option CallItem
 next_piece_item now rto c s = least_by (λ i. i.rank) (filter (λ i. nat_le i.rank now) (piece_items rto c s))
 
--- the piece that an item is of, and whether it asks for an acknowledgement
+-- the piece that an item is of, whether it asks for an acknowledgement, whether it is given as its time is up, and
+-- whether giving it closes the window by half
 abbrev pub piece_of : Cwnd → Sent → Sending → Option NextPiece
-piece_of c s (items.Piece seq again) = Some (record { seq = seq; again = again; asks = asks c s seq again })
+piece_of c s (items.Piece seq again) =
+    Some (record {
+      seq = seq;
+      again = again;
+      asks = asks c s seq again;
+      up = again && not (is_lost c s seq);
+      half = halves c s seq;
+    })
 piece_of c s (items.Ack reason serial) = None
 
 -- the piece that is due at a moment

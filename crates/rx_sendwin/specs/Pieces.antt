@@ -23,7 +23,7 @@ payload_in pool hs i = slice_index_or (map (seen_at pool) hs) i []
 -- a giving as the rules have it
 abbrev pub as_giving : Option LastGiving → Option rules.LastGiving
 as_giving None = None
-as_giving (Some g) = Some (record { moment = g.moment; again = g.again })
+as_giving (Some g) = Some (record { moment = g.moment; again = g.again; order = g.order })
 
 -- the last giving of a piece
 abbrev pub giving_at : HeldPiece → Option rules.LastGiving

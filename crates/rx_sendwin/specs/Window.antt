@@ -2,6 +2,7 @@
 use Rattle.std.specs.Prelude.{◌≡◌, ◌<◌, ◌≤◌, ◌+◌, ◌-◌, ◌*◌, slice_index_or, ℕ, suc, Bool, false, List, length}
 use Rattle.rx_model.specs.declared.wire.TheConstants.{LAST_SEQ, MIN_WINDOW, MAX_WINDOW, PIECE_BYTES}
 use Rattle.rx_rules.specs.Sent.{Sent, pieces_by, counting_by, payload_at, given_of, last_giving}
+use Rattle.rx_rules.specs.Sent.{LAST_ORDER, orders_of}
 use Rattle.rx_rules.specs.Sent as rules
 use Rattle.rx_pool.specs.Pool.{Slots}
 use Rattle.rx_sendwin.specs.declared.newly.Newly.{Newly}
@@ -11,7 +12,8 @@ use Rattle.rx_sendwin.specs.Pieces.{slots_in, payload_in, giving_in, last_size, 
 
 -- the window's width; how many bytes were accepted; whether the stream is shut; how many pieces are hard acknowledged;
 -- how many were given; the marks in force, from the piece behind the acknowledged ones on; the peer window; the pieces
--- held, from that same piece on
+-- held, from that same piece on; how many givings there were, and how many of them before the latest that was made as a
+-- piece's time was up
 pub record SendWindow : Type 0 where
   pub width : ℕ
   pub total : ℕ
@@ -21,6 +23,8 @@ pub record SendWindow : Type 0 where
   pub soft : List Bool
   pub peer_window : ℕ
   pub pieces : List HeldPiece
+  pub orders : ℕ
+  pub since : ℕ
 
 -- the slots that a window holds, in the order of their seqs
 abbrev pub piece_slots : SendWindow → List ℕ
@@ -43,6 +47,8 @@ pub record IsTied (w : SendWindow) (low flight : ℕ) : Type 0 where
   pub timed : AllTimed w.pieces
   pub marks : length w.soft ≤ MAX_WINDOW
   pub peer : w.peer_window ≤ MAX_WINDOW
+  pub orders : w.orders ≤ LAST_ORDER
+  pub since : w.since ≤ w.orders
 
 -- with the bytes of its pool, a window stands for what was sent: it has that as far as it isn't hard acknowledged
 pub record StandsSent (pool : Slots) (w : SendWindow) (s : Sent) : Type 0 where
@@ -54,6 +60,8 @@ pub record StandsSent (pool : Slots) (w : SendWindow) (s : Sent) : Type 0 where
   pub peer : w.peer_window ≡ s.peer_window
   pub pieces : (i : ℕ) → payload_in pool w.pieces i ≡ payload_at s.said (suc (w.acked + i))
   pub givings : (i : ℕ) → giving_in w.pieces i ≡ last_giving s.givings (suc (w.acked + i))
+  pub orders : w.orders ≡ orders_of s.givings
+  pub since : w.since ≡ s.since
 
 -- a piece may be sent: it is held and counts, and those before it were given
 pub record CanBeSent (w : SendWindow) (seq : ℕ) : Type 0 where

@@ -7,6 +7,7 @@
 //! window stands for what it stood for where others used the same pool. After `make` no call takes memory.
 #![tactic(auto)]
 
+mod lost;
 mod marks;
 mod newly;
 mod next;

@@ -8,8 +8,10 @@ use rx_rtt::Cwnd;
 use std::process::Abort;
 use std::test::*;
 
+mod losses;
+
 /// Says as much as fits, and shuts where a slot is free.
-fn say(win: &mut SendWin, pool: &mut Pool, bytes: &[u8]) -> usize
+pub fn say(win: &mut SendWin, pool: &mut Pool, bytes: &[u8]) -> usize
     requires unshut { win.old.shut ≡ false }
     requires holds { Holds pool.old (piece_slots win.old) }
     ensures { Holds pool.new (piece_slots win.new) }

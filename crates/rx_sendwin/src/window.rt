@@ -1,11 +1,11 @@
 ghost use Rattle.std.specs.Prelude.{◌≡◌, ◌≤◌, ◌+◌, ◌-◌, ◌/◌, ◌&&◌, ◌==◌, length, [], false, IfOk};
 ghost use Rattle.rx_rules.specs.Sent.{Sent, nothing_sent, piece_at, pieces_by, counting_by, held_pieces};
-ghost use Rattle.rx_rules.specs.Sent.{is_all_given, is_all_acked};
+ghost use Rattle.rx_rules.specs.Sent.{is_all_given, is_all_acked, is_all_known};
 ghost use Rattle.rx_pool.specs.Pool.{Slots};
 ghost use Rattle.rx_pool.specs.Held.{Holds, Keeps};
 ghost use Rattle.rx_sendwin.specs.Window.{SendWindow, piece_slots, StandsSent};
 
-use crate::marks::peer_window;
+use crate::lost::Lost;
 use crate::piece::HeldPiece;
 use crate::pieces::free_front;
 use arrayvec::ArrayVec;
@@ -42,11 +42,17 @@ pub struct SendWin {
     peer_window: u32,
     /// The pieces behind the acknowledged ones, in order of their seqs.
     pieces: VecDeque<HeldPiece>,
+    /// How many givings there were.
+    orders: u64,
+    /// How many of them before the latest that was made as a piece's time was up.
+    since: u64,
+    lost: Lost,
 }
 
 impl Model for SendWin {
     ghost use Rattle.std.specs.Prelude.{◌≡◌, ◌≤◌};
     ghost use Rattle.rx_sendwin.specs.Window.{SendWindow, IsTied};
+    ghost use Rattle.rx_sendwin.specs.Lost.{AreLost, order_in};
     ghost use Rattle.std.specs.VecDeque.{deque_capacity};
 
     ghost Value = { SendWindow };
@@ -60,6 +66,8 @@ impl Model for SendWin {
       soft = w.soft.items;
       peer_window = w.peer_window;
       pieces = w.pieces.items;
+      orders = w.orders;
+      since = w.since;
     } };
 
     ghost invariant = { λ w. (w.width ≤ deque_capacity w.pieces) × IsTied (record {
@@ -71,7 +79,9 @@ impl Model for SendWin {
       soft = w.soft.items;
       peer_window = w.peer_window;
       pieces = w.pieces.items;
-    }) w.low w.flight };
+      orders = w.orders;
+      since = w.since;
+    }) w.low w.flight × AreLost w.acked w.given w.since w.soft.items (order_in w.pieces.items) w.lost };
 }
 
 impl SendWin {
@@ -98,6 +108,9 @@ impl SendWin {
             flight: 0,
             peer_window: FIRST_PEER_WINDOW,
             pieces,
+            orders: 0,
+            since: 0,
+            lost: Lost::none(),
         })
     }
 
@@ -155,6 +168,13 @@ impl SendWin {
         self.shut && self.acked as u64 == self.count()
     }
 
+    /// Whether the stream is shut, and each piece was sent and is acknowledged, hard or soft.
+    pub fn all_known(&self) -> bool
+        ensures answered { (pool : Slots) (s : Sent) → StandsSent pool self.now s → result ≡ is_all_known s }
+    {
+        self.all_sent() && self.flight == 0
+    }
+
     /// Whether a piece has the last mark.
     pub fn is_last(&self, seq: u32) -> bool
         ensures { (pool : Slots) (s : Sent) → StandsSent pool self.now s → result ≡ (piece_at s seq).last }
@@ -182,5 +202,8 @@ impl SendWin {
         self.low = 0;
         self.flight = 0;
         self.peer_window = FIRST_PEER_WINDOW;
+        self.orders = 0;
+        self.since = 0;
+        self.lost = Lost::none();
     }
 }

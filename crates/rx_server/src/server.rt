@@ -68,7 +68,7 @@ impl<C: Class> Server<C> {
 
     /// The same, but prompt: it asks for an acknowledgement behind each half of a call's window, so that no stream waits
     /// for a delayed one where the peer's window is no narrower than its own, and one half is on its way while the other
-    /// is acknowledged.
+    /// is acknowledged. It gives again at once what it takes for lost, and acknowledges at once what fills a hole.
     pub fn make_prompt(
         alloc: Global,
         limits: &Limits,

@@ -41,7 +41,7 @@ window_of parts = number_or 32 255 32 (value_of parts options.Window)
 -- the limits of a node, which has more slots than live calls
 abbrev pub limits_of : List Part → Option Limits
 limits_of parts =
-    needs (number_or 1 65536 1024 (value_of parts options.Conns)) (λ conns.
+    needs (number_or 1 65536 16384 (value_of parts options.Conns)) (λ conns.
     needs (number_or 1 4096 64 (value_of parts options.Calls)) (λ calls.
     needs (number_or 1 65536 2048 (value_of parts options.Slots)) (λ slots.
     needs (window_of parts) (λ window.

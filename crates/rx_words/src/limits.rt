@@ -5,6 +5,9 @@ use rx_model::Host;
 /// Connections of a node at most.
 pub const MAX_CONNS: u32 = 65_536;
 
+/// Connections of a server where none are named: each program that makes one call is one, and stays for ten minutes.
+pub const DEFAULT_CONNS: u32 = 16_384;
+
 /// Live calls of a node at most.
 pub const MAX_CALLS: u32 = 4096;
 

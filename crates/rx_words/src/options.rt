@@ -10,15 +10,13 @@ ghost use Rattle.rx_words.specs.Parts.{parts_of};
 ghost use Rattle.rx_words.specs.Rules.{value_of};
 
 use crate::limits::{
-    DEFAULT_FROM, DEFAULT_JUMBO, DEFAULT_NONCE, DEFAULT_SERVICE, DEFAULT_SPAN, DEFAULT_TURNS,
-    MAX_CALLS, MAX_CONNS, MAX_JUMBO, MAX_SLOTS, MAX_SPAN, MAX_TURNS,
+    DEFAULT_CONNS, DEFAULT_FROM, DEFAULT_JUMBO, DEFAULT_NONCE, DEFAULT_SERVICE, DEFAULT_SPAN,
+    DEFAULT_TURNS, MAX_CALLS, MAX_CONNS, MAX_JUMBO, MAX_SLOTS, MAX_SPAN, MAX_TURNS,
 };
 use crate::names::OptionName;
 use crate::number::{host_in, number_within};
 use crate::rules::value_of;
-use rx_model::wire::{
-    DEFAULT_CALLS, DEFAULT_CONNS, DEFAULT_SLOTS, DEFAULT_WINDOW, MAX_WINDOW, MIN_WINDOW,
-};
+use rx_model::wire::{DEFAULT_CALLS, DEFAULT_SLOTS, DEFAULT_WINDOW, MAX_WINDOW, MIN_WINDOW};
 use rx_model::{Host, Limits};
 
 /// The options of a server but for its key.

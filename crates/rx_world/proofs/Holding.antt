@@ -25,7 +25,7 @@ use Rattle.rx_rules.specs.After.{given_by, given_message, is_end, is_zero, owing
 use Rattle.rx_rules.specs.After.{taken_at, taken_behind, taken_data, taken_heard, taken_message, taken_over}
 use Rattle.rx_rules.specs.After.{taken_stopped, taken_with, turned_away, with_first}
 use Rattle.rx_rules.specs.CallLooks.{CallLooks, after_ack_given, after_piece}
-use Rattle.rx_rules.specs.CallLooks.{after_read, after_shut, after_taken, after_write, fresh_call}
+use Rattle.rx_rules.specs.CallLooks.{after_read, after_shut, after_taken, after_write, fresh_call, is_delivered}
 use Rattle.rx_rules.specs.Judging.{opened, outer_row}
 use Rattle.rx_rules.specs.Life.{Life, after_accept, after_acks, after_code, after_end, after_finish, after_gone}
 use Rattle.rx_rules.specs.Life.{after_later, after_silence}
@@ -35,7 +35,6 @@ use Rattle.rx_rules.specs.Looks.{on_call, on_calls, on_channel, on_life, on_look
 use Rattle.rx_rules.specs.Records.{is_silent, silence_of, silenced}
 use Rattle.rx_rules.specs.Records.{started, started_later, unless_silent}
 use Rattle.rx_rules.specs.Rules.{AllowedServer}
-use Rattle.rx_rules.specs.Sent.{is_all_acked}
 use Rattle.rx_rules.specs.Setup.{Setup, named, sending_window}
 use Rattle.rx_rules.specs.Slots.{node_view}
 use Rattle.rx_rules.proofs.CallsLaws.{KeepsNames, call_at-on_call, call_at-on_calls, changed_if, changed_if-name}
@@ -128,7 +127,7 @@ module _ (P : Option CallRecord → Type 0)
 
   settled-holds : (k : CallRecord) → P (Some k) → P (Some (settled k))
   settled-holds k held =
-      on_lives k (after_acks (is_all_acked k.looks.sent) k.life) (acks_falls (is_all_acked k.looks.sent) k.life) held
+      on_lives k (after_acks (is_delivered k.looks) k.life) (acks_falls (is_delivered k.looks) k.life) held
 
   holds-heard : (s : Setup) (c d : CallName) (body : Body) (l : Looks) → Holds c l → Holds c (taken_heard s d body l)
   holds-heard s c d (bodies.Ack a) l held =

@@ -27,7 +27,7 @@ use Rattle.rx_rules.specs.After.{stopped_all, taken_at, taken_behind, taken_data
 use Rattle.rx_rules.specs.After.{taken_over}
 use Rattle.rx_rules.specs.After.{taken_stopped, taken_with, told_code, turned_away, with_first}
 use Rattle.rx_rules.specs.CallLooks.{CallLooks, after_ack_given, after_piece, after_read, after_shut, after_taken}
-use Rattle.rx_rules.specs.CallLooks.{after_write, fresh_call}
+use Rattle.rx_rules.specs.CallLooks.{after_write, fresh_call, is_delivered}
 use Rattle.rx_rules.specs.Judging.{opened, outer_row}
 use Rattle.rx_rules.specs.Life.{Life, after_accept, after_acks, after_cancel, after_code, after_end, after_finish}
 use Rattle.rx_rules.specs.Life.{after_gone, after_later, after_silence}
@@ -35,7 +35,6 @@ use Rattle.rx_rules.specs.Life as lives
 use Rattle.rx_rules.specs.Looks.{CallRecord, Looks, call_at, channel_at, latest_name, on_call, on_calls, on_channel}
 use Rattle.rx_rules.specs.Looks.{on_life, on_looks}
 use Rattle.rx_rules.specs.Records.{is_silent, silence_of, silenced, started, started_later, unless_silent}
-use Rattle.rx_rules.specs.Sent.{is_all_acked}
 use Rattle.rx_rules.specs.Setup.{Setup, Kind, Server, Client, named, sending_window}
 use Rattle.rx_rules.specs.Slots.{node_view}
 use Rattle.rx_rules.proofs.CallsLaws.{KeepsNames, call_at-on_calls}
@@ -150,7 +149,7 @@ module _ (K : ℤ → Type 0) (c : CallName) where
   told-settled : (d : CallName) (l : Looks) → Told l → Told (on_call d settled l)
   told-settled d l t =
       told-call d settled l (λ k. refl)
-      (λ same k here. tells_acks K (is_all_acked k.looks.sent) k.life here) t
+      (λ same k here. tells_acks K (is_delivered k.looks) k.life here) t
 
   told-heard : (s : Setup) (d : CallName) (body : Body) (l : Looks) → Told l → Told (taken_heard s d body l)
   told-heard s d (bodies.Ack a) l t =

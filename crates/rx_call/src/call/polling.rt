@@ -1,8 +1,9 @@
 ghost use Rattle.std.specs.Prelude.{◌≡◌, ◌≤◌, ◌<◌, ◌+◌, ◌^◌, nat_le, if◌then◌else◌, true, ℕ, Option, Some, None};
 ghost use Rattle.rx_rules.specs.CallItems.{call_due, next_sending};
 ghost use Rattle.rx_rules.specs.CallItems as items;
-ghost use Rattle.rx_rules.specs.CallLooks.{CallLooks, after_piece, slowed};
-ghost use Rattle.rx_rules.specs.Sent.{piece_at, given_of};
+ghost use Rattle.rx_rules.specs.CallLooks.{CallLooks, after_piece, is_timed_out, slowed};
+ghost use Rattle.rx_rules.specs.Lost.{halves};
+ghost use Rattle.rx_rules.specs.Sent.{piece_at, after_time};
 ghost use Rattle.rx_pool.specs.Pool.{Slots};
 ghost use Rattle.rx_sendwin.specs.Window.{CanBeSent};
 ghost use Rattle.rx_sendwin.specs.declared.next.NextPiece.{NextPiece};
@@ -80,17 +81,33 @@ impl Call {
         }
     }
 
-    /// A piece that was given before waits longer for its next time, and the window closes.
-    fn slow(&mut self, again: bool)
+    /// A piece whose time is up waits longer for its next time, and the window closes; one that was taken for lost may
+    /// close it by half.
+    fn slow(&mut self, up: bool, half: bool)
         ensures stands { (pool : Slots) (k : CallLooks) → StandsCall pool self.old k →
-            StandsCall pool self.new (slowed again k) }
+            StandsCall pool self.new (slowed up half k) }
         ensures sent { self.new.sent ≡ self.old.sent }
         ensures slots { slots_of self.new ≡ slots_of self.old }
         ensures same { IsSameEnd self.old self.new }
     {
-        if again {
+        if up {
             self.rtt.backoff();
             self.cwnd.timed_out();
+        } else if half {
+            self.cwnd.lost();
+        }
+    }
+
+    /// Where the time of the piece that is given next is up, what was given before it is late.
+    fn mark_late(&mut self, up: bool)
+        ensures stands { (pool : Slots) (k : CallLooks) → StandsCall pool self.old k →
+            StandsCall pool self.new (record k { sent = after_time up k.sent }) }
+        ensures piece { (seq : ℕ) → CanBeSent self.old.sent seq → CanBeSent self.new.sent seq }
+        ensures slots { slots_of self.new ≡ slots_of self.old }
+        ensures same { IsSameEnd self.old self.new }
+    {
+        if up {
+            self.sent.time_up();
         }
     }
 
@@ -101,13 +118,15 @@ impl Call {
         ensures result { (pool : Slots) (k : CallLooks) → StandsCall pool self.old k →
             result ≡ givings.Piece piece.seq piece.asks (piece_at k.sent piece.seq).last }
         ensures stands { (pool : Slots) (k : CallLooks) → StandsCall pool self.old k →
-            piece.again ≡ nat_le piece.seq (given_of k.sent) → StandsCall pool self.new (after_piece now piece.seq k) }
+            piece.up ≡ is_timed_out k piece.seq → piece.half ≡ halves k.cwnd k.sent piece.seq →
+            StandsCall pool self.new (after_piece now piece.seq k) }
         ensures held { (pool : Slots) (k : CallLooks) → StandsCall pool self.old k → HoldsPiece self.new piece.seq }
         ensures slots { slots_of self.new ≡ slots_of self.old }
         ensures same { IsSameEnd self.old self.new }
     {
         let last = self.sent.is_last(piece.seq);
-        self.slow(piece.again);
+        self.slow(piece.up, piece.half);
+        self.mark_late(piece.up);
         self.sent.sent(piece.seq, now);
         self.spoke = now;
         Giving::Piece {

@@ -142,7 +142,7 @@ fn old_marks_and_stale_pings(rt: HostRuntime) -> Result<(), Fail> {
         assert_eq!(rt; poll(&mut call, now), giving);
         assert_eq!(rt; call.due(), due);
     }
-    assert!(rt; call.acked() && call.held() == 0 && pool.free() == 4);
+    assert!(rt; call.is_delivered() && call.held() == 0 && pool.free() == 4);
     assert_eq!(rt; hear_all(&mut call, &mut pool, 430), Took::Heard);
     Ok(())
 }

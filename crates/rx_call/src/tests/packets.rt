@@ -11,7 +11,7 @@ use std::process::Abort;
 use std::test::*;
 
 /// The reason of an ACK that is given at a moment; none where none is.
-fn reason_at(call: &mut Call, moment: u32) -> Option<u8>
+pub fn reason_at(call: &mut Call, moment: u32) -> Option<u8>
     ensures { slots_of call.new ≡ slots_of call.old }
 {
     match poll(call, moment) {

@@ -12,7 +12,7 @@ ghost use Rattle.rx_recvwin.specs.Window.{given_count, tells_end};
 ghost use Rattle.rx_pool.specs.Pool.{Slots};
 ghost use Rattle.rx_call.specs.Kept.{beside_of, call_under, live_count};
 ghost use Rattle.rx_call.specs.Standing.{FitsSlot, StandsCall, holds_lead};
-ghost use Rattle.rx_ends.specs.Ends.{IsThere, IsIdleAt, IsUnshut, StandsEnd, KeepsEnds, StepsEnd, beside_looks};
+ghost use Rattle.rx_ends.specs.Ends.{IsThere, IsUnshut, StandsEnd, KeepsEnds, StepsEnd, beside_looks};
 ghost use Rattle.rx_ends.specs.Ends.{HasShutSlot, view_at};
 
 use crate::ends::Ends;
@@ -43,25 +43,6 @@ impl Ends {
         let call = self.calls.at_mut(key, &mut steps);
         call.start(self.side, now);
         Some(key)
-    }
-
-    /// A call is cleared.
-    pub(crate) fn clear_counted<L: Ledger>(&mut self, key: usize, blank: Blank)
-        requires there { IsThere self.old key }
-        requires name { blank.name ≡ L.name }
-        requires parts { blank.parts ≡ L.parts }
-        requires counts { 0 < blank.parts }
-        ensures idle { IsIdleAt self.new key }
-        ensures common { (k : CallLooks) → StandsEnd self.old key k →
-            self.new.common + beside_looks k ≡ self.old.common }
-        ensures again { IsIdleAt self.old key → self.new.common ≡ self.old.common }
-        ensures keeps { KeepsEnds self.old self.new key }
-        ensures live { live_count self.new.calls ≡ live_count self.old.calls }
-    {
-        let mut steps = Steps::<L>::new(blank);
-        let call = self.calls.at_mut(key, &mut steps);
-        self.common -= beside(call);
-        call.clear(&mut self.pool);
     }
 
     /// A message comes for a call.
@@ -168,7 +149,7 @@ impl Ends {
 }
 
 /// How many slots a call holds beside its own.
-fn beside(call: &Call) -> u32
+pub(crate) fn beside(call: &Call) -> u32
     ensures value { result ≡ beside_of call.now }
     ensures answered { (pool : Slots) (k : CallLooks) → StandsCall pool call.now k → result ≡ beside_looks k }
     ensures lead { (pool : Slots) (k : CallLooks) → StandsCall pool call.now k → holds_lead call.now ≡ has_lead k }

@@ -1,5 +1,5 @@
-ghost use Rattle.std.specs.Prelude.{◌≡◌, IfSome};
-ghost use Rattle.rx_ends.specs.Ends.{IsThere};
+ghost use Rattle.std.specs.Prelude.{◌≡◌, ◌<◌, IfSome};
+ghost use Rattle.rx_ends.specs.Ends.{IsIdleAt, IsThere};
 
 use super::*;
 use std::test::*;
@@ -43,6 +43,26 @@ fn read(ends: &mut Ends, key: usize) -> (CallRead, u32, u32)
     (got, ends.common, ends.left())
 }
 
+/// The call of a key is cleared.
+fn clear(ends: &mut Ends, key: usize)
+    requires { IsThere ends.old key }
+    ensures { IsIdleAt ends.new key }
+{
+    clear_counted::<Brand>(ends, key, Blank::new(1));
+}
+
+/// The same, over a new counter of steps.
+fn clear_counted<L: Ledger>(ends: &mut Ends, key: usize, blank: Blank)
+    requires there { IsThere ends.old key }
+    requires name { blank.name ≡ L.name }
+    requires parts { blank.parts ≡ L.parts }
+    requires counts { 0 < blank.parts }
+    ensures { IsIdleAt ends.new key }
+{
+    let mut steps = Steps::<L>::new(blank);
+    ends.clear(key, &mut steps);
+}
+
 #[test]
 fn what_calls_hold_beside_their_own_slots_is_counted(rt: HostRuntime) -> Result<(), Fail> {
     let limits = Limits {
@@ -61,7 +81,7 @@ fn what_calls_hold_beside_their_own_slots_is_counted(rt: HostRuntime) -> Result<
     let second = start(&mut ends).expect(&rt, "room for a second call");
     assert_eq!(rt; data(&mut ends, second, 1), (Took::Kept, 1, 1));
     assert_eq!(rt; data(&mut ends, second, 2), (Took::Kept, 2, 0));
-    ends.clear(second);
+    clear(&mut ends, second);
     assert_eq!(rt; (ends.common, ends.left()), (1, 1));
     ends.leave(second);
     assert_eq!(rt; (ends.common, ends.left()), (1, 1));

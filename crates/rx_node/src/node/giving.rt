@@ -1,14 +1,16 @@
 //! What a node gives when it is polled.
 
 ghost use Rattle.std.specs.Prelude.{◌≡◌, ◌≤◌, ◌<◌, ◌%◌, ◌^◌, ℕ, suc, List, length, take, drop, Some, None, IfSome};
-ghost use Rattle.std.specs.Prelude.{false};
+ghost use Rattle.std.specs.Prelude.{◌==◌, false, not, IsNone, IsSomeAnd};
 ghost use Rattle.std.specs.Prelude.{if◌then◌else◌, option_map, slice_get};
 ghost use Rattle.rx_model.specs.declared.event.Event.TheVariants as events;
 ghost use Rattle.rx_model.specs.declared.wire.TheConstants.{DATAGRAM_BYTES};
 ghost use Rattle.rx_model.specs.Body as models;
 ghost use Rattle.rx_model.specs.Names.{Channel};
 ghost use Rattle.rx_model.specs.Spelling.{made};
+ghost use Rattle.rx_model.specs.Strays.{stray_message};
 ghost use Rattle.rx_packet.specs.Seen.{message_with_head};
+ghost use Rattle.rx_due.specs.Cost.{AtMost};
 ghost use Rattle.rx_rules.specs.After.{counted};
 ghost use Rattle.rx_rules.specs.Items.{Item as RulesItem, channel_items, deaths, due as rules_due, items, message_on};
 ghost use Rattle.rx_rules.specs.Least.{least_by};
@@ -19,6 +21,8 @@ ghost use Rattle.rx_node.specs.Due.{AreDueAs, CanGive, Gave, GaveBehind, HasItem
 ghost use Rattle.rx_node.specs.Due.{at_once, challenge_of};
 ghost use Rattle.rx_node.specs.Due.{death_of, lesser_of, owed_at, unsilenced};
 ghost use Rattle.rx_node.specs.Mirrors.{IsActiveAt, IsChannel, IsKey, Mirrors, StepsAt};
+ghost use Rattle.rx_node.specs.Moments.{IsRankAt, OthersSame, SameChannel, silence_at};
+ghost use Rattle.rx_node.specs.Moments as moments;
 ghost use Rattle.rx_node.specs.Node.{KeepsNode, setup_of};
 ghost use Rattle.rx_node.specs.Steps.{AnswersNode, Dimmed, given_count, given_from};
 
@@ -54,6 +58,30 @@ impl<C: Class> Node<C> {
             return None;
         }
         Some(self.give(&due, to, steps))
+    }
+
+    /// Whether a stray abort is owed.
+    pub fn has_stray(&self) -> bool
+        ensures { result ≡ not (length self.now.strays == 0) }
+    {
+        !self.strays.is_empty()
+    }
+
+    /// Writes the oldest stray abort, which is owed no longer, to the front of the buffer, and answers the host that it
+    /// is for and its length in bytes; none where none is owed.
+    pub fn give_stray(&mut self, to: &mut [u8]) -> Option<(Host, usize)>
+        requires { DATAGRAM_BYTES ≤ length to.old }
+        ensures updates { self.new ≡ record self.old { strays = drop 1 self.old.strays } }
+        ensures none { IsNone result → slice_get self.old.strays 0 ≡ None }
+        ensures host { IfSome result (λ given. IsSomeAnd (slice_get self.old.strays 0)
+            (λ stray. given.0 ≡ stray.host)) }
+        ensures written { IfSome result (λ given. IsSomeAnd (slice_get self.old.strays 0)
+            (λ stray. take given.1 to.new ≡ made (stray_message stray))) }
+        ensures rest { drop (given_count result) to.new ≡ drop (given_count result) to.old }
+    {
+        let stray = self.strays.pop_front()?;
+        let count = write_msg(&stray_head(&stray), &ABORT, to);
+        Some((stray.host, count))
     }
 
     /// From which moment on, in milliseconds, a poll would do something; none where no call lives that isn't broken,
@@ -103,22 +131,27 @@ impl<C: Class> Node<C> {
     }
 
     /// The moment at which a channel's call would die.
-    fn death_on<L: Ledger>(&self, key: u32, steps: &mut Steps<L>) -> Option<u64>
+    pub fn death_on<L: Ledger>(&self, key: u32, steps: &mut Steps<L>) -> Option<u64>
         requires { IsKey self.now key }
-        ensures { (l : Looks) (ch : Channel) → Mirrors C.class_of self.now l → IsChannel l key ch →
+        ensures answered { (l : Looks) (ch : Channel) → Mirrors C.class_of self.now l → IsChannel l key ch →
             result ≡ death_of (latest l ch) }
+        ensures silence { result ≡ silence_at self.now key }
+        ensures steps_taken { AtMost 1 steps.old steps.new }
     {
         let end = self.active(key)?;
         Some(self.ends.dies(end, steps))
     }
 
     /// The first item of least rank of a channel.
-    fn due_on<L: Ledger>(&self, key: u32, steps: &mut Steps<L>) -> Option<Due>
+    pub fn due_on<L: Ledger>(&self, key: u32, steps: &mut Steps<L>) -> Option<Due>
         requires { IsKey self.now key }
         ensures given { IfSome result (CanGive self.now) }
+        ensures rank { IsRankAt self.now key (option_map (λ due. due.rank) result) }
+        ensures key { IfSome result (λ due. due.key ≡ key) }
         ensures least { (l : Looks) (ch : Channel) → Mirrors C.class_of self.now l → IsChannel l key ch →
             let s = setup_of C.class_of self.now in
             AreDueAs s l result (least_by (λ i. i.rank) (channel_items s (unsilenced l) ch)) }
+        ensures steps_taken { AtMost 1 steps.old steps.new }
     {
         if let Some(item) = self.owed_on(key) {
             return Some(Due { rank: 0, key, item });
@@ -136,6 +169,7 @@ impl<C: Class> Node<C> {
     fn owed_on(&self, key: u32) -> Option<Item>
         requires { IsKey self.now key }
         ensures given { IfSome result (HasItem self.now key) }
+        ensures owed { result ≡ moments.owed_on self.now key }
         ensures first { (l : Looks) (ch : Channel) → Mirrors C.class_of self.now l → IsChannel l key ch →
             OwesAtOnce (setup_of C.class_of self.now) l ch result }
     {
@@ -143,7 +177,12 @@ impl<C: Class> Node<C> {
     }
 
     /// Writes what is due, which is owed no longer, and answers the host that it is for and its length.
-    fn give<L: Ledger>(&mut self, due: &Due, to: &mut [u8], steps: &mut Steps<L>) -> (Host, usize)
+    pub fn give<L: Ledger>(
+        &mut self,
+        due: &Due,
+        to: &mut [u8],
+        steps: &mut Steps<L>,
+    ) -> (Host, usize)
         requires room { DATAGRAM_BYTES ≤ length to.old }
         requires can { CanGive self.old due.now }
         requires now { due.now.rank ≤ self.old.moment }
@@ -151,7 +190,9 @@ impl<C: Class> Node<C> {
             IsDueAs (setup_of C.class_of self.old) l due.now i →
             Gave C.class_of self.old self.new l i result.0 (take result.1 to.new) }
         ensures rest { drop result.1 to.new ≡ drop result.1 to.old }
+        ensures others { OthersSame self.old self.new due.now.key }
         ensures same { KeepsNode self.old self.new }
+        ensures steps_taken { AtMost 2 steps.old steps.new }
     {
         let place = due.key / CHANNELS;
         let peer = self.link(place).peer;
@@ -169,6 +210,7 @@ impl<C: Class> Node<C> {
         ensures steps { (l : Looks) (x : rules.ConnLooks) → Mirrors C.class_of self.old l →
             slice_get l.conns place ≡ Some x → Mirrors C.class_of self.new (counted x.connection l) }
         ensures active { (key end : ℕ) → IsActiveAt self.old key end → IsActiveAt self.new key end }
+        ensures channels { (q : ℕ) → SameChannel self.old self.new q }
         ensures same { KeepsNode self.old self.new }
     {
         self.table.touch(place, self.moment);
@@ -193,7 +235,9 @@ impl<C: Class> Node<C> {
             ((ch : Channel) → IsChannel l due.now.key ch → head.now.number ≡ (channel_at l ch).number) →
             GaveBehind C.class_of self.new l head.now i (take result to.new) }
         ensures rest { drop result to.new ≡ drop result to.old }
+        ensures others { OthersSame self.old self.new due.now.key }
         ensures same { KeepsNode self.old self.new }
+        ensures steps_taken { AtMost 2 steps.old steps.new }
     {
         match due.item {
             Item::Abort(code) => self.give_abort(due.key, code, head, to),
@@ -213,6 +257,7 @@ impl<C: Class> Node<C> {
             (λ ch l. on_channel ch (λ q. record q { owed_abort = None }) l) }
         ensures written { take result to.new ≡ made (message_with_head head.now (models.Abort code)) }
         ensures rest { drop result to.new ≡ drop result to.old }
+        ensures others { OthersSame self.old self.new key }
         ensures same { KeepsNode self.old self.new }
     {
         self.table.seat_mut(key).owed_abort = None;
@@ -227,6 +272,7 @@ impl<C: Class> Node<C> {
             (λ ch l. on_channel ch (λ q. record q { owed_busy = None }) l) }
         ensures written { take result to.new ≡ made (message_with_head head.now models.Busy) }
         ensures rest { drop result to.new ≡ drop result to.old }
+        ensures others { OthersSame self.old self.new key }
         ensures same { KeepsNode self.old self.new }
     {
         self.table.seat_mut(key).owed_busy = None;
@@ -243,6 +289,7 @@ impl<C: Class> Node<C> {
             take result to.new ≡ made (message_with_head head.now
             (challenge_of (setup_of C.class_of self.old) l (latest_name l ch))) }
         ensures rest { drop result to.new ≡ drop result to.old }
+        ensures others { OthersSame self.old self.new key }
         ensures same { KeepsNode self.old self.new }
     {
         let mut bytes = [0; SECURITY_BYTES];
@@ -263,6 +310,7 @@ impl<C: Class> Node<C> {
             (channel_at l ch).owed_response ≡ Some bytes →
             take result to.new ≡ made (message_with_head head.now (models.Response bytes)) }
         ensures rest { drop result to.new ≡ drop result to.old }
+        ensures others { OthersSame self.old self.new key }
         ensures same { KeepsNode self.old self.new }
     {
         match self.table.seat_mut(key).owed_response.take() {
@@ -279,6 +327,7 @@ impl<C: Class> Node<C> {
             (λ ch l. on_channel ch (λ q. record q { owed_ackall = false }) l) }
         ensures written { take result to.new ≡ made (message_with_head head.now models.AckAll) }
         ensures rest { drop result to.new ≡ drop result to.old }
+        ensures others { OthersSame self.old self.new key }
         ensures same { KeepsNode self.old self.new }
     {
         self.table.seat_mut(key).owed_ackall = false;
@@ -347,7 +396,9 @@ impl<C: Class> Node<C> {
             head.now.seq ≡ 0 →
             GaveBehind C.class_of self.new l head.now i (take result to.new) }
         ensures rest { drop result to.new ≡ drop result to.old }
+        ensures others { OthersSame self.old self.new key }
         ensures same { KeepsNode self.old self.new }
+        ensures steps_taken { AtMost 2 steps.old steps.new }
     {
         match self.ends.poll(end, self.moment, steps) {
             Some(Giving::Piece { seq, asks, last }) => {

@@ -2,7 +2,7 @@
 
 ghost use Rattle.std.specs.Prelude.{◌≡◌, ◌≤◌, ◌<◌, ◌+◌, ◌^◌, ℕ, Some, None, Option, IfSome, length, take, drop, min};
 ghost use Rattle.std.specs.Prelude.{true, false, is_some, slice_get};
-ghost use Rattle.std.specs.Prelude.{option_map};
+ghost use Rattle.std.specs.Prelude.{option_and_then, option_map};
 ghost use Rattle.rx_model.specs.Names.{Channel};
 ghost use Rattle.rx_rules.specs.After.{owing_ackall, read_done, settled, stopped_all};
 ghost use Rattle.rx_rules.specs.CallLooks.{after_shut, after_write};
@@ -13,14 +13,17 @@ ghost use Rattle.rx_rules.specs.Received.{read_of};
 ghost use Rattle.rx_rules.specs.Records.{silenced, started, unless_silent};
 ghost use Rattle.rx_rules.specs.Setup.{is_client};
 ghost use Rattle.rx_rules.specs.Slots.{room};
+ghost use Rattle.rx_due.specs.Cost.{AtMost};
 ghost use Rattle.rx_law.proofs.LifeFalls.{Falls};
 ghost use Rattle.rx_law.proofs.Orderly.{Orderly};
 ghost use Rattle.rx_law.proofs.RoomStarts.{RoomyAt};
 ghost use Rattle.rx_recvwin.specs.Window.{given_count, tells_end};
+ghost use Rattle.rx_call.specs.Kept.{call_under};
 ghost use Rattle.rx_ends.specs.Ends.{HasShutSlot, IsUnshut};
 ghost use Rattle.rx_table.specs.Records.{seat_at};
 ghost use Rattle.rx_node.specs.Lives.{after_turn, is_of, life_of};
 ghost use Rattle.rx_node.specs.Mirrors.{IsActiveAt, IsChannel, IsKey, Mirrors, StepsAt, StepsNode};
+ghost use Rattle.rx_node.specs.Moments.{OthersSame, PlacesSame, active_end, silence_at};
 ghost use Rattle.rx_node.specs.Node.{KeepsNode, is_active_life, life_at, setup_of};
 
 use crate::life::{Life, Turn, end_of, ended_life};
@@ -30,7 +33,8 @@ use rx_due::Steps;
 use rx_model::CallRead;
 use rx_model::wire::SILENCE_MS;
 use rx_table::{CHANNELS, Seat};
-use std::sync::ledger::Ledger;
+use std::marker::Brand;
+use std::sync::ledger::{Blank, Ledger};
 
 impl<C: Class> Node<C> {
     /// The life of a channel's latest call; none where it had none.
@@ -52,6 +56,7 @@ impl<C: Class> Node<C> {
     pub fn active(&self, key: u32) -> Option<usize>
         requires { IsKey self.now key }
         ensures some { IfSome result (IsActiveAt self.now key) }
+        ensures call { active_end self.now key ≡ option_and_then (λ end. call_under self.now.ends.calls end) result }
         ensures answered { (l : Looks) (ch : Channel) → Mirrors C.class_of self.now l → IsChannel l key ch →
             is_some result ≡ is_call (λ k. is_active k.life) (latest l ch) }
     {
@@ -75,6 +80,7 @@ impl<C: Class> Node<C> {
             let c = call_named ch number in
             Orderly s (started s (life_of life) c l) → RoomyAt s (started s (life_of life) c l)
             → Mirrors C.class_of self.new (started s (life_of life) c l) }
+        ensures others { OthersSame self.old self.new key }
         ensures same { KeepsNode self.old self.new }
     {
         let Some(end) = self.ends.start(self.moment) else {
@@ -90,7 +96,7 @@ impl<C: Class> Node<C> {
 
     /// The life of a channel's call, where it lives, becomes this: one that isn't active gives its slots back, and one
     /// that ends leaves its channel.
-    pub fn set_life(&mut self, key: u32, life: Life)
+    fn set_life<L: Ledger>(&mut self, key: u32, life: Life, steps: &mut Steps<L>)
         requires key { IsKey self.old key }
         requires kind { is_of (is_client self.old.kind) (life_of life) ≡ true }
         ensures steps { (l : Looks) (ch : Channel) (k : CallRecord) → Mirrors C.class_of self.old l
@@ -102,7 +108,10 @@ impl<C: Class> Node<C> {
         ensures active { (end : ℕ) → is_active (life_of life) ≡ true → IsActiveAt self.old key end →
             IsActiveAt self.new key end }
         ensures ends { is_active (life_of life) ≡ true → self.new.ends ≡ self.old.ends }
+        ensures idle { is_active (life_of life) ≡ false → active_end self.new key ≡ None }
+        ensures others { OthersSame self.old self.new key }
         ensures same { KeepsNode self.old self.new }
+        ensures steps_taken { AtMost 1 steps.old steps.new }
     {
         let Some(end) = self.table.seat(key).live else {
             return;
@@ -111,7 +120,7 @@ impl<C: Class> Node<C> {
         if life.is_active() {
             return;
         }
-        self.ends.clear(end);
+        self.ends.clear(end, steps);
         if life.is_live() {
             return;
         }
@@ -132,10 +141,53 @@ impl<C: Class> Node<C> {
             IsActiveAt self.new key end }
         ensures ends { is_active_life (option_map (after_turn turn) (life_at self.old key)) ≡ true →
             self.new.ends ≡ self.old.ends }
+        ensures idle { is_active_life (option_map (after_turn turn) (life_at self.old key)) ≡ false →
+            active_end self.new key ≡ None }
+        ensures others { OthersSame self.old self.new key }
         ensures same { KeepsNode self.old self.new }
     {
+        self.turn_counted::<Brand>(key, turn, Blank::new(1));
+    }
+
+    fn turn_counted<L: Ledger>(&mut self, key: u32, turn: Turn, blank: Blank)
+        requires key { IsKey self.old key }
+        requires name { blank.name ≡ L.name }
+        requires parts { blank.parts ≡ L.parts }
+        requires counts { 0 < blank.parts }
+        ensures steps { StepsAt C.class_of self.old self.new key
+            (λ ch l. on_life (latest_name l ch) (after_turn turn) l) }
+        ensures active { (end : ℕ) → IsActiveAt self.old key end →
+            is_active_life (option_map (after_turn turn) (life_at self.old key)) ≡ true →
+            IsActiveAt self.new key end }
+        ensures ends { is_active_life (option_map (after_turn turn) (life_at self.old key)) ≡ true →
+            self.new.ends ≡ self.old.ends }
+        ensures idle { is_active_life (option_map (after_turn turn) (life_at self.old key)) ≡ false →
+            active_end self.new key ≡ None }
+        ensures others { OthersSame self.old self.new key }
+        ensures same { KeepsNode self.old self.new }
+    {
+        let mut steps = Steps::<L>::new(blank);
+        self.make_turn(key, turn, &mut steps);
+    }
+
+    /// The same, by these steps: one look, where the call isn't active then.
+    fn make_turn<L: Ledger>(&mut self, key: u32, turn: Turn, steps: &mut Steps<L>)
+        requires { IsKey self.old key }
+        ensures steps { StepsAt C.class_of self.old self.new key
+            (λ ch l. on_life (latest_name l ch) (after_turn turn) l) }
+        ensures active { (end : ℕ) → IsActiveAt self.old key end →
+            is_active_life (option_map (after_turn turn) (life_at self.old key)) ≡ true →
+            IsActiveAt self.new key end }
+        ensures ends { is_active_life (option_map (after_turn turn) (life_at self.old key)) ≡ true →
+            self.new.ends ≡ self.old.ends }
+        ensures idle { is_active_life (option_map (after_turn turn) (life_at self.old key)) ≡ false →
+            active_end self.new key ≡ None }
+        ensures others { OthersSame self.old self.new key }
+        ensures same { KeepsNode self.old self.new }
+        ensures steps_taken { AtMost 1 steps.old steps.new }
+    {
         if let Some(life) = self.life(key) {
-            self.set_life(key, life.after(turn));
+            self.set_life(key, life.after(turn), steps);
         }
     }
 
@@ -144,6 +196,7 @@ impl<C: Class> Node<C> {
         requires { IsKey self.old key }
         ensures steps { StepsAt C.class_of self.old self.new key
             (λ ch l. on_life (latest_name l ch) (after_code code) l) }
+        ensures others { OthersSame self.old self.new key }
         ensures same { KeepsNode self.old self.new }
     {
         self.turn(key, Turn::Code(code));
@@ -154,6 +207,7 @@ impl<C: Class> Node<C> {
         requires { place < length self.old.table.conns }
         ensures steps { (l : Looks) (x : ConnLooks) → Mirrors C.class_of self.old l → slice_get l.conns place ≡ Some x →
             Mirrors C.class_of self.new (stopped_all x.connection code l) }
+        ensures places { PlacesSame self.old self.new place }
         ensures same { KeepsNode self.old self.new }
     {
         let _kind = &self.kind;
@@ -173,11 +227,15 @@ impl<C: Class> Node<C> {
     }
 
     /// The same for the call of one channel.
-    fn silence_on<L: Ledger>(&mut self, key: u32, steps: &mut Steps<L>)
+    pub fn silence_on<L: Ledger>(&mut self, key: u32, steps: &mut Steps<L>)
         requires { IsKey self.old key }
         ensures silenced { StepsAt C.class_of self.old self.new key
             (λ ch l. on_call (latest_name l ch) (unless_silent l.now) l) }
+        ensures ends { (moment : ℕ) → silence_at self.old key ≡ Some moment → moment ≤ self.old.moment →
+            silence_at self.new key ≡ None }
+        ensures others { OthersSame self.old self.new key }
         ensures same { KeepsNode self.old self.new }
+        ensures steps_taken { AtMost 2 steps.old steps.new }
     {
         let Some(end) = self.active(key) else {
             return;
@@ -187,7 +245,7 @@ impl<C: Class> Node<C> {
             return;
         }
         let silence = self.moment - dies + SILENCE_MS;
-        self.turn(key, Turn::Silence(silence));
+        self.make_turn(key, Turn::Silence(silence), steps);
     }
 
     /// Says bytes on a channel's call, which isn't shut: as many as fit.
@@ -200,6 +258,7 @@ impl<C: Class> Node<C> {
         ensures steps { StepsAt C.class_of self.old self.new key
             (λ ch l. on_looks (latest_name l ch) (after_write (take result bytes.now)) l) }
         ensures within { result ≤ length bytes.now }
+        ensures others { OthersSame self.old self.new key }
         ensures same { KeepsNode self.old self.new }
     {
         self.ends.write(end, bytes)
@@ -213,6 +272,7 @@ impl<C: Class> Node<C> {
         ensures steps { (l : Looks) (ch : Channel) → Mirrors C.class_of self.old l → IsChannel l key ch →
             RoomyAt (setup_of C.class_of self.old) (on_looks (latest_name l ch) after_shut l) →
             Mirrors C.class_of self.new (on_looks (latest_name l ch) after_shut l) }
+        ensures others { OthersSame self.old self.new key }
         ensures same { KeepsNode self.old self.new }
     {
         self.ends.shut(end);
@@ -248,6 +308,7 @@ impl<C: Class> Node<C> {
         ensures steps { StepsAt C.class_of self.old self.new key
             (λ ch l. read_done (latest_name l ch) (tells_end result) (take (given_count result) to.new) l) }
         ensures rest { drop (given_count result) to.new ≡ drop (given_count result) to.old }
+        ensures others { OthersSame self.old self.new key }
         ensures same { KeepsNode self.old self.new }
     {
         let got = self.ends.read(end, self.moment, to);
@@ -264,6 +325,7 @@ impl<C: Class> Node<C> {
         ensures steps { StepsAt C.class_of self.old self.new key
             (λ ch l. on_life (latest_name l ch) (after_end true)
             (on_channel ch (owing_ackall (is_call (λ k. is_calling k.life) (latest l ch))) l)) }
+        ensures others { OthersSame self.old self.new key }
         ensures same { KeepsNode self.old self.new }
     {
         let Some(life) = self.life(key) else {
@@ -276,13 +338,14 @@ impl<C: Class> Node<C> {
         self.turn(key, Turn::End(true));
     }
 
-    /// A finished call whose pieces are all hard acknowledged is over.
+    /// A finished call is over once the other end has all that it said.
     pub fn settle(&mut self, key: u32, end: usize)
         requires { IsActiveAt self.old key end }
         ensures steps { StepsAt C.class_of self.old self.new key (λ ch l. on_call (latest_name l ch) settled l) }
+        ensures others { OthersSame self.old self.new key }
         ensures same { KeepsNode self.old self.new }
     {
-        let all = self.ends.acked(end);
-        self.turn(key, Turn::Acks(all));
+        let delivered = self.ends.is_delivered(end);
+        self.turn(key, Turn::Acks(delivered));
     }
 }

@@ -1,6 +1,7 @@
 //! Messages for calls that live, and for calls that ended.
 
-ghost use Rattle.std.specs.Prelude.{◌≡◌, ◌<◌, ◌≤◌, ◌/◌, ◌&&◌, not, length, nat_le, option_map, IfSome, Some, true};
+ghost use Rattle.std.specs.Prelude.{◌≡◌, ◌<◌, ◌≤◌, ◌/◌, ◌&&◌, not, length, nat_le, option_map, IfSome, Some};
+ghost use Rattle.std.specs.Prelude.{true, false};
 ghost use Rattle.rx_model.specs.Body as models;
 ghost use Rattle.rx_model.specs.Names.{Channel, channel_of};
 ghost use Rattle.rx_model.specs.Strays.{is_stray};
@@ -15,6 +16,7 @@ ghost use Rattle.rx_rules.specs.Setup.{is_client};
 ghost use Rattle.rx_call.specs.Standing.{FitsSlot};
 ghost use Rattle.rx_node.specs.Lives.{life_of};
 ghost use Rattle.rx_node.specs.Mirrors.{IsActiveAt, IsChannel, IsKey, Mirrors, StepsAt};
+ghost use Rattle.rx_node.specs.Moments.{OthersSame, PlacesSame};
 ghost use Rattle.rx_node.specs.Node.{KeepsNode, setup_of};
 ghost use Rattle.rx_node.specs.Steps.{IsChannelAt, IsOwn, facts_seen, is_acking};
 ghost use Rattle.rx_node.specs.Steps as steps;
@@ -31,6 +33,8 @@ use rx_packet::{Body, Head};
 use rx_table::CHANNELS;
 
 impl<C: Class> Node<C> {
+    ghost use Rattle.rx_table.specs.declared.seat.TheConstants.{CHANNELS};
+
     /// A message for the call of a channel, which is active: what becomes of it.
     pub fn take(&mut self, key: u32, end: usize, c: &CallName, head: &Head, body: &Body<'_>) -> Took
         requires active { IsActiveAt self.old key end }
@@ -40,6 +44,8 @@ impl<C: Class> Node<C> {
         ensures steps { (l : Looks) (k : CallRecord) → IsOwn C.class_of self.old l key c.now k →
             Mirrors C.class_of self.new
             (taken_with (setup_of C.class_of self.old) result c.now (message_of head.now body.now) l) }
+        ensures others { steps.is_response (body_of body.now) ≡ false → OthersSame self.old self.new key }
+        ensures places { PlacesSame self.old self.new (key / CHANNELS) }
         ensures same { KeepsNode self.old self.new }
     {
         match body {
@@ -65,6 +71,7 @@ impl<C: Class> Node<C> {
             Mirrors C.class_of self.new
             (taken_at (setup_of C.class_of self.old) result c (message_of head.now body.now) l) }
         ensures active { IsActiveAt self.new key end }
+        ensures others { OthersSame self.old self.new key }
         ensures same { KeepsNode self.old self.new }
     {
         self.ends.take(end, self.moment, head, body)
@@ -80,6 +87,7 @@ impl<C: Class> Node<C> {
         ensures steps { (l : Looks) (c : names.CallName) (k : CallRecord) → IsOwn C.class_of self.old l key c k →
             Mirrors C.class_of self.new
             (taken_with (setup_of C.class_of self.old) result c (message_of head.now body.now) l) }
+        ensures others { OthersSame self.old self.new key }
         ensures same { KeepsNode self.old self.new }
     {
         let took = self.hear(key, end, head, body);
@@ -98,6 +106,7 @@ impl<C: Class> Node<C> {
         ensures steps { (l : Looks) (c : names.CallName) (k : CallRecord) → IsOwn C.class_of self.old l key c k →
             Mirrors C.class_of self.new
             (taken_with (setup_of C.class_of self.old) result c (message_of head.now body.now) l) }
+        ensures others { OthersSame self.old self.new key }
         ensures same { KeepsNode self.old self.new }
     {
         let took = self.hear(key, end, head, body);
@@ -127,6 +136,7 @@ impl<C: Class> Node<C> {
         ensures steps { (l : Looks) (k : CallRecord) → IsOwn C.class_of self.old l key c.now k →
             Mirrors C.class_of self.new (taken_with (setup_of C.class_of self.old) result c.now
             (message_with_head head.now (models.Challenge asked.now)) l) }
+        ensures others { OthersSame self.old self.new key }
         ensures same { KeepsNode self.old self.new }
     {
         let mut answer = [0; SECURITY_BYTES];
@@ -155,6 +165,7 @@ impl<C: Class> Node<C> {
         ensures steps { (l : Looks) (k : CallRecord) → IsOwn C.class_of self.old l key c.now k →
             Mirrors C.class_of self.new (taken_with (setup_of C.class_of self.old) result c.now
             (message_with_head head.now (models.Response answer.now)) l) }
+        ensures places { PlacesSame self.old self.new (key / CHANNELS) }
         ensures same { KeepsNode self.old self.new }
     {
         if self.is_right(key, c, answer) {
@@ -194,6 +205,7 @@ impl<C: Class> Node<C> {
         requires { IsKey self.old key }
         ensures steps { StepsAt C.class_of self.old self.new key
             (λ ch. on_conn ch.connection (λ r. record r { proved = true })) }
+        ensures places { PlacesSame self.old self.new (key / CHANNELS) }
         ensures same { KeepsNode self.old self.new }
     {
         self.table.prove(key / CHANNELS);
@@ -205,6 +217,7 @@ impl<C: Class> Node<C> {
         ensures steps { (l : Looks) (c : names.CallName) → Mirrors C.class_of self.old l
             → IsChannel l key (channel_of c) →
             Mirrors C.class_of self.new (challenged (setup_of C.class_of self.old) c l) }
+        ensures others { OthersSame self.old self.new key }
         ensures same { KeepsNode self.old self.new }
     {
         if self.challenges(key) {
@@ -230,6 +243,7 @@ impl<C: Class> Node<C> {
         requires { IsKey self.old key }
         ensures steps { StepsAt C.class_of self.old self.new key
             (λ ch l. taken_over (latest_name l ch) (body_of body.now) (latest l ch) l) }
+        ensures others { OthersSame self.old self.new key }
         ensures same { KeepsNode self.old self.new }
     {
         let Some(life) = self.life(key) else {
@@ -243,6 +257,7 @@ impl<C: Class> Node<C> {
     pub fn owe_abort(&mut self, key: u32, code: Option<i32>)
         requires { IsKey self.old key }
         ensures steps { StepsAt C.class_of self.old self.new key (λ ch. on_channel ch (owing_abort code)) }
+        ensures others { OthersSame self.old self.new key }
         ensures same { KeepsNode self.old self.new }
     {
         if let Some(code) = code {
@@ -254,6 +269,7 @@ impl<C: Class> Node<C> {
     fn owe_ackall(&mut self, key: u32, owes: bool)
         requires { IsKey self.old key }
         ensures steps { StepsAt C.class_of self.old self.new key (λ ch. on_channel ch (owing_ackall owes)) }
+        ensures others { OthersSame self.old self.new key }
         ensures same { KeepsNode self.old self.new }
     {
         if owes {
@@ -267,6 +283,7 @@ impl<C: Class> Node<C> {
         requires size { length bytes.now ≤ SECURITY_BYTES }
         ensures steps { StepsAt C.class_of self.old self.new key
             (λ ch. on_channel ch (λ q. record q { owed_response = Some bytes.now })) }
+        ensures others { OthersSame self.old self.new key }
         ensures same { KeepsNode self.old self.new }
     {
         let mut response = ArrayVec::new();
@@ -278,6 +295,7 @@ impl<C: Class> Node<C> {
     pub fn owe_busy(&mut self, key: u32, number: u32)
         requires { IsKey self.old key }
         ensures steps { StepsAt C.class_of self.old self.new key (λ ch. on_channel ch (owing_busy number)) }
+        ensures others { OthersSame self.old self.new key }
         ensures same { KeepsNode self.old self.new }
     {
         self.table.seat_mut(key).owed_busy = Some(number);

@@ -5,6 +5,7 @@ ghost use Rattle.rx_pool.specs.Held.{Holds, Keeps};
 ghost use Rattle.rx_sendwin.specs.Marks.{is_acked_by, newly_by, highest_by, trip_at, is_valid_ack};
 ghost use Rattle.rx_sendwin.specs.Window.{piece_slots, StandsSent, as_newly};
 
+use crate::lost::{Lost, lost_among};
 use crate::marks::{
     count_in_flight, count_newly, has_mark_past, highest_newly, leading, peer_window, set_marks,
     trip,
@@ -78,6 +79,13 @@ impl SendWin {
         self.low = leading(self.soft.as_slice()) as u32;
         self.flight = count_in_flight(self.acked, marks, self.given);
         self.peer_window = peer_window(self.peer_window, window);
+        self.lost = lost_among(
+            self.acked,
+            self.given,
+            self.since,
+            self.soft.as_slice(),
+            &self.pieces,
+        );
         newly
     }
 
@@ -98,5 +106,6 @@ impl SendWin {
         self.soft.clear();
         self.low = 0;
         self.flight = 0;
+        self.lost = Lost::none();
     }
 }

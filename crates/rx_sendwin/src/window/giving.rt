@@ -1,19 +1,24 @@
-ghost use Rattle.std.specs.Prelude.{◌≡◌, ◌≤◌, ◌<◌, ◌+◌, ◌-◌, ◌^◌, ◌==◌, length, suc, Option, Some, None, true, false};
+ghost use Rattle.std.specs.Prelude.{◌≡◌, ◌≤◌, ◌<◌, ◌+◌, ◌-◌, ◌^◌, ◌==◌, ℕ, length, suc, Option, Some, None, true, false};
 ghost use Rattle.std.specs.Prelude.{IfSome};
 ghost use Rattle.rx_rules.specs.CallItems.{can_give, asks};
-ghost use Rattle.rx_rules.specs.Sent.{Sent, piece_at, given_of, lowest_of, after_giving};
+ghost use Rattle.rx_rules.specs.Lost.{lost_of, halves, is_once};
+ghost use Rattle.rx_rules.specs.Sent.{Sent, piece_at, given_of, lowest_of, last_giving, after_giving, after_time};
 ghost use Rattle.rx_pool.specs.Pool.{Slots};
 ghost use Rattle.rx_pool.specs.Held.{Holds};
 ghost use Rattle.rx_sendwin.specs.Pieces.{as_giving};
 ghost use Rattle.rx_sendwin.specs.Window.{piece_slots, StandsSent, CanBeSent};
 ghost use Rattle.rx_sendwin.specs.Next.{next_piece, least_rank, again_of};
 
+use crate::lost::lost_among;
 use crate::marks::{asks, goes};
 use crate::next::NextPiece;
 use crate::piece::LastGiving;
 use crate::window::SendWin;
 use rx_pool::Pool;
 use rx_rtt::Cwnd;
+
+/// The greatest count of givings that another follows; it stands still there.
+const LAST_ORDER: u64 = u64::MAX - 1;
 
 impl SendWin {
     ghost use Rattle.rx_model.specs.declared.wire.TheConstants.{LAST_SEQ};
@@ -42,11 +47,45 @@ impl SendWin {
     {
         let place = (seq - self.acked - 1) as usize;
         let again = self.pieces[place].given.is_some();
-        self.pieces[place].given = Some(LastGiving { moment: now, again });
+        let order = self.orders + 1;
+        self.pieces[place].given = Some(LastGiving {
+            moment: now,
+            again,
+            order,
+        });
+        self.orders = order.min(LAST_ORDER);
         if self.given < seq {
             self.given = seq;
             self.flight += 1;
+            self.lost.under_way += 1;
+        } else {
+            self.lost = lost_among(
+                self.acked,
+                self.given,
+                self.since,
+                self.soft.as_slice(),
+                &self.pieces,
+            );
         }
+    }
+
+    /// The time of the piece that is sent next is up: what was sent before is late.
+    pub fn time_up(&mut self)
+        ensures stands { (pool : Slots) (s : Sent) → StandsSent pool self.old s →
+            StandsSent pool self.new (after_time true s) }
+        ensures slots { piece_slots self.new ≡ piece_slots self.old }
+        ensures width { self.new.width ≡ self.old.width }
+        ensures shut { self.new.shut ≡ self.old.shut }
+        ensures piece { (seq : ℕ) → CanBeSent self.old seq → CanBeSent self.new seq }
+    {
+        self.since = self.orders;
+        self.lost = lost_among(
+            self.acked,
+            self.given,
+            self.since,
+            self.soft.as_slice(),
+            &self.pieces,
+        );
     }
 
     /// Whether the lowest piece that was never given is due.
@@ -93,17 +132,71 @@ impl SendWin {
         }
     }
 
+    /// The piece that is taken for lost; none where none is.
+    fn lost_piece(&self, cw: &Cwnd) -> Option<u32>
+        ensures piece { IfSome result (λ k. CanBeSent self.now k) }
+        ensures answered { (pool : Slots) (s : Sent) → StandsSent pool self.now s → result ≡ lost_of cw.now s }
+    {
+        if !cw.recovers() {
+            return None;
+        }
+        match self.lost.overtaken {
+            Some(seq) => Some(seq),
+            None => {
+                if cw.room(self.lost.under_way) {
+                    self.lost.late
+                } else {
+                    None
+                }
+            }
+        }
+    }
+
+    /// Whether a held piece was given once.
+    fn is_once(&self, seq: u32) -> bool
+        requires { CanBeSent self.now seq }
+        ensures { (pool : Slots) (s : Sent) → StandsSent pool self.now s → result ≡ is_once (last_giving s.givings seq) }
+    {
+        match self.pieces[(seq - self.acked - 1) as usize].given {
+            Some(giving) => !giving.again,
+            None => false,
+        }
+    }
+
+    /// Whether giving the piece that is taken for lost closes the window by half.
+    fn halves(&self, seq: u32, cw: &Cwnd) -> bool
+        requires { CanBeSent self.now seq }
+        ensures { (pool : Slots) (s : Sent) → StandsSent pool self.now s → lost_of cw.now s ≡ Some seq →
+            result ≡ halves cw.now s seq }
+    {
+        match self.lost.overtaken {
+            Some(_) => seq - self.acked - 1 == self.low && self.is_once(seq),
+            None => false,
+        }
+    }
+
     /// The piece that is due at this moment, where a piece is sent again after `rto` milliseconds; none where none is.
     pub fn next(&self, now: u64, rto: u32, cw: &Cwnd) -> Option<NextPiece>
         ensures piece { IfSome result (λ p. CanBeSent self.now p.seq) }
         ensures answered { (pool : Slots) (s : Sent) → StandsSent pool self.now s →
             result ≡ next_piece now rto cw.now s }
     {
+        if let Some(seq) = self.lost_piece(cw) {
+            return Some(NextPiece {
+                seq,
+                again: true,
+                asks: true,
+                up: false,
+                half: self.halves(seq, cw),
+            });
+        }
         if self.can_give(cw) {
             return Some(NextPiece {
                 seq: self.given + 1,
                 again: false,
                 asks: self.asks(cw),
+                up: false,
+                half: false,
             });
         }
         match self.lowest() {
@@ -113,6 +206,8 @@ impl SendWin {
                         seq,
                         again: true,
                         asks: true,
+                        up: true,
+                        half: false,
                     });
                 }
                 None
@@ -126,6 +221,9 @@ impl SendWin {
     pub fn due(&self, rto: u32, cw: &Cwnd) -> Option<u64>
         ensures answered { (pool : Slots) (s : Sent) → StandsSent pool self.now s → result ≡ least_rank rto cw.now s }
     {
+        if self.lost_piece(cw).is_some() {
+            return Some(0);
+        }
         if self.can_give(cw) {
             return Some(0);
         }

@@ -87,7 +87,7 @@ returns-clause-stands c =
     ∙ (next_told now k).0 ∙ ap told (sym window ∙ c.in_ok-piece.was)) in
     let right = (
     subst (λ (n : Option NextPiece). IsTold k.cwnd k.sent n) (sym window ∙ c.in_ok-piece.was) (next_told now k).1) in
-    given_one pool _ k now _ _ all (c.give_piece.ensures.stands pool k st right.1)
+    given_one pool _ k now _ _ all (c.give_piece.ensures.stands pool k st right.1 right.2)
 
 pub returns-clause-held : goal.returns-clause-held
 returns-clause-held c =

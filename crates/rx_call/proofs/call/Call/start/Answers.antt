@@ -1,5 +1,5 @@
 use Rattle.std.proofs.Common.{◌∙◌, refl, ap}
-use Rattle.rx_rules.specs.Rates.{first_cwnd}
+use Rattle.rx_rules.specs.Rates.{first_rtt, first_cwnd}
 use Rattle.rx_call.specs.Standing.{EndOfCall}
 use Rattle.rx_call.proofs.call.Call.start.Goals as goal
 
@@ -9,7 +9,7 @@ returns-clause-stands c =
     λ pool. record {
       received = idle.received pool;
       sent = idle.sent pool;
-      rtt = c.new-self-inside.ensures;
+      rtt = c.new-self-inside.ensures ∙ ap (λ (e : EndOfCall). first_rtt e.pace.prompt) c.self.view_is;
       cwnd = c.new-self-inside-2.ensures
           ∙ ap (λ (e : EndOfCall). first_cwnd e.pace.window e.pace.prompt) c.self.view_is;
       owed = refl;

@@ -1,4 +1,4 @@
-use Rattle.std.proofs.Common.{◌∙◌, ◌&&◌, not, ap, sym, subst, ℕ}
+use Rattle.std.proofs.Common.{◌∙◌, ◌&&◌, not, ap, sym, subst}
 use Rattle.rx_model.specs.Body as bodies
 use Rattle.rx_packet.specs.Seen.{message_with_head}
 use Rattle.rx_rules.specs.CallLooks.{CallLooks, found, packet_of, has_lead}

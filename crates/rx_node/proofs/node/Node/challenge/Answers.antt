@@ -6,6 +6,8 @@ use Rattle.rx_node.proofs.OwingSteps.{mirrors_owing}
 use Rattle.rx_node.proofs.KeptKeys.{by_looks}
 use Rattle.rx_node.proofs.OwedAgain.{challenged_no, challenged_yes}
 use Rattle.rx_node.proofs.SeatChanges.{challenge_owing}
+use Rattle.rx_node.proofs.SameChannels.{same_with_seat}
+use Rattle.rx_node.proofs.SameChannels.{same_itself}
 use Rattle.rx_node.proofs.node.Node.challenge.Goals as goal
 
 pub invariant_of-self : goal.invariant_of-self
@@ -37,3 +39,9 @@ returns-else-challenges-clause-steps g c = λ l d m at.
     by_looks g.C.Class.class_of _ _ _
     (challenged_no (setup_of g.C.Class.class_of c.args.self.now) d l c.challenges.result
     (c.challenges.ensures l (channel_of d) m at) c.if-challenges.false) m
+
+pub returns-then-challenges-clause-others : goal.returns-then-challenges-clause-others
+returns-then-challenges-clause-others g c = rw (← c.self.view_is) (λ q apart. same_with_seat _ c.args.key _ q apart)
+
+pub returns-else-challenges-clause-others : goal.returns-else-challenges-clause-others
+returns-else-challenges-clause-others g c = λ q apart. same_itself _ q

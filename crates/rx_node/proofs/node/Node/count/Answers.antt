@@ -4,6 +4,8 @@ use Rattle.rx_node.specs.Node.{NodeState}
 use Rattle.rx_node.proofs.CountSteps.{counted_table, mirrors_counted, more_active, more_alike, serial_drawn}
 use Rattle.rx_node.proofs.KeptNode.{still_node, still_seated, still_set_up}
 use Rattle.rx_node.proofs.TableSteps.{changed-length}
+use Rattle.std.proofs.Common.{refl}
+use Rattle.rx_node.proofs.SameChannels.{same_on_place}
 use Rattle.rx_node.proofs.node.Node.count.Goals as goal
 
 pub serial-requires : goal.serial-requires
@@ -61,3 +63,13 @@ returns-clause-same g c =
           c.serial.ensures.updates,
     )
     (still_node g.C.Class.class_of _ _ like)
+
+pub returns-clause-channels : goal.returns-clause-channels
+returns-clause-channels g c =
+    let now = c.self.inside.moment in
+    rw (
+      ← c.self.view_is,
+      counted_table c.self.inside.table c.touch.new.self c.serial.new.self c.args.place now c.touch.ensures
+          c.serial.ensures.updates,
+    )
+    (λ q. same_on_place _ c.args.place _ (λ r. refl) (λ r. refl) q)

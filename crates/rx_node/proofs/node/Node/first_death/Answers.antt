@@ -9,7 +9,7 @@ pub loop-key-preserved : goal.loop-key-preserved
 loop-key-preserved g c =
     rw c.earlier-first.ensures
     (death_more g.C.Class.class_of c.args.self.now c.loop-key.key c.loop-key.first c.death_on.result (omega arith)
-    c.loop-key.invariant c.death_on.ensures)
+    c.loop-key.invariant c.death_on.ensures.answered)
 
 pub returns : goal.returns
 returns g c =

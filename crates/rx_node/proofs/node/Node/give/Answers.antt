@@ -1,5 +1,6 @@
 use Rattle.std.proofs.Common.{take}
 use Rattle.rx_node.proofs.GivenDatagram.{gave_datagram}
+use Rattle.rx_node.proofs.SameChannels.{same_then}
 use Rattle.rx_node.proofs.node.Node.give.Goals as goal
 
 pub returns-clause-gives : goal.returns-clause-gives
@@ -8,3 +9,7 @@ returns-clause-gives g c =
     c.count-serial.ensures.same l m c.args.due.now i due c.link.result.now c.link.ensures c.count-serial.result
     c.head-head.result (take c.give_item.result c.give_item.new.to) c.count-serial.ensures.serial
     c.count-serial.ensures.steps c.head-head.ensures.head c.give_item.ensures.gives
+
+pub returns-clause-others : goal.returns-clause-others
+returns-clause-others g c =
+    λ q apart. same_then _ _ _ q (c.count-serial.ensures.channels q) (c.give_item.ensures.others q apart)

@@ -2,6 +2,7 @@ use Rattle.std.proofs.Common.{None, refl}
 use Rattle.rx_node.proofs.GivenOwing.{abort_given}
 use Rattle.rx_node.proofs.KeptNode.{alike_with_seat, still_node, still_seated, still_set_up}
 use Rattle.rx_node.proofs.OwingSteps.{mirrors_owing}
+use Rattle.rx_node.proofs.SameChannels.{same_with_seat}
 use Rattle.rx_node.proofs.node.Node.give_abort.Goals as goal
 
 pub invariant_of-self : goal.invariant_of-self
@@ -25,3 +26,6 @@ returns-clause-same g c =
     let like = alike_with_seat c.self.inside.table c.args.key seat (record seat { owed_abort = None })
     c.seat_mut.ensures.value refl in
     rw (← c.self.view_is) (still_node g.C.Class.class_of _ _ like)
+
+pub returns-clause-others : goal.returns-clause-others
+returns-clause-others g c = rw (← c.self.view_is) (λ q apart. same_with_seat _ c.args.key _ q apart)

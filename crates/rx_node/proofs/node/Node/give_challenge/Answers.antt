@@ -8,6 +8,7 @@ use Rattle.rx_node.proofs.GivenOwing.{challenge_given}
 use Rattle.rx_node.proofs.Heads.{challenge_written}
 use Rattle.rx_node.proofs.KeptNode.{alike_with_seat, still_node, still_seated, still_set_up}
 use Rattle.rx_node.proofs.OwingSteps.{mirrors_owing}
+use Rattle.rx_node.proofs.SameChannels.{same_with_seat}
 use Rattle.rx_node.proofs.node.Node.give_challenge.Goals as goal
 
 pub invariant_of-self : goal.invariant_of-self
@@ -42,3 +43,6 @@ returns-clause-written g c =
     (c.latest.ensures l ch (subst (λ (n : NodeState). Mirrors g.C.Class.class_of n l) c.self.view_is m) at)
     c.nonce-nonce.ensures
     c.challenge-count.ensures.written))
+
+pub returns-clause-others : goal.returns-clause-others
+returns-clause-others g c = rw (← c.self.view_is) (λ q apart. same_with_seat _ c.args.key _ q apart)

@@ -5,6 +5,7 @@ use Rattle.rx_packet.specs.Seen.{message_with_head}
 use Rattle.rx_node.proofs.GivenOwing.{response_given}
 use Rattle.rx_node.proofs.KeptNode.{alike_with_seat, still_node, still_seated, still_set_up}
 use Rattle.rx_node.proofs.OwingSteps.{mirrors_owing}
+use Rattle.rx_node.proofs.SameChannels.{same_with_seat}
 use Rattle.rx_node.proofs.node.Node.give_response.Goals as goal
 use Rattle.rx_node.proofs.node.Node.give_response.Goals.{in-Some, in-None}
 
@@ -49,3 +50,6 @@ returns-clause-written g c =
           (w.as_slice.ensures.value ∙ same))
       | in-None w ↦ (let is = sym (ap (option_map (λ bs. bs.items)) w.in-None.is) ∙ taken in absurd (cc (is)))
     ]))
+
+pub returns-clause-others : goal.returns-clause-others
+returns-clause-others g c = rw (← c.self.view_is) (λ q apart. same_with_seat _ c.args.key _ q apart)

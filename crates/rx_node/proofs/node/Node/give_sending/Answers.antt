@@ -13,6 +13,7 @@ use Rattle.rx_node.specs.Node.{NodeState}
 use Rattle.rx_node.proofs.SeatedSteps.{end_seated, end_set_up}
 use Rattle.rx_node.proofs.GivenSending.{given_pieces, given_received, or_flag, or_flags, piece_whole, sent_ack}
 use Rattle.rx_node.proofs.GivenSending.{sent_leaves, sent_piece, sent_some, sent_stands}
+use Rattle.rx_node.proofs.SameChannels.{same_with_ends}
 use Rattle.rx_node.proofs.node.Node.give_sending.Goals as goal
 use Rattle.rx_node.proofs.node.Node.give_sending.Goals.{in-Some-Piece, in-Some-Ack, in-None}
 
@@ -88,3 +89,9 @@ returns-clause-gives g c =
       leaves = sent_leaves g.C.Class.class_of _ l m key end ch at active i sends due inv.0.client inv.1 c.poll.new.self
           c.poll.ensures.given;
     }))
+
+pub returns-clause-others : goal.returns-clause-others
+returns-clause-others g c =
+    let a = subst (λ (n : NodeState). IsActiveAt n c.args.key c.args.end) (sym c.self.view_is) c.requires.active in
+    rw (← c.self.view_is)
+    (same_with_ends _ c.self.invariant.1 c.args.key c.args.end a.seat a.there a.live _ c.poll.ensures.given.keeps)

@@ -9,6 +9,9 @@ use Rattle.rx_node.specs.Steps.{IsOwn}
 use Rattle.rx_node.proofs.SeatedSteps.{end_seated, end_set_up}
 use Rattle.rx_node.proofs.KeptKeys.{by_looks}
 use Rattle.rx_node.proofs.TakingSteps.{end_answers, mirrors_taken}
+use Rattle.std.proofs.Common.{sym, subst}
+use Rattle.rx_node.specs.Mirrors.{IsActiveAt}
+use Rattle.rx_node.proofs.SameChannels.{same_with_ends}
 use Rattle.rx_node.proofs.node.Node.hear.Goals as goal
 
 pub invariant_of-self : goal.invariant_of-self
@@ -56,3 +59,9 @@ pub returns-clause-same : goal.returns-clause-same
 returns-clause-same g c =
     rw (← c.self.view_is)
     (record { kind = refl; limits = refl; prompt = refl; secret = refl; moment = refl; names = refl })
+
+pub returns-clause-others : goal.returns-clause-others
+returns-clause-others g c =
+    let a = subst (λ (n : NodeState). IsActiveAt n c.args.key c.args.end) (sym c.self.view_is) c.requires.active in
+    rw (← c.self.view_is)
+    (same_with_ends _ c.self.invariant.1 c.args.key c.args.end a.seat a.there a.live _ c.take.ensures.steps.keeps)

@@ -9,6 +9,7 @@ use Rattle.rx_node.proofs.EndingSteps.{end_calling, end_uncalled, uncalled_none,
 use Rattle.rx_node.proofs.KeptNode.{alike_with_seat, still_seated, still_set_up}
 use Rattle.rx_node.proofs.OwingSteps.{Owing, mirrors_owing}
 use Rattle.rx_node.proofs.TableSteps.{changed-length, seated}
+use Rattle.rx_node.proofs.SameChannels.{others_then, same_itself, same_with_seat}
 use Rattle.rx_node.proofs.node.Node.on_end.Goals as goal
 
 pub returns-in_default-clause-steps : goal.returns-in_default-clause-steps
@@ -79,3 +80,17 @@ returns-clause-same g c =
       moment = same.moment;
       names = same.names ∙ like.names_same;
     })
+
+pub returns-in_default-clause-others : goal.returns-in_default-clause-others
+returns-in_default-clause-others g c =
+    λ q apart. same_itself _ q
+
+pub returns-then-not-is_calling-clause-others : goal.returns-then-not-is_calling-clause-others
+returns-then-not-is_calling-clause-others g c =
+    λ q apart. same_itself _ q
+
+pub returns-clause-others : goal.returns-clause-others
+returns-clause-others g c =
+    let after : Seat = record c.seat_mut.result.now { owed_ackall = true } in
+    rw (← c.self.view_is)
+    (others_then _ _ _ c.args.key (λ q apart. same_with_seat _ c.args.key after q apart) c.turn.ensures.others)

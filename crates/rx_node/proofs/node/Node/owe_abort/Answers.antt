@@ -7,6 +7,8 @@ use Rattle.rx_node.proofs.KeptNode.{alike_with_seat, still_node, still_seated, s
 use Rattle.rx_node.proofs.OwingSteps.{mirrors_owing}
 use Rattle.rx_node.proofs.ChannelChanges.{channel_same}
 use Rattle.rx_node.proofs.SeatChanges.{abort_owing}
+use Rattle.rx_node.proofs.SameChannels.{same_with_seat}
+use Rattle.rx_node.proofs.SameChannels.{same_itself}
 use Rattle.rx_node.proofs.node.Node.owe_abort.Goals as goal
 
 pub invariant_of-self : goal.invariant_of-self
@@ -38,3 +40,9 @@ returns-in_default-clause-steps g c =
     rw c.in_default.is
     (λ l ch m at. subst (Mirrors g.C.Class.class_of c.args.self.now)
     (sym (channel_same ch (owing_abort None) l (λ q. refl))) m)
+
+pub returns-in-Some-clause-others : goal.returns-in-Some-clause-others
+returns-in-Some-clause-others g c = rw (← c.self.view_is) (λ q apart. same_with_seat _ c.args.key _ q apart)
+
+pub returns-in_default-clause-others : goal.returns-in_default-clause-others
+returns-in_default-clause-others g c = λ q apart. same_itself _ q

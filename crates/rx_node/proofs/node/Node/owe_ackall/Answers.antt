@@ -6,6 +6,8 @@ use Rattle.rx_node.proofs.OwingSteps.{mirrors_owing}
 use Rattle.rx_node.proofs.KeptKeys.{by_looks}
 use Rattle.rx_node.proofs.ChannelChanges.{channel_same}
 use Rattle.rx_node.proofs.SeatChanges.{ackall_owing}
+use Rattle.rx_node.proofs.SameChannels.{same_with_seat}
+use Rattle.rx_node.proofs.SameChannels.{same_itself}
 use Rattle.rx_node.proofs.node.Node.owe_ackall.Goals as goal
 
 pub invariant_of-self : goal.invariant_of-self
@@ -37,3 +39,9 @@ returns-else-owes-clause-steps g c = λ l ch m at.
     by_looks g.C.Class.class_of _ _ _
     (sym (channel_same ch (owing_ackall false) l (λ q. refl))
     ∙ ap (λ (b : Bool). on_channel ch (owing_ackall b) l) (sym c.if-owes.false)) m
+
+pub returns-then-owes-clause-others : goal.returns-then-owes-clause-others
+returns-then-owes-clause-others g c = rw (← c.self.view_is) (λ q apart. same_with_seat _ c.args.key _ q apart)
+
+pub returns-else-owes-clause-others : goal.returns-else-owes-clause-others
+returns-else-owes-clause-others g c = λ q apart. same_itself _ q

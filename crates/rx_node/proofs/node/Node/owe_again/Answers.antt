@@ -6,6 +6,8 @@ use Rattle.rx_node.specs.Lives.{life_of}
 use Rattle.rx_node.specs.Steps.{code_again}
 use Rattle.rx_node.proofs.KeptKeys.{by_looks, kept_both, kept_key, key_on_channel}
 use Rattle.rx_node.proofs.OwedAgain.{again_both, over_is, over_none}
+use Rattle.rx_node.proofs.SameChannels.{same_itself}
+use Rattle.rx_node.proofs.SameChannels.{others_then}
 use Rattle.rx_node.proofs.node.Node.owe_again.Goals as goal
 
 pub owe_ackall-requires : goal.owe_ackall-requires
@@ -36,3 +38,10 @@ returns-clause-steps g c = λ l ch m at.
 
 pub returns-clause-same : goal.returns-clause-same
 returns-clause-same g c = kept_both _ _ _ c.owe_abort.ensures.same c.owe_ackall.ensures.same
+
+pub returns-in_default-clause-others : goal.returns-in_default-clause-others
+returns-in_default-clause-others g c = λ q apart. same_itself _ q
+
+pub returns-clause-others : goal.returns-clause-others
+returns-clause-others g c =
+    others_then _ _ _ c.args.key c.owe_abort.ensures.others c.owe_ackall.ensures.others

@@ -4,6 +4,7 @@ use Rattle.rx_rules.specs.Looks.{on_conn}
 use Rattle.rx_node.proofs.KeptNode.{alike_on_place, still_node, still_seated, still_set_up}
 use Rattle.rx_node.proofs.KeptKeys.{by_looks}
 use Rattle.rx_node.proofs.SmallSteps.{mirrors_proved}
+use Rattle.rx_node.proofs.SameChannels.{same_aside}
 use Rattle.rx_node.proofs.node.Node.prove.Goals as goal
 
 pub invariant_of-self : goal.invariant_of-self
@@ -27,3 +28,7 @@ returns-clause-same g c =
     let like = alike_on_place c.self.inside.table (c.args.key / 4) (λ r. record r { proved = true })
     (λ r. refl) (λ r. refl) in
     rw (← c.self.view_is, c.prove.ensures) (still_node g.C.Class.class_of _ _ like)
+
+pub returns-clause-places : goal.returns-clause-places
+returns-clause-places g c =
+    rw (← c.self.view_is, c.prove.ensures) (λ q apart. same_aside _ (c.args.key / 4) _ _ q apart)

@@ -1,4 +1,4 @@
-use Rattle.std.proofs.Common.{◌<◌, ◌+◌, ◌*◌, ℤ, w32, to_z, of_z, length, refl, ◌∙◌, sym, subst, arith}
+use Rattle.std.proofs.Common.{◌<◌, ◌+◌, ◌*◌, ◌/◌, ℕ, ℤ, w32, to_z, of_z, length, refl, ◌∙◌, ap, sym, subst, arith}
 use Rattle.std.proofs.lemmas.Int.{to_z-of_z}
 use Rattle.rx_rules.specs.After.{stopped_all}
 use Rattle.rx_rules.specs.Looks.{Looks}
@@ -7,6 +7,7 @@ use Rattle.rx_rules.specs.Life.{after_code}
 use Rattle.rx_node.specs.Node.{NodeState}
 use Rattle.rx_node.proofs.LoopEnds.{code_of_live}
 use Rattle.rx_node.proofs.LoopSteps.{among_changed, among_conn, among_first, among_more}
+use Rattle.rx_node.proofs.SameChannels.{same_itself, same_then}
 use Rattle.rx_node.proofs.node.Node.reach_all.Goals as goal
 
 pub loop-chan-init : goal.loop-chan-init
@@ -17,6 +18,7 @@ loop-chan-init g c =
       stopped = λ l x m there. among_first g.C.Class.class_of c.args.self.now l m
           (λ k. record k { life = after_code code k.life }) (code_of_live code) (4 * place)
           (4 * place + 0) (omega arith);
+      places = λ q apart. same_itself _ q;
       same = record { kind = refl; limits = refl; prompt = refl; secret = refl; moment = refl; names = refl };
     }
 
@@ -51,6 +53,9 @@ loop-chan-preserved g c =
           (4 * place + chan) (4 * place + (chan + 1)) (omega arith) (omega (arith, c.loop-chan-test.true, c.requires))
           (omega arith)
           (λ ch at. c.reach.ensures.steps (before l m) ch (c.loop-chan.invariant.stopped l x m there) at);
+      places = λ q apart. same_then _ _ _ q (c.loop-chan.invariant.places q apart)
+          (c.reach.ensures.others q
+          (λ same. apart (ap (λ (k : ℕ). k / 4) same ∙ omega (arith, c.loop-chan-test.true))));
       same = record {
         kind = new.kind ∙ old.kind;
         limits = new.limits ∙ old.limits;

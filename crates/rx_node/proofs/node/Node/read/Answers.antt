@@ -9,6 +9,7 @@ use Rattle.rx_node.proofs.ActiveSteps.{active_stands, there_low}
 use Rattle.rx_node.proofs.EndSteps.{mirrors_end}
 use Rattle.rx_node.proofs.ReadSteps.{mirrors_more, read_end, read_whole, roomy_read_of}
 use Rattle.rx_node.proofs.SeatedSteps.{end_seated, end_set_up}
+use Rattle.rx_node.proofs.SameChannels.{others_then, same_with_ends}
 use Rattle.rx_node.proofs.node.Node.read.Goals as goal
 
 pub invariant_of-self : goal.invariant_of-self
@@ -98,6 +99,18 @@ returns-in-Got g c =
           (λ k is. read_whole k (length c.args.to.now) result bytes
           (c.read-got.ensures.answered k.looks (active_stands class _ l before key end ch at a k is))))));
       rest = c.read-got.ensures.rest;
+      others = rw (← c.self.view_is)
+          (same_with_ends _ c.self.invariant.1 key end a.seat a.there a.live _ c.read-got.ensures.steps.keeps);
       same = rw (← c.self.view_is)
           (record { kind = refl; limits = refl; prompt = refl; secret = refl; moment = refl; names = refl });
     }
+
+pub returns-in-End-clause-others : goal.returns-in-End-clause-others
+returns-in-End-clause-others g c =
+    let key = c.args.key in
+    let end = c.args.end in
+    let a = subst (λ (n : NodeState). IsActiveAt n key end) (sym c.self.view_is) c.requires.active in
+    rw (← c.self.view_is)
+    (others_then _ _ _ key
+    (same_with_ends _ c.self.invariant.1 key end a.seat a.there a.live _ c.read-got.ensures.steps.keeps)
+    c.on_end.ensures.others)

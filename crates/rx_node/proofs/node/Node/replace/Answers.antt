@@ -3,6 +3,7 @@ use Rattle.rx_table.specs.Records.{fresh_record}
 use Rattle.rx_node.proofs.EnteredSeats.{fewer_seated, replaced_named, replaced_set_up}
 use Rattle.rx_node.proofs.ReplaceSteps.{mirrors_replaced}
 use Rattle.rx_node.proofs.TableSteps.{changed-length}
+use Rattle.rx_node.proofs.SameChannels.{same_aside}
 use Rattle.rx_node.proofs.node.Node.replace.Goals as goal
 
 pub invariant_of-self : goal.invariant_of-self
@@ -30,3 +31,7 @@ returns-clause-steps g c =
     rw (← c.self.view_is, c.replace.ensures)
     (λ l old m there numbered orderly. mirrors_replaced g.C.Class.class_of _ l m c.args.place old there x c.args.link
     c.args.nonce numbered orderly)
+
+pub returns-clause-places : goal.returns-clause-places
+returns-clause-places g c =
+    rw (← c.self.view_is, c.replace.ensures) (λ q apart. same_aside _ c.args.place _ _ q apart)

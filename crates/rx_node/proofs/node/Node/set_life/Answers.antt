@@ -12,6 +12,11 @@ use Rattle.rx_node.proofs.LifeChanges.{cleared_seated, cleared_set_up, lived_sea
 use Rattle.rx_node.proofs.LifeChanges.{mirrors_lived, mirrors_over}
 use Rattle.rx_node.proofs.LifeChanges.{over_kept, over_seated, over_set_up}
 use Rattle.rx_node.proofs.SeatedSteps.{one_seat}
+use Rattle.rx_node.proofs.SameChannels.{same_itself}
+use Rattle.rx_node.proofs.SameChannels.{same_cleared, same_over, same_with_life}
+use Rattle.rx_node.proofs.MomentSteps.{end_free}
+use Rattle.rx_node.proofs.SameChannels.{idle_cleared, idle_over}
+use Rattle.std.proofs.Common.{refl}
 use Rattle.rx_node.proofs.node.Node.set_life.Goals as goal
 
 pub returns-in_default-clause-steps : goal.returns-in_default-clause-steps
@@ -203,3 +208,50 @@ returns-clause-same g c =
     (over_kept g.C.Class.class_of _ i.0 i.1 key end seat there names life before had kind c.clear.new.self
     c.clear.ensures.keeps c.clear.ensures.idle c.clear.ensures.live c.leave.new.self c.leave.ensures.keeps
     c.leave.ensures.absent c.leave.ensures.live)
+
+pub returns-in_default-clause-others : goal.returns-in_default-clause-others
+returns-in_default-clause-others g c =
+    λ q apart. same_itself _ q
+
+pub returns-then-is_active-clause-others : goal.returns-then-is_active-clause-others
+returns-then-is_active-clause-others g c =
+    rw (← c.self.view_is)
+    (same_with_life _ c.self.invariant.1 c.args.key c.in-Some.end c.seat.result.now c.seat.ensures c.in-Some.is c.args.life)
+
+pub returns-then-is_live-clause-others : goal.returns-then-is_live-clause-others
+returns-then-is_live-clause-others g c =
+    rw (← c.self.view_is)
+    (same_cleared _ c.self.invariant.1 c.args.key c.in-Some.end c.seat.result.now c.seat.ensures c.in-Some.is c.args.life
+    c.clear.new.self c.clear.ensures.keeps)
+
+pub returns-clause-others : goal.returns-clause-others
+returns-clause-others g c =
+    rw (← c.self.view_is)
+    (same_over _ c.self.invariant.1 c.args.key c.in-Some.end c.seat.result.now c.seat.ensures c.in-Some.is c.args.life
+    c.clear.new.self c.clear.ensures.keeps c.leave.new.self c.leave.ensures.keeps _ _)
+
+pub returns-in_default-clause-idle : goal.returns-in_default-clause-idle
+returns-in_default-clause-idle g c =
+    let n = c.args.self.now in
+    let key = c.args.key in
+    λ idle. end_free n key c.seat.result.now
+    (ap (λ (n : NodeState). seat_at n.table key) (sym c.self.view_is) ∙ c.seat.ensures) c.in_default.is
+
+pub returns-then-is_active-clause-idle : goal.returns-then-is_active-clause-idle
+returns-then-is_active-clause-idle g c =
+    λ idle. absurd (false≢true (sym idle ∙ sym c.if-is_active.ensures))
+
+pub returns-then-is_live-clause-idle : goal.returns-then-is_live-clause-idle
+returns-then-is_live-clause-idle g c =
+    let key = c.args.key in
+    let before = c.index_mut.result.now in
+    let low = subst (λ (n : NodeState). key / 4 < length n.table.conns) (sym c.self.view_is) c.requires.key in
+    let had = indexed c.self.inside.lives.items key before (key_low g.C.Class.class_of _ key c.self.invariant.0 low)
+    c.index_mut.ensures.value in
+    λ idle. idle_cleared _ c.self.invariant.1 key c.in-Some.end c.seat.result.now c.seat.ensures c.in-Some.is
+    c.args.life before had idle c.clear.new.self
+
+pub returns-clause-idle : goal.returns-clause-idle
+returns-clause-idle g c =
+    λ idle. idle_over _ c.self.invariant.1 c.args.key c.in-Some.end c.seat.result.now c.seat.ensures c.in-Some.is
+    c.args.life c.leave.new.self _ (c.self.inside.live - 1) refl

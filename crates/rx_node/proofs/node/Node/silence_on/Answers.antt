@@ -6,6 +6,14 @@ use Rattle.rx_node.specs.Mirrors.{IsActiveAt}
 use Rattle.rx_node.specs.Node.{NodeState}
 use Rattle.rx_node.proofs.ActiveSteps.{changed_as, not_silent, same_by, silent, unless_inactive}
 use Rattle.rx_node.proofs.EndSteps.{active_call}
+use Rattle.rx_node.proofs.SameChannels.{same_itself}
+use Rattle.rx_node.proofs.MomentSteps.{silence_idle, silence_none, silence_some, silenced_idle}
+use Rattle.rx_node.specs.Moments.{silence_at}
+use Rattle.std.proofs.Common.{None, Some}
+use Rattle.std.specs.Prelude.{IsSomeAnd}
+use Rattle.rx_call.specs.Kept.{call_under}
+use Rattle.rx_model.specs.declared.wire.TheConstants.{SILENCE_MS}
+use Rattle.rx_node.specs.Node.{life_at}
 use Rattle.rx_node.proofs.node.Node.silence_on.Goals as goal
 
 pub returns-in_default-clause-silenced : goal.returns-in_default-clause-silenced
@@ -44,7 +52,37 @@ returns-clause-silenced g c =
     let late : k.looks.heard + 12000 ≤ l.now = omega (arith, dies, now, over) in
     let silence : c.self.inside.moment - c.dies-dies.result + 12000 ≡ l.now - k.looks.heard =
     omega (arith, dies, now, over) in
-    changed_as class n l ch m (unless_silent l.now) c.turn.new.self k
+    changed_as class n l ch m (unless_silent l.now) c.make_turn.new.self k
     (λ j. record j { life = after_silence (c.self.inside.moment - c.dies-dies.result + 12000) j.life }) its.latest_is
     (ap (λ (s : ℕ). record k { life = after_silence s k.life }) silence ∙ sym (silent l.now k its.active late))
-    (c.turn.ensures.steps l ch m at))
+    (c.make_turn.ensures.steps l ch m at))
+
+pub returns-in_default-clause-others : goal.returns-in_default-clause-others
+returns-in_default-clause-others g c =
+    λ q apart. same_itself _ q
+
+pub returns-then-dies-self-clause-others : goal.returns-then-dies-self-clause-others
+returns-then-dies-self-clause-others g c =
+    rw (← c.self.view_is) (λ q apart. same_itself _ q)
+
+pub returns-in_default-clause-ends : goal.returns-in_default-clause-ends
+returns-in_default-clause-ends g c =
+    let none : None ≡ silence_at c.args.self.now c.args.key = silence_none c.args.self.now c.args.key c.in_default.ensures.call in
+    λ moment is late. absurd (cc (none, is))
+
+pub returns-then-dies-self-clause-ends : goal.returns-then-dies-self-clause-ends
+returns-then-dies-self-clause-ends g c =
+    let n = c.args.self.now in
+    let key = c.args.key in
+    let dies : Some c.dies-dies.result ≡ silence_at n key = silence_some n key _ _ c.in-Some.ensures.call
+    (subst (λ (n : NodeState). IsSomeAnd (call_under n.ends.calls c.in-Some.end)
+    (λ e. c.dies-dies.result ≡ e.heard + SILENCE_MS)) c.self.view_is c.dies-dies.ensures.heard) in
+    let over = c.if-dies-self.true in
+    let now : c.self.inside.moment ≡ n.moment = ap (λ (n : NodeState). n.moment) c.self.view_is in
+    λ moment is late. absurd (
+    let same : c.dies-dies.result ≡ moment = (let both = dies ∙ is in cc (both)) in omega (arith, same, over, now, late))
+
+pub returns-clause-ends : goal.returns-clause-ends
+returns-clause-ends g c =
+    λ moment is late. silence_idle c.make_turn.new.self c.args.key
+    (c.make_turn.ensures.idle (silenced_idle _ (life_at c.args.self.now c.args.key)))

@@ -5,6 +5,7 @@ use Rattle.rx_node.specs.Lives.{is_of, life_of}
 use Rattle.rx_node.specs.Node.{NodeState}
 use Rattle.rx_node.proofs.ActiveSteps.{indexed, key_low}
 use Rattle.rx_node.proofs.StartSeats.{Opens, mirrors_opened, opened_kept, opened_seated, opened_set_up}
+use Rattle.rx_node.proofs.SameChannels.{same_opened}
 use Rattle.rx_node.proofs.node.Node.start.Goals as goal
 
 pub invariant_of-self-2 : goal.invariant_of-self-2
@@ -93,3 +94,10 @@ returns-clause-same g c =
     } in
     rw (← c.self.view_is, c.fresh.ensures)
     (opened_kept g.C.Class.class_of _ i.0 i.1 key end old life before c.start.new.self by c.args.number)
+
+pub returns-clause-others : goal.returns-clause-others
+returns-clause-others g c =
+    let i = c.self.invariant in
+    let end = c.in-Some.end in
+    rw (← c.self.view_is)
+    (same_opened _ i.1 c.args.key end c.args.life c.start.new.self c.in-Some.ensures.absent c.in-Some.ensures.keeps _ _)

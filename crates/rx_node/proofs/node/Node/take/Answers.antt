@@ -12,6 +12,9 @@ use Rattle.rx_rules.specs.Looks.{latest_name, on_life}
 use Rattle.rx_node.specs.Node.{setup_of}
 use Rattle.rx_node.proofs.KeptKeys.{by_looks, seat_key}
 use Rattle.rx_node.proofs.TakingSteps.{abort_is, busy_is}
+use Rattle.rx_node.proofs.SameChannels.{places_same}
+use Rattle.std.proofs.lemmas.Bool.{false≢true}
+use Rattle.rx_node.specs.Steps.{is_response}
 use Rattle.rx_node.proofs.node.Node.take.Goals as goal
 
 pub returns-in-Chunk-clause-answered : goal.returns-in-Chunk-clause-answered
@@ -63,3 +66,27 @@ returns-in-Ack-clause-steps g c = λ l k own. c.take_ack.ensures.steps l c.args.
 
 pub reach-requires : goal.reach-requires
 reach-requires g c = seat_key c.args.self.now c.args.key c.requires.active.seat c.requires.active.there
+
+pub returns-in-Chunk-clause-places : goal.returns-in-Chunk-clause-places
+returns-in-Chunk-clause-places g c =
+    places_same _ _ c.args.key c.take_chunk.ensures.others
+
+pub returns-in-Busy-clause-places : goal.returns-in-Busy-clause-places
+returns-in-Busy-clause-places g c =
+    places_same _ _ c.args.key c.hear.ensures.others
+
+pub returns-in-Ack-clause-places : goal.returns-in-Ack-clause-places
+returns-in-Ack-clause-places g c =
+    places_same _ _ c.args.key c.take_ack.ensures.others
+
+pub returns-in-Abort-clause-places : goal.returns-in-Abort-clause-places
+returns-in-Abort-clause-places g c =
+    places_same _ _ c.args.key c.reach.ensures.others
+
+pub returns-in-Challenge-clause-places : goal.returns-in-Challenge-clause-places
+returns-in-Challenge-clause-places g c =
+    places_same _ _ c.args.key c.take_challenge.ensures.others
+
+pub returns-in-Response-clause-others : goal.returns-in-Response-clause-others
+returns-in-Response-clause-others g c =
+    λ none. absurd (false≢true (sym none ∙ ap (λ (b : PacketBody). is_response (body_of b)) c.in-Response.is))

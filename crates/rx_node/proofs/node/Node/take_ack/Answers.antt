@@ -11,6 +11,7 @@ use Rattle.rx_node.specs.Node.{setup_of}
 use Rattle.rx_node.specs.Steps.{is_heard}
 use Rattle.rx_node.proofs.KeptKeys.{by_looks, kept_both, kept_key, kept_setup, seat_key}
 use Rattle.rx_node.proofs.TakingSteps.{ack_row, heard_is, same_key, settled_mirrors, taken_ackall, unheard_mirrors}
+use Rattle.rx_node.proofs.SameChannels.{others_then}
 use Rattle.rx_node.proofs.node.Node.take_ack.Goals as goal
 
 pub returns-then-not-is_heard-clause-answered : goal.returns-then-not-is_heard-clause-answered
@@ -80,3 +81,12 @@ returns-in_default-clause-steps g c = λ l d k own.
 
 pub returns-in_default-clause-same : goal.returns-in_default-clause-same
 returns-in_default-clause-same g c = kept_both _ _ _ c.hear-took.ensures.same c.settle.ensures.same
+
+pub returns-in-Ack-clause-others : goal.returns-in-Ack-clause-others
+returns-in-Ack-clause-others g c =
+    others_then _ _ _ c.args.key c.hear-took.ensures.others
+    (others_then _ _ _ c.args.key c.settle.ensures.others c.challenge.ensures.others)
+
+pub returns-in_default-clause-others : goal.returns-in_default-clause-others
+returns-in_default-clause-others g c =
+    others_then _ _ _ c.args.key c.hear-took.ensures.others c.settle.ensures.others

@@ -9,6 +9,7 @@ use Rattle.rx_rules.specs.After.{taken_with}
 use Rattle.rx_node.specs.Node.{setup_of}
 use Rattle.rx_node.proofs.KeptKeys.{by_looks, kept_both, kept_key, seat_key}
 use Rattle.rx_node.proofs.TakingSteps.{answered_mirrors, challenge_is, responds_none, responds_some}
+use Rattle.rx_node.proofs.SameChannels.{others_then, same_itself}
 use Rattle.rx_node.proofs.node.Node.take_challenge.Goals as goal
 
 pub returns-in_default-clause-answered : goal.returns-in_default-clause-answered
@@ -59,3 +60,11 @@ returns-clause-steps g c = λ l k own.
 
 pub returns-clause-same : goal.returns-clause-same
 returns-clause-same g c = kept_both _ _ _ c.hear-took.ensures.same c.owe_response.ensures.same
+
+pub returns-in_default-clause-others : goal.returns-in_default-clause-others
+returns-in_default-clause-others g c =
+    λ q apart. same_itself _ q
+
+pub returns-clause-others : goal.returns-clause-others
+returns-clause-others g c =
+    others_then _ _ _ c.args.key c.hear-took.ensures.others c.owe_response.ensures.others

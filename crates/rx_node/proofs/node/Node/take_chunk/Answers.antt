@@ -3,6 +3,7 @@ use Rattle.rx_packet.specs.Seen.{body_of, message_of}
 use Rattle.rx_node.specs.Node.{setup_of}
 use Rattle.rx_node.proofs.KeptKeys.{kept_both, kept_key, seat_key}
 use Rattle.rx_node.proofs.TakingSteps.{data_row, judged_mirrors, unjudged_mirrors}
+use Rattle.rx_node.proofs.SameChannels.{others_then}
 use Rattle.rx_node.proofs.node.Node.take_chunk.Goals as goal
 
 pub challenge-requires : goal.challenge-requires
@@ -38,3 +39,7 @@ returns-else-is_judged-clause-steps g c = λ l d k own.
     c.hear-took.result (message_of c.args.head.now c.args.body.now) own c.requires.chunk
     (c.hear-took.ensures.answered l d k own) (sym c.is_judged.ensures ∙ c.if-is_judged.false)
     (c.hear-took.ensures.steps l d k own)
+
+pub returns-then-is_judged-clause-others : goal.returns-then-is_judged-clause-others
+returns-then-is_judged-clause-others g c =
+    others_then _ _ _ c.args.key c.hear-took.ensures.others c.challenge.ensures.others

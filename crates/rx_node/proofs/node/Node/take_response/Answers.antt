@@ -13,6 +13,7 @@ use Rattle.rx_node.specs.Mirrors.{Mirrors}
 use Rattle.rx_node.specs.Node.{setup_of}
 use Rattle.rx_node.proofs.KeptKeys.{by_looks, kept_both, kept_key, seat_key}
 use Rattle.rx_node.proofs.TakingSteps.{response_is, right_mirrors, same_key}
+use Rattle.rx_node.proofs.SameChannels.{others_then, places_same, same_itself, same_then}
 use Rattle.rx_node.proofs.node.Node.take_response.Goals as goal
 
 pub is_right-requires : goal.is_right-requires
@@ -85,3 +86,17 @@ returns-clause-steps g c = λ l k own.
 
 pub returns-clause-same : goal.returns-clause-same
 returns-clause-same g c = kept_both _ _ _ c.reach.ensures.same c.owe_abort.ensures.same
+
+pub returns-then-is_right-clause-places : goal.returns-then-is_right-clause-places
+returns-then-is_right-clause-places g c =
+    λ q apart. same_then _ _ _ q (places_same _ _ c.args.key c.hear-took.ensures.others q apart)
+    (c.prove.ensures.places q apart)
+
+pub returns-then-is_proved-clause-places : goal.returns-then-is_proved-clause-places
+returns-then-is_proved-clause-places g c =
+    λ q apart. same_itself _ q
+
+pub returns-clause-places : goal.returns-clause-places
+returns-clause-places g c =
+    places_same _ _ c.args.key
+    (others_then _ _ _ c.args.key c.reach.ensures.others c.owe_abort.ensures.others)

@@ -1,6 +1,7 @@
 use Rattle.std.proofs.Common.{refl}
 use Rattle.rx_node.proofs.KeptNode.{alike_on_place, still_node, still_seated, still_set_up}
 use Rattle.rx_node.proofs.SmallSteps.{mirrors_used}
+use Rattle.rx_node.proofs.SameChannels.{same_on_place}
 use Rattle.rx_node.proofs.node.Node.touch.Goals as goal
 
 pub invariant_of-self : goal.invariant_of-self
@@ -22,3 +23,9 @@ returns-clause-same g c =
     let now = c.self.inside.moment in
     let like = alike_on_place c.self.inside.table place (λ r. record r { last_use = now }) (λ r. refl) (λ r. refl) in
     rw (← c.self.view_is, c.touch.ensures) (still_node g.C.Class.class_of _ _ like)
+
+pub returns-clause-channels : goal.returns-clause-channels
+returns-clause-channels g c =
+    let now = c.self.inside.moment in
+    rw (← c.self.view_is, c.touch.ensures)
+    (λ q. same_on_place _ c.args.place (λ r. record r { last_use = now }) (λ r. refl) (λ r. refl) q)

@@ -7,6 +7,7 @@ use Rattle.rx_node.specs.Node.{NodeState}
 use Rattle.rx_node.proofs.ActiveSteps.{active_stands, room_is, roomy_write}
 use Rattle.rx_node.proofs.EndSteps.{mirrors_end}
 use Rattle.rx_node.proofs.SeatedSteps.{end_seated, end_set_up}
+use Rattle.rx_node.proofs.SameChannels.{same_with_ends}
 use Rattle.rx_node.proofs.node.Node.write.Goals as goal
 
 pub invariant_of-self : goal.invariant_of-self
@@ -45,3 +46,9 @@ returns-clause-steps g c =
     (λ l ch m at. mirrors_end g.C.Class.class_of _ l m i.1 key end ch at a _ (after_write (take got bytes))
     c.write.ensures.steps
     (roomy_write g.C.Class.class_of _ l m key end ch at a i.0 unshut bytes got c.write.ensures.answered))
+
+pub returns-clause-others : goal.returns-clause-others
+returns-clause-others g c =
+    let a = subst (λ (n : NodeState). IsActiveAt n c.args.key c.args.end) (sym c.self.view_is) c.requires.active in
+    rw (← c.self.view_is)
+    (same_with_ends _ c.self.invariant.1 c.args.key c.args.end a.seat a.there a.live _ c.write.ensures.steps.keeps)

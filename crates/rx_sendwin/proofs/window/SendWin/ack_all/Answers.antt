@@ -1,5 +1,7 @@
 use Rattle.std.proofs.Common.{◌≡◌, ◌∙◌, ap, rules, drop, length}
+use Rattle.rx_sendwin.specs.Lost.{order_in}
 use Rattle.rx_sendwin.proofs.AllAcked.{all_tied, all_stands}
+use Rattle.rx_sendwin.proofs.LostStanding.{lost_none}
 use Rattle.rx_sendwin.proofs.window.SendWin.ack_all.Goals as goal
 
 pub invariant_of-self : goal.invariant_of-self
@@ -11,6 +13,8 @@ invariant_of-self c =
       search rules,
       all_tied _ c.self.inside.low c.self.inside.flight c.clear.new.self.items
           c.free_front.new.pieces.items c.self.invariant.1 all c.clear.ensures rest,
+      lost_none c.self.inside.given c.self.inside.since c.clear.new.self.items
+          (order_in c.free_front.new.pieces.items) _ c.none-self-inside.ensures,
     )
 
 pub returns-clause-stands : goal.returns-clause-stands

@@ -1,9 +1,33 @@
 use Rattle.std.proofs.Common.{◌≡◌, ◌≤◌, ◌+◌, ◌-◌, ◌/◌, ◌∙◌, length, ap, arith}
-use Rattle.std.proofs.Common.{deque_len, subst, Bool}
+use Rattle.std.proofs.Common.{deque_len, subst, Bool, map, get_or, None, rules}
+use Rattle.rx_rules.specs.Lost.{order_by}
 use Rattle.rx_rules.specs.Sent.{pieces_by, counting_by}
+use Rattle.rx_sendwin.specs.Lost.{order_in}
+use Rattle.rx_sendwin.specs.Pieces.{giving_at}
+use Rattle.rx_sendwin.proofs.LostStanding.{lost_same}
+use Rattle.rx_sendwin.proofs.Payloads.{none_behind}
 use Rattle.rx_sendwin.proofs.PieceLaws.{slots_count}
 use Rattle.rx_sendwin.proofs.WriteLaws.{push_stands, fill_stands}
 use Rattle.rx_sendwin.proofs.window.SendWin.append.Goals as goal
+
+pub invariant_of-self : goal.invariant_of-self
+invariant_of-self c = (
+  search rules,
+  search rules,
+  lost_same c.self.inside.acked c.self.inside.given c.self.inside.since c.self.inside.soft.items
+      (order_in c.self.inside.pieces.items) (order_in c.push_piece.new.pieces.items) c.self.inside.lost
+      (λ i. ap order_by (none_behind (map giving_at c.self.inside.pieces.items)
+      (map giving_at c.push_piece.new.pieces.items) i c.push_piece.ensures.givings)) c.self.invariant.2,
+)
+
+pub invariant_of-self-else-at-eq0 : goal.invariant_of-self-else-at-eq0
+invariant_of-self-else-at-eq0 c = (
+  search rules,
+  search rules,
+  lost_same c.self.inside.acked c.self.inside.given c.self.inside.since c.self.inside.soft.items
+      (order_in c.self.inside.pieces.items) (order_in c.fill_piece.new.pieces.items) c.self.inside.lost
+      (λ i. ap (λ gs. order_by (get_or gs i None)) c.fill_piece.ensures.givings) c.self.invariant.2,
+)
 
 pub returns-then-at-eq0-clause-stands : goal.returns-then-at-eq0-clause-stands
 returns-then-at-eq0-clause-stands c =

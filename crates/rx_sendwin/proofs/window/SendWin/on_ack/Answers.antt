@@ -1,5 +1,6 @@
-use Rattle.std.proofs.Common.{◌≡◌, ◌∙◌, ◌-◌, ◌≤◌, ap, subst, arith, rules, length, drop, min}
+use Rattle.std.proofs.Common.{◌≡◌, ◌∙◌, ◌-◌, ◌≤◌, ap, subst, arith, rules, length, drop, min, List, Bool}
 use Rattle.std.proofs.lemmas.List.{length-drop, length-take-le}
+use Rattle.rx_sendwin.specs.Lost.{AreLost, order_in}
 use Rattle.rx_sendwin.specs.Marks.{leading_marks}
 use Rattle.rx_sendwin.specs.Pieces.{slots_in}
 use Rattle.rx_sendwin.specs.Window.{SendWindow, piece_slots}
@@ -36,6 +37,9 @@ invariant_of-self c =
           c.if-first-self.false c.free_front.ensures.rest c.set_marks.ensures low
           c.count_in_flight-self-inside.ensures.value c.peer_window-self-inside.ensures.most
           (λ lt. last_drop n hs (omega (arith, length-drop n hs, lt))),
+      subst (λ (ms : List Bool). AreLost (c.args.first - 1) c.self.inside.given c.self.inside.since ms
+          (order_in c.free_front.new.pieces.items) c.lost_among-self-inside.result) c.as_slice-2.ensures.value
+          c.lost_among-self-inside.ensures,
     )
 
 pub returns-clause-newly : goal.returns-clause-newly

@@ -6,7 +6,14 @@ use Rattle.rx_node.specs.Lives.{after_turn, life_of}
 use Rattle.rx_node.specs.Mirrors.{Mirrors}
 use Rattle.rx_node.proofs.ActiveSteps.{no_call, reached_by}
 use Rattle.rx_node.proofs.LifeLaws.{turn_ended, turn_falls, turn_of}
-use Rattle.rx_node.proofs.node.Node.turn.Goals as goal
+use Rattle.rx_node.proofs.SameChannels.{same_itself}
+use Rattle.std.proofs.Common.{Option, option_map, ap, ◌∙◌}
+use Rattle.rx_rules.specs.Life.{is_active}
+use Rattle.rx_node.specs.Node.{is_active_life}
+use Rattle.rx_node.proofs.MomentSteps.{end_lifeless}
+use Rattle.rx_node.specs.Node.{life_at}
+use Rattle.std.proofs.Common.{None, sym}
+use Rattle.rx_node.proofs.node.Node.make_turn.Goals as goal
 
 pub set_life-requires-clause-kind : goal.set_life-requires-clause-kind
 set_life-requires-clause-kind g c =
@@ -29,3 +36,20 @@ returns-in_default-clause-steps g c =
     let turn = c.args.turn in
     λ l ch m at. no_call g.C.Class.class_of c.args.self.now l ch m (λ k. record k { life = after_turn turn k.life })
     (c.in_default.ensures.answered l ch m at)
+
+pub returns-in_default-clause-others : goal.returns-in_default-clause-others
+returns-in_default-clause-others g c =
+    λ q apart. same_itself _ q
+
+pub returns-in-Some-clause-idle : goal.returns-in-Some-clause-idle
+returns-in-Some-clause-idle g c =
+    let turn = c.args.turn in
+    λ idle. c.set_life.ensures.idle
+    (ap is_active c.after.ensures
+    ∙ ap (λ (o : Option Life). is_active_life (option_map (after_turn turn) o)) c.in-Some.ensures.value ∙ idle)
+
+pub returns-in_default-clause-idle : goal.returns-in_default-clause-idle
+returns-in_default-clause-idle g c =
+    let n = c.args.self.now in
+    let none : None ≡ life_at n c.args.key = c.in_default.ensures.value in
+    λ idle. end_lifeless n c.args.key (ap is_active_life (sym none))

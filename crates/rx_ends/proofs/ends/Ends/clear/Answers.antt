@@ -2,7 +2,7 @@ use Rattle.std.proofs.Common.{◌-◌, arith}
 use Rattle.rx_call.proofs.Spare.{beside-idle}
 use Rattle.rx_ends.proofs.Changing.{change_keeps, change_only, clears, counted_of, holds_of, idle_looks, idle_stands}
 use Rattle.rx_ends.proofs.Changing.{of_end}
-use Rattle.rx_ends.proofs.ends.Ends.clear_counted.Goals as goal
+use Rattle.rx_ends.proofs.ends.Ends.clear.Goals as goal
 
 pub clear-requires : goal.clear-requires
 clear-requires g c = holds_of _ c.args.key _ c.self.invariant c.at_mut-call.ensures.call
