@@ -111,17 +111,25 @@ def plans():
     write("s", "on P\ncopy b a\n")
     write("plan", server + "accept\n")
     expect("an interface and a script", run("sim", "--script=s", "--xg", "x.xg", "--", "plan"), "Ok", b"s accept -> none\n")
+    expect("an interface alone", run("sim", "plan", "--xg=x.xg"), "Ok", b"s accept -> none\n")
     rows = [
         ("const A = 08;", "bogus", "bogus", "x.xg", "1", "badnumber"),
+        (b"\xff", b"\xff", b"\xff", "x.xg", "0", "word"),
         ("P(IN int a, OUT int b) = 1;", "on Q\n", "bogus", "s", "1", "proc"),
-        ("P(IN int a, OUT int b) = 1;", b"\xff", "bogus", "s", "0", "word"),
-        ("P(IN int a, OUT int b) = 1;", "on P\n", "bogus", "plan", "1", "word"),
+        ("P(IN int a, OUT int b) = 1;", "bogus", "bogus", "s", "1", "word"),
+        ("P(IN int a, OUT int b) = 1;", b"\xff", b"\xff", "s", "0", "word"),
+        ("P(IN int a, OUT int b) = 1;", "on P\ncopy b a\n", "\nbogus", "plan", "2", "word"),
+        ("P(IN int a, OUT int b) = 1;", "on P\ncopy b a\n", b"\xff", "plan", "0", "word"),
     ]
     for xg, script, plan, name, line, why in rows:
         write("x.xg", xg), write("s", script), write("plan", plan)
         got = run("sim", "plan", "--xg", "x.xg", "--script", "s")
         expect(f"{name} among three files", got, "Refused", FILE=name, LINE=line, WHY=why)
-    expect("no script", run("sim", "plan", "--xg", "x.xg", "--script", "none"), "FileFault", NAME="none")
+    # the first that is missing is named
+    write("plan", server)
+    for words in (["none", "--xg", "x.xg", "--script", "s"], ["plan", "--xg", "none", "--script", "no"],
+                  ["plan", "--xg", "x.xg", "--script", "none"], ["no", "--xg", "x.xg", "--script", "none"]):
+        expect(f"the files {words}", run("sim", *words), "FileFault", NAME="none")
     # a line of the trace of 2 MB, and many lines, through a pipe that takes 64 KB at a time
     long = write("long", server + "forge s 10.0.0.2:7001 1000000*5a\n")
     expect("a long line", run("sim", long), "Ok", b"s take 10.0.0.2:7001 " + b"5a" * 1_000_000 + b" -> bad kind 90\n")
@@ -187,10 +195,11 @@ def refused_calls():
         (["x.xg", "P", "[1]"], "mismatch $ args"), (["x.xg", "P", '[1,"five5"]'], "mismatch $[1] string<4>"),
         (["x.xg", "P", '[1,"four",2]'], "mismatch $ args"), (["x.xg", "R", '["' + "00" * 65_530 + '"]'], "-450"),
         (["x.xg", "Q", "[1]", "--up", "long", "--key", "none"], "number"),
+        ([top / "examples" / "fetch-status.xg", "FetchStatus", '[1,"a",420]'], "mismatch $[0] AFSFid"),
     ]
     STATUS["args"] = 2, "rx: args: WHY\n"
     for words, why in rows:
-        expect(f"the call {[word[:20] for word in words]}", call(*words), "args", WHY=why)
+        expect(f"the call {[str(word)[-20:] for word in words]}", call(*words), "args", WHY=why)
     for words, name in ((["none", "P", "[]"], "none"), (["x.xg", "Q", "[1]", "--up", "no", "--key", "none"], "no")):
         expect(f"the call {words}", call(*words), "FileFault", NAME=name)
     expect("a call with a key of 31 bytes", call("x.xg", "Q", "[1]", "--key", "short"), "Refused", FILE="short", LINE="0", WHY="key")

@@ -11,8 +11,6 @@ mod ask;
 mod caller;
 mod calls;
 mod laws;
-#[cfg(test)]
-mod tests;
 
 pub use caller::{Caller, REPLY_BYTES};
 pub use laws::{numbers, reads_give_bytes, tells_of_its_call};

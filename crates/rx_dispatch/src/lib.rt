@@ -20,6 +20,3 @@ pub use laws::{
     early_codes_are_served, kept_requests_serve, lives_are_exact, lives_keep_what_counts, numbers,
     turns_are_exact, turns_keep_what_counts,
 };
-
-#[cfg(test)]
-mod tests;

@@ -12,8 +12,6 @@ mod life;
 mod link;
 mod node;
 mod strays;
-#[cfg(test)]
-mod tests;
 
 pub use facts::Facts;
 pub use item::{Due, Item};

@@ -7,7 +7,5 @@
 #![tactic(auto)]
 
 mod nodes;
-#[cfg(test)]
-mod tests;
 
 pub use nodes::{Nodes, SERVER, server_number};

@@ -21,6 +21,3 @@ pub use lines::{CLIENT, SERVER};
 pub use ports::{LAST_MOMENT, LONGEST_WAIT_MS, TAKE_BYTES};
 pub use serving::{ServeEnd, Serving, serve};
 pub use stop::Stop;
-
-#[cfg(test)]
-mod tests;

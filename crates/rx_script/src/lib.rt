@@ -39,6 +39,3 @@ pub use plan_reader::read_plan;
 pub use script::{Block, Script, ScriptLine};
 pub use script_reader::read_script;
 pub use served::Served;
-
-#[cfg(test)]
-mod tests;

@@ -73,6 +73,3 @@ fn put_piece<O: Sink>(piece: &[u8], room: &mut [u8], out: &mut O) -> Result<(), 
         Err(_) => unreachable!(),
     }
 }
-
-#[cfg(test)]
-mod tests;

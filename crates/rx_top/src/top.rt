@@ -354,8 +354,3 @@ pub fn end_without_words<E: Sink>(error: io::Error, err: &mut E) -> Status
         refuse(err)
     }
 }
-
-#[cfg(test)]
-mod tests;
-#[cfg(test)]
-mod wire_tests;

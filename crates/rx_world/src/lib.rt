@@ -32,6 +32,3 @@ pub use laws::{
 };
 pub use plans::{plans_are_well, scripts_answer_no_zero};
 pub use runs::run;
-
-#[cfg(test)]
-mod tests;

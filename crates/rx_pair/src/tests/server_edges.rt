@@ -4,7 +4,8 @@ use super::setup::{CLIENT, OTHER, SERVER, USUAL};
 use super::step::{C, N, S, Step};
 use super::story::{Story, check};
 use Step::{
-    Accept, Ask, Call, Cancel, Clock, Connect, Due, Forge, HandlerRead, Idle, Live, Poll, Times,
+    Accept, Ask, Call, Cancel, Clock, Connect, Due, Forge, HandlerRead, Idle, Live, Moment, Poll,
+    Times,
 };
 use rx_model::{Asked, BadMsg, CallName, End, ServeRead, Took};
 use std::test::*;
@@ -314,9 +315,15 @@ static STORIES: [Story; 5] = [
         name: "unserved",
         setup: USUAL,
         parts: &[&[
+            Due(S, None),
+            Idle(S),
             Forge(S, CLIENT, "P 0105000000000002", Took::Unserved),
+            Due(S, Some(0)),
             Poll(S, "#4 00000000 00000000 00000000 0400000000000002 fffffffe"),
             Idle(S),
+            Live(C, 0),
+            Moment(C, 0),
+            Due(C, None),
         ]],
     },
     Story {

@@ -26,20 +26,21 @@ fn a_stream_has_at_most_65536_bytes(rt: HostRuntime) -> Result<(), AllocError> {
     Ok(())
 }
 
+/// The length word of the data, how many bytes of it are there, and what is told.
+static STORES: [(&str, usize, Told); 6] = [
+    ("00000007 0000fff8", 65_528, Told::Request(STORE, 65_536)),
+    ("00000007 0000fff8", 65_600, Told::Request(STORE, 65_536)),
+    ("00000007 0000fff8", 65_527, Told::Short),
+    ("00000007 0000fff9", 65_527, Told::Short),
+    ("00000007 0000fff9", 65_528, Told::Code(-453)),
+    ("00000007 0000fff9", 65_600, Told::Code(-453)),
+];
+
 #[test]
 fn only_65536_bytes_of_a_request_are_looked_at(rt: HostRuntime) -> Result<(), AllocError> {
     let alloc = rt.alloc();
     let iface = interface(alloc)?;
-    // length word of the data, how many bytes of it are there
-    let rows = [
-        ("00000007 0000fff8", 65_528, Told::Request(STORE, 65_536)),
-        ("00000007 0000fff8", 65_600, Told::Request(STORE, 65_536)),
-        ("00000007 0000fff8", 65_527, Told::Short),
-        ("00000007 0000fff9", 65_527, Told::Short),
-        ("00000007 0000fff9", 65_528, Told::Code(-453)),
-        ("00000007 0000fff9", 65_600, Told::Code(-453)),
-    ];
-    for (hex, n, answer) in &rows {
+    for (hex, n, answer) in &STORES {
         let bytes = zeros_behind(alloc, hex, *n)?;
         assert_eq!(rt; asked(alloc, &iface, &bytes, false), *answer, "{hex} {n}");
     }

@@ -29,23 +29,25 @@ fn stubs_refuse_what_is_no_reply(rt: HostRuntime) -> Result<(), AllocError> {
     Ok(())
 }
 
+/// Procedures, replies, and what is told of these.
+static REPLIES: [(usize, &str, Told); 8] = [
+    (FETCH_STATUS, STATUS_REPLY, Told::Bytes(20)),
+    (FETCH_STATUS, "0000", Told::Code(-451)),
+    // later bytes
+    (FETCH_STATUS, "000001a4 00000000 ffffff", Told::Bytes(8)),
+    (FETCH_DATA, "00000007 5a", Told::Bytes(4)),
+    // a list that is too long, or cut, or not there
+    (FETCH_STATUS, "000001a4 00000033", Told::Code(-451)),
+    (FETCH_STATUS, "000001a4 00000001 00000001", Told::Code(-451)),
+    (FETCH_STATUS, "000001a4", Told::Code(-451)),
+    (FETCH_DATA, "", Told::Code(-451)),
+];
+
 #[test]
 fn replies_are_read_from_the_front(rt: HostRuntime) -> Result<(), AllocError> {
     let alloc = rt.alloc();
     let iface = interface(alloc)?;
-    let rows = [
-        (FETCH_STATUS, STATUS_REPLY, Told::Bytes(20)),
-        (FETCH_STATUS, "0000", Told::Code(-451)),
-        // later bytes
-        (FETCH_STATUS, "000001a4 00000000 ffffff", Told::Bytes(8)),
-        (FETCH_DATA, "00000007 5a", Told::Bytes(4)),
-        // a list that is too long, or cut, or not there
-        (FETCH_STATUS, "000001a4 00000033", Told::Code(-451)),
-        (FETCH_STATUS, "000001a4 00000001 00000001", Told::Code(-451)),
-        (FETCH_STATUS, "000001a4", Told::Code(-451)),
-        (FETCH_DATA, "", Told::Code(-451)),
-    ];
-    for (index, hex, wanted) in &rows {
+    for (index, hex, wanted) in &REPLIES {
         let bytes = bytes_of(alloc, hex)?;
         assert_eq!(rt; answered(alloc, &iface, *index, &bytes), *wanted, "{hex}");
     }

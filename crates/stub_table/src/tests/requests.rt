@@ -47,54 +47,56 @@ fn stubs_refuse_what_is_no_request(rt: HostRuntime) -> Result<(), AllocError> {
     Ok(())
 }
 
+/// What came of a request, whether that is all of it, and what is told.
+static REQUESTS: [(&str, bool, Told); 18] = [
+    // no procedure has the opcode
+    ("000003e7", false, Told::Code(-455)),
+    ("000003e7", true, Told::Code(-455)),
+    ("00000000 00000001", true, Told::Code(-455)),
+    // the opcode isn't there
+    ("", false, Told::Short),
+    ("", true, Told::Code(-454)),
+    ("00", true, Told::Code(-454)),
+    ("ffffff", false, Told::Short),
+    ("ffffff", true, Told::Code(-454)),
+    // the arguments are cut
+    ("00000084 00000001", true, Told::Code(-453)),
+    ("00000084 00000001", false, Told::Short),
+    // a name that is too long, and padding that isn't zero
+    (
+        "00000084 00000001 00000002 00000003 00000101",
+        false,
+        Told::Code(-453),
+    ),
+    (
+        "00000084 00000001 00000002 00000003 00000001 610000",
+        false,
+        Told::Short,
+    ),
+    (
+        "00000084 00000001 00000002 00000003 00000001 610001",
+        false,
+        Told::Code(-453),
+    ),
+    // the bytes behind the arguments are left
+    (
+        "00000082 00000001 00000002 00000003 00000000 000f4240 00000002 5a5a",
+        false,
+        Told::Request(FETCH_DATA, 24),
+    ),
+    // a flag that is neither 0 nor 1
+    ("00000008 00000005 00000002", false, Told::Code(-453)),
+    ("00000008 00000005 00000000", false, Told::Request(LINK, 12)),
+    // no arguments
+    ("ffffffff", false, Told::Request(LAST, 4)),
+    ("ffffffff 00", true, Told::Request(LAST, 4)),
+];
+
 #[test]
 fn requests_are_read(rt: HostRuntime) -> Result<(), AllocError> {
     let alloc = rt.alloc();
     let iface = interface(alloc)?;
-    let rows = [
-        // no procedure has the opcode
-        ("000003e7", false, Told::Code(-455)),
-        ("000003e7", true, Told::Code(-455)),
-        ("00000000 00000001", true, Told::Code(-455)),
-        // the opcode isn't there
-        ("", false, Told::Short),
-        ("", true, Told::Code(-454)),
-        ("00", true, Told::Code(-454)),
-        ("ffffff", false, Told::Short),
-        ("ffffff", true, Told::Code(-454)),
-        // the arguments are cut
-        ("00000084 00000001", true, Told::Code(-453)),
-        ("00000084 00000001", false, Told::Short),
-        // a name that is too long, and padding that isn't zero
-        (
-            "00000084 00000001 00000002 00000003 00000101",
-            false,
-            Told::Code(-453),
-        ),
-        (
-            "00000084 00000001 00000002 00000003 00000001 610000",
-            false,
-            Told::Short,
-        ),
-        (
-            "00000084 00000001 00000002 00000003 00000001 610001",
-            false,
-            Told::Code(-453),
-        ),
-        // the bytes behind the arguments are left
-        (
-            "00000082 00000001 00000002 00000003 00000000 000f4240 00000002 5a5a",
-            false,
-            Told::Request(FETCH_DATA, 24),
-        ),
-        // a flag that is neither 0 nor 1
-        ("00000008 00000005 00000002", false, Told::Code(-453)),
-        ("00000008 00000005 00000000", false, Told::Request(LINK, 12)),
-        // no arguments
-        ("ffffffff", false, Told::Request(LAST, 4)),
-        ("ffffffff 00", true, Told::Request(LAST, 4)),
-    ];
-    for (hex, ended, answer) in &rows {
+    for (hex, ended, answer) in &REQUESTS {
         let bytes = bytes_of(alloc, hex)?;
         assert_eq!(rt;
             asked(alloc, &iface, &bytes, *ended),

@@ -48,24 +48,26 @@ fn told(alloc: Global, text: &str) -> Result<String, AllocError> {
     }
 }
 
+/// Texts, and how many values each has, or what is told of it.
+static ARGS: [(&str, &str); 10] = [
+    ("[1,{\"Volume\":1,\"Vnode\":2,\"Unique\":3}]", "2"),
+    ("[1,{\"Volume\":1,\"Vnode\":2,\"Unique\":3}] x", "no json"),
+    ("{}", "$ args"),
+    ("null", "$ args"),
+    ("[]", "$ args"),
+    ("[true]", "$ args"),
+    ("[true,{},3]", "$ args"),
+    ("[true,{}]", "$[0] int"),
+    ("[1,{}]", "$[1] Fid"),
+    (
+        "[1,{\"Volume\":true,\"Vnode\":2,\"Unique\":3}]",
+        "$[1].Volume uint",
+    ),
+];
+
 #[test]
 fn arguments_are_one_array(rt: HostRuntime) -> Result<(), AllocError> {
-    let rows = [
-        ("[1,{\"Volume\":1,\"Vnode\":2,\"Unique\":3}]", "2"),
-        ("[1,{\"Volume\":1,\"Vnode\":2,\"Unique\":3}] x", "no json"),
-        ("{}", "$ args"),
-        ("null", "$ args"),
-        ("[]", "$ args"),
-        ("[true]", "$ args"),
-        ("[true,{},3]", "$ args"),
-        ("[true,{}]", "$[0] int"),
-        ("[1,{}]", "$[1] Fid"),
-        (
-            "[1,{\"Volume\":true,\"Vnode\":2,\"Unique\":3}]",
-            "$[1].Volume uint",
-        ),
-    ];
-    for (text, wanted) in &rows {
+    for (text, wanted) in &ARGS {
         let given = told(rt.alloc(), text)?;
         assert_eq!(rt; given.as_str(), *wanted, "{text}");
     }

@@ -6,17 +6,19 @@ use std::process::Abort;
 use std::test::*;
 use xdr_value::Value;
 
+/// The worked example, its values: types, texts, and what is printed or told of these.
+static VALUES: [(&str, &str, &str); 5] = [
+    ("int", "\"x\"", "$ int"),
+    ("int", "[1", "no json"),
+    ("int", "5", "5"),
+    ("int<4>", "[1,2", "no json"),
+    ("int<4>", "[1,true]", "$[1] int"),
+];
+
 #[test]
 fn words_files_values(rt: HostRuntime) -> Result<(), AllocError> {
     let alloc = rt.alloc();
-    let rows = [
-        ("int", "\"x\"", "$ int"),
-        ("int", "[1", "no json"),
-        ("int", "5", "5"),
-        ("int<4>", "[1,2", "no json"),
-        ("int<4>", "[1,true]", "$[1] int"),
-    ];
-    check(&rt, alloc, &rows)?;
+    check(&rt, alloc, &VALUES)?;
     let five = matches!(&value_in(alloc, "int", "5"), Ok(Value::Number(5)));
     assert!(rt; five);
     let five = printed(alloc, "int", &Value::Number(5))?;
@@ -82,79 +84,83 @@ fn values_have_their_texts(rt: HostRuntime) -> Result<(), AllocError> {
     Ok(())
 }
 
+/// Types, texts, and what is printed of their values.
+static FORMS: [(&str, &str, &str); 24] = [
+    ("int", " -2147483648\n", "-2147483648"),
+    ("int", "2147483647", "2147483647"),
+    ("uint", "4294967295", "4294967295"),
+    ("hyper", "-9223372036854775808", "-9223372036854775808"),
+    ("hyper", "9223372036854775807", "9223372036854775807"),
+    ("uhyper", "18446744073709551615", "18446744073709551615"),
+    ("short", "-32768", "-32768"),
+    ("ushort", "65535", "65535"),
+    ("char", "-128", "-128"),
+    ("uchar", "255", "255"),
+    ("bool", "true", "true"),
+    ("void", "null", "null"),
+    ("Color", "\"BLUE\"", "\"BLUE\""),
+    // two members of one value
+    ("Color", "\"ROUGE\"", "\"RED\""),
+    ("opaque[2]", "\"0aFf\"", "\"0aff\""),
+    ("opaque<2>", "\"\"", "\"\""),
+    ("string<4>", "\"h\\u00e9\"", "\"h\u{e9}\""),
+    ("string<4>", "{\"hex\":\"6162\"}", "\"ab\""),
+    ("string<4>", "{\"hex\":\"ABfe\"}", "{\"hex\":\"abfe\"}"),
+    ("int<4>", "[1, 2]", "[1,2]"),
+    ("Ints", "[]", "[]"),
+    ("bool[2]", "[true,false]", "[true,false]"),
+    ("int*", "[]", "[]"),
+    ("Maybe", "[7]", "[7]"),
+];
+
 #[test]
 fn each_form_is_printed_as_it_is_read(rt: HostRuntime) -> Result<(), AllocError> {
-    let rows = [
-        ("int", " -2147483648\n", "-2147483648"),
-        ("int", "2147483647", "2147483647"),
-        ("uint", "4294967295", "4294967295"),
-        ("hyper", "-9223372036854775808", "-9223372036854775808"),
-        ("hyper", "9223372036854775807", "9223372036854775807"),
-        ("uhyper", "18446744073709551615", "18446744073709551615"),
-        ("short", "-32768", "-32768"),
-        ("ushort", "65535", "65535"),
-        ("char", "-128", "-128"),
-        ("uchar", "255", "255"),
-        ("bool", "true", "true"),
-        ("void", "null", "null"),
-        ("Color", "\"BLUE\"", "\"BLUE\""),
-        // two members of one value
-        ("Color", "\"ROUGE\"", "\"RED\""),
-        ("opaque[2]", "\"0aFf\"", "\"0aff\""),
-        ("opaque<2>", "\"\"", "\"\""),
-        ("string<4>", "\"h\\u00e9\"", "\"h\u{e9}\""),
-        ("string<4>", "{\"hex\":\"6162\"}", "\"ab\""),
-        ("string<4>", "{\"hex\":\"ABfe\"}", "{\"hex\":\"abfe\"}"),
-        ("int<4>", "[1, 2]", "[1,2]"),
-        ("Ints", "[]", "[]"),
-        ("bool[2]", "[true,false]", "[true,false]"),
-        ("int*", "[]", "[]"),
-        ("Maybe", "[7]", "[7]"),
-    ];
-    check(&rt, rt.alloc(), &rows)
+    check(&rt, rt.alloc(), &FORMS)
 }
+
+/// The same of objects.
+static OBJECTS: [(&str, &str, &str); 7] = [
+    (
+        "ByColor",
+        "{\"value\":3,\"case\":\"ROUGE\"}",
+        "{\"case\":\"RED\",\"value\":3}",
+    ),
+    (
+        "Paint",
+        "{\"case\":\"BLUE\",\"value\":null}",
+        "{\"case\":\"BLUE\",\"value\":null}",
+    ),
+    // the default arm, and the other one
+    (
+        "ByCount",
+        "{\"case\":4294967295,\"value\":null}",
+        "{\"case\":4294967295,\"value\":null}",
+    ),
+    (
+        "ByCount",
+        "{\"case\":1,\"value\":[7]}",
+        "{\"case\":1,\"value\":[7]}",
+    ),
+    (
+        "ByFlag",
+        "{\"case\":true,\"value\":{\"hex\":\"ff\"}}",
+        "{\"case\":true,\"value\":{\"hex\":\"ff\"}}",
+    ),
+    (
+        "Fids",
+        "[{\"Volume\":1,\"Vnode\":2,\"Unique\":3}]",
+        "[{\"Unique\":3,\"Vnode\":2,\"Volume\":1}]",
+    ),
+    (
+        "Chain",
+        "[{\"v\":1,\"next\":[{\"v\":2,\"next\":[]}]}]",
+        "[{\"next\":[{\"next\":[],\"v\":2}],\"v\":1}]",
+    ),
+];
 
 #[test]
 fn each_object_is_printed_in_byte_order(rt: HostRuntime) -> Result<(), AllocError> {
-    let rows = [
-        (
-            "ByColor",
-            "{\"value\":3,\"case\":\"ROUGE\"}",
-            "{\"case\":\"RED\",\"value\":3}",
-        ),
-        (
-            "Paint",
-            "{\"case\":\"BLUE\",\"value\":null}",
-            "{\"case\":\"BLUE\",\"value\":null}",
-        ),
-        // the default arm, and the other one
-        (
-            "ByCount",
-            "{\"case\":4294967295,\"value\":null}",
-            "{\"case\":4294967295,\"value\":null}",
-        ),
-        (
-            "ByCount",
-            "{\"case\":1,\"value\":[7]}",
-            "{\"case\":1,\"value\":[7]}",
-        ),
-        (
-            "ByFlag",
-            "{\"case\":true,\"value\":{\"hex\":\"ff\"}}",
-            "{\"case\":true,\"value\":{\"hex\":\"ff\"}}",
-        ),
-        (
-            "Fids",
-            "[{\"Volume\":1,\"Vnode\":2,\"Unique\":3}]",
-            "[{\"Unique\":3,\"Vnode\":2,\"Volume\":1}]",
-        ),
-        (
-            "Chain",
-            "[{\"v\":1,\"next\":[{\"v\":2,\"next\":[]}]}]",
-            "[{\"next\":[{\"next\":[],\"v\":2}],\"v\":1}]",
-        ),
-    ];
-    check(&rt, rt.alloc(), &rows)
+    check(&rt, rt.alloc(), &OBJECTS)
 }
 
 // n nulls in an array
