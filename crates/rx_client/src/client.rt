@@ -9,10 +9,10 @@ ghost use Rattle.rx_rules.specs.Slots.{live as rules_live};
 ghost use Rattle.rx_node.specs.Node.{setup_of};
 ghost use Rattle.rx_node.specs.Steps.{AnswersNode, StandsNode, given_count, given_from};
 
+use rx_books::{Kind, Node};
 use rx_class::Class;
 use rx_due::Steps;
 use rx_model::{Host, Limits};
-use rx_node::{Kind, Node};
 use std::alloc::{AllocError, Global};
 use std::marker::Model;
 use std::sync::ledger::Ledger;

@@ -6,8 +6,8 @@ ghost use Rattle.rx_packet.specs.Seen.{body_of};
 ghost use Rattle.rx_rules.specs.Judging as rules;
 ghost use Rattle.rx_node.specs.Steps.{facts_seen};
 
+use rx_books::Facts;
 use rx_model::Took;
-use rx_node::Facts;
 use rx_packet::Body;
 
 /// RESPONSE is for servers; without a class that challenges no CHALLENGE is for a client.

@@ -1,27 +1,25 @@
 -- What is due on a channel, and on several, is the least of their items.
-use Rattle.std.proofs.Common.{◌≡◌, ◌-◌, ◌+◌, ◌*◌, ◌&&◌, ℕ, suc, length, Bool, true, false, not, List, [], map, nat_le}
+use Rattle.std.proofs.Common.{◌≡◌, ◌-◌, ◌+◌, ◌&&◌, ℕ, Bool, true, false, not, List, [], map, nat_le}
 use Rattle.std.proofs.Common.{Option, Some, None, option_map, refl, ◌∙◌, ap, sym, subst, arith, if◌then◌else◌}
-use Rattle.std.specs.Prelude.{IfSome}
+use Rattle.rx_model.specs.declared.wire.TheConstants.{SILENCE_MS}
 use Rattle.rx_model.specs.Names.{Channel}
 use Rattle.rx_rules.specs.CallItems.{CallItem, call_due, call_items}
 use Rattle.rx_rules.specs.CallLooks.{CallLooks}
 use Rattle.rx_rules.specs.Classes.{Class}
-use Rattle.rx_rules.specs.Items.{Item, channel_items, item_of, items, items_of}
+use Rattle.rx_rules.specs.Items.{Item, channel_items, item_of, items_of}
 use Rattle.rx_rules.specs.Least.{least_by}
 use Rattle.rx_rules.specs.Life.{is_active}
 use Rattle.rx_rules.specs.Looks.{CallRecord, Looks, latest}
 use Rattle.rx_rules.specs.Records.{is_silent}
 use Rattle.rx_rules.specs.Setup.{Setup, is_client}
-use Rattle.rx_node.specs.Due.{AreDueAs, IsDueAs, OwesAtOnce, lesser_of, unsilenced}
-use Rattle.rx_node.specs.Mirrors.{IsActiveAt, IsChannel, IsKey, Mirrors}
+use Rattle.rx_node.specs.Due.{AreDueAs, OwesAtOnce, death_of, unsilenced}
+use Rattle.rx_node.specs.Mirrors.{IsActiveAt, IsChannel, Mirrors}
 use Rattle.rx_node.specs.Node.{NodeState, setup_of}
-use Rattle.rx_node.specs.declared.item.Due.{Due}
 use Rattle.rx_node.specs.declared.item.Item.{Item as CodeItem}
 use Rattle.rx_node.specs.declared.item.Item.TheVariants as kinds
 use Rattle.rx_ends.specs.Ends.{EndsState, StandsEnd}
 use Rattle.rx_node.proofs.EndSteps.{active_call}
-use Rattle.rx_node.proofs.LeastItems.{least_all, least_map, least_next, least_to}
-use Rattle.rx_node.proofs.OwedItems.{has_channel}
+use Rattle.rx_node.proofs.LeastItems.{least_map}
 
 -- ---- a call that isn't silent
 
@@ -39,9 +37,9 @@ module _ (s : Setup) (l : Looks) where
   sending b k = if b then map (item_of s k) (call_items (is_client s.kind) k.looks) else []
 
   -- the items of one that is active
-  items-active : (k : CallRecord) → is_active k.life ≡ true
+  pub items_active : (k : CallRecord) → is_active k.life ≡ true
       → items_of s (unsilenced l) (Some k) ≡ map (item_of s k) (call_items (is_client s.kind) k.looks)
-  items-active k active =
+  items_active k active =
       ap (λ (b : Bool). sending (is_active k.life && not b) k) (never-silent k)
       ∙ ap (λ (b : Bool). sending (b && true) k) active
 
@@ -68,7 +66,7 @@ module _ (s : Setup) (l : Looks) where
         subst (λ (p : Option Item).
         AreDueAs s l (option_map (λ rank. record { rank = rank; key = key; item = kinds.Sending end }) o) p)
         (sym (ap (λ (is : List Item). least_by (λ i. i.rank) is)
-        (owes ∙ ap (λ (p : Option CallRecord). items_of s (unsilenced l) p) there ∙ items-active k active)
+        (owes ∙ ap (λ (p : Option CallRecord). items_of s (unsilenced l) p) there ∙ items_active k active)
         ∙ least_map (λ i. i.rank) (λ i. i.rank) (item_of s k) (call_items (is_client s.kind) k.looks) (λ i. refl)))
         (of (least_by (λ i. i.rank) (call_items (is_client s.kind) k.looks)) refl o due)
       where
@@ -87,34 +85,6 @@ module _ (s : Setup) (l : Looks) where
               is = record { call = k; there = there; item = i; least = is; is = refl };
             }
 
--- ---- the lesser of two
-
-pub lesser_as : (s : Setup) (l : Looks) (a b : Option Due) (x y : Option Item) → AreDueAs s l a x → AreDueAs s l b y
-    → AreDueAs s l (lesser_of (λ due. due.rank) a b) (lesser_of (λ i. i.rank) x y)
-lesser_as s l None b None y p q = q
-lesser_as s l None b (Some x) y p q = absurd p
-lesser_as s l (Some a) b None y p q = absurd p
-lesser_as s l (Some a) None (Some x) None p q = p
-lesser_as s l (Some a) None (Some x) (Some y) p q = absurd q
-lesser_as s l (Some a) (Some b) (Some x) None p q = absurd q
-lesser_as s l (Some a) (Some b) (Some x) (Some y) p q =
-    subst (λ (t : Bool). IsDueAs s l (if nat_le a.rank b.rank then a else b) (if t then x else y))
-    (λ i. nat_le (p.rank i) (q.rank i)) (of (nat_le a.rank b.rank))
-  where
-    of : (t : Bool) → IsDueAs s l (if t then a else b) (if t then x else y)
-    of true = p
-    of false = q
-
-pub lesser_holds : (P : Due → Type 0) (a b : Option Due) → IfSome a P → IfSome b P
-    → IfSome (lesser_of (λ due. due.rank) a b) P
-lesser_holds P None b p q = q
-lesser_holds P (Some a) None p q = p
-lesser_holds P (Some a) (Some b) p q = of (nat_le a.rank b.rank)
-  where
-    of : (t : Bool) → P (if t then a else b)
-    of true = p
-    of false = q
-
 -- ---- of a node
 
 pub due_sending : (class : List ℕ → Class) (n : NodeState) (l : Looks) → Mirrors class n l → (key : ℕ) (ch : Channel)
@@ -129,37 +99,13 @@ due_sending class n l m key ch at end active e same client o due owes =
     (due its.call.looks (subst (λ (f : EndsState). StandsEnd f end its.call.looks) (sym same) its.stands)
     ∙ ap (λ (b : Bool). call_due b its.call.looks) client)
 
--- ---- channel by channel
-
-module _ (class : List ℕ → Class) (n : NodeState) where
-  -- what is due on the first so many channels
-  abbrev pub DueTo : ℕ → Option Due → Type 0
-  DueTo key due = (l : Looks) → Mirrors class n l
-      → AreDueAs (setup_of class n) l due (least_to (setup_of class n) (unsilenced l) key)
-
-  -- on one channel more
-  pub due_more : (key : ℕ) (before next : Option Due) → IsKey n key → DueTo key before
-      → ((l : Looks) (ch : Channel) → Mirrors class n l → IsChannel l key ch
-      → AreDueAs (setup_of class n) l next
-      (least_by (λ i. i.rank) (channel_items (setup_of class n) (unsilenced l) ch)))
-      → DueTo (key + 1) (lesser_of (λ due. due.rank) before next)
-  due_more key before next low so_far on l m =
-      let conns : length n.table.conns ≡ length l.conns = m.conns.conns in
-      let ch = has_channel l key (omega arith) in
-      let one : key + 1 ≡ suc key = omega arith in
-      subst (λ (o : Option Item). AreDueAs (setup_of class n) l (lesser_of (λ due. due.rank) before next) o)
-      (sym (ap (least_to (setup_of class n) (unsilenced l)) one
-      ∙ least_next (setup_of class n) (unsilenced l) key ch.channel
-      (record { conn = ch.at.conn; there = ch.at.there; is = ch.at.is })))
-      (lesser_as (setup_of class n) l before next (least_to (setup_of class n) (unsilenced l) key)
-      (least_by (λ i. i.rank) (channel_items (setup_of class n) (unsilenced l) ch.channel)) (so_far l m)
-      (on l ch.channel m ch.at))
-
-  -- on all
-  pub due_all : (count : ℕ) (due : Option Due) → count ≡ length n.table.conns → DueTo (4 * count) due
-      → (l : Looks) → Mirrors class n l
-      → AreDueAs (setup_of class n) l due (least_by (λ i. i.rank) (items (setup_of class n) (unsilenced l)))
-  due_all count due is to l m =
-      subst (λ (o : Option Item). AreDueAs (setup_of class n) l due o)
-      (ap (λ (k : ℕ). least_to (setup_of class n) (unsilenced l) (4 * k)) (is ∙ m.conns.conns)
-      ∙ least_all (setup_of class n) (unsilenced l)) (to l m)
+-- its call would die then
+pub death_active : (class : List ℕ → Class) (n : NodeState) (l : Looks) → Mirrors class n l → (key : ℕ) (ch : Channel)
+    → IsChannel l key ch → (end : ℕ) → IsActiveAt n key end → (e : EndsState) → e ≡ n.ends → (dies : ℕ)
+    → ((k : CallLooks) → StandsEnd e end k → dies ≡ k.heard + SILENCE_MS) → Some dies ≡ death_of (latest l ch)
+death_active class n l m key ch at end active e same dies is =
+    let its = active_call class n l m key end ch at active in
+    ap (λ (d : ℕ). Some d)
+    (is its.call.looks (subst (λ (f : EndsState). StandsEnd f end its.call.looks) (sym same) its.stands))
+    ∙ sym (ap death_of its.latest_is
+    ∙ ap (λ (b : Bool). if b then Some (its.call.looks.heard + SILENCE_MS) else None) its.active)

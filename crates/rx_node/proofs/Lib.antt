@@ -21,8 +21,6 @@ pub mod KeptKeys
 pub mod FactsSeen
 pub mod OwedItems
 pub mod DueItems
-pub mod FirstDeath
-pub mod DueMoment
 pub mod Heads
 pub mod GivenOwing
 pub mod CountSteps
@@ -42,8 +40,6 @@ pub mod IdleEvents
 pub mod GivenSending
 pub mod GivenItem
 pub mod GivenDatagram
-pub mod PollSteps
-pub mod PollLeaves
 pub mod Arguments
 pub mod UsedConns
 pub mod MomentSteps

@@ -1,14 +1,13 @@
--- Once the last channel's call changed, every call that lives did, of a node or of a connection.
-use Rattle.std.proofs.Common.{◌≡◌, ◌≤◌, ◌<◌, ◌+◌, ◌*◌, ◌/◌, ◌&&◌, ℕ, ℤ, Bool, true, false, List, length}
+-- Once the last channel's call changed, every call of a connection that lives did.
+use Rattle.std.proofs.Common.{◌≡◌, ◌≤◌, ◌<◌, ◌+◌, ◌*◌, ◌/◌, ◌&&◌, ℕ, ℤ, Bool, true, false, List}
 use Rattle.std.proofs.Common.{Option, Some, None, refl, ◌∙◌, ap, sym, arith, if◌then◌else◌}
 use Rattle.std.proofs.lemmas.Bool.Decides.{nat_tests}
 use Rattle.std.specs.Prelude.{slice_get, nat_lt, nat_le}
-use Rattle.std.proofs.lemmas.Option.{slice_get_within}
 use Rattle.rx_model.specs.declared.names.CallName.{CallName}
 use Rattle.rx_model.specs.Names.{Channel, Connection, connection_of, same_connection}
-use Rattle.rx_rules.specs.Life.{after_code, after_silence, is_active, is_live}
+use Rattle.rx_rules.specs.Life.{after_code, is_active, is_live}
 use Rattle.rx_rules.specs.Looks.{CallRecord, ConnLooks, Looks, call_at, on_calls}
-use Rattle.rx_rules.specs.Records.{is_silent, silence_of, unless_silent}
+use Rattle.rx_rules.specs.Records.{unless_silent}
 use Rattle.rx_rules.specs.Setup.{Setup}
 use Rattle.rx_model.proofs.NameLaws.{connection_itself, refuted}
 use Rattle.rx_law.proofs.Differ.{Differ, by_name}
@@ -18,13 +17,7 @@ use Rattle.rx_node.proofs.CallChanges.{FoundIn, every_own, every_then, map_both}
 use Rattle.rx_node.proofs.CallLoops.{LiveAt, OfLive, among, change_among, key_of, live_at}
 use Rattle.rx_node.proofs.ChannelSteps.{place_is}
 use Rattle.rx_node.proofs.TableSteps.{decided}
-use Rattle.rx_node.proofs.LifeLaws.{not_active, turn_ended}
-
-within-all : (key high : ℕ) → key < high → (nat_le 0 key && nat_lt key high) ≡ true
-within-all key high low =
-    let below : nat_lt key high ≡ true = grind (arith, nat_tests, low) in
-    let above : nat_le 0 key ≡ true = grind (arith, nat_tests) in
-    rw (below, above) refl
+use Rattle.rx_node.proofs.LifeLaws.{turn_ended}
 
 within-place : (key place : ℕ) → key / 4 ≡ place → (nat_le (4 * place) key && nat_lt key (4 * place + 4)) ≡ true
 within-place key place is =
@@ -53,28 +46,6 @@ either-same false false x y same = refl
 module _ (s : Setup) (l : Looks) (orderly : Orderly s l) (differ : Differ by_name l.calls)
     (numbered : (c : CallName) → c.number ≡ 0 → call_at l c ≡ None) (f : CallRecord → CallRecord)
     (of_live : OfLive f) where
-  -- every call changed
-  pub loop_all : on_calls (change_among 0 (4 * length l.conns) f l) l ≡ on_calls f l
-  loop_all =
-      ap (λ (ks : List CallRecord). record l { calls = ks })
-      (map_both (change_among 0 (4 * length l.conns) f l) f l.calls
-      (every_then (FoundIn l.calls) (λ k. change_among 0 (4 * length l.conns) f l k ≡ f k) l.calls each
-      (every_own l.calls differ)))
-    where
-      each : (k : CallRecord) → FoundIn l.calls k → change_among 0 (4 * length l.conns) f l k ≡ f k
-      each k own =
-          (elim (is_live k.life) as (λ b. is_live k.life ≡ b → change_among 0 (4 * length l.conns) f l k ≡ f k) [
-            | true ↦ λ live. (
-                let it = live_at s l orderly differ numbered k own.found live in
-                let place : it.key / 4 < length l.conns =
-                slice_get_within l.conns (it.key / 4) it.channel.conn it.channel.there in
-                ap (λ (b : Bool). if b then f k else k)
-                (ap (λ (o : Option ℕ). among 0 (4 * length l.conns) o) it.is
-                ∙ within-all it.key (4 * length l.conns) (omega arith)))
-            | false ↦ λ none.
-                either-same (among 0 (4 * length l.conns) (key_of l k.name)) true (f k) k (of_live.ended k none)
-          ]) refl
-
   -- the calls of the connection at a place did
   pub loop_conn : (place : ℕ) (x : ConnLooks) → slice_get l.conns place ≡ Some x
       → on_calls (change_among (4 * place) (4 * place + 4) f l) l
@@ -131,12 +102,3 @@ code_of_live code =
 -- nor silence
 pub unless_active : (now : ℕ) (k : CallRecord) → is_active k.life ≡ false → unless_silent now k ≡ k
 unless_active now k none = rw none refl
-
-pub silence_of_live : (now : ℕ) → OfLive (unless_silent now)
-silence_of_live now =
-    record { names = λ k. named k (is_silent now k); ended = λ k ended. unless_active now k (not_active k.life ended) }
-  where
-    named : (k : CallRecord) (b : Bool)
-        → (if b then record k { life = after_silence (silence_of now k) k.life } else k).name ≡ k.name
-    named k true = refl
-    named k false = refl

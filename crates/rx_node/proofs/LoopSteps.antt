@@ -8,7 +8,7 @@ use Rattle.rx_rules.specs.Looks.{CallRecord, ConnLooks, Looks, latest_name, on_c
 use Rattle.rx_node.specs.Mirrors.{IsChannel, Mirrors, channel_in}
 use Rattle.rx_node.specs.Node.{NodeState, setup_of}
 use Rattle.rx_node.proofs.CallLoops.{OfLive, change_among, loop_next, loop_start}
-use Rattle.rx_node.proofs.LoopEnds.{loop_all, loop_conn}
+use Rattle.rx_node.proofs.LoopEnds.{loop_conn}
 use Rattle.rx_node.proofs.TableSteps.{get_some}
 
 module _ (class : List ℕ → Class) (base : NodeState) (l : Looks) (m : Mirrors class base l)
@@ -39,16 +39,6 @@ module _ (class : List ℕ → Class) (base : NodeState) (l : Looks) (m : Mirror
       (loop_next (setup_of class base) l m.orderly m.roomy.differ m.numbered f of_live low key ch within
       (record { conn = x.0; there = x.1; is = refl }))
       (steps ch (record { conn = x.0; there = x.1; is = refl }))))
-
-  -- behind the last of a node
-  pub among_all : (next : NodeState) (high : ℕ) → high ≡ 4 * length base.table.conns
-      → Mirrors class next (among_changed 0 high)
-      → Mirrors class next (on_calls f l)
-  among_all next high end done =
-      (let same : high ≡ 4 * length l.conns = (let conns = m.conns.conns in omega arith) in
-      subst (λ (y : Looks). Mirrors class next y)
-      (loop_all (setup_of class base) l m.orderly m.roomy.differ m.numbered f of_live)
-      (subst (λ (n : ℕ). Mirrors class next (among_changed 0 n)) same done))
 
   -- behind the last of a connection
   pub among_conn : (next : NodeState) (place high : ℕ) (x : ConnLooks) → slice_get l.conns place ≡ Some x

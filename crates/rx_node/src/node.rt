@@ -11,7 +11,7 @@ ghost use Rattle.rx_rules.specs.Looks as rules;
 ghost use Rattle.rx_rules.specs.Records.{fresh_conn, placed, used};
 ghost use Rattle.rx_rules.specs.Life.{is_live};
 ghost use Rattle.rx_rules.specs.Rules.{own_call};
-ghost use Rattle.rx_rules.specs.Setup.{FitsSetup, client_host, nonce_of};
+ghost use Rattle.rx_rules.specs.Setup.{FitsSetup, client_host, is_client, nonce_of};
 ghost use Rattle.rx_law.proofs.Orderly.{Orderly};
 ghost use Rattle.rx_table.specs.Records.{IsLongestIdle, idle_since, place_of, record_at, seat_at};
 ghost use Rattle.rx_node.specs.Kinds.{kind_of};
@@ -174,14 +174,16 @@ impl<C: Class> Node<C> {
 
     /// Its limits.
     pub fn limits(&self) -> &Limits
-        ensures { result.now ≡ self.now.limits }
+        ensures value { result.now ≡ self.now.limits }
+        ensures fits { FitsSetup (setup_of C.class_of self.now) }
     {
         &self.limits
     }
 
     /// Which end of its connections it is.
     pub fn kind(&self) -> Kind
-        ensures { kind_of result ≡ self.now.kind }
+        ensures value { kind_of result ≡ self.now.kind }
+        ensures ends { self.now.ends.client ≡ is_client self.now.kind }
     {
         self.kind
     }
@@ -209,6 +211,7 @@ impl<C: Class> Node<C> {
     pub fn conns(&self) -> u32
         ensures count { result ≡ length self.now.table.conns }
         ensures few { result ≤ 65536 }
+        ensures room { length self.now.table.conns ≤ self.now.limits.conns }
     {
         self.links.len() as u32
     }

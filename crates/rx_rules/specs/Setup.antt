@@ -13,8 +13,8 @@ pub data Kind : Type 0 where
   Server : (service nonces : ℕ) → Kind
   Client : (host : Host) (epoch : ℕ) → Kind
 
--- a node: its kind, its limits, whether it is prompt and asks for an acknowledgement behind each half of its window,
--- and its security class
+-- a node: its kind, its limits, whether it is prompt (it asks for an acknowledgement behind each half of its window, and
+-- gives again at once what it takes for lost), and its class
 pub record Setup : Type 0 where
   pub kind : Kind
   pub limits : Limits

@@ -35,7 +35,7 @@ dropped_seen old new hs n i same =
     (λ j. get_or (map (λ (h : HeldPiece). take h.size (get_or (same j) h.slot [])) (drop n hs)) i [])
     ∙ ap (λ ps. get_or ps i []) (sym (drop-map (seen_at old) n hs)) ∙ get_or-drop n (map (seen_at old) hs) i []
 
-dropped_giving : (hs : List HeldPiece) (n i : ℕ) → giving_in (drop n hs) i ≡ giving_in hs (n + i)
+pub dropped_giving : (hs : List HeldPiece) (n i : ℕ) → giving_in (drop n hs) i ≡ giving_in hs (n + i)
 dropped_giving hs n i =
     ap (λ xs. get_or xs i None) (sym (drop-map giving_at n hs)) ∙ get_or-drop n (map giving_at hs) i None
 

@@ -75,7 +75,7 @@ pub record MakesSense (given first : ℕ) (marks : List Bool) : Type 0 where
   pub upto : first - 1 ≤ given
   pub past : marks_past marks first given ≡ false
 
-not_true : (b : Bool) → not b ≡ true → b ≡ false
+pub not_true : (b : Bool) → not b ≡ true → b ≡ false
 not_true true h = absurd (false≢true h)
 not_true false h = refl
 

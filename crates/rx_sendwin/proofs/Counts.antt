@@ -91,7 +91,7 @@ flight_cut known u (suc n) le none =
           rw (none (suc n) (omega (arith, up)) (omega arith)) (omega (arith, rest, up)))
     ]
 
-and_false : (a b : Bool) → b ≡ false → (a && b) ≡ false
+pub and_false : (a b : Bool) → b ≡ false → (a && b) ≡ false
 and_false true b h = h
 and_false false b h = refl
 

@@ -8,7 +8,8 @@ use Rattle.std.proofs.lemmas.Bool.{cases_eq}
 use Rattle.std.proofs.lemmas.List.{length-map, map-set, get_or-set_same, get_or-set_other, length-set}
 use Rattle.rx_rules.specs.Sent.{Sent, Giving, opened, pieces_by, counting_by, pieces_of, counting_of, payload_at}
 use Rattle.rx_rules.specs.Sent.{piece_at}
-use Rattle.rx_rules.specs.Sent.{LAST_ORDER, orders_of, given_of, last_giving, is_acked, in_flight, after_write, after_giving}
+use Rattle.rx_rules.specs.Sent.{LAST_ORDER, orders_of}
+use Rattle.rx_rules.specs.Sent.{given_of, last_giving, is_acked, in_flight, after_write, after_giving}
 use Rattle.rx_rules.specs.Sent as rules
 use Rattle.rx_pool.specs.Pool.{Slots, bytes_at}
 use Rattle.rx_sendwin.specs.declared.piece.HeldPiece.{HeldPiece}

@@ -13,5 +13,6 @@ pub mod Lowest
 pub mod LostLaws
 pub mod LostStanding
 pub mod LostGiven
+pub mod LostPlain
 pub mod Nexts
 pub mod Undisturbed

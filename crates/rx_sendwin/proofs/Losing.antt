@@ -270,7 +270,8 @@ looks_unmarked acked given since soft order k lost next latest so lt mark overta
     let late = is_late_by acked soft order since in
     let on_way = is_under_way_by acked soft order since in
     let count = (
-    count_step on_way k (not (nat_le o since)) some (under_way_here acked k since soft order lt mark ∙ not_late o since)) in
+    count_step on_way k (not (nat_le o since)) some
+    (under_way_here acked k since soft order lt mark ∙ not_late o since)) in
     record {
       least = omega (arith, lt);
       most = omega (arith, most);
@@ -289,7 +290,8 @@ pub under_acked : (acked since : ℕ) (soft : List Bool) (order : ℕ → ℕ) �
     count_to (is_under_way_by acked soft order since) acked ≡ 0
 under_acked acked since soft order =
     count_nothing (is_under_way_by acked soft order since) acked
-    (λ j lt. ap (λ b. not b && nat_lt since (order (suc j - suc acked))) (known_low acked soft (suc j) (omega (arith, lt))))
+    (λ j lt. ap (λ b. not b && nat_lt since (order (suc j - suc acked)))
+    (known_low acked soft (suc j) (omega (arith, lt))))
 
 -- at the hard acknowledged ones all were seen
 pub looks_all : (acked given since : ℕ) (soft : List Bool) (order : ℕ → ℕ) (k : ℕ) (lost : Lost) (latest : Latest) →

@@ -1,6 +1,7 @@
 -- A piece is given for the first time: what is lost stays so, and one more is on its way.
-use Rattle.std.proofs.Common.{◌≡◌, inl, inr, ◌<◌, ◌≤◌, ◌+◌, ◌-◌, cond, not, ◌&&◌, nat_lt, nat_le, Bool, true, false, ℕ, suc}
-use Rattle.std.proofs.Common.{zero, List, get_or, set, map, length, Option, Some, None, refl, sym, ap, subst, ◌∙◌, arith}
+use Rattle.std.proofs.Common.{◌≡◌, inl, inr, ◌<◌, ◌≤◌, ◌+◌, ◌-◌, cond, not, ◌&&◌, nat_lt, nat_le, Bool, true, false}
+use Rattle.std.proofs.Common.{ℕ, suc, zero, List, get_or, set, map, length}
+use Rattle.std.proofs.Common.{Option, Some, None, refl, sym, ap, subst, ◌∙◌, arith}
 use Rattle.std.proofs.lemmas.Bool.Decides.{nat_tests}
 use Rattle.std.proofs.lemmas.Bool.{cases_eq, cases_lt}
 use Rattle.std.proofs.lemmas.List.{length-map, map-set, get_or-set_same, get_or-set_other}
@@ -9,10 +10,10 @@ use Rattle.rx_rules.specs.Sent.{count_to}
 use Rattle.rx_sendwin.specs.declared.lost.Lost.{Lost}
 use Rattle.rx_sendwin.specs.declared.piece.HeldPiece.{HeldPiece}
 use Rattle.rx_sendwin.specs.Marks.{is_acked_by}
-use Rattle.rx_sendwin.specs.Lost.{AreLost, IsLowest, order_in, is_marked_past, overtakes_by, is_overtaken_by, is_late_by}
-use Rattle.rx_sendwin.specs.Lost.{is_under_way_by}
+use Rattle.rx_sendwin.specs.Lost.{AreLost, IsLowest, order_in, is_marked_past, overtakes_by, is_overtaken_by}
+use Rattle.rx_sendwin.specs.Lost.{is_late_by, is_under_way_by}
 use Rattle.rx_sendwin.specs.Pieces.{giving_at}
-use Rattle.rx_sendwin.proofs.Counts.{count_nothing, known_low}
+use Rattle.rx_sendwin.proofs.Counts.{count_nothing, and_false, known_low}
 use Rattle.rx_sendwin.proofs.Losing.{acked_at}
 
 -- ---- tests
@@ -64,10 +65,6 @@ overtakes_same acked place soft old new quiet same k apart j =
     ap (λ o. nat_lt k j && is_marked_past acked soft new o j) (same (k - suc acked) apart)
     ∙ ap (λ b. nat_lt k j && b) (marked_same acked place soft old new quiet same (old (k - suc acked)) j)
 
-and_none : (a b : Bool) → b ≡ false → (a && b) ≡ false
-and_none true b h = h
-and_none false b h = refl
-
 -- the one behind those that were given isn't marked
 count_last : (acked given k : ℕ) (soft : List Bool) (old new : ℕ → ℕ) → acked < k → k ≤ given →
     get_or soft (given - acked) false ≡ false → ((i : ℕ) → (i ≡ given - acked → ⊥) → new i ≡ old i) →
@@ -78,7 +75,7 @@ count_last acked given k soft old new lt le quiet same =
     let none : get_or soft (suc given - suc acked) false ≡ false = ap (λ m. get_or soft m false) at ∙ quiet in
     let o = old (k - suc acked) in
     let last : overtakes_by acked soft old k (suc given) ≡ false = (
-    and_none (nat_lt k (suc given)) (is_marked_past acked soft old o (suc given))
+    and_false (nat_lt k (suc given)) (is_marked_past acked soft old o (suc given))
     (ap (λ b. b && nat_lt o (old (suc given - suc acked))) none)) in
     (λ i. count_to (λ j. overtakes_same acked (given - acked) soft old new quiet same k apart j i) (suc given))
     ∙ ap (λ b. cond b (suc (count_to (overtakes_by acked soft old k) given))
@@ -102,7 +99,8 @@ lost_next acked given since soft old new lost next le quiet same later are is =
     let apart : (k : ℕ) → acked < k → k ≤ given → k - suc acked ≡ given - acked → ⊥ = (
     λ k lt upto e. omega (arith, lt, upto, e)) in
     let none : get_or soft (suc given - suc acked) false ≡ false = ap (λ m. get_or soft m false) at ∙ quiet in
-    let fresh : is_acked_by acked soft (suc given) ≡ false = acked_at acked soft (suc given) false (omega (arith, le)) none in
+    let fresh : is_acked_by acked soft (suc given) ≡ false = (
+    acked_at acked soft (suc given) false (omega (arith, le)) none) in
     let order_is : new (suc given - suc acked) ≡ new (given - acked) = ap new at in
     let not_late : nat_le (new (suc given - suc acked)) since ≡ false = grind (arith, nat_tests, later, order_is) in
     let on_way : nat_lt since (new (suc given - suc acked)) ≡ true = grind (arith, nat_tests, later, order_is) in
@@ -125,14 +123,14 @@ lost_next acked given since soft old new lost next le quiet same later are is =
           given lost.overtaken
           (λ k lt upto. ap (λ n. not (is_acked_by acked soft k) && nat_le 3 n)
           (count_last acked given k soft old new lt upto quiet same))
-          (and_none (not (is_acked_by acked soft (suc given)))
+          (and_false (not (is_acked_by acked soft (suc given)))
           (nat_le 3 (count_to (overtakes_by acked soft new (suc given)) (suc given)))
           (ap (nat_le 3) (own_count acked given soft new)))
           are.overtaken;
       late = lowest_up (is_late_by acked soft old since) (is_late_by acked soft new since) acked given lost.late
           (λ k lt upto. ap (λ n. not (is_acked_by acked soft k) && nat_le n since)
           (same (k - suc acked) (apart k lt upto)))
-          (and_none (not (is_acked_by acked soft (suc given))) (nat_le (new (suc given - suc acked)) since) not_late)
+          (and_false (not (is_acked_by acked soft (suc given))) (nat_le (new (suc given - suc acked)) since) not_late)
           are.late;
       under_way = omega (arith, before, way, counted);
     })

@@ -1,16 +1,18 @@
 -- Which piece is taken for lost, by the rules.
-use Rattle.std.proofs.Common.{◌==◌, ◌≡◌, inl, inr, ◌<◌, ◌≤◌, cond, not, ◌&&◌, ◌||◌, nat_lt, nat_le, Bool, true, false, ℕ, suc}
-use Rattle.std.proofs.Common.{zero, Option, Some, None, refl, sym, ap, ◌∙◌, arith}
+use Rattle.std.proofs.Common.{◌==◌, ◌≡◌, inl, inr, ◌<◌, ◌≤◌, cond, not, ◌&&◌, ◌||◌, nat_lt, nat_le, Bool, true, false}
+use Rattle.std.proofs.Common.{ℕ, suc, zero, Option, Some, None, refl, sym, ap, ◌∙◌, arith}
 use Rattle.std.proofs.lemmas.Bool.Decides.{nat_tests}
 use Rattle.std.proofs.lemmas.Bool.{cases_lt, false≢true}
-use Rattle.rx_rules.specs.Lost.{order_of, lowest_to, is_overtaken, overtakes, overtaken_of, late_of, under_way, first_lost, lost_of}
+use Rattle.rx_rules.specs.Lost.{order_of, lowest_to, is_overtaken, overtakes, overtaken_of, late_of, under_way}
+use Rattle.rx_rules.specs.Lost.{first_lost, lost_of}
 use Rattle.rx_rules.specs.Lost.{is_once, halves}
 use Rattle.rx_rules.specs.Rates.{Cwnd}
 use Rattle.rx_rules.specs.Received.{reach}
 use Rattle.rx_rules.specs.Sent.{Sent, count_to, given_of, is_acked, last_giving, lowest_of}
 use Rattle.rx_rules.proofs.ReachLaws.{reach_within, reach_passes, reach_stops, reach_only}
 use Rattle.rx_sendwin.specs.Lost.{IsLowest}
-use Rattle.rx_sendwin.proofs.Counts.{count_nothing}
+use Rattle.rx_sendwin.proofs.Acks.{not_true}
+use Rattle.rx_sendwin.proofs.Counts.{count_nothing, and_false}
 
 -- ---- the lowest that passes a test
 
@@ -21,10 +23,6 @@ fails test k = not (test k)
 not_false : (b : Bool) → not b ≡ false → b ≡ true
 not_false true h = refl
 not_false false h = absurd (false≢true (sym h))
-
-not_true : (b : Bool) → not b ≡ true → b ≡ false
-not_true true h = absurd (false≢true h)
-not_true false h = refl
 
 -- one that is found passes
 pub lowest_passes : (test : ℕ → Bool) (n k : ℕ) → lowest_to test n ≡ Some k → test k ≡ true
@@ -78,7 +76,8 @@ lowest_is_found test above n (Some (suc k)) low below =
       | inr le ↦ below (suc j) le
     ])) in
     let yes : nat_lt k n ≡ true = grind (arith, nat_tests, within) in
-    lowest_of_reach test n k true (reach_only (fails test) n k (omega (arith, within)) all (λ lt. ap not low.passes)) yes
+    lowest_of_reach test n k true
+    (reach_only (fails test) n k (omega (arith, within)) all (λ lt. ap not low.passes)) yes
 
 -- ---- overtaken
 
@@ -89,10 +88,6 @@ unmarked_past s k lt =
     let no : nat_lt k (suc j) ≡ false = grind (arith, nat_tests, lt, less) in
     ap (λ b. b && (s.soft (suc j) && nat_lt (order_of s k) (order_of s (suc j)))) no)
 
-and_none : (b : Bool) → (b && false) ≡ false
-and_none true = refl
-and_none false = refl
-
 -- where none is found none is
 pub none_overtaken : (s : Sent) (k : ℕ) → overtaken_of s ≡ None → is_overtaken s k ≡ false
 none_overtaken s zero is =
@@ -101,7 +96,7 @@ none_overtaken s zero is =
 none_overtaken s (suc k) is =
     elim (cases_lt (given_of s) (suc k)) as (λ _. is_overtaken s (suc k) ≡ false) [
       | inl lt ↦ ap (λ n. not (is_acked s (suc k)) && nat_le 3 n) (unmarked_past s (suc k) lt)
-          ∙ and_none (not (is_acked s (suc k)))
+          ∙ and_false (not (is_acked s (suc k))) false refl
       | inr le ↦ none_passes (is_overtaken s) (given_of s) (suc k) is (omega arith) le
     ]
 
@@ -111,7 +106,8 @@ none_overtaken s (suc k) is =
 abbrev pub late_in : Cwnd → Sent → Option ℕ
 late_in c s = cond (nat_lt (under_way s) c.window) (late_of s) None
 
-lost_if : (c : Cwnd) (s : Sent) (b : Bool) → c.prompt ≡ b → lost_of c s ≡ cond b (first_lost (overtaken_of s) (late_in c s)) None
+lost_if : (c : Cwnd) (s : Sent) (b : Bool) → c.prompt ≡ b →
+    lost_of c s ≡ cond b (first_lost (overtaken_of s) (late_in c s)) None
 lost_if c s b is = ap (λ t. cond t (first_lost (overtaken_of s) (late_in c s)) None) is
 
 -- where none is lost none is overtaken at a prompt node
@@ -146,7 +142,7 @@ lost_prompt c s k is =
 pub halves_late : (c : Cwnd) (s : Sent) (k : ℕ) → overtaken_of s ≡ None → halves c s k ≡ false
 halves_late c s k is =
     let rest = (k == lowest_of s) && is_once (last_giving s.givings k) in
-    ap (λ b. c.prompt && (b && rest)) (none_overtaken s k is) ∙ and_none c.prompt
+    ap (λ b. c.prompt && (b && rest)) (none_overtaken s k is) ∙ and_false c.prompt false refl
 
 -- what is overtaken does, where it is the lowest and was given once
 pub halves_first : (c : Cwnd) (s : Sent) (k j : ℕ) → lost_of c s ≡ Some k → overtaken_of s ≡ Some j →
@@ -156,5 +152,6 @@ halves_first c s k j is found =
     let lost : Some j ≡ Some k = (
     sym (ap (λ o. first_lost o (late_in c s)) found) ∙ sym (lost_if c s true prompt) ∙ is) in
     let same : j ≡ k = cc in
-    let passes : is_overtaken s k ≡ true = ap (is_overtaken s) (sym same) ∙ lowest_passes (is_overtaken s) (given_of s) j found in
+    let passes : is_overtaken s k ≡ true = (
+    ap (is_overtaken s) (sym same) ∙ lowest_passes (is_overtaken s) (given_of s) j found) in
     (λ i. prompt i && (passes i && ((k == lowest_of s) && is_once (last_giving s.givings k))))

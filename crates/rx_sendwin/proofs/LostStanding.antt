@@ -1,9 +1,10 @@
 -- What a window keeps of its lost pieces says of what it stands for.
-use Rattle.std.proofs.Common.{◌≡◌, inl, inr, ◌<◌, ◌≤◌, ◌+◌, ◌-◌, cond, not, ◌&&◌, nat_lt, nat_le, Bool, true, false, ℕ, suc}
-use Rattle.std.proofs.Common.{List, get_or, None, sym, ap, subst, ◌∙◌, arith}
+use Rattle.std.proofs.Common.{◌≡◌, inl, inr, ◌<◌, ◌≤◌, ◌+◌, ◌-◌, cond, not, ◌&&◌, nat_lt, nat_le, Bool, true, false}
+use Rattle.std.proofs.Common.{ℕ, suc, List, get_or, None, sym, ap, subst, ◌∙◌, arith}
 use Rattle.std.proofs.lemmas.Bool.Decides.{nat_tests}
 use Rattle.std.proofs.lemmas.Bool.{cases_lt}
-use Rattle.rx_rules.specs.Lost.{lowest_to, order_by, order_of, overtakes, is_overtaken, overtaken_of, is_late, late_of, under_way}
+use Rattle.rx_rules.specs.Lost.{lowest_to, order_by, order_of, overtakes, is_overtaken, overtaken_of, is_late}
+use Rattle.rx_rules.specs.Lost.{late_of, under_way}
 use Rattle.rx_rules.specs.Lost.{first_lost, lost_of}
 use Rattle.rx_rules.specs.Rates.{Cwnd}
 use Rattle.rx_rules.specs.Sent.{Sent, given_of, is_acked, count_to}

@@ -1,5 +1,6 @@
 -- The piece that is due, by its cases.
-use Rattle.std.proofs.Common.{◌==◌, not, ◌≡◌, ◌∙◌, ◌+◌, ◌<◌, ◌≤◌, ◌++◌, ◌∷◌, [], List, nat_le, suc, ap, sym, cond, true, false}
+use Rattle.std.proofs.Common.{◌==◌, not, ◌≡◌, ◌∙◌, ◌+◌, ◌<◌, ◌≤◌, ◌++◌, ◌∷◌, [], List, nat_le, suc, ap, sym, cond}
+use Rattle.std.proofs.Common.{true, false}
 use Rattle.std.proofs.Common.{Bool, ℕ}
 use Rattle.std.proofs.Common.{Option, Some, None, arith, refl, ◌||◌, is_some}
 use Rattle.std.proofs.lemmas.Bool.{false≢true}

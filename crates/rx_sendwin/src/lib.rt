@@ -5,6 +5,9 @@
 //! stream it stands then. What it did to the pool is said by `Keeps` of `rx_pool` over the slots that it holds
 //! (`piece_slots`). A caller imports `specs/Window.antt` and `specs/Next.antt`; `proofs/Undisturbed.antt` has that a
 //! window stands for what it stood for where others used the same pool. After `make` no call takes memory.
+//!
+//! Which pieces are lost is kept ready (`src/lost.rt`): an ACK with marks and a piece that is sent again look through the
+//! pieces held, once; a poll and a piece that is sent for the first time don't.
 #![tactic(auto)]
 
 mod lost;

@@ -1,13 +1,14 @@
-ghost use Rattle.std.specs.Prelude.{ℕ, suc, ◌≡◌, ◌≤◌, ◌<◌, ◌+◌, ◌-◌, ◌^◌, if◌then◌else◌, Some, None};
+ghost use Rattle.std.specs.Prelude.{ℕ, suc, ◌≡◌, ◌≤◌, ◌<◌, ◌+◌, ◌-◌, ◌^◌, if◌then◌else◌, Some, None, true};
 ghost use Rattle.std.specs.VecDeque.{deque_len};
+ghost use Rattle.rx_sendwin.specs.Marks.{is_acked_by, flight_by};
 ghost use Rattle.rx_sendwin.specs.Lost.{AreLost, Counts, order_in};
 
 use crate::marks::mark_at;
 use crate::piece::HeldPiece;
 use std::collections::VecDeque;
 
-/// What a window keeps of its lost pieces: the lowest that enough others overtook, the lowest that is late, and how many
-/// are on their way.
+/// What a window keeps of its lost pieces: the lowest that enough others overtook, the lowest that is late, and how
+/// many are on their way.
 #[derive(Clone, Copy, Debug, PartialEq, Eq)]
 pub struct Lost {
     pub overtaken: Option<u32>,
@@ -114,4 +115,32 @@ pub fn lost_among(
         seq -= 1;
     }
     lost
+}
+
+/// What `lost_among` answers: with no look through the pieces where all of them are known to be on their way, as far as
+/// none is acknowledged (`plain`), and none is.
+pub fn lost_behind(
+    plain: bool,
+    flight: u32,
+    acked: u32,
+    given: u32,
+    since: u64,
+    soft: &[bool],
+    pieces: &VecDeque<HeldPiece>,
+) -> Lost
+    requires acked { acked ≤ given }
+    requires held { given ≤ acked + deque_len pieces.now }
+    requires flight { flight ≡ flight_by (is_acked_by acked soft.now) given }
+    requires plain { plain ≡ true → (k : ℕ) → acked < k → k ≤ given →
+        since < order_in pieces.now.items (k - suc acked) }
+    ensures { AreLost acked given since soft.now (order_in pieces.now.items) result }
+{
+    if plain && flight == given - acked {
+        return Lost {
+            overtaken: None,
+            late: None,
+            under_way: flight,
+        };
+    }
+    lost_among(acked, given, since, soft, pieces)
 }

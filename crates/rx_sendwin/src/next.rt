@@ -1,5 +1,5 @@
-/// A piece that is due: its seq, whether it was sent before, and whether it asks for an acknowledgement. Where it was sent
-/// before: whether it is sent as its time is up, or was taken for lost; and whether sending it closes the window by half.
+/// A piece that is due: its seq, whether it was sent before, and whether it asks for an acknowledgement. One that was
+/// sent before is sent as its time is up, or as it was taken for lost; then sending it may close the window by half.
 #[derive(Clone, Copy, Debug, PartialEq, Eq)]
 pub struct NextPiece {
     pub seq: u32,

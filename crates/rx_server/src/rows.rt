@@ -8,9 +8,9 @@ ghost use Rattle.rx_rules.specs.Setup.{Setup};
 ghost use Rattle.rx_node.specs.Steps.{facts_seen};
 ghost use Rattle.rx_server.specs.Taking.{later_row as later_of};
 
+use rx_books::Facts;
 use rx_model::Took;
 use rx_model::wire::CLIENT_INITIATED;
-use rx_node::Facts;
 use rx_packet::{Body, Head};
 
 /// The first row that holds before a connection is looked for: from the wrong side; of the wrong kind; of another

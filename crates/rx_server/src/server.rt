@@ -10,10 +10,10 @@ ghost use Rattle.rx_node.specs.Node.{setup_of};
 ghost use Rattle.rx_node.specs.Steps.{given_count, given_from};
 ghost use Rattle.rx_server.specs.Server.{Answered, Stands};
 
+use rx_books::{Kind, Node};
 use rx_class::Class;
 use rx_due::Steps;
 use rx_model::{Host, Limits};
-use rx_node::{Kind, Node};
 use rx_table::CHANNELS;
 use std::alloc::{AllocError, Global};
 use std::marker::Model;

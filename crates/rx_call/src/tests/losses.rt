@@ -63,7 +63,7 @@ fn a_prompt_end_acknowledges_at_once_what_fills_a_hole(rt: HostRuntime) -> Resul
 #[test]
 fn an_overtaken_piece_goes_again_at_once_and_asks(rt: HostRuntime) -> Result<(), Fail> {
     let fresh = [piece(7, false, false), piece(8, true, true), None];
-    for (prompt, first, due) in [(true, piece(3, true, false), 170), (false, None, 360)] {
+    for (prompt, first, due) in [(true, piece(3, true, false), 150), (false, None, 360)] {
         let mut pool = Pool::make(rt.alloc(), 9)?;
         let mut call = Call::make(rt.alloc(), of_prompt(prompt))?;
         call.start(Side::Server, 0);

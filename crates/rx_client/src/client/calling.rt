@@ -21,9 +21,9 @@ ghost use Rattle.rx_client.specs.Calling.{HasEnded, HasNoneOpen, IsCallingAt, Is
 ghost use Rattle.rx_client.specs.Client.{read_count, read_ended};
 
 use crate::client::Client;
+use rx_books::{Life, Link, Turn};
 use rx_class::Class;
 use rx_model::{Asked, CallName, CallRead, CallRefused, ConnFull, End, Host, NotOpen, ReadAns};
-use rx_node::{Life, Link, Turn};
 use rx_table::CHANNELS;
 
 impl<C: Class> Client<C> {

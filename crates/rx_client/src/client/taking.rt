@@ -18,10 +18,10 @@ ghost use Rattle.rx_client.specs.Taking.{TakesMessage, TakesNamed, is_let_in, tu
 
 use crate::client::Client;
 use crate::rows::{client_row, is_for_clients};
+use rx_books::{Node, named};
 use rx_class::Class;
 use rx_model::wire::CLIENT_INITIATED;
 use rx_model::{CallName, Host, Took};
-use rx_node::{Node, named};
 use rx_packet::{Body, Head, read_msg};
 use rx_table::CHANNELS;
 

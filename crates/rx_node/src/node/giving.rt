@@ -39,27 +39,6 @@ use rx_table::{CHANNELS, Seat};
 use std::sync::ledger::Ledger;
 
 impl<C: Class> Node<C> {
-    /// Ends silent calls, then writes the next datagram that is due to the front of the buffer, the oldest stray abort
-    /// before all others, and answers the host that it is for and its length in bytes; none where nothing is due.
-    pub fn poll<L: Ledger>(&mut self, to: &mut [u8], steps: &mut Steps<L>) -> Option<(Host, usize)>
-        requires { DATAGRAM_BYTES ≤ length to.old }
-        ensures answered { AnswersNode C.class_of self.old self.new (events.Polled (given_from result to.new)) }
-        ensures dimmed { (l : Looks) → Mirrors C.class_of self.old l → Dimmed C.class_of self.new l }
-        ensures rest { drop (given_count result) to.new ≡ drop (given_count result) to.old }
-        ensures same { KeepsNode self.old self.new }
-    {
-        self.silence(steps);
-        if let Some(stray) = self.strays.pop_front() {
-            let count = write_msg(&stray_head(&stray), &ABORT, to);
-            return Some((stray.host, count));
-        }
-        let due = self.least_due(steps)?;
-        if due.rank > self.moment {
-            return None;
-        }
-        Some(self.give(&due, to, steps))
-    }
-
     /// Whether a stray abort is owed.
     pub fn has_stray(&self) -> bool
         ensures { result ≡ not (length self.now.strays == 0) }
@@ -82,52 +61,6 @@ impl<C: Class> Node<C> {
         let stray = self.strays.pop_front()?;
         let count = write_msg(&stray_head(&stray), &ABORT, to);
         Some((stray.host, count))
-    }
-
-    /// From which moment on, in milliseconds, a poll would do something; none where no call lives that isn't broken,
-    /// and nothing is owed.
-    pub fn due<L: Ledger>(&self, steps: &mut Steps<L>) -> Option<u64>
-        ensures { (l : Looks) → Mirrors C.class_of self.now l → result ≡ rules_due (setup_of C.class_of self.now) l }
-    {
-        if !self.strays.is_empty() {
-            return Some(self.moment);
-        }
-        let least = self.least_moment(steps)?;
-        Some(least.max(self.moment))
-    }
-
-    /// The least moment of an item or a death.
-    fn least_moment<L: Ledger>(&self, steps: &mut Steps<L>) -> Option<u64>
-        ensures { (l : Looks) → Mirrors C.class_of self.now l → result ≡ lesser_of (λ moment. moment)
-            (option_map (λ i. i.rank) (least_by (λ i. i.rank) (items (setup_of C.class_of self.now) (unsilenced l))))
-            (least_by (λ moment. moment) (deaths l.calls)) }
-    {
-        let item = self.least_due(steps).map(|due| due.rank);
-        earlier(item, self.first_death(steps))
-    }
-
-    /// The item of least rank, of the lowest channel among equals. It goes through all channels.
-    fn least_due<L: Ledger>(&self, steps: &mut Steps<L>) -> Option<Due>
-        ensures given { IfSome result (CanGive self.now) }
-        ensures least { (l : Looks) → Mirrors C.class_of self.now l → let s = setup_of C.class_of self.now in
-            AreDueAs s l result (least_by (λ i. i.rank) (items s (unsilenced l))) }
-    {
-        let mut least = None;
-        for key in 0..CHANNELS * self.conns() {
-            least = lesser(least, self.due_on(key, steps));
-        }
-        least
-    }
-
-    /// The moment at which the first call would die of silence. It goes through all channels.
-    fn first_death<L: Ledger>(&self, steps: &mut Steps<L>) -> Option<u64>
-        ensures { (l : Looks) → Mirrors C.class_of self.now l → result ≡ least_by (λ moment. moment) (deaths l.calls) }
-    {
-        let mut first = None;
-        for key in 0..CHANNELS * self.conns() {
-            first = earlier(first, self.death_on(key, steps));
-        }
-        first
     }
 
     /// The moment at which a channel's call would die.
@@ -457,28 +390,6 @@ fn owed_at(seat: &Seat, proved: bool) -> Option<Item>
         return Some(Item::AckAll);
     }
     None
-}
-
-/// The one of less rank, the first where they are equal.
-fn lesser(before: Option<Due>, next: Option<Due>) -> Option<Due>
-    ensures { result ≡ lesser_of (λ due. due.rank) before next }
-{
-    match (before, next) {
-        (Some(a), Some(b)) => Some(if a.rank <= b.rank { a } else { b }),
-        (Some(a), None) => Some(a),
-        (None, next) => next,
-    }
-}
-
-/// The earlier moment.
-fn earlier(before: Option<u64>, next: Option<u64>) -> Option<u64>
-    ensures { result ≡ lesser_of (λ moment. moment) before next }
-{
-    match (before, next) {
-        (Some(a), Some(b)) => Some(if a <= b { a } else { b }),
-        (Some(a), None) => Some(a),
-        (None, next) => next,
-    }
 }
 
 /// A flag, where it is set.

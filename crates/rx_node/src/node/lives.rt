@@ -216,17 +216,7 @@ impl<C: Class> Node<C> {
         }
     }
 
-    /// Calls of which nothing was heard for 12,000 milliseconds end (`RX_DEAD_TIME`).
-    pub fn silence<L: Ledger>(&mut self, steps: &mut Steps<L>)
-        ensures silenced { StepsNode C.class_of self.old self.new silenced }
-        ensures same { KeepsNode self.old self.new }
-    {
-        for key in 0..CHANNELS * self.conns() {
-            self.silence_on(key, steps);
-        }
-    }
-
-    /// The same for the call of one channel.
+    /// The call of a channel ends, if nothing was heard of it for 12,000 milliseconds (`RX_DEAD_TIME`).
     pub fn silence_on<L: Ledger>(&mut self, key: u32, steps: &mut Steps<L>)
         requires { IsKey self.old key }
         ensures silenced { StepsAt C.class_of self.old self.new key

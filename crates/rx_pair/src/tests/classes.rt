@@ -1,9 +1,9 @@
 //! Class 200: calls of clients that show that they know the key, and of those that don't.
 
 use super::setup::{CLIENT, LIMITS, OTHER, SERVER, Setup, USUAL};
-use super::step::{C, N, S, Step};
+use super::step::{C, Change, N, S, Step};
 use super::story::{Story, check};
-use Step::{Accept, Ask, Call, Clock, Connect, Deliver, Forge, Idle, Live, Poll, Shut};
+use Step::{Accept, Ask, Bag, Call, Clock, Connect, Deliver, Due, Forge, Idle, Live, Poll, Shut};
 use rx_model::{Asked, End, Limits, Took};
 use std::test::*;
 
@@ -23,7 +23,7 @@ const CUT_ANSWER: &str = "#4 00000001 00000000 00000002 070100c800000001 \
 const NEXT_ANSWER: &str = "#4 00000002 00000000 00000002 070100c800000001 \
     160a1c7b51b73ac201853d11d6c750bb6149e39b050a3c38acd244081c377e32";
 
-static STORIES: [Story; 5] = [
+static STORIES: [Story; 6] = [
     Story {
         name: "same-key",
         setup: Setup {
@@ -125,6 +125,44 @@ static STORIES: [Story; 5] = [
             Poll(S, "#4 00000000 00000000 00000000 0400000000000001 fffffffe"),
             Deliver(2, Took::Stopped),
             Ask(C, N, Asked::Ended(End::Abort(-2))),
+        ]],
+    },
+    // One answer ends the challenges that all channels of its connection owe: none is due behind it.
+    Story {
+        name: "both-challenged",
+        setup: Setup {
+            server_key: Some(0xaa),
+            ..USUAL
+        },
+        parts: &[&[
+            Forge(S, CLIENT, "P 010700c800000001", Took::Kept),
+            Forge(
+                S,
+                CLIENT,
+                "#5 00000001 00000001 00000002 010700c800000001",
+                Took::Kept,
+            ),
+            Bag(Change::Give),
+            Idle(S),
+            Due(S, Some(12_000)),
+            Forge(
+                S,
+                CLIENT,
+                "#4 00000001 00000000 00000003 020100c800000001 00000000 00000001 00000000 00000000 0800 T32",
+                Took::Heard,
+            ),
+            Forge(
+                S,
+                CLIENT,
+                "#5 00000001 00000000 00000004 020100c800000001 00000000 00000001 00000000 00000000 0800 T32",
+                Took::Heard,
+            ),
+            Due(S, Some(0)),
+            Forge(S, CLIENT, SAME_KEY, Took::Heard),
+            Idle(S),
+            Due(S, Some(12_000)),
+            Accept(Some(N)),
+            Accept(Some(call!(1, 1))),
         ]],
     },
     Story {

@@ -8,8 +8,8 @@ use rx_pool::Pool;
 use rx_rtt::Cwnd;
 use std::test::*;
 
-/// Why a piece is sent: for the first time, as its time is up, or as it was taken for lost; that closes the window by half
-/// or doesn't.
+/// Why a piece is sent: for the first time, as its time is up, or as it was taken for lost; that may close the window
+/// by half.
 #[derive(Clone, Copy, Debug, PartialEq, Eq)]
 enum Why {
     First,

@@ -5,7 +5,7 @@ ghost use Rattle.rx_pool.specs.Held.{Holds, Keeps};
 ghost use Rattle.rx_sendwin.specs.Marks.{is_acked_by, newly_by, highest_by, trip_at, is_valid_ack};
 ghost use Rattle.rx_sendwin.specs.Window.{piece_slots, StandsSent, as_newly};
 
-use crate::lost::{Lost, lost_among};
+use crate::lost::{Lost, lost_behind};
 use crate::marks::{
     count_in_flight, count_newly, has_mark_past, highest_newly, leading, peer_window, set_marks,
     trip,
@@ -73,13 +73,16 @@ impl SendWin {
             };
         }
         let newly = self.newly(now, first, marks);
+        let plain = self.lost.under_way == self.given - self.acked;
         free_front(&mut self.pieces, pool, (first - 1 - self.acked) as usize);
         self.acked = first - 1;
         set_marks(&mut self.soft, marks);
         self.low = leading(self.soft.as_slice()) as u32;
         self.flight = count_in_flight(self.acked, marks, self.given);
         self.peer_window = peer_window(self.peer_window, window);
-        self.lost = lost_among(
+        self.lost = lost_behind(
+            plain,
+            self.flight,
             self.acked,
             self.given,
             self.since,

@@ -1,5 +1,5 @@
-ghost use Rattle.std.specs.Prelude.{◌≡◌, ◌≤◌, ◌<◌, ◌+◌, ◌-◌, ◌^◌, ◌==◌, ℕ, length, suc, Option, Some, None, true, false};
-ghost use Rattle.std.specs.Prelude.{IfSome};
+ghost use Rattle.std.specs.Prelude.{◌≡◌, ◌≤◌, ◌<◌, ◌+◌, ◌-◌, ◌^◌, ◌==◌, ℕ, length, suc, Option, Some, None, true};
+ghost use Rattle.std.specs.Prelude.{false, IfSome};
 ghost use Rattle.rx_rules.specs.CallItems.{can_give, asks};
 ghost use Rattle.rx_rules.specs.Lost.{lost_of, halves, is_once};
 ghost use Rattle.rx_rules.specs.Sent.{Sent, piece_at, given_of, lowest_of, last_giving, after_giving, after_time};
@@ -155,7 +155,8 @@ impl SendWin {
     /// Whether a held piece was given once.
     fn is_once(&self, seq: u32) -> bool
         requires { CanBeSent self.now seq }
-        ensures { (pool : Slots) (s : Sent) → StandsSent pool self.now s → result ≡ is_once (last_giving s.givings seq) }
+        ensures { (pool : Slots) (s : Sent) → StandsSent pool self.now s →
+            result ≡ is_once (last_giving s.givings seq) }
     {
         match self.pieces[(seq - self.acked - 1) as usize].given {
             Some(giving) => !giving.again,

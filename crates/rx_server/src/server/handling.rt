@@ -15,9 +15,9 @@ ghost use Rattle.rx_server.specs.Server.{Answered, SameSetup, Serves, handler_co
 ghost use Rattle.rx_node.specs.Steps.{written_count};
 
 use crate::server::Server;
+use rx_books::{Life, Turn};
 use rx_class::Class;
 use rx_model::{CallName, CallRead, ServeRead, ServeRefused};
-use rx_node::{Life, Turn};
 use rx_table::CHANNELS;
 
 /// What a handler finds of a call.

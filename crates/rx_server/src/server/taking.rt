@@ -20,10 +20,10 @@ ghost use Rattle.rx_node.specs.Steps.{stopped_by};
 
 use crate::rows::{outer_row, server_row};
 use crate::server::Server;
+use rx_books::{Life, Link, Turn, is_data, named};
 use rx_class::Class;
 use rx_model::wire::RX_CALL_DEAD;
 use rx_model::{CallName, Host, Took};
-use rx_node::{Life, Link, Turn, is_data, named};
 use rx_packet::{Body, Head, read_msg};
 use rx_table::CHANNELS;
 

@@ -1,4 +1,5 @@
-use Rattle.std.proofs.Common.{◌≡◌, ◌<◌, ◌≤◌, ◌+◌, ◌-◌, ◌∙◌, ap, sym, arith, refl, get_or, suc, false, length, ℕ, cond, nat_lt, nat_le, Some}
+use Rattle.std.proofs.Common.{◌≡◌, ◌<◌, ◌≤◌, ◌+◌, ◌-◌, ◌∙◌, ap, sym, arith, refl, get_or, suc, false}
+use Rattle.std.proofs.Common.{length, ℕ, cond, nat_lt, nat_le, Some}
 use Rattle.rx_rules.specs.Lost.{order_by}
 use Rattle.rx_sendwin.specs.Lost.{order_in, Counts}
 use Rattle.rx_sendwin.proofs.GivenLaws.{giving_read}

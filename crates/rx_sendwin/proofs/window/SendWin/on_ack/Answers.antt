@@ -1,9 +1,13 @@
-use Rattle.std.proofs.Common.{◌≡◌, ◌∙◌, ◌-◌, ◌≤◌, ap, subst, arith, rules, length, drop, min, List, Bool}
+use Rattle.std.proofs.Common.{◌+◌, ◌<◌, ℕ, suc, sym, ◌≡◌, ◌∙◌, ◌-◌, ◌≤◌, ap, subst, arith, rules}
+use Rattle.std.proofs.Common.{length, drop, min, List, Bool}
+use Rattle.std.proofs.lemmas.Bool.Decides.{nat_tests}
 use Rattle.std.proofs.lemmas.List.{length-drop, length-take-le}
 use Rattle.rx_sendwin.specs.Lost.{AreLost, order_in}
-use Rattle.rx_sendwin.specs.Marks.{leading_marks}
+use Rattle.rx_sendwin.specs.Marks.{leading_marks, is_acked_by, flight_by}
 use Rattle.rx_sendwin.specs.Pieces.{slots_in}
 use Rattle.rx_sendwin.specs.Window.{SendWindow, piece_slots}
+use Rattle.rx_sendwin.proofs.Counts.{known_alike}
+use Rattle.rx_sendwin.proofs.LostPlain.{all_later, order_dropped}
 use Rattle.rx_sendwin.proofs.Acks.{leading_most, makes_sense}
 use Rattle.rx_sendwin.proofs.PieceLaws.{slots_drop, last_drop}
 use Rattle.rx_sendwin.proofs.Acknowledging.{stale_newly, fresh_newly, ack_stands, ack_tied, marks_alike}
@@ -23,6 +27,36 @@ overflow_cast-self c =
     let is : c.leading.result ≡ leading_marks soft = c.leading.ensures ∙ ap leading_marks c.as_slice.ensures.value in
     omega (arith, most, is, few)
 
+pub lost_behind-self-inside-requires-clause-flight : goal.lost_behind-self-inside-requires-clause-flight
+lost_behind-self-inside-requires-clause-flight c =
+    let valid = (rw (← c.self.view_is) at c.requires.valid) in
+    let acked = c.args.first - 1 in
+    let soft = c.set_marks.new.soft.items in
+    let alike = (
+    marks_alike _ c.self.inside.low c.self.inside.flight c.args.first c.args.marks.now soft c.self.invariant.1 valid
+    c.if-first-self.false c.set_marks.ensures) in
+    c.count_in_flight-self-inside.ensures.value
+    ∙ ap (λ (known : ℕ → Bool). flight_by known c.self.inside.given)
+    (sym (known_alike acked soft c.args.marks.now alike))
+    ∙ ap (λ (ms : List Bool). flight_by (is_acked_by acked ms) c.self.inside.given) (sym c.as_slice-2.ensures.value)
+
+pub lost_behind-self-inside-requires-clause-plain : goal.lost_behind-self-inside-requires-clause-plain
+lost_behind-self-inside-requires-clause-plain c =
+    let w = c.self.inside in
+    let hs = w.pieces.items in
+    let acked = c.args.first - 1 in
+    let n = acked - w.acked in
+    λ yes k more upto. (
+    let all : w.lost.under_way ≡ w.given - w.acked = grind (arith, nat_tests, yes) in
+    let later : w.since < order_in hs (k - suc w.acked) = (
+    all_later w.acked w.given w.since w.soft.items (order_in hs) w.lost c.self.invariant.1.acked_most
+    c.self.invariant.2 all k (omega (arith, more, c.if-first-self.false)) upto) in
+    let at : n + (k - suc acked) ≡ k - suc w.acked = omega (arith, more, c.if-first-self.false) in
+    let same : order_in c.free_front.new.pieces.items (k - suc acked) ≡ order_in hs (k - suc w.acked) = (
+    ap (λ ps. order_in ps (k - suc acked)) c.free_front.ensures.rest ∙ order_dropped hs n (k - suc acked)
+    ∙ ap (order_in hs) at) in
+    omega (arith, later, same))
+
 pub invariant_of-self : goal.invariant_of-self
 invariant_of-self c =
     let valid = (rw (← c.self.view_is) at c.requires.valid) in
@@ -38,8 +72,8 @@ invariant_of-self c =
           c.count_in_flight-self-inside.ensures.value c.peer_window-self-inside.ensures.most
           (λ lt. last_drop n hs (omega (arith, length-drop n hs, lt))),
       subst (λ (ms : List Bool). AreLost (c.args.first - 1) c.self.inside.given c.self.inside.since ms
-          (order_in c.free_front.new.pieces.items) c.lost_among-self-inside.result) c.as_slice-2.ensures.value
-          c.lost_among-self-inside.ensures,
+          (order_in c.free_front.new.pieces.items) c.lost_behind-self-inside.result) c.as_slice-2.ensures.value
+          c.lost_behind-self-inside.ensures,
     )
 
 pub returns-clause-newly : goal.returns-clause-newly

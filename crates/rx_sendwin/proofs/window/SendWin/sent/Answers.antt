@@ -58,8 +58,8 @@ invariant_of-self c =
     let since = tied.since in (
       search rules,
       sent_tied _ c.self.inside.low c.self.inside.flight place c.args.seq (c.self.inside.flight + 1)
-          c.min-self-inside.result h g tied c.index_mut.ensures.value less refl c.requires.now (omega (arith, next)) may.counts
-          flight c.min-self-inside.ensures,
+          c.min-self-inside.result h g tied c.index_mut.ensures.value less refl c.requires.now (omega (arith, next))
+          may.counts flight c.min-self-inside.ensures,
       subst (λ n. AreLost acked n c.self.inside.since soft (order_in (set hs place g)) more) (sym next)
           (lost_next acked c.self.inside.given c.self.inside.since soft (order_in hs) (order_in (set hs place g))
           lost more least (tied.quiet (c.self.inside.given - acked) (omega (arith, least)))
@@ -79,8 +79,8 @@ invariant_of-self-else-self-seq c =
     let tied = c.self.invariant.1 in (
       search rules,
       sent_tied _ c.self.inside.low c.self.inside.flight place c.self.inside.given c.self.inside.flight
-          c.min-self-inside.result h g tied c.index_mut.ensures.value less refl c.requires.now (omega arith) tied.given_most
-          tied.in_flight c.min-self-inside.ensures,
+          c.min-self-inside.result h g tied c.index_mut.ensures.value less refl c.requires.now (omega arith)
+          tied.given_most tied.in_flight c.min-self-inside.ensures,
       subst (λ soft. AreLost c.self.inside.acked c.self.inside.given c.self.inside.since soft
           (order_in (set c.self.inside.pieces.items place g)) c.lost_among-self-inside.result) c.as_slice.ensures.value
           c.lost_among-self-inside.ensures,

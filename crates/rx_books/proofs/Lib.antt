@@ -1,0 +1,11 @@
+pub mod Noted
+pub mod Rebooked
+pub mod ChannelMoments
+pub mod FirstDeath
+pub mod FirstOf
+pub mod LeastOf
+pub mod DueMoment
+pub mod PollSteps
+pub mod PollLeaves
+pub mod Polled
+pub mod SilentCalls

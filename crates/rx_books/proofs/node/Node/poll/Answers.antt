@@ -1,0 +1,98 @@
+use Rattle.std.proofs.Common.{arith, refl, subst, take}
+use Rattle.rx_rules.specs.Records.{silenced}
+use Rattle.rx_node.specs.Mirrors.{StepsNode}
+use Rattle.rx_node.specs.Node.{KeepsNode, NodeState}
+use Rattle.rx_books.proofs.Polled.{item_dimmed, item_polled, later_polled, nothing_dimmed, nothing_polled, stray_polled}
+use Rattle.rx_books.proofs.Rebooked.{booked_strays, rebooked}
+use Rattle.rx_books.proofs.node.Node.poll.Goals as goal
+
+pub returns-in-Some-clause-answered : goal.returns-in-Some-clause-answered
+returns-in-Some-clause-answered g c =
+    let class = g.C.Class.class_of in
+    let old = c.args.self.now in
+    let n = c.end_silent.new.core in
+    let kept = subst (λ (o : NodeState). KeepsNode o n) c.self.view_is c.end_silent.ensures.same in
+    let steps = subst (λ (o : NodeState). StepsNode class o n silenced) c.self.view_is c.end_silent.ensures.silenced in
+    λ h stands. stray_polled class old n c.give_stray.new.self c.limits-limits.ensures.fits kept steps c.give_stray.ensures.updates h stands
+    c.in-Some.given.0 (take c.in-Some.given.1 c.give_stray.new.to) c.in-Some.ensures.host c.in-Some.ensures.written
+
+pub returns-in-Some-clause-dimmed : goal.returns-in-Some-clause-dimmed
+returns-in-Some-clause-dimmed g c =
+    let class = g.C.Class.class_of in
+    let old = c.args.self.now in
+    let n = c.end_silent.new.core in
+    let kept = subst (λ (o : NodeState). KeepsNode o n) c.self.view_is c.end_silent.ensures.same in
+    let steps = subst (λ (o : NodeState). StepsNode class o n silenced) c.self.view_is c.end_silent.ensures.silenced in
+    λ l m. nothing_dimmed class old n c.give_stray.new.self c.limits-limits.ensures.fits kept steps c.give_stray.ensures.updates l m
+
+pub returns-in_err-due-clause-answered : goal.returns-in_err-due-clause-answered
+returns-in_err-due-clause-answered g c =
+    let class = g.C.Class.class_of in
+    let old = c.args.self.now in
+    let n = c.end_silent.new.core in
+    let kept = subst (λ (o : NodeState). KeepsNode o n) c.self.view_is c.end_silent.ensures.same in
+    let steps = subst (λ (o : NodeState). StepsNode class o n silenced) c.self.view_is c.end_silent.ensures.silenced in
+    rw c.from_residual.ensures
+    (λ h stands. nothing_polled class old n c.give_stray.new.self c.limits-limits.ensures.fits kept steps c.give_stray.ensures.updates h stands
+    (c.in_default.ensures.none refl) c.in_err-due.ensures.least)
+
+pub returns-in_err-due-clause-dimmed : goal.returns-in_err-due-clause-dimmed
+returns-in_err-due-clause-dimmed g c =
+    let class = g.C.Class.class_of in
+    let old = c.args.self.now in
+    let n = c.end_silent.new.core in
+    let kept = subst (λ (o : NodeState). KeepsNode o n) c.self.view_is c.end_silent.ensures.same in
+    let steps = subst (λ (o : NodeState). StepsNode class o n silenced) c.self.view_is c.end_silent.ensures.silenced in
+    λ l m. nothing_dimmed class old n c.give_stray.new.self c.limits-limits.ensures.fits kept steps c.give_stray.ensures.updates l m
+
+pub returns-then-due-moment-clause-answered : goal.returns-then-due-moment-clause-answered
+returns-then-due-moment-clause-answered g c =
+    let class = g.C.Class.class_of in
+    let old = c.args.self.now in
+    let n = c.end_silent.new.core in
+    let kept = subst (λ (o : NodeState). KeepsNode o n) c.self.view_is c.end_silent.ensures.same in
+    let steps = subst (λ (o : NodeState). StepsNode class o n silenced) c.self.view_is c.end_silent.ensures.silenced in
+    λ h stands. later_polled class old n c.give_stray.new.self c.limits-limits.ensures.fits kept steps c.give_stray.ensures.updates h stands
+    (c.in_default.ensures.none refl) c.in_ok-due.due c.in_ok-due.ensures.least
+    (let now = c.moment.ensures in let late = c.if-due-moment.true in omega (arith, now, late))
+
+pub returns-then-due-moment-clause-dimmed : goal.returns-then-due-moment-clause-dimmed
+returns-then-due-moment-clause-dimmed g c =
+    let class = g.C.Class.class_of in
+    let old = c.args.self.now in
+    let n = c.end_silent.new.core in
+    let kept = subst (λ (o : NodeState). KeepsNode o n) c.self.view_is c.end_silent.ensures.same in
+    let steps = subst (λ (o : NodeState). StepsNode class o n silenced) c.self.view_is c.end_silent.ensures.silenced in
+    λ l m. nothing_dimmed class old n c.give_stray.new.self c.limits-limits.ensures.fits kept steps c.give_stray.ensures.updates l m
+
+pub returns-clause-answered : goal.returns-clause-answered
+returns-clause-answered g c =
+    let class = g.C.Class.class_of in
+    let old = c.args.self.now in
+    let n = c.end_silent.new.core in
+    let kept = subst (λ (o : NodeState). KeepsNode o n) c.self.view_is c.end_silent.ensures.same in
+    let steps = subst (λ (o : NodeState). StepsNode class o n silenced) c.self.view_is c.end_silent.ensures.silenced in
+    λ h stands. item_polled class old n c.give_stray.new.self c.limits-limits.ensures.fits kept steps c.give_stray.ensures.updates h stands
+    (c.in_default.ensures.none refl) c.in_ok-due.due c.in_ok-due.ensures.least
+    (let now = c.moment.ensures in let low = c.if-due-moment.false in omega (arith, now, low))
+    c.give-given.new.self c.give-given.ensures.same c.give-given.result.0
+    (take c.give-given.result.1 c.give-given.new.to) c.give-given.ensures.gives
+
+pub returns-clause-dimmed : goal.returns-clause-dimmed
+returns-clause-dimmed g c =
+    let class = g.C.Class.class_of in
+    let old = c.args.self.now in
+    let n = c.end_silent.new.core in
+    let kept = subst (λ (o : NodeState). KeepsNode o n) c.self.view_is c.end_silent.ensures.same in
+    let steps = subst (λ (o : NodeState). StepsNode class o n silenced) c.self.view_is c.end_silent.ensures.silenced in
+    λ l m. item_dimmed class old n c.give_stray.new.self c.limits-limits.ensures.fits kept steps c.give_stray.ensures.updates l m
+    c.in_ok-due.due c.in_ok-due.ensures.least c.give-given.new.self c.give-given.result.0
+    (take c.give-given.result.1 c.give-given.new.to) c.give-given.ensures.gives
+
+pub invariant_of-self-3 : goal.invariant_of-self-3
+invariant_of-self-3 g c =
+    rebooked c.give_stray.new.self c.give-given.new.self c.end_silent.new.books
+    (booked_strays c.end_silent.new.core c.give_stray.new.self _ c.end_silent.new.books c.give_stray.ensures.updates
+    c.end_silent.ensures.booked)
+    c.give-given.ensures.same.limits c.refresh.new.self c.in_ok-due.due.key c.give-given.ensures.others
+    c.refresh.ensures.noted c.refresh.ensures.keeps

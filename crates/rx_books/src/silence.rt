@@ -1,0 +1,23 @@
+ghost use Rattle.rx_rules.specs.Records.{silenced};
+ghost use Rattle.rx_node.specs.Mirrors.{StepsNode};
+ghost use Rattle.rx_node.specs.Node.{KeepsNode};
+ghost use Rattle.rx_books.specs.Books.{IsBooked};
+
+use crate::books::Books;
+use rx_class::Class;
+use rx_due::Steps;
+use rx_node::Node as Core;
+use std::sync::ledger::Ledger;
+
+/// Calls of which nothing was heard for 12,000 milliseconds end (`RX_DEAD_TIME`): the book of silences names them.
+pub fn end_silent<C: Class, L: Ledger>(core: &mut Core<C>, books: &mut Books, steps: &mut Steps<L>)
+    requires { IsBooked core.old books.old }
+    ensures silenced { StepsNode C.class_of core.old core.new silenced }
+    ensures booked { IsBooked core.new books.new }
+    ensures same { KeepsNode core.old core.new }
+{
+    'silent: while let Some(key) = books.silent(core.moment(), steps) {
+        core.silence_on(key, steps);
+        books.refresh(core, key, steps);
+    }
+}
