@@ -2,8 +2,8 @@
 use Rattle.std.proofs.Common.{◌≡◌, ◌≤◌, ◌<◌, ◌+◌, ◌-◌, ℕ, zero, suc, Bool, true, false, List, [], ◌∷◌, length, take}
 use Rattle.std.proofs.Common.{drop, min}
 use Rattle.std.proofs.Common.{refl, ◌∙◌, ap, sym, subst, arith, length-take, length-drop}
-use Rattle.rx_caller.specs.declared.ask.Ask.TheVariants as asks
-use Rattle.rx_caller.specs.Asks.{next_offering}
+use Rattle.rx_asks.specs.declared.ask.Ask.TheVariants as asks
+use Rattle.rx_asks.specs.Asks.{next_offering}
 
 -- all of a list
 take-all : (n : ℕ) (xs : List ℕ) → length xs ≤ n → take n xs ≡ xs

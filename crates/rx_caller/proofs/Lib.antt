@@ -1,10 +1,3 @@
-pub mod Kept
-pub mod KeptTaken
-pub mod KeptEvents
-pub mod Asked
-pub mod Telling
-pub mod Measure
 pub mod Blocks
+pub mod Measure
 pub mod Turning
-pub mod Driving
-pub mod Givings

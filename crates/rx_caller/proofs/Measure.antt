@@ -11,15 +11,15 @@ use Rattle.rx_model.specs.declared.answers.ReadGot.TheVariants as readers
 use Rattle.rx_model.specs.declared.answers.WroteGot.TheVariants as writers
 use Rattle.rx_model.specs.declared.event.Event.{Event}
 use Rattle.rx_model.specs.declared.event.Event.TheVariants as events
-use Rattle.rx_caller.specs.declared.ask.Ask.{Ask}
-use Rattle.rx_caller.specs.declared.ask.Ask.TheVariants as asks
-use Rattle.rx_caller.specs.declared.ask.Phase.{Phase}
-use Rattle.rx_caller.specs.declared.ask.Phase.TheVariants as phases
-use Rattle.rx_caller.specs.declared.caller.TheConstants.{BLOCK_BYTES}
-use Rattle.rx_caller.specs.Asks.{Asking, IsAsked, asking, calling, end_after}
-use Rattle.rx_caller.specs.Asks.{heard, next_ask, next_at, next_offering, phase_after}
-use Rattle.rx_caller.specs.View.{CallerState}
-use Rattle.rx_caller.proofs.Asked.{asked_by, next_lasts}
+use Rattle.rx_asks.specs.declared.ask.Ask.{Ask}
+use Rattle.rx_asks.specs.declared.ask.Ask.TheVariants as asks
+use Rattle.rx_asks.specs.declared.ask.Phase.{Phase}
+use Rattle.rx_asks.specs.declared.ask.Phase.TheVariants as phases
+use Rattle.rx_asks.specs.declared.ask.TheConstants.{BLOCK_BYTES}
+use Rattle.rx_asks.specs.Asks.{Asking, IsAsked, asking, calling, end_after}
+use Rattle.rx_asks.specs.Asks.{heard, next_ask, next_at, next_offering, phase_after}
+use Rattle.rx_asks.specs.View.{CallerState}
+use Rattle.rx_asks.proofs.Asked.{asked_by, next_lasts}
 
 -- by the end, where the turn stands, whether it shut, how many bytes are to be offered, and how many were read
 abbrev pub left_by : ℕ → Option End → Phase → Bool → ℕ → ℕ → ℕ

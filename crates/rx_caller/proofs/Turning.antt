@@ -12,9 +12,9 @@ use Rattle.rx_wire.specs.Journal.{HasNoted}
 use Rattle.rx_wire.specs.Turns.{Runs, after_all, goes, noted, stays}
 use Rattle.rx_wire.proofs.AdvanceLaws.{Advances-append, Advances-none, Advances-one, Turned-of}
 use Rattle.rx_wire.proofs.TurnLaws.{HasNotedMost-append, HasNotedMost-refused, Runs-append, Runs-one, after_all-append}
-use Rattle.rx_caller.specs.Asks.{begun, calling, heard}
+use Rattle.rx_asks.specs.Asks.{begun, calling, heard}
 use Rattle.rx_caller.specs.Turn.{Between, Makes, MakesNext, Stays, StopsAt}
-use Rattle.rx_caller.specs.View.{CallerState}
+use Rattle.rx_asks.specs.View.{CallerState}
 use Rattle.rx_caller.proofs.Measure.{left_of, smaller}
 
 -- a turn so far, all of whose events were noted; the client is set up as before

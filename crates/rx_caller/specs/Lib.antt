@@ -1,4 +1,1 @@
-pub mod View
-pub mod Asks
 pub mod Turn
-pub mod History

@@ -6,8 +6,8 @@ use Rattle.rx_node.specs.Node.{NodeState}
 use Rattle.rx_node.specs.Steps.{AnswersNode}
 use Rattle.rx_rules.specs.Classes.{Class}
 use Rattle.rx_wire.specs.Turns.{HasNotedMost, Program, Runs, after_all}
-use Rattle.rx_caller.specs.Asks.{Asking, IsAsked, calling, heard}
-use Rattle.rx_caller.specs.View.{CallerState}
+use Rattle.rx_asks.specs.Asks.{Asking, IsAsked, calling, heard}
+use Rattle.rx_asks.specs.View.{CallerState}
 
 -- a caller and its client before and after one or more calls
 pub record Between : Type 0 where

@@ -2,28 +2,19 @@ ghost use Rattle.std.specs.Prelude.{◌≡◌, IfOk, OnErr, OnOk, is_some};
 ghost use Rattle.rx_node.specs.Node.{setup_of};
 ghost use Rattle.rx_node.specs.Steps.{StandsNode};
 ghost use Rattle.rx_wire.specs.Advances.{Turned};
-ghost use Rattle.rx_caller.specs.declared.ask.Ask.TheVariants as asks;
-ghost use Rattle.rx_caller.specs.Asks.{asking, begun, calling, is_done, next_ask, next_offering};
+ghost use Rattle.rx_asks.specs.declared.ask.Ask.TheVariants as asks;
+ghost use Rattle.rx_asks.specs.Asks.{asking, begun, calling, is_done, next_ask, next_offering};
 ghost use Rattle.rx_caller.specs.Turn.{Does, MakesNext, Stays, StopsAt};
-ghost use Rattle.rx_caller.specs.View.{caller_for};
+ghost use Rattle.rx_asks.specs.View.{caller_for};
 
-use crate::ask::{Ask, Phase};
 use crate::calls::{append, end_after, next_block, note, phase_after, phase_offered, read, write};
+use rx_asks::{Ask, BLOCK_BYTES, CC_UNMARSHAL, Phase, REPLY_BYTES};
 use rx_class::Class;
 use rx_client::Client;
 use rx_model::{Bytes, CallName, End, Event, ReadGot, WroteGot};
 use rx_wire::Journal;
 use std::alloc::{AllocError, Global};
 use std::marker::Model;
-
-/// Bytes that a call of a caller offers or reads at most.
-pub const BLOCK_BYTES: usize = 4096;
-
-/// Bytes of a reply at most: a counted stream and 65,536 more.
-pub const REPLY_BYTES: usize = 16_842_756;
-
-/// The code of a call whose reply is too long (`rxgen_consts.h`, `RXGEN_CC_UNMARSHAL`).
-pub const CC_UNMARSHAL: i32 = -451;
 
 /// What says the request of one call of a client and reads its reply.
 #[derive(Debug, Drop)]
@@ -41,7 +32,7 @@ pub struct Caller {
 
 impl Model for Caller {
     ghost use Rattle.std.specs.Prelude.{◌≤◌, drop, vec_len};
-    ghost use Rattle.rx_caller.specs.View.{CallerState};
+    ghost use Rattle.rx_asks.specs.View.{CallerState};
 
     ghost Value = { CallerState };
 

@@ -5,14 +5,14 @@ ghost use Rattle.rx_model.specs.declared.answers.ReadGot.TheVariants as readers;
 ghost use Rattle.rx_model.specs.declared.answers.WroteGot.TheVariants as writers;
 ghost use Rattle.rx_model.specs.declared.event.Event.TheVariants as events;
 ghost use Rattle.rx_node.specs.Node.{setup_of};
-ghost use Rattle.rx_node.specs.Steps.{AnswersNode, written_count};
+ghost use Rattle.rx_node.specs.Steps.{AnswersNode};
+ghost use Rattle.rx_events.specs.Events.{written_count};
 ghost use Rattle.rx_client.specs.Client.{read_count};
 ghost use Rattle.rx_wire.specs.Journal.{HasNoted};
 ghost use Rattle.rx_wire.specs.Turns.{noted};
-ghost use Rattle.rx_caller.specs.Asks as rules;
+ghost use Rattle.rx_asks.specs.Asks as rules;
 
-use crate::ask::Phase;
-use crate::caller::BLOCK_BYTES;
+use rx_asks::{BLOCK_BYTES, Phase};
 use rx_class::Class;
 use rx_client::Client;
 use rx_model::{CallName, End, Event, NotOpen, ReadAns};

@@ -10,18 +10,19 @@ use Rattle.rx_model.specs.declared.answers.ServeRefused.{ServeRefused}
 use Rattle.rx_model.specs.declared.answers.ServeRefused.TheVariants as refusals
 use Rattle.rx_model.specs.declared.answers.WroteGot.TheVariants as writers
 use Rattle.rx_model.specs.declared.event.Event.TheVariants as events
-use Rattle.rx_node.specs.Steps.{written_count}
+use Rattle.rx_events.specs.Events.{written_count}
 use Rattle.rx_rules.specs.Classes.{Class}
 use Rattle.rx_server.specs.Server.{Answered, ServerState, handler_count}
-use Rattle.rx_dispatch.specs.Handlers.{Handlers}
-use Rattle.rx_dispatch.specs.Jobs.{JobState, Moving, accepted, heard_read, heard_write, resolved, settled}
+use Rattle.rx_jobs.specs.Handlers.{Handlers}
+use Rattle.rx_jobs.specs.Jobs.{JobState, Moving, accepted, heard_read, heard_write, settled}
+use Rattle.rx_dispatch.specs.Rounds.{resolved}
 use Rattle.rx_dispatch.specs.Calls.{Called, ended_after, next_after}
 use Rattle.rx_dispatch.specs.declared.job.Next.{Next}
 use Rattle.rx_dispatch.specs.declared.job.Next.TheVariants as nexts
-use Rattle.rx_dispatch.specs.declared.job.Phase.{Phase}
-use Rattle.rx_dispatch.specs.declared.job.Phase.TheVariants as phases
-use Rattle.rx_dispatch.specs.declared.job.TheConstants.{OFFER_BYTES}
-use Rattle.rx_dispatch.specs.declared.job.Want.TheVariants as wants
+use Rattle.rx_jobs.specs.declared.job.Phase.{Phase}
+use Rattle.rx_jobs.specs.declared.job.Phase.TheVariants as phases
+use Rattle.rx_jobs.specs.declared.job.TheConstants.{OFFER_BYTES}
+use Rattle.rx_jobs.specs.declared.job.Want.TheVariants as wants
 
 -- no byte is too great
 none_fits : IsBytes []

@@ -1,12 +1,6 @@
-pub mod Errors
-pub mod StepLaws
 pub mod CallLaws
-pub mod RoundLaws
+pub mod Errors
 pub mod NoteLaws
-pub mod RequestStays
-pub mod EarlyLaws
-pub mod KeptLaws
-pub mod LifeKeeps
-pub mod LifeLaws
-pub mod Driving
-pub mod KeptTurns
+pub mod Remembered
+pub mod RoundLaws
+pub mod StepLaws

@@ -14,9 +14,10 @@ use Rattle.rx_wire.proofs.AdvanceLaws.{Advances-append, Advances-none, Stops-aft
 use Rattle.rx_wire.proofs.AdvanceLaws.{Turned-of}
 use Rattle.rx_wire.proofs.TurnLaws.{after_all-append, HasNotedAll-append, HasNotedAll-none, HasNotedAll-one}
 use Rattle.rx_wire.proofs.TurnLaws.{Runs-append, Runs-one}
-use Rattle.rx_dispatch.specs.Handlers.{Handlers}
-use Rattle.rx_dispatch.specs.Jobs.{JobState}
-use Rattle.rx_dispatch.specs.Dispatching.{RoundState, Turning, dispatching, over, turning_of}
+use Rattle.rx_jobs.specs.Handlers.{Handlers}
+use Rattle.rx_jobs.specs.Jobs.{JobState}
+use Rattle.rx_dispatch.specs.Rounds.{RoundState, turning_of}
+use Rattle.rx_jobs.specs.Dispatching.{Turning, dispatching, over}
 use Rattle.rx_dispatch.specs.declared.fault.TurnFault.TheVariants as faults
 use Rattle.rx_dispatch.specs.Making.{AdvancesBy, Kept, MakesCall, NextCall, NotesCall, StopsBy}
 

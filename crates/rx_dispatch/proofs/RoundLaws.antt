@@ -9,17 +9,20 @@ use Rattle.rx_server.specs.Server.{ServerState}
 use Rattle.rx_dispatch.specs.declared.deciding.Found.{Found}
 use Rattle.rx_dispatch.specs.declared.job.Next.{Next}
 use Rattle.rx_dispatch.specs.declared.job.Next.TheVariants as nexts
-use Rattle.rx_dispatch.specs.declared.job.Phase.{Phase}
-use Rattle.rx_dispatch.specs.declared.job.Want.{Want}
+use Rattle.rx_jobs.specs.declared.job.Phase.{Phase}
+use Rattle.rx_jobs.specs.declared.job.Want.{Want}
 use Rattle.rx_dispatch.specs.declared.round.Stage.{Stage}
 use Rattle.rx_dispatch.specs.declared.round.Stage.TheVariants as stages
-use Rattle.rx_dispatch.specs.Handlers.{Handlers, IsRemembered}
-use Rattle.rx_dispatch.specs.Jobs.{JobState, Moving, ask_of, heard, is_staying, resolved, serving}
-use Rattle.rx_dispatch.specs.Dispatching.{RoundState, dispatching, kept, over, proceed, serves, serving_at, settle}
-use Rattle.rx_dispatch.specs.Dispatching.{Passes, turning_at, turning_of}
+use Rattle.rx_jobs.specs.Handlers.{Handlers}
+use Rattle.rx_dispatch.specs.Desks.{IsRemembered}
+use Rattle.rx_jobs.specs.Jobs.{JobState, Moving, ask_of, heard, is_staying, serving}
+use Rattle.rx_dispatch.specs.Rounds.{resolved}
+use Rattle.rx_dispatch.specs.Rounds.{RoundState, serving_at}
+use Rattle.rx_jobs.specs.Dispatching.{dispatching, kept, over, proceed, serves, settle}
+use Rattle.rx_dispatch.specs.Rounds.{Passes, turning_at, turning_of}
 use Rattle.rx_dispatch.specs.Calls.{Called, Grows}
 use Rattle.rx_dispatch.specs.Making.{MakesCall, Ready, Remembers, WantsNone, first_request}
-use Rattle.rx_dispatch.proofs.EarlyLaws.{remembered_more}
+use Rattle.rx_dispatch.proofs.Remembered.{remembered_more}
 use Rattle.rx_dispatch.proofs.StepLaws.{at_place, first_is, passed_front, passed_rest, rest_is, settle-asks}
 use Rattle.rx_dispatch.proofs.StepLaws.{settle-over}
 

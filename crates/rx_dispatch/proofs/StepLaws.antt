@@ -4,9 +4,10 @@ use Rattle.std.proofs.Common.{Option, Some, None, sym, ap, ◌∙◌, arith}
 use Rattle.std.proofs.Math.ListN.{get_or}
 use Rattle.std.proofs.lemmas.List.{append-nil, drop_more, length-take-le, take_more}
 use Rattle.std.proofs.Math.Seq.{take-append_seam, drop-append_seam}
-use Rattle.rx_dispatch.specs.Handlers.{Handlers}
-use Rattle.rx_dispatch.specs.Jobs.{JobState, Moving, moving, Ask, serving}
-use Rattle.rx_dispatch.specs.Dispatching.{serves, over, left, kept, by_ask, settle, proceed, Passes}
+use Rattle.rx_jobs.specs.Handlers.{Handlers}
+use Rattle.rx_jobs.specs.Jobs.{JobState, Moving, moving, Ask, serving}
+use Rattle.rx_jobs.specs.Dispatching.{serves, over, left, kept, by_ask, settle, proceed}
+use Rattle.rx_dispatch.specs.Rounds.{Passes}
 
 -- a job that asks for a call goes on
 pub settle-asks : (g : Handlers) (done : List JobState) (m : Moving) (todo : List JobState) (a : Ask)

@@ -6,12 +6,13 @@ use Rattle.rx_model.specs.declared.answers.ServeRead.TheVariants as reads
 use Rattle.rx_model.specs.declared.event.Event.{Event}
 use Rattle.rx_rules.specs.Classes.{Class}
 use Rattle.rx_server.specs.Server.{Answered, ServerState}
-use Rattle.rx_dispatch.specs.Handlers.{Handlers}
-use Rattle.rx_dispatch.specs.Jobs.{JobState, IsCall, ask_of, heard, resolved}
+use Rattle.rx_jobs.specs.Handlers.{Handlers}
+use Rattle.rx_jobs.specs.Jobs.{JobState, IsCall, ask_of, heard}
+use Rattle.rx_dispatch.specs.Rounds.{resolved}
 use Rattle.rx_dispatch.specs.declared.job.Next.{Next}
 use Rattle.rx_dispatch.specs.declared.job.Next.TheVariants as nexts
-use Rattle.rx_dispatch.specs.declared.job.Phase.TheVariants as phases
-use Rattle.rx_dispatch.specs.declared.job.Want.{Want}
+use Rattle.rx_jobs.specs.declared.job.Phase.TheVariants as phases
+use Rattle.rx_jobs.specs.declared.job.Want.{Want}
 
 -- what a job that had so many bytes of its request still has to do behind a read
 abbrev pub next_after : ServeRead → ℕ → Next

@@ -1,9 +1,5 @@
-pub mod Handlers
-pub mod Keeping
-pub mod Jobs
 pub mod Calls
-pub mod Dispatching
 pub mod Making
 pub mod States
-pub mod Lives
-pub mod History
+pub mod Desks
+pub mod Rounds

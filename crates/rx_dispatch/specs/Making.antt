@@ -7,14 +7,16 @@ use Rattle.rx_model.specs.declared.names.CallName.{CallName}
 use Rattle.rx_rules.specs.Classes.{Class}
 use Rattle.rx_server.specs.Server.{Answered, ServerState}
 use Rattle.rx_wire.specs.Advances.{Advances, Stops}
-use Rattle.rx_dispatch.specs.Handlers.{Handlers, IsRemembered}
-use Rattle.rx_dispatch.specs.Jobs.{Ask, IsCall, JobState, want_in}
-use Rattle.rx_dispatch.specs.Dispatching.{RoundState, Turning, dispatching, heard_accept, over, turning_of}
+use Rattle.rx_jobs.specs.Handlers.{Handlers}
+use Rattle.rx_dispatch.specs.Desks.{IsRemembered}
+use Rattle.rx_jobs.specs.Jobs.{Ask, IsCall, JobState, want_in}
+use Rattle.rx_dispatch.specs.Rounds.{RoundState, turning_of}
+use Rattle.rx_jobs.specs.Dispatching.{Turning, dispatching, heard_accept, over}
 use Rattle.rx_dispatch.specs.declared.fault.TurnFault.{TurnFault}
 use Rattle.rx_dispatch.specs.declared.fault.TurnFault.TheVariants as faults
 use Rattle.rx_dispatch.specs.declared.job.Next.TheVariants as nexts
-use Rattle.rx_dispatch.specs.declared.job.Phase.{Phase}
-use Rattle.rx_dispatch.specs.declared.job.Want.{Want}
+use Rattle.rx_jobs.specs.declared.job.Phase.{Phase}
+use Rattle.rx_jobs.specs.declared.job.Want.{Want}
 
 -- ---- the calls of a turn
 

@@ -1,6 +1,6 @@
 -- What a contract sees of a dispatcher. Public clauses cite this module.
 use Rattle.rx_script.specs.Saying.{blocks_of}
-use Rattle.rx_dispatch.specs.Dispatching.{DispatcherState, RoundState}
+use Rattle.rx_dispatch.specs.Rounds.{DispatcherState, RoundState}
 use Rattle.rx_dispatch.specs.declared.dispatcher.Dispatcher.{Dispatcher}
 use Rattle.rx_dispatch.specs.declared.round.Round.{Round}
 

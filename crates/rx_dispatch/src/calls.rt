@@ -6,13 +6,14 @@ ghost use Rattle.rx_model.specs.declared.answers.ReadGot.TheVariants as readers;
 ghost use Rattle.rx_model.specs.declared.answers.WroteGot.TheVariants as writers;
 ghost use Rattle.rx_model.specs.declared.event.Event.TheVariants as events;
 ghost use Rattle.rx_node.specs.Node.{setup_of};
-ghost use Rattle.rx_node.specs.Steps.{written_count};
+ghost use Rattle.rx_events.specs.Events.{written_count};
 ghost use Rattle.rx_server.specs.Server.{Answered, handler_count};
-ghost use Rattle.rx_dispatch.specs.Jobs.{accepted};
+ghost use Rattle.rx_jobs.specs.Jobs.{accepted};
 ghost use Rattle.rx_dispatch.specs.Calls as rules;
 
-use crate::job::{Next, OFFER_BYTES, Phase};
+use crate::job::Next;
 use rx_class::Class;
+use rx_jobs::{OFFER_BYTES, Phase};
 use rx_model::{CallName, ServeRead, ServeRefused};
 use rx_server::Server;
 use std::alloc::{AllocError, Global};

@@ -7,9 +7,11 @@ ghost use Rattle.stub_table.specs.Requests.{IsRequestAnswer};
 ghost use Rattle.rx_script.specs.Answers.{block_named, first_given};
 ghost use Rattle.rx_script.specs.Saying.{block_of, saying_of};
 ghost use Rattle.rx_script.specs.Served.{IsServed};
-ghost use Rattle.rx_dispatch.specs.Handlers.{AreArguments, IsRemembered, answer_to, behind_code, block_wait};
-ghost use Rattle.rx_dispatch.specs.Handlers.{early_code, handlers_at, proc_wait, served_for, takes_upload, turns_of};
-ghost use Rattle.rx_dispatch.specs.Handlers.{upload_code};
+ghost use Rattle.rx_dispatch.specs.Desks.{AreArguments, IsRemembered};
+ghost use Rattle.rx_jobs.specs.Handlers.{answer_to, behind_code, block_wait};
+ghost use Rattle.rx_jobs.specs.Handlers.{early_code, proc_wait, served_for, takes_upload, turns_of};
+ghost use Rattle.rx_dispatch.specs.Desks.{handlers_at};
+ghost use Rattle.rx_jobs.specs.Handlers.{upload_code};
 
 use crate::desk::Desk;
 use rx_script::{Block, ScriptLine, Served};

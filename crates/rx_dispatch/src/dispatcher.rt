@@ -5,10 +5,11 @@ ghost use Rattle.rx_node.specs.Node.{setup_of};
 ghost use Rattle.rx_script.specs.Saying.{blocks_of};
 ghost use Rattle.rx_server.specs.Server.{Stands};
 ghost use Rattle.rx_wire.specs.Advances.{Stops, Turned};
-ghost use Rattle.rx_dispatch.specs.Dispatching.{accepts, begun_turn, dispatching, over, resting, turning_of};
+ghost use Rattle.rx_jobs.specs.Dispatching.{accepts, dispatching, over};
+ghost use Rattle.rx_dispatch.specs.Rounds.{begun_turn, resting, turning_of};
 ghost use Rattle.rx_dispatch.specs.Making.{Kept, NextCall, NotesCall, Remembers, StopsBy};
 ghost use Rattle.rx_dispatch.specs.States.{state_of};
-ghost use Rattle.rx_dispatch.specs.Handlers.{handlers_of};
+ghost use Rattle.rx_jobs.specs.Handlers.{handlers_of};
 
 use crate::desk::Desk;
 use crate::fault::TurnFault;

@@ -3,37 +3,24 @@
 ghost use Rattle.std.specs.Prelude.{◌≡◌, true, IfOk, OnOk, OnErr, drop, length, take};
 ghost use Rattle.rx_node.specs.Node.{setup_of};
 ghost use Rattle.rx_dispatch.specs.Calls.{Called};
-ghost use Rattle.rx_dispatch.specs.Handlers.{IsFound, IsRemembered, handlers_at, served_for};
-ghost use Rattle.rx_dispatch.specs.Jobs.{begun, coded_want, decided, grown, heard_write, next_want, resolved};
-ghost use Rattle.rx_dispatch.specs.Jobs.{settled, stepped, waited, waits, want_in};
-ghost use Rattle.rx_dispatch.specs.declared.job.Want.TheVariants as wants;
+ghost use Rattle.rx_dispatch.specs.Desks.{IsFound, IsRemembered, handlers_at};
+ghost use Rattle.rx_jobs.specs.Handlers.{served_for};
+ghost use Rattle.rx_jobs.specs.Jobs.{begun, coded_want, decided, grown, heard_write, next_want};
+ghost use Rattle.rx_dispatch.specs.Rounds.{resolved};
+ghost use Rattle.rx_jobs.specs.Jobs.{settled, stepped, waited, waits, want_in};
+ghost use Rattle.rx_jobs.specs.declared.job.Want.TheVariants as wants;
 
 use crate::calls::{append, ended_after, front, next_after, read, write};
 use crate::deciding::{Arguments, Found, early_code, find_arguments, serve, wait_at, whole_code};
 use crate::desk::Desk;
 use crate::keeping::kept_of;
 use rx_class::Class;
+pub use rx_jobs::{OFFER_BYTES, Phase, Want};
 use rx_model::{Bytes, CallName, Event, ReadGot, ServeRefused, WroteGot};
 use rx_script::Served;
 use rx_server::Server;
 use std::alloc::{AllocError, Global};
 use std::marker::Model;
-
-/// Bytes that are read or offered at a time, at most.
-pub const OFFER_BYTES: usize = 4096;
-
-/// Where a job is in its step.
-#[derive(Clone, Copy, Debug, PartialEq, Eq)]
-pub enum Phase {
-    /// It makes its next call, if it has one.
-    Moves,
-    /// It was told that its call broke, and has to end it.
-    Quits,
-    /// Its step is over.
-    Rests,
-    /// It ended.
-    Gone,
-}
 
 /// What a job still has to do before its next call.
 #[derive(Clone, Copy, Debug, PartialEq, Eq)]
@@ -46,14 +33,6 @@ pub enum Next {
     Settle,
     /// Nothing, at this place of its step.
     Go(Phase),
-}
-
-/// The next call of a job.
-#[derive(Clone, Copy, Debug, PartialEq, Eq)]
-pub enum Want {
-    Read,
-    Write,
-    Finish(i32),
 }
 
 /// A job: what is kept of its request, and what is to be written.
@@ -74,7 +53,7 @@ pub struct Job {
 
 impl Model for Job {
     ghost use Rattle.std.specs.Prelude.{◌+◌, ◌^◌, ◌<◌, ◌≤◌, length, drop};
-    ghost use Rattle.rx_dispatch.specs.Jobs.{JobState};
+    ghost use Rattle.rx_jobs.specs.Jobs.{JobState};
 
     ghost Value = { JobState };
 

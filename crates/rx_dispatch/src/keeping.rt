@@ -4,8 +4,8 @@ ghost use Rattle.std.specs.Prelude.{◌≡◌, option_map};
 ghost use Rattle.std.specs.Int.{from_be_bytes, w32};
 ghost use Rattle.xdr_value.specs.View.{proc_of, procs_of};
 ghost use Rattle.stub_table.specs.Requests.{found_from, opcode_at};
-ghost use Rattle.rx_dispatch.specs.Handlers.{handlers_at};
-ghost use Rattle.rx_dispatch.specs.Keeping.{has_upload, kept_of, most_kept};
+ghost use Rattle.rx_dispatch.specs.Desks.{handlers_at};
+ghost use Rattle.rx_jobs.specs.Keeping.{has_upload, kept_of, most_kept};
 
 use crate::calls::front;
 use crate::deciding::{MAX_UPLOAD_BYTES, takes_upload};

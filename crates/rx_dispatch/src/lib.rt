@@ -11,12 +11,7 @@ mod dispatcher;
 mod fault;
 mod job;
 mod keeping;
-mod laws;
 mod round;
 
 pub use dispatcher::Dispatcher;
 pub use fault::TurnFault;
-pub use laws::{
-    early_codes_are_served, kept_requests_serve, lives_are_exact, lives_keep_what_counts, numbers,
-    turns_are_exact, turns_keep_what_counts,
-};

@@ -2,9 +2,10 @@
 
 ghost use Rattle.std.specs.Prelude.{◌≡◌, ◌+◌, ◌<◌, ◌≤◌, [], IfOk, OnErr, length, vec_capacity, vec_len};
 ghost use Rattle.rx_node.specs.Node.{setup_of};
-ghost use Rattle.rx_dispatch.specs.Dispatching.{Passes, begun_turn, resting, turning_of};
-ghost use Rattle.rx_dispatch.specs.Handlers.{Handlers, handlers_at};
-ghost use Rattle.rx_dispatch.specs.Jobs.{is_staying};
+ghost use Rattle.rx_dispatch.specs.Rounds.{Passes, begun_turn, resting, turning_of};
+ghost use Rattle.rx_jobs.specs.Handlers.{Handlers};
+ghost use Rattle.rx_dispatch.specs.Desks.{handlers_at};
+ghost use Rattle.rx_jobs.specs.Jobs.{is_staying};
 ghost use Rattle.rx_dispatch.specs.Making.{HearsAccept, IsNext, Kept, MakesCall, NextCall, Ready, Remembers, WantsNone};
 ghost use Rattle.rx_dispatch.specs.States.{round_of};
 ghost use Rattle.rx_dispatch.specs.declared.round.Stage.TheVariants as stages;
@@ -12,8 +13,9 @@ ghost use Rattle.rx_dispatch.specs.declared.job.Next.TheVariants as nexts;
 
 use crate::deciding::Found;
 use crate::desk::Desk;
-use crate::job::{Job, Next, Phase, Want};
+use crate::job::{Job, Next};
 use rx_class::Class;
+use rx_jobs::{Phase, Want};
 use rx_model::{CallName, Event};
 use rx_server::Server;
 use std::alloc::{AllocError, Global};

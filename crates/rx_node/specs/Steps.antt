@@ -1,5 +1,5 @@
 -- What a method of a node answers and changes. Public clauses cite this module.
-use Rattle.std.specs.Prelude.{◌≡◌, ◌∷◌, ℕ, ℤ, Bool, true, false, List, Option, Some, None, Result, Ok, Err, take}
+use Rattle.std.specs.Prelude.{◌≡◌, ◌∷◌, ℕ, ℤ, Bool, true, false, List, Option, Some, None, take}
 use Rattle.rx_model.specs.declared.answers.Took.{Took}
 use Rattle.rx_model.specs.declared.answers.Took.TheVariants as tooks
 use Rattle.rx_model.specs.declared.event.Event.{Event}
@@ -119,13 +119,6 @@ given_from (Some (host, count)) to = Some (host, take count to)
 abbrev pub given_count : Option (Host × ℕ) → ℕ
 given_count None = 0
 given_count (Some (host, count)) = count
-
--- ---- answers with bytes
-
--- how many bytes a write accepted
-abbrev pub written_count : {E : Type 0} → Result ℕ E → ℕ
-written_count (Ok n) = n
-written_count (Err refused) = 0
 
 -- ---- codes
 

@@ -18,7 +18,8 @@ use Rattle.rx_server.specs.Server.{ServerState, Stands}
 use Rattle.rx_node.specs.Steps.{StandsNode}
 use Rattle.rx_token.specs.Chosen.{chosen}
 use Rattle.rx_nodes.specs.Nodes.{ClientsStand, IsNodeThere, NodesState, Standing, client_node, client_of, moment_of, nodes_of}
-use Rattle.rx_nodes.specs.Waits.{least_of, least_wait, lesser, moments_of, over_nodes, wait_at}
+use Rattle.rx_events.specs.Waits.{least_of, least_wait, lesser, over_nodes, wait_at}
+use Rattle.rx_nodes.specs.Nodes.{moments_of}
 use Rattle.rx_nodes.specs.declared.nodes.ClientAt.{ClientAt}
 use Rattle.rx_nodes.proofs.Lent.{server_node, with_fields}
 use Rattle.rx_nodes.proofs.Waiting.{node_stands, rest_is}

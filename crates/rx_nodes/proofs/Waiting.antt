@@ -17,7 +17,7 @@ use Rattle.rx_server.specs.Server.{ServerState, Stands}
 use Rattle.rx_node.specs.Steps.{StandsNode}
 use Rattle.rx_token.specs.Chosen.{chosen}
 use Rattle.rx_nodes.specs.Nodes.{ClientsStand, NodesState, Standing, client_node, client_of, nodes_of}
-use Rattle.rx_nodes.specs.Waits.{any_lives, is_later, latest, lives_at, over_nodes}
+use Rattle.rx_events.specs.Waits.{any_lives, is_later, latest, lives_at, over_nodes}
 use Rattle.rx_nodes.specs.declared.nodes.ClientAt.{ClientAt}
 use Rattle.rx_nodes.proofs.Lent.{read_some, server_node, with_fields}
 

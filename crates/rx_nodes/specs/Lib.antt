@@ -1,4 +1,2 @@
 pub mod Nodes
-pub mod Events
-pub mod Waits
 pub mod Lending

@@ -1,12 +1,11 @@
 -- What a contract sees of several nodes, and for which joint histories they stand. Public clauses cite this module.
 use Rattle.std.specs.Prelude.{◌≡◌, ◌≢◌, ◌≤◌, ◌-◌, ℕ, zero, suc, List, ◌∷◌, length, map, Option, option_map, slice_get}
-use Rattle.std.specs.Prelude.{unwrap_or, IfSome, IsSomeAnd}
+use Rattle.std.specs.Prelude.{unwrap_or, IfSome}
 use Rattle.rx_model.specs.declared.event.Event.{Event}
 use Rattle.rx_model.specs.declared.event.Noted.{Noted}
 use Rattle.rx_model.specs.declared.names.Host.{Host}
-use Rattle.rx_rules.specs.After.{looks}
-use Rattle.rx_rules.specs.Rules.{Allowed}
 use Rattle.rx_law.specs.Sides.{Node, side}
+use Rattle.rx_events.specs.Joint.{IsAllowedAt}
 use Rattle.rx_table.specs.Records.{changed_at}
 use Rattle.rx_node.specs.Node.{NodeState, setup_of}
 use Rattle.rx_node.specs.Steps.{StandsNode}
@@ -52,6 +51,10 @@ abbrev pub moment_of : NodesState → ℕ → ℕ
 moment_of n zero = n.server.node.moment
 moment_of n (suc k) = unwrap_or (option_map (λ c. c.client.moment) (slice_get n.clients k)) 0
 
+-- those of all nodes, the server's first
+abbrev pub moments_of : NodesState → List ℕ
+moments_of n = n.server.node.moment ∷ map (λ c. c.client.moment) n.clients
+
 -- ---- changes
 
 -- another state of the server
@@ -72,10 +75,6 @@ ClientsStand cs h = (k : ℕ) → IfSome (slice_get cs k) (λ c. StandsNode chos
 pub record Standing (n : NodesState) (h : List Noted) : Type 0 where
   pub server : Stands chosen n.server (side 0 h)
   pub clients : ClientsStand n.clients h
-
--- the rules allow an event of a node behind a joint history
-abbrev pub IsAllowedAt : List Node → List Noted → ℕ → Event → Type 0
-IsAllowedAt nodes h node e = IsSomeAnd (slice_get nodes node) (λ n. Allowed n.setup (looks n.setup (side node h)) e)
 
 -- all nodes but this one are as they were
 pub record KeepsOthers (old new : NodesState) (node : ℕ) : Type 0 where

@@ -4,10 +4,10 @@ use Rattle.std.proofs.Common.{refl}
 use Rattle.std.proofs.Common.{inl, inr, sym, ap, subst, rules}
 use Rattle.std.specs.Prelude.{is_some}
 use Rattle.rx_base.specs.Sink.{Gained, HasRisen}
-use Rattle.rx_caller.specs.Asks.{Asking, Cancels, IsAsked, Offers, Reads, Shuts, begun, calling, heard}
+use Rattle.rx_asks.specs.Asks.{Asking, Cancels, IsAsked, Offers, Reads, Shuts, begun, calling, heard}
 use Rattle.rx_caller.specs.Turn.{StopsAt}
-use Rattle.rx_caller.specs.View.{CallerState}
-use Rattle.rx_caller.specs.declared.caller.TheConstants.{REPLY_BYTES}
+use Rattle.rx_asks.specs.View.{CallerState}
+use Rattle.rx_asks.specs.declared.ask.TheConstants.{REPLY_BYTES}
 use Rattle.rx_law.specs.Sides.{with_clock}
 use Rattle.rx_model.specs.declared.answers.ReadGot.TheVariants as readers
 use Rattle.rx_model.specs.declared.event.Event.{Event}

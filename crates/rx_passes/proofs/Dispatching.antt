@@ -3,9 +3,10 @@ use Rattle.std.proofs.Common.{◌≡◌, ◌∙◌, ℕ, Bool, true, false, List
 use Rattle.std.proofs.Common.{◌+◌, sym}
 use Rattle.std.proofs.Common.{ap, subst}
 use Rattle.std.specs.Prelude.{IfOk}
-use Rattle.rx_dispatch.specs.Dispatching.{RoundState, accepts, dispatching, turning_of}
-use Rattle.rx_dispatch.specs.Handlers.{Handlers}
-use Rattle.rx_dispatch.specs.Jobs.{JobState}
+use Rattle.rx_dispatch.specs.Rounds.{RoundState, turning_of}
+use Rattle.rx_jobs.specs.Dispatching.{accepts, dispatching}
+use Rattle.rx_jobs.specs.Handlers.{Handlers}
+use Rattle.rx_jobs.specs.Jobs.{JobState}
 use Rattle.rx_dispatch.specs.Making.{NextCall}
 use Rattle.rx_model.specs.declared.event.Event.{Event}
 use Rattle.rx_model.specs.declared.event.Noted.{Noted}

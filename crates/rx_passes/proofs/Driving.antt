@@ -2,11 +2,11 @@
 use Rattle.std.proofs.Common.{◌≡◌, ℕ, true, List, [], ◌∷◌, ◌++◌, Option, Some}
 use Rattle.std.proofs.Common.{None, Ok, sym, subst}
 use Rattle.std.specs.Prelude.{is_some}
-use Rattle.rx_caller.specs.Asks.{begun}
-use Rattle.rx_caller.specs.History.{Drives, begins as turn_begins, leaves, starts}
-use Rattle.rx_caller.specs.View.{CallerState, caller_for}
-use Rattle.rx_caller.specs.declared.caller.TheConstants.{REPLY_BYTES}
-use Rattle.rx_caller.proofs.Driving.{drives_on}
+use Rattle.rx_asks.specs.Asks.{begun}
+use Rattle.rx_asks.specs.History.{Drives, begins as turn_begins, leaves, starts}
+use Rattle.rx_asks.specs.View.{CallerState, caller_for}
+use Rattle.rx_asks.specs.declared.ask.TheConstants.{REPLY_BYTES}
+use Rattle.rx_asks.proofs.Driving.{drives_on}
 use Rattle.rx_model.specs.declared.event.Event.{Event}
 use Rattle.rx_model.specs.declared.event.Event.TheVariants as events
 use Rattle.rx_model.specs.declared.names.CallName.{CallName}

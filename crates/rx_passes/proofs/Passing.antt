@@ -1,8 +1,8 @@
 -- Passes of a node, part by part, and of a server, pass by pass.
 use Rattle.std.proofs.Common.{◌≡◌, ◌∙◌, ◌<◌, ◌≤◌, ℕ, suc, List, [], ◌++◌, Option, Some, None, Ok, Err, refl}
 use Rattle.std.proofs.Common.{inl, inr, sym, ap, subst}
-use Rattle.rx_dispatch.specs.Handlers.{handlers_of}
-use Rattle.rx_dispatch.specs.Jobs.{JobState}
+use Rattle.rx_jobs.specs.Handlers.{handlers_of}
+use Rattle.rx_jobs.specs.Jobs.{JobState}
 use Rattle.rx_model.specs.declared.event.Event.{Event}
 use Rattle.rx_model.specs.declared.event.Noted.{Noted}
 use Rattle.rx_model.specs.declared.names.Host.{Host}

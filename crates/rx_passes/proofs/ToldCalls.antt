@@ -2,10 +2,10 @@
 use Rattle.std.proofs.Common.{◌≡◌, ◌<◌, ◌^◌, ℕ, true, List, [], ◌++◌, Option, Ok, refl, inl, inr}
 use Rattle.std.proofs.Common.{sym, subst}
 use Rattle.std.specs.Prelude.{is_some}
-use Rattle.rx_caller.specs.History.{Drives}
-use Rattle.rx_caller.specs.View.{CallerState, caller_for}
-use Rattle.rx_caller.specs.declared.caller.TheConstants.{REPLY_BYTES}
-use Rattle.rx_caller.proofs.Driving.{tells_driven}
+use Rattle.rx_asks.specs.History.{Drives}
+use Rattle.rx_asks.specs.View.{CallerState, caller_for}
+use Rattle.rx_asks.specs.declared.ask.TheConstants.{REPLY_BYTES}
+use Rattle.rx_asks.proofs.Driving.{tells_driven}
 use Rattle.rx_model.specs.declared.event.Event.{Event}
 use Rattle.rx_model.specs.declared.event.Noted.{Noted}
 use Rattle.rx_model.specs.declared.names.CallName.{CallName}

@@ -2,9 +2,9 @@
 use Rattle.std.proofs.Common.{◌≡◌, ◌∙◌, ◌≤◌, ◌+◌, ◌-◌, ◌^◌, ℕ, List, [], ◌∷◌, ◌++◌, Option, Some, None}
 use Rattle.std.proofs.Common.{refl, sym, ap, subst, length}
 use Rattle.std.proofs.lemmas.List.{append-nil, length-append}
-use Rattle.rx_dispatch.specs.Dispatching.{Turning, accepts, dispatching, over}
-use Rattle.rx_dispatch.specs.Handlers.{Handlers}
-use Rattle.rx_dispatch.specs.Jobs.{Ask, IsCall, JobState, accept, finish, read, write}
+use Rattle.rx_jobs.specs.Dispatching.{Turning, accepts, dispatching, over}
+use Rattle.rx_jobs.specs.Handlers.{Handlers}
+use Rattle.rx_jobs.specs.Jobs.{Ask, IsCall, JobState, accept, finish, read, write}
 use Rattle.rx_model.specs.declared.event.Event.{Event}
 use Rattle.rx_model.specs.declared.event.Noted.{Noted}
 use Rattle.rx_law.proofs.Moments.{now-after}

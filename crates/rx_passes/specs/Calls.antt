@@ -1,9 +1,9 @@
 -- The passes of a client that makes a call, and what it tells. Public clauses cite this module.
 use Rattle.std.specs.Prelude.{◌≡◌, ◌<◌, ◌≤◌, ◌⊎◌, ℕ, true, List, [], ◌++◌, None, Result, Ok, Err, is_some}
 use Rattle.rx_base.specs.Sink.{HasRisen}
-use Rattle.rx_caller.specs.Asks.{begun, calling}
-use Rattle.rx_caller.specs.View.{CallerState, caller_for}
-use Rattle.rx_caller.specs.declared.caller.TheConstants.{REPLY_BYTES}
+use Rattle.rx_asks.specs.Asks.{begun, calling}
+use Rattle.rx_asks.specs.View.{CallerState, caller_for}
+use Rattle.rx_asks.specs.declared.ask.TheConstants.{REPLY_BYTES}
 use Rattle.rx_model.specs.declared.event.Event.{Event}
 use Rattle.rx_model.specs.declared.event.Event.TheVariants as events
 use Rattle.rx_model.specs.declared.names.CallName.{CallName}

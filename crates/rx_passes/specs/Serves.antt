@@ -1,8 +1,8 @@
 -- The passes of a server, and how they go. Public clauses cite this module.
 use Rattle.std.specs.Prelude.{◌≡◌, ◌-◌, ◌^◌, ◌<◌, ◌≤◌, ℕ, suc, List, [], ◌++◌, Some, length}
-use Rattle.rx_dispatch.specs.Dispatching.{Turning, accepts, dispatching, over}
-use Rattle.rx_dispatch.specs.Handlers.{Handlers}
-use Rattle.rx_dispatch.specs.Jobs.{JobState}
+use Rattle.rx_jobs.specs.Dispatching.{Turning, accepts, dispatching, over}
+use Rattle.rx_jobs.specs.Handlers.{Handlers}
+use Rattle.rx_jobs.specs.Jobs.{JobState}
 use Rattle.rx_model.specs.declared.event.Event.{Event}
 use Rattle.rx_rules.specs.Setup.{Setup}
 use Rattle.rx_udp.specs.Wire.{Logged}

@@ -1,7 +1,7 @@
 -- What a server that serves tells. Public clauses cite this module.
 use Rattle.std.specs.Prelude.{◌≡◌, ◌⊎◌, ◌+◌, ℕ, true, List, [], ◌++◌, Option, Result, Ok, Err}
 use Rattle.rx_base.specs.Sink.{Gained, GainedSome, HasRisen}
-use Rattle.rx_dispatch.specs.Handlers.{Handlers}
+use Rattle.rx_jobs.specs.Handlers.{Handlers}
 use Rattle.rx_model.specs.declared.event.Event.{Event}
 use Rattle.rx_model.specs.declared.names.Host.{Host}
 use Rattle.rx_rules.specs.Classes.{Class}

@@ -1,7 +1,7 @@
 -- What holds of a call that was made and ended. Public clauses cite this module.
 use Rattle.std.specs.Prelude.{◌≡◌, ◌<◌, ◌^◌, ℕ, true, List, [], Ok, is_some}
-use Rattle.rx_caller.specs.History.{Tells}
-use Rattle.rx_caller.specs.View.{CallerState}
+use Rattle.rx_asks.specs.History.{Tells}
+use Rattle.rx_asks.specs.View.{CallerState}
 use Rattle.rx_model.specs.declared.event.Event.{Event}
 use Rattle.rx_model.specs.declared.names.Host.{Host}
 use Rattle.rx_rules.specs.After.{looks}

@@ -1,7 +1,8 @@
 -- One call of a turn of the handlers, made and told. Public clauses cite this module.
 use Rattle.std.specs.Prelude.{◌≡◌, ℕ, Bool, true, false, List, Option, Some, None, Result, Ok, Err}
-use Rattle.rx_dispatch.specs.Dispatching.{RoundState, over, turning_of}
-use Rattle.rx_dispatch.specs.Handlers.{Handlers}
+use Rattle.rx_dispatch.specs.Rounds.{RoundState, turning_of}
+use Rattle.rx_jobs.specs.Dispatching.{over}
+use Rattle.rx_jobs.specs.Handlers.{Handlers}
 use Rattle.rx_dispatch.specs.Making.{MakesCall}
 use Rattle.rx_model.specs.declared.event.Event.{Event}
 use Rattle.rx_model.specs.declared.event.Noted.{Noted}

@@ -1,6 +1,6 @@
 //! A server on a wire.
 ghost use Rattle.std.specs.Prelude.{◌≡◌, ◌≤◌, ◌^◌, ℕ, [], Some, true, IfErr, IfOk, OnOk};
-ghost use Rattle.rx_dispatch.specs.Handlers.{handlers_of};
+ghost use Rattle.rx_jobs.specs.Handlers.{handlers_of};
 ghost use Rattle.rx_dispatch.specs.Making.{Remembers};
 ghost use Rattle.rx_dispatch.specs.States.{state_of};
 ghost use Rattle.rx_jumbo.specs.declared.sizes.TheConstants.{JUMBO_PARTS};

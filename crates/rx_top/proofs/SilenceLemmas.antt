@@ -1,8 +1,8 @@
 -- Lemmas on what is told of calls that ended, and on calls that end in silence.
 use Rattle.std.proofs.Common.{◌≡◌, ◌⊎◌, ◌≤◌, ℕ, List, [], ◌∷◌, Option, Some, None, Result, Ok, Err}
 use Rattle.std.proofs.Common.{IfOk, inl, inr, refl, subst}
-use Rattle.rx_caller.specs.View.{CallerState}
-use Rattle.rx_caller.specs.declared.caller.TheConstants.{CC_UNMARSHAL}
+use Rattle.rx_asks.specs.View.{CallerState}
+use Rattle.rx_asks.specs.declared.ask.TheConstants.{CC_UNMARSHAL}
 use Rattle.rx_law.proofs.Client.{Silences}
 use Rattle.rx_law.proofs.ClientHistory.{called-turn, client-calls}
 use Rattle.rx_law.specs.Streams.{end_at}

@@ -5,7 +5,7 @@ use Rattle.std.proofs.lemmas.Bool.Decides.{nat_tests}
 use Rattle.std.proofs.lemmas.List.Elements.{All-cons, All-nil}
 use lib.IntN.{negsuc}
 use Rattle.rx_base.specs.Sink.{HasRisen}
-use Rattle.rx_dispatch.specs.Handlers.{Handlers}
+use Rattle.rx_jobs.specs.Handlers.{Handlers}
 use Rattle.rx_law.specs.Promises.{ServerForgotNone}
 use Rattle.rx_law.specs.Times.{Timely}
 use Rattle.rx_model.specs.declared.event.Noted.{Noted}
@@ -17,13 +17,14 @@ use Rattle.rx_script.specs.Saying.{Answering, plan_rows}
 use Rattle.rx_script.specs.Scripts.{script_of}
 use Rattle.rx_words.specs.declared.command.Command.{Command}
 use Rattle.rx_words.specs.declared.command.Command.TheVariants as commands
-use Rattle.rx_world.specs.Answering.{AbortedAsServed, AnswersNoZero, AreDriven, AreServable, EndedAsServed}
-use Rattle.rx_world.specs.Answering.{EndedByLaw, OkAsAnswered}
-use Rattle.rx_world.specs.Follows.{CutOff, Empty, EndlessIn, RefusedAt, Went, Whole, plan_goes}
-use Rattle.rx_world.specs.Lines.{IsWell}
-use Rattle.rx_world.specs.Promises.{AreDistinct, KeepsPromises, plan_nodes}
+use Rattle.rx_plan.specs.Answering.{AbortedAsServed, AnswersNoZero, AreDriven, AreServable, EndedAsServed}
+use Rattle.rx_plan.specs.Answering.{EndedByLaw, OkAsAnswered}
+use Rattle.rx_plan.specs.Follows.{CutOff, Empty, EndlessIn, RefusedAt, Went, Whole, plan_goes}
+use Rattle.rx_plan.specs.Lines.{IsWell}
+use Rattle.rx_plan.specs.Promises.{AreDistinct, plan_nodes}
+use Rattle.rx_world.specs.Runs.{KeepsPromises}
 use Rattle.rx_world.specs.Runs.{RunIs, Tells}
-use Rattle.rx_world.specs.Stages.{Stage}
+use Rattle.rx_plan.specs.Stages.{Stage}
 use Rattle.rx_world.specs.Tells.{Fails, Gains, Told, Wants, fails_last, fails_one, gains_none, gains_one, wants_last}
 use Rattle.rx_world.specs.Tells.{wants_more, wants_one}
 use Rattle.xdr_value.specs.Tests.{differ, is_sound}

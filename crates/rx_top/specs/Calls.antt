@@ -4,7 +4,7 @@ use Rattle.std.specs.Prelude.{is_some, length, Option, Some, None, Result, Ok, E
 use Rattle.std.specs.String.{string_bytes}
 use Rattle.rx_base.specs.Files.{IsNoted}
 use Rattle.rx_base.specs.Sink.{Gained, GainedSome, HasRisen}
-use Rattle.rx_caller.specs.View.{CallerState}
+use Rattle.rx_asks.specs.View.{CallerState}
 use Rattle.rx_jumbo.specs.declared.sizes.TheConstants.{JUMBO_PARTS}
 use Rattle.rx_model.specs.declared.answers.End.{End}
 use Rattle.rx_model.specs.declared.answers.End.TheVariants as ends

@@ -1,6 +1,6 @@
 -- What `sim` makes and leaves, by how it ended. Public clauses cite this module.
 use Rattle.std.specs.Prelude.{◌≡◌, ◌⊎◌, ℕ, List, reverse, All, Some, Ok, IsSomeAnd}
-use Rattle.rx_dispatch.specs.Handlers.{Handlers}
+use Rattle.rx_jobs.specs.Handlers.{Handlers}
 use Rattle.rx_law.specs.Promises.{ServerForgotNone}
 use Rattle.rx_law.specs.Times.{Timely}
 use Rattle.rx_model.specs.declared.event.Noted.{Noted}
@@ -9,11 +9,11 @@ use Rattle.rx_script.specs.declared.outcome.Outcome.{Outcome}
 use Rattle.rx_script.specs.declared.outcome.Outcome.TheVariants as runs
 use Rattle.rx_script.specs.declared.plan.Numbered.{Numbered}
 use Rattle.rx_script.specs.Saying.{Answering, plan_rows}
-use Rattle.rx_world.specs.Answering.{AbortedAsServed, AreDriven, EndedAsServed, EndedByLaw, OkAsAnswered}
-use Rattle.rx_world.specs.Follows.{Went, Whole}
-use Rattle.rx_world.specs.Promises.{AreDistinct, Promises, plan_nodes}
+use Rattle.rx_plan.specs.Answering.{AbortedAsServed, AreDriven, EndedAsServed, EndedByLaw, OkAsAnswered}
+use Rattle.rx_plan.specs.Follows.{Went, Whole}
+use Rattle.rx_plan.specs.Promises.{AreDistinct, Promises, plan_nodes}
 use Rattle.rx_world.specs.Runs.{RunIs}
-use Rattle.rx_world.specs.Stages.{Stage}
+use Rattle.rx_plan.specs.Stages.{Stage}
 use Rattle.rx_world.specs.Tells.{Told}
 use Rattle.xg_check.specs.Meaning.{Meant}
 use Rattle.rx_top.specs.declared.cause.Cause.TheVariants as causes

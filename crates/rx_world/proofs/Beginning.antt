@@ -19,14 +19,16 @@ use Rattle.rx_rules.specs.Classes.{Class}
 use Rattle.rx_rules.specs.Setup.{FitsLimits, Server, unprompted}
 use Rattle.rx_script.specs.declared.outcome.PlanWhy.TheVariants as causes
 use Rattle.rx_script.specs.declared.plan.PlanLine.TheVariants as lines
-use Rattle.rx_world.specs.Follows.{Progress, adds, begins, begun, class_of, fits_limits, has_room, made_node}
-use Rattle.rx_world.specs.Follows.{server_node, slots_of}
-use Rattle.rx_world.specs.Parts.{To, Refused, Ran, ends, stop_of}
+use Rattle.rx_plan.specs.Follows.{Progress, adds, begins, begun, class_of, fits_limits, has_room, made_node}
+use Rattle.rx_plan.specs.Follows.{server_node, slots_of}
+use Rattle.rx_plan.specs.Parts.{To, Refused, ends}
+use Rattle.rx_world.specs.Ran.{Ran, stop_of}
 use Rattle.rx_world.specs.Showing.{AddsNode, IsBegun, IsCounted, ShowsRun, has_client_room, has_slots}
 use Rattle.rx_world.specs.Showing.{started}
-use Rattle.rx_world.specs.Stages.{Shows, Stage, WorldState, jobs_of, service_of, stage_of}
+use Rattle.rx_world.specs.Shown.{Shows, WorldState, jobs_of, stage_of}
+use Rattle.rx_plan.specs.Stages.{Stage, service_of}
 use Rattle.rx_world.specs.declared.runs.Running.{Running}
-use Rattle.rx_world.specs.declared.runs.TheConstants.{MAX_CLIENTS, MAX_SLOTS}
+use Rattle.rx_plan.specs.declared.limits.TheConstants.{MAX_CLIENTS, MAX_SLOTS}
 use Rattle.rx_world.specs.declared.stop.Stop.{Stop}
 use Rattle.rx_world.specs.declared.stop.Stop.TheVariants as stops
 use Rattle.rx_world.proofs.Running as runnings

@@ -3,18 +3,20 @@ use Rattle.std.proofs.Common.{◌≡◌, ◌≢◌, ◌≤◌, ◌<◌, ◌⊎�
 use Rattle.std.proofs.Common.{refl, sym, subst, ap, length, take, drop, set, get_or}
 use Rattle.std.specs.Result.{IsErr, IsErrAnd}
 use Rattle.rx_model.specs.declared.event.Noted.{Noted}
-use Rattle.rx_caller.specs.Asks.{begun as caller_begun, calling}
-use Rattle.rx_caller.specs.declared.caller.TheConstants.{REPLY_BYTES}
-use Rattle.rx_caller.specs.View.{CallerState}
+use Rattle.rx_asks.specs.Asks.{begun as caller_begun, calling}
+use Rattle.rx_asks.specs.declared.ask.TheConstants.{REPLY_BYTES}
+use Rattle.rx_asks.specs.View.{CallerState}
 use Rattle.rx_nodes.specs.Nodes.{NodesState}
 use Rattle.rx_world.specs.declared.stop.Stop.{Stop}
 use Rattle.rx_world.specs.Done.{KeepsDone, LeavesOut, PlaysCallers, is_done_at}
-use Rattle.rx_world.specs.Network.{below}
-use Rattle.rx_world.specs.Parts.{Part, Ran, To, each, stop_of}
-use Rattle.rx_world.specs.Programs.{PlaysTurn}
-use Rattle.rx_world.specs.Stages.{InvokedState, Plays, Shows, Stage, WorldState}
+use Rattle.rx_plan.specs.Network.{below}
+use Rattle.rx_plan.specs.Parts.{Part, To, each}
+use Rattle.rx_world.specs.Ran.{Ran, stop_of}
+use Rattle.rx_world.specs.TurnsPlayed.{PlaysTurn}
+use Rattle.rx_plan.specs.Stages.{InvokedState, Stage}
+use Rattle.rx_world.specs.Shown.{Plays, Shows, WorldState}
 use Rattle.rx_world.specs.Tells.{Told}
-use Rattle.rx_world.specs.Turned.{turns_at, turns_for}
+use Rattle.rx_plan.specs.Turned.{turns_at, turns_for}
 use Rattle.rx_world.proofs.Delivering.{front_around, front_more}
 use Rattle.rx_world.proofs.Done.{each_whole}
 use Rattle.rx_world.proofs.Making.{stop_is}

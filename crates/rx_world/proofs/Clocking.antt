@@ -8,19 +8,22 @@ use Rattle.std.specs.Result.{IsErr, IsErrAnd}
 use Rattle.std.proofs.lemmas.List.{length-map}
 use Rattle.std.proofs.lemmas.Bool.Decides.{nat_tests}
 use Rattle.rx_law.specs.Sides.{moment}
-use Rattle.rx_nodes.specs.Events.{IsClocked}
+use Rattle.rx_events.specs.Events.{IsClocked}
 use Rattle.rx_nodes.specs.Nodes.{IsNodeThere, KeepsOthers, NodesState, client_node, moment_of, nodes_of}
 use Rattle.rx_script.specs.declared.outcome.PlanWhy.TheVariants as causes
-use Rattle.rx_nodes.specs.Waits.{is_later, moments_of, over_nodes}
+use Rattle.rx_events.specs.Waits.{is_later, over_nodes}
+use Rattle.rx_nodes.specs.Nodes.{moments_of}
 use Rattle.rx_nodes.specs.declared.nodes.ClientAt.{ClientAt}
 use Rattle.rx_nodes.proofs.Times.{moment_is, moments_are}
 use Rattle.rx_world.specs.declared.stop.Stop.{Stop}
 use Rattle.rx_world.specs.declared.stop.Stop.TheVariants as stops
-use Rattle.rx_world.specs.Lines.{clocks, clocks_all, is_back, sets_clocks}
-use Rattle.rx_world.specs.Network.{below}
-use Rattle.rx_world.specs.Parts.{Part, Ran, Refused, each, ends, stop_of}
-use Rattle.rx_world.specs.Rounds.{clients_first}
-use Rattle.rx_world.specs.Stages.{Plays, Shows, Stage, WorldState, event}
+use Rattle.rx_plan.specs.Lines.{clocks, clocks_all, is_back, sets_clocks}
+use Rattle.rx_plan.specs.Network.{below}
+use Rattle.rx_plan.specs.Parts.{Part, Refused, each, ends}
+use Rattle.rx_world.specs.Ran.{Ran, stop_of}
+use Rattle.rx_plan.specs.Rounds.{clients_first}
+use Rattle.rx_world.specs.Shown.{Plays, Shows, WorldState}
+use Rattle.rx_plan.specs.Stages.{Stage, event}
 use Rattle.rx_world.specs.Tells.{Told}
 use Rattle.rx_world.proofs.Making.{stop_is, where_fails, where_holds}
 use Rattle.rx_world.proofs.Ordering.{AroundClient, around_client, clients_one, clients_shown}

@@ -8,14 +8,16 @@ use Rattle.rx_model.specs.declared.event.Event.{Event}
 use Rattle.rx_model.specs.declared.names.Host.{Host}
 use Rattle.rx_model.specs.Names.{same_host}
 use Rattle.rx_law.specs.Worlds.{Datagram}
-use Rattle.rx_nodes.specs.Events.{IsTaken}
+use Rattle.rx_events.specs.Events.{IsTaken}
 use Rattle.rx_nodes.specs.Nodes.{IsNodeThere, Makes, NodesState, host_of}
 use Rattle.rx_wire.specs.Turns.{noted}
 use Rattle.rx_world.specs.declared.stop.Stop.{Stop}
 use Rattle.rx_world.specs.declared.stop.Stop.TheVariants as stops
-use Rattle.rx_world.specs.Network.{all_nodes, below, comes_to, delivers, is_for}
-use Rattle.rx_world.specs.Parts.{To, Cut, Part, Ran, by_test, each, ends, stop_of}
-use Rattle.rx_world.specs.Stages.{Plays, PlaysNodes, Shows, Stage, WorldState, event}
+use Rattle.rx_plan.specs.Network.{all_nodes, below, comes_to, delivers, is_for}
+use Rattle.rx_plan.specs.Parts.{To, Cut, Part, by_test, each, ends}
+use Rattle.rx_world.specs.Ran.{Ran, stop_of}
+use Rattle.rx_world.specs.Shown.{Plays, PlaysNodes, Shows, WorldState}
+use Rattle.rx_plan.specs.Stages.{Stage, event}
 use Rattle.rx_world.specs.Tells.{IsTold, Told}
 use Rattle.rx_world.proofs.Finding.{count_shown, host_shown}
 use Rattle.rx_world.proofs.Making.{cut_as, cut_off, each_cut, event_cut, stop_is, where_fails, where_holds}

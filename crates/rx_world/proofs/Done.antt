@@ -7,22 +7,22 @@ use Rattle.std.proofs.lemmas.List.{length-append}
 use Rattle.std.proofs.lemmas.List.Elements.{All-nil, All-cons, All-head, All-tail, All-push, All-weaker}
 use Rattle.rx_model.specs.declared.event.Event.{Event}
 use Rattle.rx_model.specs.declared.event.Noted.{Noted}
-use Rattle.rx_caller.specs.Asks.{asking, begun as caller_begun, calling, done_at, is_done, next_at}
-use Rattle.rx_caller.specs.declared.ask.Ask.TheVariants as asks
-use Rattle.rx_caller.specs.declared.ask.Phase.{Phase}
-use Rattle.rx_caller.specs.declared.ask.Phase.TheVariants as phases
-use Rattle.rx_caller.specs.declared.caller.TheConstants.{REPLY_BYTES}
+use Rattle.rx_asks.specs.Asks.{asking, begun as caller_begun, calling, done_at, is_done, next_at}
+use Rattle.rx_asks.specs.declared.ask.Ask.TheVariants as asks
+use Rattle.rx_asks.specs.declared.ask.Phase.{Phase}
+use Rattle.rx_asks.specs.declared.ask.Phase.TheVariants as phases
+use Rattle.rx_asks.specs.declared.ask.TheConstants.{REPLY_BYTES}
 use Rattle.rx_caller.specs.Turn.{Between, MakesNext, Stays}
-use Rattle.rx_caller.specs.View.{CallerState}
+use Rattle.rx_asks.specs.View.{CallerState}
 use Rattle.rx_rules.specs.Classes.{Class}
 use Rattle.rx_wire.specs.Turns.{Program}
 use Rattle.rx_world.specs.Done.{KeepsDone, LeavesOut, StaysDone, has_both, is_done_at, is_done_if, leaves, no_more}
-use Rattle.rx_world.specs.Network.{below}
-use Rattle.rx_world.specs.Parts.{Came, Cut, Endless, Part, Refused, To, by_test, each, ends, goes_on}
-use Rattle.rx_world.specs.Programs.{Turn, cut_there, goes, is_endless, is_over}
-use Rattle.rx_world.specs.Stages.{InvokedState, Stage, is_client}
-use Rattle.rx_world.specs.Turned.{is_of, turns_at, turns_for, turns_of, turns_where}
-use Rattle.rx_world.proofs.Callers.{one_is}
+use Rattle.rx_plan.specs.Network.{below}
+use Rattle.rx_plan.specs.Parts.{Came, Cut, Endless, Part, Refused, To, by_test, each, ends, goes_on}
+use Rattle.rx_plan.specs.Programs.{Turn, cut_there, goes, is_endless, is_over}
+use Rattle.rx_plan.specs.Stages.{InvokedState, Stage, is_client}
+use Rattle.rx_plan.specs.Turned.{is_of, turns_at, turns_for, turns_of, turns_where}
+use Rattle.rx_plan.proofs.Callers.{one_is}
 use Rattle.rx_world.proofs.Numbers.{below_more}
 
 -- ---- one caller

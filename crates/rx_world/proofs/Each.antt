@@ -2,8 +2,9 @@
 use Rattle.std.proofs.Common.{◌≡◌, ◌⊎◌, List, [], ◌∷◌, ◌++◌, Option, Some, None, refl, inl, inr, sym, subst, ap}
 use Rattle.rx_model.specs.declared.event.Noted.{Noted}
 use Rattle.rx_world.specs.declared.stop.Stop.{Stop}
-use Rattle.rx_world.specs.Parts.{Came, To, Refused, Cut, Endless, Fits, Part, Ran, Then, each, ends, fits_to}
-use Rattle.rx_world.specs.Parts.{goes_on}
+use Rattle.rx_plan.specs.Parts.{Came, To, Refused, Cut, Endless, Part, Then, each, ends}
+use Rattle.rx_world.specs.Ran.{Fits, Ran, fits_to}
+use Rattle.rx_plan.specs.Parts.{goes_on}
 use Rattle.rx_world.specs.Tells.{Gains, Told, gains_none}
 use Rattle.rx_world.proofs.Running.{both, ran_stops, ran_then, ran_to}
 use Rattle.rx_world.proofs.Telling.{Split, split}

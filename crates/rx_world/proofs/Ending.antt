@@ -4,16 +4,17 @@ use Rattle.std.proofs.Common.{ap, inl, inr, false, length, arith}
 use Rattle.std.specs.Prelude.{IsErr, IsErrAnd}
 use Rattle.std.proofs.lemmas.Result.{err_from_is_err_and}
 use Rattle.rx_model.specs.declared.event.Noted.{Noted}
-use Rattle.rx_dispatch.specs.Handlers.{Handlers}
+use Rattle.rx_jobs.specs.Handlers.{Handlers}
 use Rattle.rx_script.specs.declared.outcome.Outcome.{Outcome}
 use Rattle.rx_script.specs.declared.outcome.Outcome.TheVariants as outcomes
 use Rattle.rx_script.specs.declared.plan.Numbered.{Numbered}
-use Rattle.rx_world.specs.Answers.{answer_lines}
-use Rattle.rx_world.specs.Follows.{CutOff, Empty, EndlessIn, Goes, Progress, RefusedAt, Went, Whole, begins}
-use Rattle.rx_world.specs.Follows.{goes_from}
+use Rattle.rx_plan.specs.Answers.{answer_lines}
+use Rattle.rx_plan.specs.Follows.{CutOff, Empty, EndlessIn, Goes, Progress, RefusedAt, Went, Whole, begins}
+use Rattle.rx_plan.specs.Follows.{goes_from}
 use Rattle.rx_world.specs.Runs.{RunIs, Tells}
 use Rattle.rx_world.specs.Showing.{Ends, IsBegun, Made, PutsBy, RunsOn, ShowsRun, ended_at, outcome_of}
-use Rattle.rx_world.specs.Stages.{Shows, Stage, WorldState}
+use Rattle.rx_world.specs.Shown.{Shows, WorldState}
+use Rattle.rx_plan.specs.Stages.{Stage}
 use Rattle.rx_world.specs.Tells.{Gains, Told, gains_none, wants_more}
 use Rattle.rx_world.specs.declared.runs.Running.{Running}
 use Rattle.rx_world.specs.declared.stop.Stop.{Stop}

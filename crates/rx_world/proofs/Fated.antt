@@ -7,12 +7,14 @@ use Rattle.rand_pcg.specs.Pcg.{pcg32}
 use Rattle.rx_law.specs.Worlds.{Datagram}
 use Rattle.rx_model.specs.declared.event.Noted.{Noted}
 use Rattle.rx_world.specs.declared.stop.Stop.{Stop}
-use Rattle.rx_world.specs.declared.lossy.Fate.{Fate}
-use Rattle.rx_world.specs.Lossy.{comes, drawn, fate_of, fated, gathered, stays}
-use Rattle.rx_world.specs.Network.{delivers}
-use Rattle.rx_world.specs.Parts.{Came, To, Refused, Cut, Endless, Fits, Part, Ran, each, goes_on, stop_of}
-use Rattle.rx_world.specs.Parts.{fits_endless, fits_to, fits_refused, fits_wants, fits_fails}
-use Rattle.rx_world.specs.Stages.{Plays, Shows, Stage, WorldState}
+use Rattle.rx_plan.specs.declared.fate.Fate.{Fate}
+use Rattle.rx_plan.specs.Lossy.{comes, drawn, fate_of, fated, gathered, stays}
+use Rattle.rx_plan.specs.Network.{delivers}
+use Rattle.rx_plan.specs.Parts.{Came, To, Refused, Cut, Endless, Part, each, goes_on}
+use Rattle.rx_world.specs.Ran.{Fits, Ran, stop_of}
+use Rattle.rx_world.specs.Ran.{fits_endless, fits_to, fits_refused, fits_wants, fits_fails}
+use Rattle.rx_world.specs.Shown.{Plays, Shows, WorldState}
+use Rattle.rx_plan.specs.Stages.{Stage}
 use Rattle.rx_world.specs.Tells.{Told}
 use Rattle.rx_world.proofs.Delivering.{delivers_cut, front_around}
 use Rattle.rx_world.proofs.Each.{each_then}

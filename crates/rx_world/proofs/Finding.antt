@@ -8,8 +8,9 @@ use Rattle.std.proofs.lemmas.List.{length-map}
 use Rattle.rx_model.specs.declared.names.Host.{Host}
 use Rattle.rx_nodes.specs.Nodes.{IsNodeThere, NodesState, client_node, host_of, nodes_of}
 use Rattle.rx_nodes.specs.declared.nodes.ClientAt.{ClientAt}
-use Rattle.rx_world.specs.Finds.{node_at, where_true}
-use Rattle.rx_world.specs.Stages.{Shows, Stage, WorldState, host_at, is_client}
+use Rattle.rx_plan.specs.Finds.{node_at, where_true}
+use Rattle.rx_world.specs.Shown.{Shows, WorldState}
+use Rattle.rx_plan.specs.Stages.{Stage, host_at, is_client}
 use Rattle.rx_world.proofs.Stepping.{nodes_shown}
 
 -- how many nodes there are

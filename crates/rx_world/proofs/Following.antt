@@ -2,7 +2,8 @@
 use Rattle.std.proofs.Common.{◌≡◌, List, [], ◌∷◌, ◌++◌, Option, Some, None, refl, inl, inr, sym, subst}
 use Rattle.rx_world.specs.declared.stop.Stop.{Stop}
 use Rattle.rx_world.specs.declared.stop.Stop.TheVariants as stops
-use Rattle.rx_world.specs.Parts.{Cut, To, Part, Ran, Then, each, ends, fits_wants}
+use Rattle.rx_plan.specs.Parts.{Cut, To, Part, Then, each, ends}
+use Rattle.rx_world.specs.Ran.{Ran, fits_wants}
 use Rattle.rx_world.specs.Tells.{Told, wants_more}
 use Rattle.rx_world.proofs.Each.{each_ended, each_more}
 use Rattle.rx_world.proofs.Running.{ran_stops, ran_then, ran_to}

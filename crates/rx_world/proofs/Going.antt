@@ -7,10 +7,11 @@ use Rattle.rx_nodes.specs.Nodes.{IsNodeThere, NodesState}
 use Rattle.rx_wire.specs.Turns.{Program, noted}
 use Rattle.rx_world.specs.declared.stop.Stop.{Stop}
 use Rattle.rx_world.specs.declared.stop.Stop.TheVariants as stops
-use Rattle.rx_world.specs.Parts.{stop_of}
-use Rattle.rx_world.specs.Programs.{CallStops, CallsNext, CallsTold, GoesOn, IsOver, Knows, PlaysTurn}
-use Rattle.rx_world.specs.Programs.{stops_told, wants_behind, wants_first}
-use Rattle.rx_world.specs.Stages.{Shows, Stage, WorldState}
+use Rattle.rx_world.specs.Ran.{stop_of}
+use Rattle.rx_world.specs.TurnsPlayed.{CallStops, CallsNext, CallsTold, GoesOn, IsOver, Knows, PlaysTurn}
+use Rattle.rx_world.specs.TurnsPlayed.{stops_told, wants_behind, wants_first}
+use Rattle.rx_world.specs.Shown.{Shows, WorldState}
+use Rattle.rx_plan.specs.Stages.{Stage}
 use Rattle.rx_world.specs.Tells.{GainsOne, Told}
 use Rattle.rx_world.proofs.Stepping.{made_here, shown_behind}
 use Rattle.rx_world.proofs.Turning.{Began, Next, began_endless, began_here, began_more, began_over, began_stops}

@@ -12,11 +12,14 @@ use Rattle.rx_jumbo.specs.JoinerState.{JoinerState}
 use Rattle.rx_jumbo.specs.declared.sizes.TheConstants.{JUMBO_PARTS}
 use Rattle.rx_nodes.proofs.Waiting.{rest_is}
 use Rattle.rx_script.specs.declared.outcome.PlanWhy.TheVariants as causes
-use Rattle.rx_world.specs.Finds.{Found, at_packet, numbered}
-use Rattle.rx_world.specs.Lines.{can_join, joined, joins, joins_all, joins_to, jumbo_line, packets_in}
-use Rattle.rx_world.specs.Network.{delivers}
-use Rattle.rx_world.specs.Parts.{Cut, Part, Ran, Refused, by_test, each, ends, stop_of}
-use Rattle.rx_world.specs.Stages.{Plays, Shows, Stage, WorldState}
+use Rattle.rx_world.specs.LinesPlayed.{Found}
+use Rattle.rx_plan.specs.Finds.{at_packet, numbered}
+use Rattle.rx_plan.specs.Lines.{can_join, joined, joins, joins_all, joins_to, jumbo_line, packets_in}
+use Rattle.rx_plan.specs.Network.{delivers}
+use Rattle.rx_plan.specs.Parts.{Cut, Part, Refused, by_test, each, ends}
+use Rattle.rx_world.specs.Ran.{Ran, stop_of}
+use Rattle.rx_world.specs.Shown.{Plays, Shows, WorldState}
+use Rattle.rx_plan.specs.Stages.{Stage}
 use Rattle.rx_world.specs.Tells.{Told}
 use Rattle.rx_world.specs.declared.stop.Stop.{Stop}
 use Rattle.rx_world.specs.declared.stop.Stop.TheVariants as stops

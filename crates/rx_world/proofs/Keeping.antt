@@ -10,16 +10,20 @@ use Rattle.rx_model.specs.declared.names.Host.{Host}
 use Rattle.rx_law.specs.Worlds.{Datagram}
 use Rattle.rx_nodes.specs.Nodes.{IsNodeThere, host_of}
 use Rattle.rx_script.specs.declared.outcome.PlanWhy.TheVariants as causes
-use Rattle.rx_world.specs.declared.network_lines.TheConstants.{MAX_PACKETS}
+use Rattle.rx_plan.specs.declared.limits.TheConstants.{MAX_PACKETS}
 use Rattle.rx_world.specs.declared.stop.Stop.{Stop}
 use Rattle.rx_world.specs.declared.stop.Stop.TheVariants as stops
-use Rattle.rx_world.specs.declared.world.ClientCall.{ClientCall}
-use Rattle.rx_world.specs.Finds.{numbered}
-use Rattle.rx_world.specs.Lines.{KeepsPacket, given_packet, keeps_caller, with_accepted, with_called, with_caller}
-use Rattle.rx_world.specs.Lines.{with_packet}
-use Rattle.rx_world.specs.Parts.{To, Refused, Ran, ends, stop_of}
-use Rattle.rx_world.specs.Stages.{Shows, Stage, WorldState, host_at, name_accepted, name_called}
-use Rattle.rx_world.specs.Stages.{packet_given, stage_of, with_some}
+use Rattle.rx_plan.specs.declared.call.ClientCall.{ClientCall}
+use Rattle.rx_plan.specs.Finds.{numbered}
+use Rattle.rx_world.specs.LinesPlayed.{KeepsPacket, keeps_caller}
+use Rattle.rx_plan.specs.Lines.{given_packet, with_accepted, with_called, with_caller}
+use Rattle.rx_plan.specs.Lines.{with_packet}
+use Rattle.rx_plan.specs.Parts.{To, Refused, ends}
+use Rattle.rx_world.specs.Ran.{Ran, stop_of}
+use Rattle.rx_world.specs.Shown.{Shows, WorldState}
+use Rattle.rx_plan.specs.Stages.{Stage, host_at, name_accepted, name_called}
+use Rattle.rx_plan.specs.Stages.{packet_given, with_some}
+use Rattle.rx_world.specs.Shown.{stage_of}
 use Rattle.rx_world.specs.Tells.{Told}
 use Rattle.rx_world.proofs.Finding.{host_shown}
 use Rattle.rx_world.proofs.Running.{ran_refused, ran_to, ran_wants}

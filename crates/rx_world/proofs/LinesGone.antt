@@ -9,17 +9,19 @@ use Rattle.std.proofs.lemmas.Bool.{false≢true}
 use Rattle.rx_model.specs.declared.event.Noted.{Noted}
 use Rattle.rx_model.specs.declared.names.Host.{Host}
 use Rattle.rx_model.specs.declared.names.Limits.{Limits}
-use Rattle.rx_dispatch.specs.Handlers.{Handlers}
+use Rattle.rx_jobs.specs.Handlers.{Handlers}
 use Rattle.rx_script.specs.declared.plan.Numbered.{Numbered}
-use Rattle.rx_world.specs.Follows.{CutOff, EndlessIn, Goes, Progress, RefusedAt, Went, Whole, all, cut, endless, next}
-use Rattle.rx_world.specs.Follows.{next_part, refused}
+use Rattle.rx_plan.specs.Follows.{CutOff, EndlessIn, Goes, Progress, RefusedAt, Went, Whole, all, cut, endless, next}
+use Rattle.rx_plan.specs.Follows.{next_part, refused}
 use Rattle.rx_script.specs.declared.plan.PlanLine.{PlanLine}
 use Rattle.rx_script.specs.declared.plan.PlanLine.TheVariants as lines
-use Rattle.rx_world.specs.Lines.{line_part}
-use Rattle.rx_world.specs.Parts.{Came, To, Fits, Part, Ran, ends}
-use Rattle.rx_world.specs.Parts.{fits_endless, fits_refused, fits_wants, fits_fails}
+use Rattle.rx_plan.specs.Lines.{line_part}
+use Rattle.rx_plan.specs.Parts.{Came, To, Part, ends}
+use Rattle.rx_world.specs.Ran.{Fits, Ran}
+use Rattle.rx_world.specs.Ran.{fits_endless, fits_refused, fits_wants, fits_fails}
 use Rattle.rx_world.specs.Showing.{IsCounted, Made, MakesLine, ShowsRun, ended_at, other_part}
-use Rattle.rx_world.specs.Stages.{Plays, Shows, Stage, WorldState}
+use Rattle.rx_world.specs.Shown.{Plays, Shows, WorldState}
+use Rattle.rx_plan.specs.Stages.{Stage}
 use Rattle.rx_world.specs.Tells.{Gains, Told, gains_none}
 use Rattle.rx_world.specs.declared.runs.Running.{Running}
 use Rattle.rx_world.specs.declared.stop.Stop.{Stop}

@@ -2,10 +2,11 @@
 use Rattle.std.proofs.Common.{◌≡◌, ℕ, ℤ, List, [], Option, subst}
 use Rattle.rx_script.specs.declared.outcome.PlanWhy.TheVariants as causes
 use Rattle.rx_world.specs.declared.stop.Stop.{Stop}
-use Rattle.rx_world.specs.Finds.{at_client, client_at}
-use Rattle.rx_world.specs.Lines.{IsInvoked, invokes, with_called, with_caller}
-use Rattle.rx_world.specs.Parts.{Cut, Part, To}
-use Rattle.rx_world.specs.Stages.{Plays, Stage, WorldState, name_called}
+use Rattle.rx_plan.specs.Finds.{at_client, client_at}
+use Rattle.rx_plan.specs.Lines.{IsInvoked, invokes, with_called, with_caller}
+use Rattle.rx_plan.specs.Parts.{Cut, Part, To}
+use Rattle.rx_world.specs.Shown.{Plays, WorldState}
+use Rattle.rx_plan.specs.Stages.{Stage, name_called}
 use Rattle.rx_world.specs.Tells.{Told}
 use Rattle.rx_world.proofs.Making.{event_with_cut, named_cut}
 

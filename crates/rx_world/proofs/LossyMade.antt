@@ -4,11 +4,12 @@ use Rattle.std.specs.Prelude.{IsErr, IsErrAnd}
 use Rattle.rx_law.specs.Worlds.{Datagram}
 use Rattle.rx_world.specs.declared.stop.Stop.{Stop}
 use Rattle.rx_world.specs.declared.stop.Stop.TheVariants as stops
-use Rattle.rx_world.specs.declared.lossy.Fate.{Fate}
-use Rattle.rx_world.specs.Lossy.{comes}
-use Rattle.rx_world.specs.Network.{delivers}
-use Rattle.rx_world.specs.Parts.{each, stop_of}
-use Rattle.rx_world.specs.Stages.{Plays, Shows, WorldState}
+use Rattle.rx_plan.specs.declared.fate.Fate.{Fate}
+use Rattle.rx_plan.specs.Lossy.{comes}
+use Rattle.rx_plan.specs.Network.{delivers}
+use Rattle.rx_plan.specs.Parts.{each}
+use Rattle.rx_world.specs.Ran.{stop_of}
+use Rattle.rx_world.specs.Shown.{Plays, Shows, WorldState}
 use Rattle.rx_world.specs.Tells.{Told}
 use Rattle.rx_world.proofs.Following.{on_none, on_one, on_stops}
 use Rattle.rx_world.proofs.Making.{stop_is}

@@ -6,17 +6,21 @@ use Rattle.rand_pcg.specs.Lcg.{Lcg, increment_of, started}
 use Rattle.rand_pcg.specs.Pcg.{multiplier_64}
 use Rattle.rx_model.specs.declared.event.Noted.{Noted}
 use Rattle.rx_law.specs.Worlds.{Datagram}
-use Rattle.rx_dispatch.specs.Handlers.{Handlers}
+use Rattle.rx_jobs.specs.Handlers.{Handlers}
 use Rattle.rx_script.specs.Saying.{Answering}
 use Rattle.rx_nodes.specs.Nodes.{Standing, nodes_of}
-use Rattle.rx_nodes.specs.Waits.{any_lives}
+use Rattle.rx_events.specs.Waits.{any_lives}
 use Rattle.rx_world.specs.declared.stop.Stop.{Stop}
-use Rattle.rx_world.specs.Lossy.{Lossy, PlaysLossy, ShowsLossy, comes, drawn, fated, gathered, lossy, lossy_round}
-use Rattle.rx_world.specs.Lossy.{lossy_rounds, stays}
-use Rattle.rx_world.specs.Network.{delivers}
-use Rattle.rx_world.specs.Parts.{Part, Ran, Then, To, by_test, each, ends, stop_of}
-use Rattle.rx_world.specs.Rounds.{PlaysGiven, ShowsGiven, clients_first, polls, polls_out, settles, turns}
-use Rattle.rx_world.specs.Stages.{Plays, Shows, Stage, WorldState}
+use Rattle.rx_plan.specs.Lossy.{Lossy, comes, drawn, fated, gathered, lossy, lossy_round}
+use Rattle.rx_world.specs.RoundsPlayed.{PlaysLossy, ShowsLossy}
+use Rattle.rx_plan.specs.Lossy.{lossy_rounds, stays}
+use Rattle.rx_plan.specs.Network.{delivers}
+use Rattle.rx_plan.specs.Parts.{Part, Then, To, by_test, each, ends}
+use Rattle.rx_world.specs.Ran.{Ran, stop_of}
+use Rattle.rx_world.specs.RoundsPlayed.{PlaysGiven, ShowsGiven}
+use Rattle.rx_plan.specs.Rounds.{clients_first, polls, polls_out, settles, turns}
+use Rattle.rx_world.specs.Shown.{Plays, Shows, WorldState}
+use Rattle.rx_plan.specs.Stages.{Stage}
 use Rattle.rx_world.specs.Tells.{Told}
 use Rattle.rx_world.proofs.Delivering.{delivers_cut}
 use Rattle.rx_world.proofs.Fated.{both_play, front_stops}

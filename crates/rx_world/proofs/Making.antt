@@ -4,23 +4,26 @@ use Rattle.std.proofs.Common.{refl, sym, subst, ap, arith, slice_get, inl, inr}
 use Rattle.std.specs.Result.{IsErr, IsErrAnd}
 use Rattle.rx_model.specs.declared.names.Host.{Host}
 use Rattle.rx_model.specs.declared.event.Event.{Event}
-use Rattle.rx_nodes.specs.Events.{IsLinked}
+use Rattle.rx_events.specs.Events.{IsLinked}
 use Rattle.rx_nodes.specs.Nodes.{IsNodeThere, Makes, NodesState, host_of}
 use Rattle.rx_script.specs.declared.outcome.PlanWhy.{PlanWhy}
 use Rattle.rx_script.specs.declared.outcome.PlanWhy.TheVariants as causes
 use Rattle.rx_wire.specs.Turns.{noted}
 use Rattle.rx_world.specs.declared.stop.Stop.{Stop}
 use Rattle.rx_world.specs.declared.stop.Stop.TheVariants as stops
-use Rattle.rx_world.specs.Finds.{Found, found_or}
-use Rattle.rx_dispatch.specs.Handlers.{Handlers}
+use Rattle.rx_world.specs.LinesPlayed.{Found}
+use Rattle.rx_plan.specs.Finds.{found_or}
+use Rattle.rx_jobs.specs.Handlers.{Handlers}
 use Rattle.rx_script.specs.declared.plan.PlanLine.{PlanLine}
-use Rattle.rx_world.specs.Lines.{IsWell, connects, line_part}
-use Rattle.rx_world.specs.Parts.{Came, To, Refused, Cut, One, Part, Ran, by_test, each, ends, fits_wants}
-use Rattle.rx_world.specs.Parts.{not_made}
-use Rattle.rx_world.specs.Parts.{stop_of}
-use Rattle.rx_world.specs.Stages.{IsAllowedNext, Plays, Shows, Stage, WorldState, event, event_with, host_at}
-use Rattle.rx_world.specs.Stages.{service_of}
-use Rattle.rx_world.specs.Stages.{with_event}
+use Rattle.rx_plan.specs.Lines.{IsWell, connects, line_part}
+use Rattle.rx_plan.specs.Parts.{Came, To, Refused, Cut, One, Part, by_test, each, ends}
+use Rattle.rx_world.specs.Ran.{Ran, fits_wants}
+use Rattle.rx_plan.specs.Parts.{not_made}
+use Rattle.rx_world.specs.Ran.{stop_of}
+use Rattle.rx_plan.specs.Stages.{IsAllowedNext, Stage, event, event_with, host_at}
+use Rattle.rx_world.specs.Shown.{Plays, Shows, WorldState}
+use Rattle.rx_plan.specs.Stages.{service_of}
+use Rattle.rx_plan.specs.Stages.{with_event}
 use Rattle.rx_world.specs.Tells.{IsTold, Told, wants_more}
 use Rattle.rx_world.proofs.Finding.{host_shown}
 use Rattle.rx_world.proofs.Running.{ran_none, ran_one, ran_refused, ran_stops, ran_then, ran_to, ran_wants}

@@ -10,10 +10,12 @@ use Rattle.rx_model.specs.declared.names.Host.{Host}
 use Rattle.rx_node.proofs.TableSteps.{decided}
 use Rattle.rx_nodes.specs.Nodes.{IsNodeThere, NodesState, client_node, host_of, nodes_of}
 use Rattle.rx_nodes.specs.declared.nodes.ClientAt.{ClientAt}
-use Rattle.rx_world.specs.Network.{below}
-use Rattle.rx_world.specs.Parts.{Part}
-use Rattle.rx_world.specs.Rounds.{Polled, PlaysGiven, clients_first}
-use Rattle.rx_world.specs.Stages.{Plays, PlaysNodes, Shows, Stage, WorldState, host_at}
+use Rattle.rx_plan.specs.Network.{below}
+use Rattle.rx_plan.specs.Parts.{Part}
+use Rattle.rx_plan.specs.Rounds.{Polled, clients_first}
+use Rattle.rx_world.specs.RoundsPlayed.{PlaysGiven}
+use Rattle.rx_world.specs.Shown.{Plays, PlaysNodes, Shows, WorldState}
+use Rattle.rx_plan.specs.Stages.{Stage, host_at}
 use Rattle.rx_world.specs.Tells.{Told}
 use Rattle.rx_world.specs.declared.stop.Stop.{Stop}
 use Rattle.rx_world.proofs.Stepping.{nodes_shown}

@@ -2,9 +2,10 @@
 use Rattle.std.proofs.Common.{◌≡◌, ◌<◌, ◌≤◌, ◌∙◌, ◌+◌, ℕ, zero, suc, List, [], ◌∷◌, ◌++◌, refl, sym, subst}
 use Rattle.std.proofs.Common.{ap, inl, inr}
 use Rattle.std.proofs.Common.{arith, append_assoc, drop, length, length-append, add-one, ◌⊎◌}
-use Rattle.rx_world.specs.Network.{below}
-use Rattle.rx_world.specs.Rounds.{clients_first}
-use Rattle.rx_world.specs.Stages.{Shows, Stage, WorldState}
+use Rattle.rx_plan.specs.Network.{below}
+use Rattle.rx_plan.specs.Rounds.{clients_first}
+use Rattle.rx_world.specs.Shown.{Shows, WorldState}
+use Rattle.rx_plan.specs.Stages.{Stage}
 use Rattle.rx_world.proofs.Finding.{count_shown}
 
 -- ---- the first numbers

@@ -3,8 +3,8 @@ use Rattle.std.proofs.Common.{◌≡◌, [], ◌∷◌, None, refl}
 use Rattle.rx_model.specs.declared.names.Host.{Host}
 use Rattle.rx_model.specs.declared.names.Limits.{Limits}
 use Rattle.rx_script.specs.declared.plan.PlanLine.TheVariants as lines
-use Rattle.rx_world.specs.Follows.{client_node, server_node}
-use Rattle.rx_world.specs.Promises.{plan_nodes}
+use Rattle.rx_plan.specs.Follows.{client_node, server_node}
+use Rattle.rx_plan.specs.Promises.{plan_nodes}
 
 -- the limits of a line that names none
 abbrev limits : Limits

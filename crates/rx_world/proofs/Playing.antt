@@ -2,8 +2,9 @@
 use Rattle.std.proofs.Common.{List, [], ◌∷◌, ◌++◌, Option, Some, None}
 use Rattle.rx_world.specs.declared.stop.Stop.{Stop}
 use Rattle.rx_world.specs.declared.stop.Stop.TheVariants as stops
-use Rattle.rx_world.specs.Parts.{Part, Then, To, each, ends}
-use Rattle.rx_world.specs.Stages.{Plays, Shows, Stage, WorldState}
+use Rattle.rx_plan.specs.Parts.{Part, Then, To, each, ends}
+use Rattle.rx_world.specs.Shown.{Plays, Shows, WorldState}
+use Rattle.rx_plan.specs.Stages.{Stage}
 use Rattle.rx_world.specs.Tells.{Told}
 use Rattle.rx_world.proofs.Each.{each_ended, each_more}
 use Rattle.rx_world.proofs.Running.{ran_stops, ran_then, ran_to, ran_wants}

@@ -5,18 +5,21 @@ use Rattle.std.specs.Prelude.{IfOk, IfErr, IsErr, IsErrAnd}
 use Rattle.rx_model.specs.declared.event.Event.{Event}
 use Rattle.rx_model.specs.declared.names.Host.{Host}
 use Rattle.rx_law.specs.Worlds.{Datagram}
-use Rattle.rx_nodes.specs.Events.{IsPolled}
+use Rattle.rx_events.specs.Events.{IsPolled}
 use Rattle.rx_nodes.specs.Nodes.{IsNodeThere, Makes, NodesState, host_of}
 use Rattle.rx_wire.specs.Turns.{noted}
 use Rattle.rx_world.specs.declared.stop.Stop.{Stop}
 use Rattle.rx_world.specs.declared.stop.Stop.TheVariants as stops
-use Rattle.rx_world.specs.Parts.{Ran}
-use Rattle.rx_world.specs.Programs.{CallStops, CallsNext, CallsTold, Knows, PlaysTurn, Turn}
-use Rattle.rx_world.specs.Programs.{stops_told, wants_behind, wants_first}
-use Rattle.rx_world.specs.Rounds.{PlaysGiven, Polling, PollsOn, ShowsGiven, ended_with, heard_poll, more_from}
-use Rattle.rx_world.specs.Rounds.{polling}
-use Rattle.rx_world.specs.Rounds.{polls_at, polls_out}
-use Rattle.rx_world.specs.Stages.{Stage, WorldState}
+use Rattle.rx_world.specs.Ran.{Ran}
+use Rattle.rx_world.specs.TurnsPlayed.{CallStops, CallsNext, CallsTold, Knows, PlaysTurn}
+use Rattle.rx_plan.specs.Programs.{Turn}
+use Rattle.rx_world.specs.TurnsPlayed.{stops_told, wants_behind, wants_first}
+use Rattle.rx_world.specs.RoundsPlayed.{PlaysGiven, PollsOn, ShowsGiven, ended_with, more_from}
+use Rattle.rx_plan.specs.Rounds.{Polling, heard_poll}
+use Rattle.rx_plan.specs.Rounds.{polling}
+use Rattle.rx_plan.specs.Rounds.{polls_at, polls_out}
+use Rattle.rx_plan.specs.Stages.{Stage}
+use Rattle.rx_world.specs.Shown.{WorldState}
 use Rattle.rx_world.specs.Tells.{GainsOne, IsTold, Told}
 use Rattle.rx_world.proofs.Following.{ran_as}
 use Rattle.rx_world.proofs.Going.{Going, going_told, turn_whole}

@@ -12,10 +12,10 @@ use Rattle.xdr_value.specs.Data.{Procs, Types}
 use Rattle.rx_script.specs.declared.outcome.Outcome.{Outcome}
 use Rattle.rx_script.specs.declared.outcome.Outcome.TheVariants as outcomes
 use Rattle.rx_script.specs.declared.plan.Numbered.{Numbered}
-use Rattle.rx_world.specs.Answers.{answer_line, answer_lines}
+use Rattle.rx_plan.specs.Answers.{answer_line, answer_lines}
 use Rattle.rx_world.specs.Runs.{PutsAll}
 use Rattle.rx_world.specs.Showing.{PutsBy}
-use Rattle.rx_world.specs.Stages.{InvokedState}
+use Rattle.rx_plan.specs.Stages.{InvokedState}
 use Rattle.rx_world.specs.Tells.{Told}
 
 -- ---- lines

@@ -1,10 +1,10 @@
 -- Rounds by the handlers of the same script.
 use Rattle.std.proofs.Common.{◌≡◌, List, Option, subst}
-use Rattle.rx_dispatch.specs.Handlers.{Handlers}
+use Rattle.rx_jobs.specs.Handlers.{Handlers}
 use Rattle.rx_script.specs.Saying.{Answering}
 use Rattle.rx_world.specs.declared.stop.Stop.{Stop}
-use Rattle.rx_world.specs.Rounds.{round}
-use Rattle.rx_world.specs.Stages.{Plays, WorldState}
+use Rattle.rx_plan.specs.Rounds.{round}
+use Rattle.rx_world.specs.Shown.{Plays, WorldState}
 use Rattle.rx_world.specs.Tells.{Told}
 
 pub round_by : (hs : List Answering → Handlers) (now old : List Answering) (w new : WorldState) (stop : Option Stop)

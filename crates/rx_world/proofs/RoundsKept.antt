@@ -5,13 +5,13 @@ use Rattle.std.proofs.Common.{arith}
 use Rattle.std.specs.Prelude.{nat_le, nat_lt}
 use Rattle.std.proofs.lemmas.Bool.Decides.{nat_tests}
 use Rattle.rx_law.specs.Worlds.{Datagram}
-use Rattle.rx_dispatch.specs.Handlers.{Handlers}
+use Rattle.rx_jobs.specs.Handlers.{Handlers}
 use Rattle.rx_script.specs.Saying.{Answering}
 use Rattle.rx_world.specs.declared.stop.Stop.{Stop}
-use Rattle.rx_world.specs.Network.{delivers}
-use Rattle.rx_world.specs.Parts.{each}
-use Rattle.rx_world.specs.Rounds.{turns}
-use Rattle.rx_world.specs.Stages.{Plays, WorldState}
+use Rattle.rx_plan.specs.Network.{delivers}
+use Rattle.rx_plan.specs.Parts.{each}
+use Rattle.rx_plan.specs.Rounds.{turns}
+use Rattle.rx_world.specs.Shown.{Plays, WorldState}
 use Rattle.rx_world.specs.Tells.{Told}
 
 -- a time that is one, and less than what is left to the limit

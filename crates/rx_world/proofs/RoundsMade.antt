@@ -10,20 +10,24 @@ use Rattle.std.proofs.lemmas.Bool.Decides.{nat_tests}
 use Rattle.rx_model.specs.declared.event.Noted.{Noted}
 use Rattle.rx_law.specs.Sides.{moment}
 use Rattle.rx_law.specs.Worlds.{Datagram}
-use Rattle.rx_dispatch.specs.Handlers.{Handlers}
-use Rattle.rx_nodes.specs.Events.{IsClocked}
+use Rattle.rx_jobs.specs.Handlers.{Handlers}
+use Rattle.rx_events.specs.Events.{IsClocked}
 use Rattle.rx_nodes.specs.Nodes.{IsNodeThere, KeepsOthers, NodesState, Standing, moment_of, nodes_of}
-use Rattle.rx_nodes.specs.Waits.{any_lives, latest, least_wait, moments_of, over_nodes}
+use Rattle.rx_events.specs.Waits.{any_lives, latest, least_wait, over_nodes}
+use Rattle.rx_nodes.specs.Nodes.{moments_of}
 use Rattle.rx_nodes.specs.declared.nodes.ClientAt.{ClientAt}
 use Rattle.rx_nodes.proofs.Times.{moment_is, moments_are}
 use Rattle.rx_world.specs.declared.stop.Stop.{Stop}
-use Rattle.rx_world.specs.Network.{below, delivers}
-use Rattle.rx_world.specs.Parts.{Part, Ran, Then, To, each, ends, stop_of}
-use Rattle.rx_world.specs.Rounds.{PlaysGiven, Polled, ShowsGiven, clients_first, may_move, moves_by, moves_on, polls}
-use Rattle.rx_world.specs.Rounds.{polls_out, round, rounds, settles, turns, waits}
-use Rattle.rx_world.specs.Stages.{Plays, Shows, Stage, WorldState, event}
+use Rattle.rx_plan.specs.Network.{below, delivers}
+use Rattle.rx_plan.specs.Parts.{Part, Then, To, each, ends}
+use Rattle.rx_world.specs.Ran.{Ran, stop_of}
+use Rattle.rx_world.specs.RoundsPlayed.{PlaysGiven, ShowsGiven}
+use Rattle.rx_plan.specs.Rounds.{Polled, clients_first, may_move, moves_by, moves_on, polls}
+use Rattle.rx_plan.specs.Rounds.{polls_out, round, rounds, settles, turns, waits}
+use Rattle.rx_world.specs.Shown.{Plays, Shows, WorldState}
+use Rattle.rx_plan.specs.Stages.{Stage, event}
 use Rattle.rx_world.specs.Tells.{Told}
-use Rattle.rx_world.specs.Turned.{dispatches, turns_all}
+use Rattle.rx_plan.specs.Turned.{dispatches, turns_all}
 use Rattle.rx_world.proofs.Clocking.{moment_kept}
 use Rattle.rx_world.proofs.Following.{PlaysOn, on_listed, on_one, on_stops}
 use Rattle.rx_world.proofs.Making.{stop_is, where_fails, where_holds}

@@ -6,8 +6,10 @@ use Rattle.rx_script.specs.declared.outcome.PlanWhy.{PlanWhy}
 use Rattle.rx_wire.specs.Turns.{noted}
 use Rattle.rx_world.specs.declared.stop.Stop.{Stop}
 use Rattle.rx_world.specs.declared.stop.Stop.TheVariants as stops
-use Rattle.rx_world.specs.Parts.{Came, To, Refused, Cut, Endless, Fits, One, Part, Ran, Then, cut_behind, ends}
-use Rattle.rx_world.specs.Parts.{fits_endless, fits_to, fits_refused, fits_wants, fits_fails, makes, not_made}
+use Rattle.rx_plan.specs.Parts.{Came, To, Refused, Cut, Endless, One, Part, Then, cut_behind, ends}
+use Rattle.rx_world.specs.Ran.{Fits, Ran}
+use Rattle.rx_world.specs.Ran.{fits_endless, fits_to, fits_refused, fits_wants, fits_fails}
+use Rattle.rx_plan.specs.Parts.{makes, not_made}
 use Rattle.rx_world.specs.Tells.{Gains, IsTold, Told, fails_last, gains_none, gains_one}
 use Rattle.rx_world.specs.Tells.{wants_last, wants_more}
 use Rattle.rx_world.proofs.Telling.{fails_behind, gains_both, wants_behind}

@@ -3,12 +3,13 @@ use Rattle.std.proofs.Common.{◌≡◌, ◌∙◌, ◌-◌, ℕ, zero, suc, len
 use Rattle.std.proofs.Common.{Some, None, Result, Ok, Err}
 use Rattle.std.proofs.Common.{refl, sym, subst, ap}
 use Rattle.std.specs.Prelude.{IfOk, IsErrAnd, option_map, slice_get}
-use Rattle.rx_caller.specs.Asks.{calling}
+use Rattle.rx_asks.specs.Asks.{calling}
 use Rattle.rx_caller.specs.Turn.{Between, Does, MakesNext, Stays}
 use Rattle.rx_caller.specs.Turn as caller_turns
-use Rattle.rx_dispatch.specs.Dispatching.{RoundState, Turning, dispatching, over, turning_of}
-use Rattle.rx_dispatch.specs.Handlers.{Handlers}
-use Rattle.rx_dispatch.specs.Jobs.{JobState}
+use Rattle.rx_dispatch.specs.Rounds.{RoundState, turning_of}
+use Rattle.rx_jobs.specs.Dispatching.{Turning, dispatching, over}
+use Rattle.rx_jobs.specs.Handlers.{Handlers}
+use Rattle.rx_jobs.specs.Jobs.{JobState}
 use Rattle.rx_dispatch.specs.Making.{Kept, MakesCall, NextCall}
 use Rattle.rx_model.specs.declared.event.Event.{Event}
 use Rattle.rx_node.specs.Node.{NodeState, setup_of}
@@ -23,11 +24,11 @@ use Rattle.rx_token.specs.Chosen.{chosen}
 use Rattle.rx_wire.specs.Turns.{Program, noted}
 use Rattle.rx_world.specs.declared.stop.Stop.{Stop}
 use Rattle.rx_world.specs.declared.stop.Stop.TheVariants as stops
-use Rattle.rx_world.specs.Parts.{stop_of}
-use Rattle.rx_world.specs.Programs.{CallStops, CallsNext, GoesOn}
-use Rattle.rx_world.specs.Programs.{stops_told, wants_first}
+use Rattle.rx_world.specs.Ran.{stop_of}
+use Rattle.rx_world.specs.TurnsPlayed.{CallStops, CallsNext, GoesOn}
+use Rattle.rx_world.specs.TurnsPlayed.{stops_told, wants_first}
 use Rattle.rx_world.specs.Tells.{IsTold, Told}
-use Rattle.rx_world.specs.Turned.{IsOverWith, RestsAnyhow}
+use Rattle.rx_world.specs.TurnsPlayed.{IsOverWith, RestsAnyhow}
 
 -- ---- any program
 

@@ -3,14 +3,17 @@ use Rattle.std.proofs.Common.{◌≡◌, ◌<◌, ◌∙◌, ℕ, suc, Option, S
 use Rattle.std.proofs.Common.{arith}
 use Rattle.std.proofs.lemmas.List.{length-map}
 use Rattle.rx_model.specs.declared.event.Event.{Event}
-use Rattle.rx_nodes.specs.Nodes.{IsAllowedAt, IsNodeThere, Makes, NodesState, client_node, nodes_of}
+use Rattle.rx_events.specs.Joint.{IsAllowedAt}
+use Rattle.rx_nodes.specs.Nodes.{IsNodeThere, Makes, NodesState, client_node, nodes_of}
 use Rattle.rx_script.specs.declared.outcome.PlanWhy.{PlanWhy}
 use Rattle.rx_wire.specs.Turns.{noted}
 use Rattle.rx_world.specs.declared.stop.Stop.{Stop}
 use Rattle.rx_world.specs.declared.stop.Stop.TheVariants as stops
-use Rattle.rx_world.specs.Finds.{found_or}
-use Rattle.rx_world.specs.Parts.{To, One, Part, Ran, ends}
-use Rattle.rx_world.specs.Stages.{IsAllowedNext, Plays, Shows, Stage, WorldState, event, stage_of, with_event}
+use Rattle.rx_plan.specs.Finds.{found_or}
+use Rattle.rx_plan.specs.Parts.{To, One, Part, ends}
+use Rattle.rx_world.specs.Ran.{Ran}
+use Rattle.rx_plan.specs.Stages.{IsAllowedNext, Stage, event, with_event}
+use Rattle.rx_world.specs.Shown.{Plays, Shows, WorldState, stage_of}
 use Rattle.rx_world.specs.Tells.{IsTold, Told}
 use Rattle.rx_world.proofs.Running.{ran_none, ran_one, ran_refused, ran_stops, ran_then, ran_to}
 

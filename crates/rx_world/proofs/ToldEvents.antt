@@ -11,18 +11,18 @@ use Rattle.rx_rules.specs.Setup.{Kind, Server, Client, IsServer, is_client}
 use Rattle.rx_law.specs.Sides.{IsClientAt, Node, side}
 use Rattle.rx_law.specs.Worlds.{AreNodes}
 use Rattle.rx_law.proofs.LegalTold.{legal_told}
-use Rattle.rx_dispatch.specs.Handlers.{Handlers}
+use Rattle.rx_jobs.specs.Handlers.{Handlers}
 use Rattle.rx_script.specs.declared.outcome.Outcome.{Outcome}
 use Rattle.rx_script.specs.declared.outcome.Outcome.TheVariants as outcomes
 use Rattle.rx_script.specs.declared.plan.Numbered.{Numbered}
-use Rattle.rx_world.specs.Follows.{CutOff, Empty, EndlessIn, RefusedAt, Went, Whole}
-use Rattle.rx_world.specs.Promises.{AreInRange, plan_nodes}
+use Rattle.rx_plan.specs.Follows.{CutOff, Empty, EndlessIn, RefusedAt, Went, Whole}
+use Rattle.rx_plan.specs.Promises.{AreInRange, plan_nodes}
 use Rattle.rx_world.specs.Runs.{RunIs, Tells}
 use Rattle.rx_world.specs.Tells.{Fails, FitsNoted, Gains, Told, Wants}
 use Rattle.rx_world.specs.Tells.{fails_last, fails_one, gains_none, gains_one, wants_last, wants_more, wants_one}
-use Rattle.rx_world.proofs.Allowed.{AreAllowed, legal_side}
-use Rattle.rx_world.proofs.Bags.{behind}
-use Rattle.rx_world.proofs.SoundPlan.{Kept, plan_kept}
+use Rattle.rx_plan.proofs.Allowed.{AreAllowed, legal_side}
+use Rattle.rx_plan.proofs.Bags.{behind}
+use Rattle.rx_plan.proofs.SoundPlan.{Kept, plan_kept}
 
 -- ---- what was told fits
 

@@ -7,9 +7,10 @@ use Rattle.rx_model.specs.declared.event.Noted.{Noted}
 use Rattle.rx_wire.specs.Turns.{Program, noted}
 use Rattle.rx_world.specs.declared.stop.Stop.{Stop}
 use Rattle.rx_world.specs.declared.stop.Stop.TheVariants as stops
-use Rattle.rx_world.specs.Parts.{Cut, Endless, To, Ran, fits_endless, fits_fails, fits_to, fits_wants}
-use Rattle.rx_world.specs.Programs.{Turn, cut_there, goes, is_endless, is_over}
-use Rattle.rx_world.specs.Stages.{IsAllowedNext, Stage, with_event}
+use Rattle.rx_plan.specs.Parts.{Cut, Endless, To}
+use Rattle.rx_world.specs.Ran.{Ran, fits_endless, fits_fails, fits_to, fits_wants}
+use Rattle.rx_plan.specs.Programs.{Turn, cut_there, goes, is_endless, is_over}
+use Rattle.rx_plan.specs.Stages.{IsAllowedNext, Stage, with_event}
 use Rattle.rx_world.specs.Tells.{Gains, GainsOne, IsTold, Told, fails_last, gains_none, gains_one, wants_last}
 use Rattle.rx_world.proofs.Telling.{fails_behind, gains_both, wants_behind, wants_then}
 

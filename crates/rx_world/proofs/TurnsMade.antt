@@ -5,25 +5,29 @@ use Rattle.std.proofs.Common.{Option, Some, None, Result, Ok, Err, OnOk, refl, i
 use Rattle.std.proofs.Common.{get_or, arith}
 use Rattle.std.specs.Prelude.{nat_lt, slice_get}
 use Rattle.std.proofs.lemmas.Bool.Decides.{nat_tests}
-use Rattle.rx_caller.specs.Asks.{begun as caller_begun, calling}
-use Rattle.rx_caller.specs.declared.caller.TheConstants.{REPLY_BYTES}
-use Rattle.rx_caller.specs.View.{CallerState}
-use Rattle.rx_dispatch.specs.Dispatching.{Turning, accepts, dispatching}
-use Rattle.rx_dispatch.specs.Handlers.{Handlers}
-use Rattle.rx_dispatch.specs.Jobs.{JobState}
+use Rattle.rx_asks.specs.Asks.{begun as caller_begun, calling}
+use Rattle.rx_asks.specs.declared.ask.TheConstants.{REPLY_BYTES}
+use Rattle.rx_asks.specs.View.{CallerState}
+use Rattle.rx_jobs.specs.Dispatching.{Turning, accepts, dispatching}
+use Rattle.rx_jobs.specs.Handlers.{Handlers}
+use Rattle.rx_jobs.specs.Jobs.{JobState}
 use Rattle.rx_dispatch.specs.States.{state_of}
 use Rattle.rx_dispatch.specs.declared.dispatcher.Dispatcher.{Dispatcher}
 use Rattle.rx_nodes.specs.Nodes.{IsClientThere, NodesState}
 use Rattle.rx_nodes.proofs.Lent.{read_some}
 use Rattle.rx_script.specs.Saying.{Answering}
 use Rattle.rx_world.specs.declared.stop.Stop.{Stop}
-use Rattle.rx_world.specs.Parts.{Ran, To, by_test, ends, stop_of}
-use Rattle.rx_world.specs.Programs.{Knows, PlaysTurn, Turn}
-use Rattle.rx_world.specs.Stages.{InvokedState, Plays, Shows, Stage, WorldState, jobs_of, script_of}
-use Rattle.rx_world.specs.Stages.{stage_of}
+use Rattle.rx_world.specs.Ran.{Ran, stop_of}
+use Rattle.rx_plan.specs.Parts.{To, by_test, ends}
+use Rattle.rx_world.specs.TurnsPlayed.{Knows, PlaysTurn}
+use Rattle.rx_plan.specs.Programs.{Turn}
+use Rattle.rx_plan.specs.Stages.{InvokedState, Stage}
+use Rattle.rx_world.specs.Shown.{Plays, Shows, WorldState, jobs_of, script_of}
+use Rattle.rx_world.specs.Shown.{stage_of}
 use Rattle.rx_world.specs.Tells.{Told}
-use Rattle.rx_world.specs.Turned.{IsOverWith, dispatches, is_of, jobs_left, turns_at, turns_for, turns_of}
-use Rattle.rx_world.specs.Turned.{turns_where}
+use Rattle.rx_world.specs.TurnsPlayed.{IsOverWith}
+use Rattle.rx_plan.specs.Turned.{dispatches, is_of, jobs_left, turns_at, turns_for, turns_of}
+use Rattle.rx_plan.specs.Turned.{turns_where}
 use Rattle.rx_world.proofs.Following.{ran_as}
 use Rattle.rx_world.proofs.Numbers.{length_shown}
 use Rattle.rx_world.proofs.Running.{ran_stops, ran_to}

@@ -1,11 +1,12 @@
 -- Callers that are done: their turns make nothing. Public clauses cite this module.
 use Rattle.std.specs.Prelude.{◌≡◌, ℕ, Bool, true, false, List, [], ◌∷◌, Option, Some, None, slice_get}
-use Rattle.rx_caller.specs.Asks.{is_done}
-use Rattle.rx_caller.specs.View.{CallerState}
+use Rattle.rx_asks.specs.Asks.{is_done}
+use Rattle.rx_asks.specs.View.{CallerState}
 use Rattle.rx_nodes.specs.Nodes.{NodesState}
 use Rattle.rx_world.specs.declared.stop.Stop.{Stop}
-use Rattle.rx_world.specs.Parts.{Part}
-use Rattle.rx_world.specs.Stages.{InvokedState, Plays, Stage, WorldState}
+use Rattle.rx_plan.specs.Parts.{Part}
+use Rattle.rx_plan.specs.Stages.{InvokedState, Stage}
+use Rattle.rx_world.specs.Shown.{Plays, WorldState}
 use Rattle.rx_world.specs.Tells.{Told}
 
 -- whether a caller that is there is done

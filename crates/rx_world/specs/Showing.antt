@@ -3,7 +3,7 @@ use Rattle.std.specs.Prelude.{◌≡◌, ◌≤◌, ◌+◌, ◌&&◌, nat_le, n
 use Rattle.std.specs.Prelude.{Ok, Err}
 use Rattle.rx_model.specs.declared.event.Noted.{Noted}
 use Rattle.rx_model.specs.declared.names.Limits.{Limits}
-use Rattle.rx_dispatch.specs.Handlers.{Handlers}
+use Rattle.rx_jobs.specs.Handlers.{Handlers}
 use Rattle.rx_dispatch.specs.declared.dispatcher.Dispatcher.{Dispatcher}
 use Rattle.rx_law.specs.Sides.{Node}
 use Rattle.rx_nodes.specs.Nodes.{NodesState, nodes_of}
@@ -11,15 +11,17 @@ use Rattle.rx_script.specs.declared.outcome.Outcome.{Outcome}
 use Rattle.rx_script.specs.declared.outcome.Outcome.TheVariants as outcomes
 use Rattle.rx_script.specs.declared.plan.Numbered.{Numbered}
 use Rattle.rx_script.specs.declared.plan.PlanLine.{PlanLine}
-use Rattle.rx_world.specs.Follows.{CutOff, EndlessIn, Goes, Progress, RefusedAt, Went, Whole, adds, fits_limits}
-use Rattle.rx_world.specs.Follows.{made_node, slots_of}
-use Rattle.rx_world.specs.Lines.{line_part}
-use Rattle.rx_world.specs.Parts.{Came, To, Refused, Part, Ran, Then, ends}
+use Rattle.rx_plan.specs.Follows.{CutOff, EndlessIn, Goes, Progress, RefusedAt, Went, Whole, adds, fits_limits}
+use Rattle.rx_plan.specs.Follows.{made_node, slots_of}
+use Rattle.rx_plan.specs.Lines.{line_part}
+use Rattle.rx_plan.specs.Parts.{Came, To, Refused, Part, Then, ends}
+use Rattle.rx_world.specs.Ran.{Ran}
 use Rattle.rx_world.specs.Runs.{PutsAll, PutsBroken, PutsSome, Tells}
-use Rattle.rx_world.specs.Stages.{Shows, Stage, WorldState}
+use Rattle.rx_world.specs.Shown.{Shows, WorldState}
+use Rattle.rx_plan.specs.Stages.{Stage}
 use Rattle.rx_world.specs.Tells.{Fails, Gains, Told, Wants}
 use Rattle.rx_world.specs.declared.runs.Running.{Running}
-use Rattle.rx_world.specs.declared.runs.TheConstants.{MAX_CLIENTS, MAX_SLOTS}
+use Rattle.rx_plan.specs.declared.limits.TheConstants.{MAX_CLIENTS, MAX_SLOTS}
 use Rattle.rx_world.specs.declared.stop.Stop.{Stop}
 use Rattle.rx_world.specs.declared.stop.Stop.TheVariants as stops
 

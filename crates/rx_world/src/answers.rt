@@ -4,8 +4,8 @@ ghost use Rattle.std.specs.String.{string_bytes};
 ghost use Rattle.rx_model.specs.Text.{end_text};
 ghost use Rattle.rx_model.specs.declared.event.Noted.{Noted};
 ghost use Rattle.xdr_value.specs.View.{procs_of, types_of};
-ghost use Rattle.rx_world.specs.Answers.{answer_line, answer_lines, answer_of, asked_by, asked_of, line_for, ok_text};
-ghost use Rattle.rx_world.specs.Answers.{said};
+ghost use Rattle.rx_plan.specs.Answers.{answer_line, answer_lines, answer_of, asked_by, asked_of, line_for, ok_text};
+ghost use Rattle.rx_plan.specs.Answers.{said};
 ghost use Rattle.rx_world.specs.Showing.{PutsBy};
 ghost use Rattle.rx_world.specs.Tells.{told};
 

@@ -1,10 +1,11 @@
 //! The lines of a client's calls.
 ghost use Rattle.std.specs.Prelude.{◌≡◌, ◌≤◌, ◌≢◌, pos};
-ghost use Rattle.rx_nodes.specs.Events.{IsAsked, IsCancelled, IsReadBack, IsSaid, IsShut};
-ghost use Rattle.rx_world.specs.Finds.{at_call, at_client};
-ghost use Rattle.rx_world.specs.Lines.{connects};
-ghost use Rattle.rx_world.specs.Parts.{stop_of};
-ghost use Rattle.rx_world.specs.Stages.{Plays, event, script_of};
+ghost use Rattle.rx_events.specs.Events.{IsAsked, IsCancelled, IsReadBack, IsSaid, IsShut};
+ghost use Rattle.rx_plan.specs.Finds.{at_call, at_client};
+ghost use Rattle.rx_plan.specs.Lines.{connects};
+ghost use Rattle.rx_world.specs.Ran.{stop_of};
+ghost use Rattle.rx_world.specs.Shown.{Plays, script_of};
+ghost use Rattle.rx_plan.specs.Stages.{event};
 ghost use Rattle.rx_world.specs.Tells.{told};
 
 use crate::stop::Stop;

@@ -1,12 +1,14 @@
 //! The lines that set clocks.
 ghost use Rattle.std.specs.Prelude.{◌≡◌, ◌<◌, ◌≤◌, ◌^◌, false};
 ghost use Rattle.rx_nodes.specs.Nodes.{IsNodeThere, KeepsOthers, moment_of, nodes_of};
-ghost use Rattle.rx_nodes.specs.Waits.{is_later, moments_of};
-ghost use Rattle.rx_nodes.specs.Events.{IsClocked};
-ghost use Rattle.rx_world.specs.Finds.{at_node};
-ghost use Rattle.rx_world.specs.Lines.{clocks, clocks_all, sets_clocks};
-ghost use Rattle.rx_world.specs.Parts.{stop_of};
-ghost use Rattle.rx_world.specs.Stages.{Plays, event, script_of};
+ghost use Rattle.rx_events.specs.Waits.{is_later};
+ghost use Rattle.rx_nodes.specs.Nodes.{moments_of};
+ghost use Rattle.rx_events.specs.Events.{IsClocked};
+ghost use Rattle.rx_plan.specs.Finds.{at_node};
+ghost use Rattle.rx_plan.specs.Lines.{clocks, clocks_all, sets_clocks};
+ghost use Rattle.rx_world.specs.Ran.{stop_of};
+ghost use Rattle.rx_world.specs.Shown.{Plays, script_of};
+ghost use Rattle.rx_plan.specs.Stages.{event};
 ghost use Rattle.rx_world.specs.Tells.{told};
 
 use crate::stop::Stop;

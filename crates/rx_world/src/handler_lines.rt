@@ -1,10 +1,11 @@
 //! The lines of the server's calls, as its handlers make them.
 ghost use Rattle.std.specs.Prelude.{◌≡◌, ◌≤◌, OnOk};
-ghost use Rattle.rx_nodes.specs.Events.{IsAccepted, IsFinished, IsReadIn, IsReplied};
-ghost use Rattle.rx_world.specs.Finds.{at_accepted};
-ghost use Rattle.rx_world.specs.Lines.{accepts_line};
-ghost use Rattle.rx_world.specs.Parts.{stop_of};
-ghost use Rattle.rx_world.specs.Stages.{Plays, event, name_accepted, with_some, script_of};
+ghost use Rattle.rx_events.specs.Events.{IsAccepted, IsFinished, IsReadIn, IsReplied};
+ghost use Rattle.rx_plan.specs.Finds.{at_accepted};
+ghost use Rattle.rx_plan.specs.Lines.{accepts_line};
+ghost use Rattle.rx_world.specs.Ran.{stop_of};
+ghost use Rattle.rx_world.specs.Shown.{Plays, script_of};
+ghost use Rattle.rx_plan.specs.Stages.{event, name_accepted, with_some};
 ghost use Rattle.rx_world.specs.Tells.{told};
 
 use crate::stop::Stop;

@@ -2,14 +2,16 @@
 //! round costs no more than the callers that are still at work.
 ghost use Rattle.std.specs.Prelude.{◌≡◌, ◌∷◌, ◌++◌, ◌≤◌, ◌<◌, [], OnOk, length, true};
 ghost use Rattle.std.specs.List.{All};
-ghost use Rattle.rx_caller.specs.Asks.{begun as caller_begun, calling};
-ghost use Rattle.rx_caller.specs.declared.caller.TheConstants.{REPLY_BYTES};
+ghost use Rattle.rx_asks.specs.Asks.{begun as caller_begun, calling};
+ghost use Rattle.rx_asks.specs.declared.ask.TheConstants.{REPLY_BYTES};
 ghost use Rattle.rx_nodes.specs.Nodes.{IsClientThere};
 ghost use Rattle.rx_world.specs.Done.{KeepsDone, PlaysCallers, StaysDone, is_done_at};
-ghost use Rattle.rx_world.specs.Parts.{each, stop_of};
-ghost use Rattle.rx_world.specs.Programs.{GoesOn, PlaysTurn};
+ghost use Rattle.rx_plan.specs.Parts.{each};
+ghost use Rattle.rx_world.specs.Ran.{stop_of};
+ghost use Rattle.rx_world.specs.TurnsPlayed.{GoesOn, PlaysTurn};
 ghost use Rattle.rx_world.specs.Tells.{told};
-ghost use Rattle.rx_world.specs.Turned.{RestsAnyhow, turns_all, turns_at, turns_for, turns_on};
+ghost use Rattle.rx_world.specs.TurnsPlayed.{RestsAnyhow};
+ghost use Rattle.rx_plan.specs.Turned.{turns_all, turns_at, turns_for, turns_on};
 
 use crate::stop::Stop;
 use crate::trace::{Trace, tell_call};
@@ -33,7 +35,7 @@ pub struct Invoked {
 }
 
 impl Model for Invoked {
-    ghost use Rattle.rx_world.specs.Stages.{InvokedState};
+    ghost use Rattle.rx_plan.specs.Stages.{InvokedState};
 
     ghost Value = { InvokedState };
 
@@ -51,8 +53,8 @@ pub struct Callers {
 impl Model for Callers {
     ghost use Rattle.std.specs.Prelude.{List, length};
     ghost use Rattle.rx_world.specs.Done.{LeavesOut, is_done_at};
-    ghost use Rattle.rx_world.specs.Network.{below};
-    ghost use Rattle.rx_world.specs.Stages.{InvokedState};
+    ghost use Rattle.rx_plan.specs.Network.{below};
+    ghost use Rattle.rx_plan.specs.Stages.{InvokedState};
 
     ghost Value = { List InvokedState };
 

@@ -1,10 +1,10 @@
 //! The events of one line of a plan.
 ghost use Rattle.std.specs.Prelude.{◌≡◌, option_copied};
-ghost use Rattle.rx_dispatch.specs.Handlers.{handlers_of};
-ghost use Rattle.rx_world.specs.Lines.{IsWell, line_part, turn_line};
-ghost use Rattle.rx_world.specs.Finds.{at_node};
-ghost use Rattle.rx_world.specs.Parts.{stop_of};
-ghost use Rattle.rx_world.specs.Stages.{Plays, script_of};
+ghost use Rattle.rx_jobs.specs.Handlers.{handlers_of};
+ghost use Rattle.rx_plan.specs.Lines.{IsWell, line_part, turn_line};
+ghost use Rattle.rx_plan.specs.Finds.{at_node};
+ghost use Rattle.rx_world.specs.Ran.{stop_of};
+ghost use Rattle.rx_world.specs.Shown.{Plays, script_of};
 ghost use Rattle.rx_world.specs.Tells.{told};
 
 use crate::call_lines::invoked_bytes;

@@ -1,10 +1,12 @@
 //! Rounds over a network that loses, repeats and holds datagrams, as words of a generator say.
 ghost use Rattle.std.specs.Prelude.{◌≡◌, ◌∷◌, ◌%◌, ◌&&◌, ◌==◌, ◌++◌, [], OnOk, length};
-ghost use Rattle.rx_dispatch.specs.Handlers.{handlers_of};
-ghost use Rattle.rx_world.specs.Lossy.{PlaysLossy, comes, drawn, fate_of, fated, gathered, lossy, lossy_round, stays};
-ghost use Rattle.rx_world.specs.Network.{delivers};
-ghost use Rattle.rx_world.specs.Parts.{each, stop_of};
-ghost use Rattle.rx_world.specs.Stages.{Plays, script_of};
+ghost use Rattle.rx_jobs.specs.Handlers.{handlers_of};
+ghost use Rattle.rx_world.specs.RoundsPlayed.{PlaysLossy};
+ghost use Rattle.rx_plan.specs.Lossy.{comes, drawn, fate_of, fated, gathered, lossy, lossy_round, stays};
+ghost use Rattle.rx_plan.specs.Network.{delivers};
+ghost use Rattle.rx_plan.specs.Parts.{each};
+ghost use Rattle.rx_world.specs.Ran.{stop_of};
+ghost use Rattle.rx_world.specs.Shown.{Plays, script_of};
 ghost use Rattle.rx_world.specs.Tells.{told};
 
 use crate::network_lines::deliver;
@@ -13,17 +15,9 @@ use crate::world::{Datagram, World};
 use rand_core::utils::NextWord;
 use rand_pcg::Pcg32;
 use rx_base::Sink;
+use rx_plan::Fate;
 use rx_wire::Journal;
 use xdr_value::Interface;
-
-/// What becomes of a datagram that was given.
-#[derive(Clone, Copy, Debug, PartialEq, Eq)]
-pub enum Fate {
-    Lost,
-    Twice,
-    Held,
-    Once,
-}
 
 /// The fate that a word of the generator says.
 fn fate_of(word: u32) -> Fate

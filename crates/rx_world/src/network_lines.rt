@@ -1,16 +1,20 @@
 //! The lines of the network: polls, deliveries and invented bytes.
 ghost use Rattle.std.specs.Prelude.{◌≡◌, ◌<◌, ◌≤◌, ◌+◌, None, IfErr, IfOk, IsTrue, length, take};
 ghost use Rattle.rx_model.specs.Names.{same_host};
-ghost use Rattle.rx_nodes.specs.Events.{IsTaken};
+ghost use Rattle.rx_events.specs.Events.{IsTaken};
 ghost use Rattle.rx_nodes.specs.Nodes.{IsNodeThere};
 ghost use Rattle.rx_jumbo.specs.Parts.{parts_of};
 ghost use Rattle.rx_law.specs.Worlds.{Datagram as Given};
-ghost use Rattle.rx_world.specs.Finds.{Found, at_node, at_packet, numbered};
-ghost use Rattle.rx_world.specs.Lines.{KeepsPacket, can_join, forges, given_by, joined, joins, joins_to, jumbo_line};
-ghost use Rattle.rx_world.specs.Lines.{polls_line};
-ghost use Rattle.rx_world.specs.Network.{comes_to, delivers};
-ghost use Rattle.rx_world.specs.Parts.{each, stop_of};
-ghost use Rattle.rx_world.specs.Stages.{Plays, PlaysNodes, event, packet_given, script_of};
+ghost use Rattle.rx_world.specs.LinesPlayed.{Found};
+ghost use Rattle.rx_plan.specs.Finds.{at_node, at_packet, numbered};
+ghost use Rattle.rx_world.specs.LinesPlayed.{KeepsPacket};
+ghost use Rattle.rx_plan.specs.Lines.{can_join, forges, given_by, joined, joins, joins_to, jumbo_line};
+ghost use Rattle.rx_plan.specs.Lines.{polls_line};
+ghost use Rattle.rx_plan.specs.Network.{comes_to, delivers};
+ghost use Rattle.rx_plan.specs.Parts.{each};
+ghost use Rattle.rx_world.specs.Ran.{stop_of};
+ghost use Rattle.rx_world.specs.Shown.{Plays, PlaysNodes, script_of};
+ghost use Rattle.rx_plan.specs.Stages.{event, packet_given};
 ghost use Rattle.rx_world.specs.Tells.{told};
 
 use crate::stop::{Stop, keep};
@@ -21,12 +25,10 @@ use rx_jumbo::{JUMBO_PARTS, Joiner, is_jumbo, part, parts};
 use rx_model::wire::DATAGRAM_BYTES;
 use rx_model::{Bytes, Event, Host};
 use rx_nodes::Nodes;
+use rx_plan::MAX_PACKETS;
 use rx_script::PlanWhy;
 use rx_wire::Journal;
 use std::alloc::{AllocError, Global};
-
-/// Datagrams that are kept for `deliver` at most.
-pub const MAX_PACKETS: usize = 200_000;
 
 impl World {
     /// The node is polled, and the datagram that it gives is kept.

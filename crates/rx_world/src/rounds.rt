@@ -1,14 +1,18 @@
 //! Fair rounds: each node gives what is due, all of it arrives, and each handler and caller has a turn.
 ghost use Rattle.std.specs.Prelude.{◌≡◌, ℕ, ◌+◌, ◌<◌, ◌^◌, ◌&&◌, ◌==◌, [], length, not, true, Some, IfErr, IfOk};
 ghost use Rattle.rx_nodes.specs.Nodes.{IsNodeThere, KeepsOthers, moment_of};
-ghost use Rattle.rx_dispatch.specs.Handlers.{handlers_of};
-ghost use Rattle.rx_world.specs.Network.{delivers};
-ghost use Rattle.rx_world.specs.Parts.{each, stop_of};
-ghost use Rattle.rx_world.specs.Programs.{PlaysTurn};
-ghost use Rattle.rx_world.specs.Rounds.{PlaysGiven, PollsOn, clients_first, ended_with, heard_poll, may_move};
-ghost use Rattle.rx_world.specs.Rounds.{more_from, moves_by, moves_on, polled, polling, polls_out, round, rounds};
-ghost use Rattle.rx_world.specs.Rounds.{settles, turns, waits};
-ghost use Rattle.rx_world.specs.Stages.{Plays, Shows, Stage, script_of};
+ghost use Rattle.rx_jobs.specs.Handlers.{handlers_of};
+ghost use Rattle.rx_plan.specs.Network.{delivers};
+ghost use Rattle.rx_plan.specs.Parts.{each};
+ghost use Rattle.rx_world.specs.Ran.{stop_of};
+ghost use Rattle.rx_world.specs.TurnsPlayed.{PlaysTurn};
+ghost use Rattle.rx_world.specs.RoundsPlayed.{PlaysGiven, PollsOn, ended_with};
+ghost use Rattle.rx_plan.specs.Rounds.{clients_first, heard_poll, may_move};
+ghost use Rattle.rx_world.specs.RoundsPlayed.{more_from};
+ghost use Rattle.rx_plan.specs.Rounds.{moves_by, moves_on, polled, polling, polls_out, round, rounds};
+ghost use Rattle.rx_plan.specs.Rounds.{settles, turns, waits};
+ghost use Rattle.rx_world.specs.Shown.{Plays, Shows, script_of};
+ghost use Rattle.rx_plan.specs.Stages.{Stage};
 ghost use Rattle.rx_world.specs.Tells.{told};
 
 use crate::network_lines::deliver_all;

@@ -6,17 +6,17 @@ ghost use Rattle.rx_law.specs.Worlds.{AreOf};
 ghost use Rattle.rx_nodes.specs.Nodes.{Standing, nodes_of};
 ghost use Rattle.rx_rules.specs.Setup.{Client, FitsLimits, unprompted};
 ghost use Rattle.rx_script.specs.Saying.{blocks_of};
-ghost use Rattle.rx_dispatch.specs.Handlers.{handlers_of};
+ghost use Rattle.rx_jobs.specs.Handlers.{handlers_of};
 ghost use Rattle.rx_token.specs.Chosen.{chosen, secret_of};
-ghost use Rattle.rx_world.specs.Follows.{Progress, begins, class_of, client_node, fits_limits, next_part};
-ghost use Rattle.rx_world.specs.Lines.{IsWell};
-ghost use Rattle.rx_world.specs.Parts.{stop_of};
+ghost use Rattle.rx_plan.specs.Follows.{Progress, begins, class_of, client_node, fits_limits, next_part};
+ghost use Rattle.rx_plan.specs.Lines.{IsWell};
+ghost use Rattle.rx_world.specs.Ran.{stop_of};
 ghost use Rattle.rx_world.specs.Showing.{AddsNode, IsBegun, IsCounted, MadeLines, MakesLine, RunsOn, ShowsRun};
 ghost use Rattle.rx_world.specs.Showing.{ended_at};
 ghost use Rattle.rx_world.specs.Showing.{has_client_room, has_slots, other_part, outcome_of, started};
-ghost use Rattle.rx_world.specs.Promises.{KeepsPromises};
+ghost use Rattle.rx_world.specs.Runs.{KeepsPromises};
 ghost use Rattle.rx_world.specs.Runs.{RunIs};
-ghost use Rattle.rx_world.specs.Stages.{jobs_of, script_of};
+ghost use Rattle.rx_world.specs.Shown.{jobs_of, script_of};
 ghost use Rattle.rx_world.specs.Tells.{told};
 
 use crate::invokes::Callers;
@@ -28,17 +28,12 @@ use rx_dispatch::Dispatcher;
 use rx_model::wire::{MAX_WINDOW, MIN_WINDOW};
 use rx_model::{Host, Limits};
 use rx_nodes::{Nodes, SERVER};
+use rx_plan::{MAX_CLIENTS, MAX_SLOTS};
 use rx_script::{Numbered, Outcome, Plan, PlanLine, PlanWhy, Script};
 use rx_token::{Chosen, KEY_BYTES, Token};
 use rx_wire::Journal;
 use std::alloc::{AllocError, Global};
 use xdr_value::Interface;
-
-/// Slots of all nodes of a plan at most.
-pub const MAX_SLOTS: u32 = 262_144;
-
-/// Clients of a plan at most.
-pub const MAX_CLIENTS: usize = 64;
 
 /// Makes the events of a plan's lines on one server and its clients. Each event is noted, and then its line put. Behind
 /// the trace stands an answer line for each invoke that was given a call. The run is out of memory where memory was

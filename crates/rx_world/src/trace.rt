@@ -3,7 +3,7 @@ ghost use Rattle.std.specs.Prelude.{◌≡◌, ◌∷◌, ◌++◌, [], IfOk, On
 ghost use Rattle.std.specs.String.{string_bytes};
 ghost use Rattle.rx_model.specs.Text.{node_name};
 ghost use Rattle.rx_wire.specs.Turns.{noted};
-ghost use Rattle.rx_world.specs.Parts.{stop_of};
+ghost use Rattle.rx_world.specs.Ran.{stop_of};
 ghost use Rattle.rx_world.specs.Tells.{IsTold, event_line, told};
 
 use crate::stop::Stop;

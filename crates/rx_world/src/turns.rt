@@ -1,14 +1,16 @@
 //! Turns of the dispatcher and of callers.
 ghost use Rattle.std.specs.Prelude.{◌≡◌, OnOk};
-ghost use Rattle.rx_dispatch.specs.Dispatching.{accepts, dispatching, over, turning_of};
-ghost use Rattle.rx_dispatch.specs.Handlers.{handlers_of};
+ghost use Rattle.rx_jobs.specs.Dispatching.{accepts, dispatching, over};
+ghost use Rattle.rx_dispatch.specs.Rounds.{turning_of};
+ghost use Rattle.rx_jobs.specs.Handlers.{handlers_of};
 ghost use Rattle.rx_dispatch.specs.Making.{Remembers};
 ghost use Rattle.rx_dispatch.specs.States.{state_of};
-ghost use Rattle.rx_world.specs.Parts.{stop_of};
-ghost use Rattle.rx_world.specs.Programs.{GoesOn, PlaysTurn};
-ghost use Rattle.rx_world.specs.Stages.{Plays, script_of};
+ghost use Rattle.rx_world.specs.Ran.{stop_of};
+ghost use Rattle.rx_world.specs.TurnsPlayed.{GoesOn, PlaysTurn};
+ghost use Rattle.rx_world.specs.Shown.{Plays, script_of};
 ghost use Rattle.rx_world.specs.Tells.{told};
-ghost use Rattle.rx_world.specs.Turned.{IsOverWith, dispatches, turns_all, turns_on};
+ghost use Rattle.rx_world.specs.TurnsPlayed.{IsOverWith};
+ghost use Rattle.rx_plan.specs.Turned.{dispatches, turns_all, turns_on};
 
 use crate::stop::Stop;
 use crate::trace::{Trace, tell_call};

@@ -2,9 +2,11 @@
 ghost use Rattle.std.specs.Prelude.{◌≡◌, ◌≤◌, ◌<◌, ◌+◌, ◌^◌, IfOk, length, option_map};
 ghost use Rattle.rx_nodes.specs.Nodes.{IsClientThere, IsNodeThere};
 ghost use Rattle.rx_wire.specs.Turns.{noted};
-ghost use Rattle.rx_world.specs.Finds.{Found, call_at, client_at, node_at, numbered, where_there};
-ghost use Rattle.rx_world.specs.Parts.{stop_of};
-ghost use Rattle.rx_world.specs.Stages.{Shows, Stage};
+ghost use Rattle.rx_world.specs.LinesPlayed.{Found};
+ghost use Rattle.rx_plan.specs.Finds.{call_at, client_at, node_at, numbered, where_there};
+ghost use Rattle.rx_world.specs.Ran.{stop_of};
+ghost use Rattle.rx_world.specs.Shown.{Shows};
+ghost use Rattle.rx_plan.specs.Stages.{Stage};
 ghost use Rattle.rx_world.specs.Tells.{IsTold, told};
 
 use crate::invokes::Callers;
@@ -14,6 +16,7 @@ use rx_base::Sink;
 use rx_dispatch::Dispatcher;
 use rx_model::{Bytes, CallName, Event, Host};
 use rx_nodes::{Nodes, SERVER};
+use rx_plan::ClientCall;
 use rx_script::PlanWhy;
 use rx_wire::Journal;
 use std::alloc::Global;
@@ -33,13 +36,6 @@ impl Model for Datagram {
     ghost Value = { Given };
 
     ghost view = { λ s. record { from = s.from; to = s.to; bytes = s.bytes } };
-}
-
-/// A call of a client.
-#[derive(Clone, Copy, Debug)]
-pub struct ClientCall {
-    pub node: u32,
-    pub name: CallName,
 }
 
 /// What a run keeps.
@@ -63,7 +59,7 @@ pub struct World {
 impl Model for World {
     ghost use Rattle.std.specs.Coded.{codes};
     ghost use Rattle.rx_dispatch.specs.contracts.dispatcher.Dispatcher as dispatchers;
-    ghost use Rattle.rx_world.specs.Stages.{WorldState};
+    ghost use Rattle.rx_world.specs.Shown.{WorldState};
 
     ghost Value = { WorldState };
 

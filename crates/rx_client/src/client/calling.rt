@@ -16,7 +16,8 @@ ghost use Rattle.rx_table.specs.declared.seat.Seat.{Seat};
 ghost use Rattle.rx_table.specs.Records.{seat_at};
 ghost use Rattle.rx_node.specs.Mirrors.{IsActiveAt, IsChannel, IsKey, Mirrors};
 ghost use Rattle.rx_node.specs.Node.{setup_of};
-ghost use Rattle.rx_node.specs.Steps.{AnswersNode, written_count};
+ghost use Rattle.rx_node.specs.Steps.{AnswersNode};
+ghost use Rattle.rx_events.specs.Events.{written_count};
 ghost use Rattle.rx_client.specs.Calling.{HasEnded, HasNoneOpen, IsCallingAt, IsFirstOpen};
 ghost use Rattle.rx_client.specs.Client.{read_count, read_ended};
 

@@ -1,9 +1,9 @@
 //! The calls of clients, as events.
 ghost use Rattle.std.specs.Prelude.{◌≡◌, ◌≤◌, ◌<◌, IfOk, OnErr, false};
 ghost use Rattle.rx_rules.specs.After.{is_zero};
-ghost use Rattle.rx_node.specs.Steps.{written_count};
+ghost use Rattle.rx_events.specs.Events.{written_count};
 ghost use Rattle.rx_client.specs.Client.{read_count};
-ghost use Rattle.rx_nodes.specs.Events.{IsAsked, IsCalled, IsCancelled, IsLinked, IsReadBack, IsSaid, IsShut};
+ghost use Rattle.rx_events.specs.Events.{IsAsked, IsCalled, IsCancelled, IsLinked, IsReadBack, IsSaid, IsShut};
 ghost use Rattle.rx_nodes.specs.Nodes.{IsClientThere, Makes};
 
 use crate::nodes::Nodes;

@@ -1,8 +1,8 @@
 //! The calls of the server's handlers, as events.
 ghost use Rattle.std.specs.Prelude.{◌≡◌, ◌<◌, IfOk, OnErr};
-ghost use Rattle.rx_node.specs.Steps.{written_count};
+ghost use Rattle.rx_events.specs.Events.{written_count};
 ghost use Rattle.rx_server.specs.Server.{handler_count};
-ghost use Rattle.rx_nodes.specs.Events.{IsAccepted, IsFinished, IsReadIn, IsReplied};
+ghost use Rattle.rx_events.specs.Events.{IsAccepted, IsFinished, IsReadIn, IsReplied};
 ghost use Rattle.rx_nodes.specs.Nodes.{Makes};
 
 use crate::nodes::{Nodes, SERVER};

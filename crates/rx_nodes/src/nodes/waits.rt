@@ -2,8 +2,8 @@
 ghost use Rattle.std.specs.Prelude.{◌≡◌, ◌<◌, ◌-◌, ◌∷◌, List, map, option_map};
 ghost use Rattle.std.specs.List.{list_any};
 ghost use Rattle.rx_model.specs.declared.event.Noted.{Noted};
-ghost use Rattle.rx_nodes.specs.Nodes.{ClientsStand, Standing, client_node, nodes_of};
-ghost use Rattle.rx_nodes.specs.Waits as times;
+ghost use Rattle.rx_nodes.specs.Nodes.{ClientsStand, Standing, client_node, moments_of, nodes_of};
+ghost use Rattle.rx_events.specs.Waits as times;
 
 use crate::nodes::{ClientAt, Nodes};
 use rx_due::Steps;
@@ -23,7 +23,7 @@ impl Nodes {
 
     /// Whether a node's moment is later than this one, in milliseconds.
     pub fn is_later(&self, now: u64) -> bool
-        ensures { result ≡ times.is_later now (times.moments_of self.now) }
+        ensures { result ≡ times.is_later now (moments_of self.now) }
     {
         if self.server.moment() > now {
             return true;
@@ -33,7 +33,7 @@ impl Nodes {
 
     /// The latest moment of a node, in milliseconds.
     pub fn latest_moment(&self) -> u64
-        ensures { result ≡ times.latest (times.moments_of self.now) }
+        ensures { result ≡ times.latest (moments_of self.now) }
     {
         latest_of_clients(self.clients.as_slice(), self.server.moment())
     }

@@ -3,7 +3,7 @@ ghost use Rattle.std.specs.Prelude.{◌≡◌, ◌≤◌, ◌<◌, ◌^◌, IfOk
 ghost use Rattle.rx_model.specs.declared.event.Event.TheVariants as events;
 ghost use Rattle.rx_model.specs.declared.wire.TheConstants.{DATAGRAM_BYTES};
 ghost use Rattle.rx_node.specs.Steps.{given_from};
-ghost use Rattle.rx_nodes.specs.Events.{IsClocked, IsPolled, IsTaken};
+ghost use Rattle.rx_events.specs.Events.{IsClocked, IsPolled, IsTaken};
 ghost use Rattle.rx_nodes.specs.Nodes.{IsNodeThere, Makes, moment_of};
 
 use crate::nodes::{Nodes, SERVER};

@@ -12,7 +12,7 @@ ghost use Rattle.rx_node.specs.Mirrors.{IsActiveAt, IsKey};
 ghost use Rattle.rx_node.specs.Node.{setup_of};
 ghost use Rattle.rx_server.specs.Handling.{Finds, IsFirst, IsFound, IsHandledAt, MayFinish, enters_at};
 ghost use Rattle.rx_server.specs.Server.{Answered, SameSetup, Serves, handler_count};
-ghost use Rattle.rx_node.specs.Steps.{written_count};
+ghost use Rattle.rx_events.specs.Events.{written_count};
 
 use crate::server::Server;
 use rx_books::{Life, Turn};

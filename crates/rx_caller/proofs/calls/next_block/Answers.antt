@@ -1,4 +1,4 @@
-use Rattle.rx_caller.specs.declared.caller.TheConstants.{BLOCK_BYTES}
+use Rattle.rx_asks.specs.declared.ask.TheConstants.{BLOCK_BYTES}
 use Rattle.rx_caller.proofs.Blocks.{next_is}
 use Rattle.rx_caller.proofs.calls.next_block.Goals as goal
 

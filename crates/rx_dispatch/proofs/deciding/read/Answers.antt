@@ -1,4 +1,4 @@
-use Rattle.rx_dispatch.specs.Handlers.{answer_to}
+use Rattle.rx_jobs.specs.Handlers.{answer_to}
 use Rattle.rx_dispatch.proofs.deciding.read.Goals as goal
 
 pub returns : goal.returns

@@ -1,4 +1,4 @@
-use Rattle.rx_dispatch.specs.Handlers.{served_for}
+use Rattle.rx_jobs.specs.Handlers.{served_for}
 use Rattle.rx_dispatch.proofs.deciding.serve.Goals as goal
 
 pub returns : goal.returns

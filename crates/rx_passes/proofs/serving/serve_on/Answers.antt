@@ -1,4 +1,4 @@
-use Rattle.rx_dispatch.specs.Handlers.{handlers_of}
+use Rattle.rx_jobs.specs.Handlers.{handlers_of}
 use Rattle.rx_passes.specs.Serving.{terms_of}
 use Rattle.rx_passes.proofs.Passing.{ready_stopped}
 use Rattle.rx_passes.proofs.Running.{is_stopped}

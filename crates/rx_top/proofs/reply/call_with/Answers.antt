@@ -1,5 +1,5 @@
 use Rattle.std.proofs.Common.{◌≡◌, Ok}
-use Rattle.rx_caller.specs.View.{CallerState}
+use Rattle.rx_asks.specs.View.{CallerState}
 use Rattle.rx_passes.specs.declared.calling.CallEnd.TheVariants as call_ends
 use Rattle.rx_passes.specs.Tells.{SinkTells, Told, sink_tells, told, wire_tells}
 use Rattle.rx_passes.specs.ToldCalls.{CallTold}

@@ -1,4 +1,4 @@
-use Rattle.rx_caller.specs.declared.caller.TheConstants.{REPLY_BYTES}
+use Rattle.rx_asks.specs.declared.ask.TheConstants.{REPLY_BYTES}
 use Rattle.rx_world.proofs.Done.{next_done, stays_done}
 use Rattle.rx_world.proofs.Serving.{calls_none, calls_some, clients_left, goes_wants}
 use Rattle.rx_world.proofs.invokes.call.Goals as goal

@@ -1,9 +1,9 @@
 use Rattle.std.proofs.Common.{◌≡◌, ◌≤◌, ◌∙◌, refl, sym, subst, true, false, length, rules, arith}
-use Rattle.rx_caller.specs.Asks.{begun, calling, is_done}
-use Rattle.rx_caller.specs.declared.caller.TheConstants.{REPLY_BYTES}
-use Rattle.rx_caller.specs.View.{CallerState}
+use Rattle.rx_asks.specs.Asks.{begun, calling, is_done}
+use Rattle.rx_asks.specs.declared.ask.TheConstants.{REPLY_BYTES}
+use Rattle.rx_asks.specs.View.{CallerState}
 use Rattle.rx_world.specs.Tells.{Told, told}
-use Rattle.rx_world.specs.Turned.{RestsAnyhow}
+use Rattle.rx_world.specs.TurnsPlayed.{RestsAnyhow}
 use Rattle.rx_world.proofs.Done.{done_ended}
 use Rattle.rx_world.proofs.Going.{Going, goes_ended, goes_more, goes_over, going_here, turn_endless}
 use Rattle.rx_world.proofs.invokes.call_on.Goals as goal

@@ -1,6 +1,6 @@
 use Rattle.std.proofs.Common.{◌≡◌, length}
-use Rattle.rx_caller.specs.Asks.{begun, calling}
-use Rattle.rx_caller.specs.declared.caller.TheConstants.{REPLY_BYTES}
+use Rattle.rx_asks.specs.Asks.{begun, calling}
+use Rattle.rx_asks.specs.declared.ask.TheConstants.{REPLY_BYTES}
 use Rattle.rx_world.specs.Done.{StaysDone}
 use Rattle.rx_world.specs.Tells.{told}
 use Rattle.rx_world.proofs.Going.{Going}

@@ -1,8 +1,8 @@
 use Rattle.std.proofs.Common.{◌≡◌, None, length, take}
 use Rattle.rx_world.specs.Done.{KeepsDone, PlaysCallers}
-use Rattle.rx_world.specs.Parts.{each}
+use Rattle.rx_plan.specs.Parts.{each}
 use Rattle.rx_world.specs.Tells.{told}
-use Rattle.rx_world.specs.Turned.{turns_at}
+use Rattle.rx_plan.specs.Turned.{turns_at}
 use Rattle.rx_world.proofs.invokes.turn_each.Given as goal
 
 -- the callers at the places so far had their turns

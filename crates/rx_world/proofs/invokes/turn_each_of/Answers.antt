@@ -1,5 +1,5 @@
 use Rattle.std.proofs.Common.{refl, ◌∙◌, get_or}
-use Rattle.rx_world.specs.Turned.{turns_for}
+use Rattle.rx_plan.specs.Turned.{turns_for}
 use Rattle.rx_world.proofs.CallersMade.{callers_more, callers_none, callers_stop, same_there}
 use Rattle.rx_world.proofs.invokes.turn_each_of.Goals as goal
 

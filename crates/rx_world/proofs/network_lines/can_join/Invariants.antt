@@ -1,5 +1,5 @@
 use Rattle.std.proofs.Common.{◌≡◌, drop}
-use Rattle.rx_world.specs.Lines.{can_join, joins_all}
+use Rattle.rx_plan.specs.Lines.{can_join, joins_all}
 use Rattle.rx_world.proofs.network_lines.can_join.Given as goal
 
 abbrev pub invariant-loop-packet : goal.invariant-loop-packet

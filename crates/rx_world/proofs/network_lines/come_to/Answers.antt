@@ -1,8 +1,8 @@
 -- A datagram that is for the node's host is taken and told.
 use Rattle.std.proofs.Common.{refl, subst}
-use Rattle.rx_nodes.specs.Events.{IsTaken}
-use Rattle.rx_world.specs.Parts.{stop_of}
-use Rattle.rx_world.specs.Stages.{event}
+use Rattle.rx_events.specs.Events.{IsTaken}
+use Rattle.rx_world.specs.Ran.{stop_of}
+use Rattle.rx_plan.specs.Stages.{event}
 use Rattle.rx_world.specs.declared.stop.Stop.TheVariants as stops
 use Rattle.rx_world.proofs.Delivering.{comes_here, node_told, nodes_cut_as, not_here}
 use Rattle.rx_world.proofs.Making.{event_cut}

@@ -1,6 +1,6 @@
 -- One node after another is passed.
 use Rattle.std.proofs.Common.{◌≡◌, ◌<◌, ◌∙◌, arith, length, refl, suc, None}
-use Rattle.rx_world.specs.Network.{comes_to, delivers}
+use Rattle.rx_plan.specs.Network.{comes_to, delivers}
 use Rattle.rx_world.proofs.Delivering.{delivers_done, delivers_more, delivers_stop_as, nodes_none}
 use Rattle.rx_world.proofs.Numbers.{nodes_few}
 use Rattle.rx_world.proofs.network_lines.deliver.Goals as goal

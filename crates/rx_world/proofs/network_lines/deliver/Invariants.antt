@@ -1,7 +1,7 @@
 use Rattle.std.proofs.Common.{◌≡◌, None, length}
-use Rattle.rx_world.specs.Network.{below, comes_to}
-use Rattle.rx_world.specs.Parts.{each}
-use Rattle.rx_world.specs.Stages.{PlaysNodes}
+use Rattle.rx_plan.specs.Network.{below, comes_to}
+use Rattle.rx_plan.specs.Parts.{each}
+use Rattle.rx_world.specs.Shown.{PlaysNodes}
 use Rattle.rx_world.specs.Tells.{told}
 use Rattle.rx_world.proofs.network_lines.deliver.Given as goal
 

@@ -1,5 +1,5 @@
 -- One datagram after another is delivered.
-use Rattle.rx_world.specs.Network.{delivers}
+use Rattle.rx_plan.specs.Network.{delivers}
 use Rattle.rx_world.proofs.Delivering.{all_more, all_stop_as, nodes_none}
 use Rattle.rx_world.proofs.network_lines.deliver_all.Goals as goal
 

@@ -1,7 +1,7 @@
 use Rattle.std.proofs.Common.{None, take}
-use Rattle.rx_world.specs.Network.{delivers}
-use Rattle.rx_world.specs.Parts.{each}
-use Rattle.rx_world.specs.Stages.{PlaysNodes}
+use Rattle.rx_plan.specs.Network.{delivers}
+use Rattle.rx_plan.specs.Parts.{each}
+use Rattle.rx_world.specs.Shown.{PlaysNodes}
 use Rattle.rx_world.specs.Tells.{told}
 use Rattle.rx_world.proofs.network_lines.deliver_all.Given as goal
 

@@ -1,6 +1,6 @@
 use Rattle.std.proofs.Common.{Ok, false, sym, subst}
 use Rattle.rx_token.specs.Chosen.{chosen, secret_of}
-use Rattle.rx_world.specs.Follows.{begins}
+use Rattle.rx_plan.specs.Follows.{begins}
 use Rattle.rx_world.specs.Showing.{IsBegun}
 use Rattle.rx_world.proofs.Beginning.{server_begun}
 use Rattle.rx_world.proofs.runs.begin.Goals as goal

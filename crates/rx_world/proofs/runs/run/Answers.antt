@@ -1,9 +1,9 @@
 use Rattle.rx_script.specs.Saying.{blocks_of}
-use Rattle.rx_dispatch.specs.Handlers.{handlers_of}
+use Rattle.rx_jobs.specs.Handlers.{handlers_of}
 use Rattle.std.proofs.Common.{◌≡◌, length, subst}
 use Rattle.rx_world.specs.Tells.{told}
 use Rattle.rx_world.proofs.Ending.{run_empty}
-use Rattle.rx_world.proofs.Promised.{run_keeps}
+use Rattle.rx_world.proofs.RunKeeps.{run_keeps}
 use Rattle.rx_world.proofs.runs.run.Goals as goal
 
 pub returns-in-None-clause-run : goal.returns-in-None-clause-run

@@ -1,5 +1,5 @@
 use Rattle.std.proofs.Common.{◌∷◌, sym, subst}
-use Rattle.rx_dispatch.specs.Handlers.{handlers_of}
+use Rattle.rx_jobs.specs.Handlers.{handlers_of}
 use Rattle.rx_script.specs.Saying.{blocks_of}
 use Rattle.rx_world.specs.Runs.{RunIs}
 use Rattle.rx_world.specs.Showing.{RunsOn, outcome_of}

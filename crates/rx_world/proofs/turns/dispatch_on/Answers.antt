@@ -1,11 +1,12 @@
 use Rattle.std.proofs.Common.{◌≡◌, ◌∙◌, Ok, Err, ap, sym, subst, true, false, rules}
 use Rattle.std.proofs.Common.{arith}
-use Rattle.rx_dispatch.specs.Dispatching.{DispatcherState, accepts, dispatching, turning_of}
-use Rattle.rx_dispatch.specs.Handlers.{Handlers, handlers_of}
+use Rattle.rx_dispatch.specs.Rounds.{DispatcherState, turning_of}
+use Rattle.rx_jobs.specs.Dispatching.{accepts, dispatching}
+use Rattle.rx_jobs.specs.Handlers.{Handlers, handlers_of}
 use Rattle.rx_dispatch.specs.Making.{Remembers}
 use Rattle.rx_dispatch.specs.States.{state_of}
 use Rattle.rx_world.specs.Tells.{Told, told}
-use Rattle.rx_world.specs.Turned.{IsOverWith}
+use Rattle.rx_world.specs.TurnsPlayed.{IsOverWith}
 use Rattle.rx_world.proofs.Going.{Going, goes_ended, goes_more, goes_over, goes_rest, going_here, turn_endless}
 use Rattle.rx_world.proofs.Serving.{served_by}
 use Rattle.rx_world.proofs.turns.dispatch_on.Goals as goal

@@ -1,6 +1,6 @@
 use Rattle.std.proofs.Common.{◌∙◌, ℕ, List, ap, vec_len, drop, take}
-use Rattle.rx_node.specs.Steps.{written_count}
-use Rattle.rx_caller.specs.declared.caller.TheConstants.{BLOCK_BYTES}
+use Rattle.rx_events.specs.Events.{written_count}
+use Rattle.rx_asks.specs.declared.ask.TheConstants.{BLOCK_BYTES}
 use Rattle.rx_caller.proofs.Blocks.{accepts_within}
 use Rattle.rx_caller.proofs.caller.Caller.offer.Goals as goal
 

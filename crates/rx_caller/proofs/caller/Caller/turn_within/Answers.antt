@@ -1,7 +1,7 @@
 use Rattle.std.proofs.Common.{OnErr, Result, Ok, Err, sym, subst}
 use Rattle.rx_wire.specs.Journal.{HasNoted}
 use Rattle.rx_wire.specs.Turns.{noted}
-use Rattle.rx_caller.specs.View.{CallerState}
+use Rattle.rx_asks.specs.View.{CallerState}
 use Rattle.rx_caller.proofs.Turning.{Going, cut_off, going_first, going_on, leaves_less, made_some}
 use Rattle.rx_caller.proofs.caller.Caller.turn_within.Goals as goal
 

@@ -1,8 +1,8 @@
 use Rattle.std.proofs.Common.{ℕ, subst}
 use Rattle.rx_wire.specs.Journal.{HasNoted}
 use Rattle.rx_wire.specs.Turns.{noted}
-use Rattle.rx_dispatch.specs.Dispatching.{turning_of}
-use Rattle.rx_dispatch.specs.Handlers.{Handlers, handlers_of}
+use Rattle.rx_dispatch.specs.Rounds.{turning_of}
+use Rattle.rx_jobs.specs.Handlers.{Handlers, handlers_of}
 use Rattle.rx_dispatch.specs.States.{state_of}
 use Rattle.rx_dispatch.proofs.Errors.{on_err}
 use Rattle.rx_dispatch.proofs.NoteLaws.{kept_stops, none_noted, some_noted, some_refused}

@@ -1,7 +1,8 @@
 use Rattle.std.proofs.Common.{arith, rules, ◌≡◌, ◌∙◌, ap, false, refl, subst, sym, true}
 use Rattle.rx_server.specs.Server.{Stands}
-use Rattle.rx_dispatch.specs.Dispatching.{DispatcherState, accepts, turning_of}
-use Rattle.rx_dispatch.specs.Handlers.{Handlers, handlers_of}
+use Rattle.rx_dispatch.specs.Rounds.{DispatcherState, turning_of}
+use Rattle.rx_jobs.specs.Dispatching.{accepts}
+use Rattle.rx_jobs.specs.Handlers.{Handlers, handlers_of}
 use Rattle.rx_dispatch.specs.Making.{AdvancesBy, Remembers}
 use Rattle.rx_dispatch.specs.States.{state_of}
 use Rattle.rx_dispatch.proofs.Errors.{wanting_err}

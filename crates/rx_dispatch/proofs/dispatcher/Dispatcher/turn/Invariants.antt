@@ -1,8 +1,9 @@
 use Rattle.std.proofs.Common.{◌≡◌}
 use Rattle.rx_node.specs.Node.{setup_of}
 use Rattle.rx_server.specs.Server.{Stands}
-use Rattle.rx_dispatch.specs.Dispatching.{accepts, turning_of}
-use Rattle.rx_dispatch.specs.Handlers.{handlers_of}
+use Rattle.rx_jobs.specs.Dispatching.{accepts}
+use Rattle.rx_dispatch.specs.Rounds.{turning_of}
+use Rattle.rx_jobs.specs.Handlers.{handlers_of}
 use Rattle.rx_dispatch.specs.Making.{AdvancesBy, Remembers}
 use Rattle.rx_dispatch.specs.States.{state_of}
 use Rattle.rx_dispatch.proofs.dispatcher.Dispatcher.turn.Given as goal

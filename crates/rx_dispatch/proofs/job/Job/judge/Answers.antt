@@ -1,9 +1,11 @@
 use Rattle.std.proofs.Common.{◌≡◌, ◌∙◌, List, Option, ap, length, subst, sym, take, ℕ}
-use Rattle.rx_dispatch.specs.Handlers.{Handlers, IsRemembered, handlers_at}
-use Rattle.rx_dispatch.specs.Jobs.{JobState}
-use Rattle.rx_dispatch.specs.Keeping.{kept_of}
+use Rattle.rx_jobs.specs.Handlers.{Handlers}
+use Rattle.rx_dispatch.specs.Desks.{IsRemembered, handlers_at}
+use Rattle.rx_jobs.specs.Jobs.{JobState}
+use Rattle.rx_jobs.specs.Keeping.{kept_of}
 use Rattle.rx_dispatch.specs.declared.deciding.Found.{Found}
-use Rattle.rx_dispatch.proofs.KeptLaws.{kept_front, remembered_kept, remembered_whole}
+use Rattle.rx_jobs.proofs.KeptLaws.{kept_front}
+use Rattle.rx_dispatch.proofs.Remembered.{remembered_kept, remembered_whole}
 use Rattle.rx_dispatch.proofs.job.Job.judge.Goals as goal
 use Rattle.rx_dispatch.proofs.job.Job.judge.Goals.{then-before-count+in_ok-code+in-Some}
 use Rattle.rx_dispatch.proofs.job.Job.judge.Goals.{then-before-count+in_ok-code+in_default, else-before-count}

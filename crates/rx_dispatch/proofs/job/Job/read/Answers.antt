@@ -1,9 +1,9 @@
 use Rattle.std.proofs.Common.{◌∙◌, ◌++◌, List, ℕ, ap, drop, subst}
 use Rattle.hex.specs.Hex.{IsBytes}
 use Rattle.rx_dispatch.specs.Calls.{Called}
-use Rattle.rx_dispatch.specs.Jobs.{JobState}
-use Rattle.rx_dispatch.specs.declared.job.TheConstants.{OFFER_BYTES}
-use Rattle.rx_dispatch.specs.declared.job.Want.TheVariants as wants
+use Rattle.rx_jobs.specs.Jobs.{JobState}
+use Rattle.rx_jobs.specs.declared.job.TheConstants.{OFFER_BYTES}
+use Rattle.rx_jobs.specs.declared.job.Want.TheVariants as wants
 use Rattle.rx_model.specs.declared.answers.ReadGot.TheVariants as readers
 use Rattle.rx_model.specs.declared.event.Event.TheVariants as events
 use Rattle.rx_dispatch.proofs.CallLaws.{read_called}

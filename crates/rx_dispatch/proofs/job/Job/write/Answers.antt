@@ -5,9 +5,9 @@ use Rattle.rx_model.specs.declared.event.Event.TheVariants as events
 use Rattle.rx_model.specs.declared.names.CallName.{CallName}
 use Rattle.rx_server.specs.Server.{Answered}
 use Rattle.rx_dispatch.specs.Calls.{Called}
-use Rattle.rx_dispatch.specs.Jobs.{JobState}
+use Rattle.rx_jobs.specs.Jobs.{JobState}
 use Rattle.rx_dispatch.specs.declared.job.Next.TheVariants as nexts
-use Rattle.rx_dispatch.specs.declared.job.Want.TheVariants as wants
+use Rattle.rx_jobs.specs.declared.job.Want.TheVariants as wants
 use Rattle.rx_dispatch.proofs.CallLaws.{write_called}
 use Rattle.rx_dispatch.proofs.job.Job.write.Goals as goal
 

@@ -1,8 +1,8 @@
 use Rattle.std.proofs.Common.{refl}
 use Rattle.std.proofs.Math.ListN.{set}
-use Rattle.rx_dispatch.specs.Dispatching.{RoundState}
-use Rattle.rx_dispatch.specs.Handlers.{handlers_at}
-use Rattle.rx_dispatch.specs.Jobs.{JobState}
+use Rattle.rx_dispatch.specs.Rounds.{RoundState}
+use Rattle.rx_dispatch.specs.Desks.{handlers_at}
+use Rattle.rx_jobs.specs.Jobs.{JobState}
 use Rattle.rx_dispatch.specs.States.{round_of}
 use Rattle.rx_dispatch.proofs.RoundLaws.{Becomes, ready_calls, ready_remembers}
 use Rattle.rx_dispatch.proofs.round.Round.call.Goals as goal

@@ -1,5 +1,5 @@
 use Rattle.std.proofs.Common.{Bool, None, refl, subst}
-use Rattle.rx_dispatch.specs.Dispatching.{Passes, RoundState}
+use Rattle.rx_dispatch.specs.Rounds.{Passes, RoundState}
 use Rattle.rx_dispatch.specs.States.{round_of}
 use Rattle.rx_dispatch.specs.declared.job.Next.TheVariants as nexts
 use Rattle.rx_dispatch.proofs.RoundLaws.{passes_on}

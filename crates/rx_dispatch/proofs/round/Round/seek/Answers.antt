@@ -1,5 +1,5 @@
 use Rattle.std.proofs.Common.{◌∙◌}
-use Rattle.rx_dispatch.specs.Handlers.{handlers_at}
+use Rattle.rx_dispatch.specs.Desks.{handlers_at}
 use Rattle.rx_dispatch.proofs.round.Round.seek.Goals as goal
 
 pub jobs-preserved : goal.jobs-preserved

@@ -1,6 +1,6 @@
 use Rattle.std.proofs.Common.{◌≡◌, ◌-◌, length}
-use Rattle.rx_dispatch.specs.Dispatching.{turning_of}
-use Rattle.rx_dispatch.specs.Handlers.{handlers_at}
+use Rattle.rx_dispatch.specs.Rounds.{turning_of}
+use Rattle.rx_dispatch.specs.Desks.{handlers_at}
 use Rattle.rx_dispatch.specs.Making.{Remembers}
 use Rattle.rx_dispatch.specs.States.{round_of}
 use Rattle.rx_dispatch.specs.declared.round.Stage.TheVariants as stages

@@ -1,7 +1,7 @@
 use Rattle.std.proofs.Common.{◌≡◌, subst, take, rules, length, sym, ap, refl}
 use Rattle.rx_model.specs.declared.answers.WroteGot.TheVariants as writers
 use Rattle.rx_model.specs.declared.event.Event.TheVariants as events
-use Rattle.rx_node.specs.Steps.{written_count}
+use Rattle.rx_events.specs.Events.{written_count}
 use Rattle.rx_nodes.specs.Nodes.{Makes}
 use Rattle.rx_nodes.proofs.Standing.{server_made}
 use Rattle.rx_nodes.proofs.nodes.Nodes.handler_write.Goals as goal

@@ -1,6 +1,6 @@
 use Rattle.std.proofs.Common.{◌<◌, ◌∙◌, length, sym, arith}
 use Rattle.rx_nodes.specs.Nodes.{client_node}
-use Rattle.rx_nodes.specs.Waits.{lives_at}
+use Rattle.rx_events.specs.Waits.{lives_at}
 use Rattle.rx_nodes.proofs.Waiting.{client_stands, live_false, live_true, passes_here, passes_on}
 use Rattle.rx_nodes.proofs.nodes.waits.any_client_lives.Goals as goal
 

@@ -2,7 +2,7 @@ use Rattle.std.proofs.Common.{◌≡◌, List, map}
 use Rattle.std.specs.List.{list_any}
 use Rattle.rx_model.specs.declared.event.Noted.{Noted}
 use Rattle.rx_nodes.specs.Nodes.{ClientsStand, client_node}
-use Rattle.rx_nodes.specs.Waits.{lives_at, over_nodes}
+use Rattle.rx_events.specs.Waits.{lives_at, over_nodes}
 use Rattle.rx_nodes.proofs.Waiting.{passes_from}
 use Rattle.rx_nodes.proofs.nodes.waits.any_client_lives.Given as goal
 

@@ -1,5 +1,5 @@
 use Rattle.std.proofs.Common.{◌≡◌, map}
-use Rattle.rx_nodes.specs.Waits.{is_later}
+use Rattle.rx_events.specs.Waits.{is_later}
 use Rattle.rx_nodes.proofs.Waiting.{later_from}
 use Rattle.rx_nodes.proofs.nodes.waits.is_client_later.Given as goal
 

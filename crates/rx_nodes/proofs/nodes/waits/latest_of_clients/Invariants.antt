@@ -1,5 +1,5 @@
 use Rattle.std.proofs.Common.{◌≡◌, ◌∷◌, map, max}
-use Rattle.rx_nodes.specs.Waits.{latest}
+use Rattle.rx_events.specs.Waits.{latest}
 use Rattle.rx_nodes.proofs.Waiting.{latest_from}
 use Rattle.rx_nodes.proofs.nodes.waits.latest_of_clients.Given as goal
 

@@ -1,6 +1,6 @@
 use Rattle.std.proofs.Common.{◌<◌, ◌+◌, ◌∙◌, length, sym, ap, arith}
 use Rattle.rx_nodes.specs.Nodes.{client_node}
-use Rattle.rx_nodes.specs.Waits.{lesser}
+use Rattle.rx_events.specs.Waits.{lesser}
 use Rattle.rx_nodes.proofs.Waiting.{client_stands}
 use Rattle.rx_nodes.proofs.Times.{least_from, least_on, wait_is}
 use Rattle.rx_nodes.proofs.nodes.waits.least_of_clients.Goals as goal

@@ -1,7 +1,7 @@
 use Rattle.std.proofs.Common.{◌≡◌, List, map}
 use Rattle.rx_model.specs.declared.event.Noted.{Noted}
 use Rattle.rx_nodes.specs.Nodes.{ClientsStand, client_node}
-use Rattle.rx_nodes.specs.Waits.{least_of, lesser, over_nodes, wait_at}
+use Rattle.rx_events.specs.Waits.{least_of, lesser, over_nodes, wait_at}
 use Rattle.rx_nodes.proofs.Times.{least_from}
 use Rattle.rx_nodes.proofs.nodes.waits.least_of_clients.Given as goal
 

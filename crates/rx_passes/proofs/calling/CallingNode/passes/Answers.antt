@@ -1,7 +1,7 @@
 use Rattle.std.proofs.Common.{◌≡◌, ◌∙◌, ◌<◌, ◌≤◌, ℕ, suc, true, false, Some, None, refl, rules, ap, sym, subst}
 use Rattle.std.proofs.Math.Numerals.{suc-eq-add-one}
 use Rattle.std.specs.Prelude.{is_some}
-use Rattle.rx_caller.specs.View.{CallerState}
+use Rattle.rx_asks.specs.View.{CallerState}
 use Rattle.rx_node.specs.Node.{setup_of}
 use Rattle.rx_node.specs.Steps.{StandsNode}
 use Rattle.rx_rules.specs.Setup.{Setup}

@@ -1,7 +1,7 @@
 use Rattle.std.proofs.Common.{◌≡◌, ◌∙◌, None, Some, refl}
-use Rattle.rx_caller.specs.Asks.{begun}
-use Rattle.rx_caller.specs.View.{CallerState}
-use Rattle.rx_caller.specs.declared.caller.TheConstants.{REPLY_BYTES}
+use Rattle.rx_asks.specs.Asks.{begun}
+use Rattle.rx_asks.specs.View.{CallerState}
+use Rattle.rx_asks.specs.declared.ask.TheConstants.{REPLY_BYTES}
 use Rattle.rx_passes.specs.Calls.{calls}
 use Rattle.rx_node.specs.Node.{setup_of}
 use Rattle.rx_passes.specs.Ports.{clocks, polls}

@@ -1,6 +1,7 @@
 use Rattle.std.proofs.Common.{◌≡◌, ◌∙◌, ◌≤◌, ◌-◌, ◌^◌, Err, List, Ok, ap, false, refl, rules, subst, sym, true}
-use Rattle.rx_dispatch.specs.Dispatching.{DispatcherState, accepts, dispatching, turning_of}
-use Rattle.rx_dispatch.specs.Handlers.{Handlers, handlers_of}
+use Rattle.rx_dispatch.specs.Rounds.{DispatcherState, turning_of}
+use Rattle.rx_jobs.specs.Dispatching.{accepts, dispatching}
+use Rattle.rx_jobs.specs.Handlers.{Handlers, handlers_of}
 use Rattle.rx_dispatch.specs.Making.{Remembers}
 use Rattle.rx_dispatch.specs.States.{state_of}
 use Rattle.rx_node.specs.Node.{setup_of}

@@ -1,6 +1,7 @@
 use Rattle.std.proofs.Common.{◌≡◌}
-use Rattle.rx_dispatch.specs.Dispatching.{accepts, dispatching, turning_of}
-use Rattle.rx_dispatch.specs.Handlers.{handlers_of}
+use Rattle.rx_jobs.specs.Dispatching.{accepts, dispatching}
+use Rattle.rx_dispatch.specs.Rounds.{turning_of}
+use Rattle.rx_jobs.specs.Handlers.{handlers_of}
 use Rattle.rx_dispatch.specs.Making.{Remembers}
 use Rattle.rx_dispatch.specs.States.{state_of}
 use Rattle.rx_node.specs.Node.{setup_of}

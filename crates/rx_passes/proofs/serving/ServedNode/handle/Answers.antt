@@ -1,5 +1,5 @@
 use Rattle.std.proofs.Common.{refl}
-use Rattle.rx_dispatch.specs.Handlers.{handlers_of}
+use Rattle.rx_jobs.specs.Handlers.{handlers_of}
 use Rattle.rx_dispatch.specs.States.{state_of}
 use Rattle.rx_passes.specs.declared.stop.Stop.TheVariants.{OutOfMemory}
 use Rattle.rx_passes.specs.Turned.{handles_wants}

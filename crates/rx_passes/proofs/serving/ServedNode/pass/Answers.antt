@@ -1,7 +1,7 @@
 use Rattle.std.proofs.Common.{◌≡◌, List, Some, subst, sym}
 use Rattle.rx_dispatch.specs.declared.dispatcher.Dispatcher.{Dispatcher}
-use Rattle.rx_dispatch.specs.Handlers.{handlers_of}
-use Rattle.rx_dispatch.specs.Jobs.{JobState}
+use Rattle.rx_jobs.specs.Handlers.{handlers_of}
+use Rattle.rx_jobs.specs.Jobs.{JobState}
 use Rattle.rx_dispatch.specs.States.{state_of}
 use Rattle.rx_node.specs.Node.{setup_of}
 use Rattle.rx_server.specs.Server.{Stands}

@@ -1,6 +1,6 @@
 use Rattle.std.proofs.Common.{◌≡◌, ◌∙◌, ◌<◌, ◌≤◌, ℕ, List, [], Some, None, refl, rules, subst, sym}
 use Rattle.std.proofs.Math.Numerals.{suc-eq-add-one}
-use Rattle.rx_dispatch.specs.Jobs.{JobState}
+use Rattle.rx_jobs.specs.Jobs.{JobState}
 use Rattle.rx_dispatch.specs.States.{state_of}
 use Rattle.rx_node.specs.Node.{setup_of}
 use Rattle.rx_rules.specs.Setup.{Setup}

@@ -1,6 +1,6 @@
 use Rattle.std.proofs.Common.{◌≡◌, ◌∙◌, List, None, ap, refl}
-use Rattle.rx_dispatch.specs.Handlers.{handlers_of}
-use Rattle.rx_dispatch.specs.Jobs.{JobState}
+use Rattle.rx_jobs.specs.Handlers.{handlers_of}
+use Rattle.rx_jobs.specs.Jobs.{JobState}
 use Rattle.rx_dispatch.specs.States.{state_of}
 use Rattle.rx_node.specs.Node.{setup_of}
 use Rattle.rx_passes.specs.declared.ports.Ports.{Ports}

@@ -1,7 +1,7 @@
 use Rattle.std.proofs.Common.{◌≡◌, Ok, subst}
 use Rattle.std.specs.Prelude.{IfOk}
 use Rattle.xdr_value.specs.View.{procs_of, types_of}
-use Rattle.rx_dispatch.specs.Handlers.{handlers_of}
+use Rattle.rx_jobs.specs.Handlers.{handlers_of}
 use Rattle.rx_script.specs.Plans.{plan_of}
 use Rattle.rx_script.specs.Saying.{blocks_of, plan_rows}
 use Rattle.rx_tests.proofs.tests.plans.play.Goals as goal

@@ -1,7 +1,7 @@
 use Rattle.std.proofs.Common.{◌<◌, ◌∙◌, length, sym, subst}
 use Rattle.std.specs.List.{All}
 use Rattle.rx_world.specs.Done.{is_done_at}
-use Rattle.rx_world.specs.Turned.{turns_for}
+use Rattle.rx_plan.specs.Turned.{turns_for}
 use Rattle.rx_world.proofs.CallersMade.{callers_all}
 use Rattle.rx_world.proofs.Done.{keeps_for, leaves_low, left_turned, rests_for}
 use Rattle.rx_world.proofs.invokes.Callers.turn_of.Goals as goal

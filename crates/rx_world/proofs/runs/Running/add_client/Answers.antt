@@ -1,7 +1,7 @@
 use Rattle.std.proofs.Common.{◌∙◌, ◌++◌, ◌∷◌, ◌+◌, [], None, ap, sym, subst}
 use Rattle.rx_nodes.specs.Nodes.{nodes_of}
 use Rattle.rx_rules.specs.Setup.{Client, unprompted}
-use Rattle.rx_world.specs.Follows.{client_node}
+use Rattle.rx_plan.specs.Follows.{client_node}
 use Rattle.rx_world.specs.Showing.{AddsNode, IsCounted, has_client_room}
 use Rattle.rx_world.proofs.Beginning.{client_added, client_counted, client_late, client_refused, client_wants}
 use Rattle.rx_world.proofs.runs.Running.add_client.Goals as goal

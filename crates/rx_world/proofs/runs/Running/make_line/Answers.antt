@@ -1,9 +1,9 @@
 use Rattle.std.proofs.Common.{sym, subst}
-use Rattle.rx_dispatch.specs.Handlers.{handlers_of}
-use Rattle.rx_world.specs.Follows.{next_part}
-use Rattle.rx_world.specs.Parts.{stop_of}
+use Rattle.rx_jobs.specs.Handlers.{handlers_of}
+use Rattle.rx_plan.specs.Follows.{next_part}
+use Rattle.rx_world.specs.Ran.{stop_of}
 use Rattle.rx_world.specs.Showing.{MakesLine}
-use Rattle.rx_world.specs.Stages.{script_of}
+use Rattle.rx_world.specs.Shown.{script_of}
 use Rattle.rx_world.specs.Tells.{told}
 use Rattle.rx_world.proofs.LinesGone.{late_counted, next_made}
 use Rattle.rx_world.proofs.runs.Running.make_line.Goals as goal

@@ -1,11 +1,11 @@
 use Rattle.std.proofs.Common.{◌∙◌, ◌+◌, suc, Err, Ok, Some, None, refl, sym, subst, take, drop}
 use Rattle.std.proofs.Math.Numerals.{add-one}
 use Rattle.std.proofs.lemmas.List.{take_all}
-use Rattle.rx_dispatch.specs.Handlers.{handlers_of}
-use Rattle.rx_world.specs.Follows.{Progress, next_part}
-use Rattle.rx_world.specs.Parts.{Ran, stop_of}
+use Rattle.rx_jobs.specs.Handlers.{handlers_of}
+use Rattle.rx_plan.specs.Follows.{Progress, next_part}
+use Rattle.rx_world.specs.Ran.{Ran, stop_of}
 use Rattle.rx_world.specs.Showing.{Made, ShowsRun, ended_at}
-use Rattle.rx_world.specs.Stages.{Shows, script_of}
+use Rattle.rx_world.specs.Shown.{Shows, script_of}
 use Rattle.rx_world.specs.Tells.{told}
 use Rattle.rx_world.proofs.LinesGone.{Behind, behind_all, behind_ended, behind_more, behind_none, grown, parted}
 use Rattle.rx_world.proofs.runs.Running.make_lines.Goals as goal

@@ -1,8 +1,8 @@
 use Rattle.std.proofs.Common.{◌≡◌, ◌+◌, take}
-use Rattle.rx_dispatch.specs.Handlers.{handlers_of}
-use Rattle.rx_world.specs.Follows.{Progress}
+use Rattle.rx_jobs.specs.Handlers.{handlers_of}
+use Rattle.rx_plan.specs.Follows.{Progress}
 use Rattle.rx_world.specs.Showing.{IsCounted, ShowsRun}
-use Rattle.rx_world.specs.Stages.{script_of}
+use Rattle.rx_world.specs.Shown.{script_of}
 use Rattle.rx_world.specs.Tells.{told}
 use Rattle.rx_world.proofs.LinesGone.{Behind}
 use Rattle.rx_world.proofs.runs.Running.make_lines.Given as goal

@@ -1,6 +1,6 @@
-use Rattle.rx_dispatch.specs.Handlers.{handlers_of}
-use Rattle.rx_world.specs.Parts.{stop_of}
-use Rattle.rx_world.specs.Stages.{script_of}
+use Rattle.rx_jobs.specs.Handlers.{handlers_of}
+use Rattle.rx_world.specs.Ran.{stop_of}
+use Rattle.rx_world.specs.Shown.{script_of}
 use Rattle.rx_world.proofs.LinesGone.{other_made}
 use Rattle.rx_world.proofs.runs.Running.make_other.Goals as goal
 

@@ -1,7 +1,7 @@
 use Rattle.std.proofs.Common.{subst}
-use Rattle.rx_dispatch.specs.Handlers.{handlers_of}
+use Rattle.rx_jobs.specs.Handlers.{handlers_of}
 use Rattle.rx_world.specs.Showing.{Made}
-use Rattle.rx_world.specs.Stages.{Shows, script_of}
+use Rattle.rx_world.specs.Shown.{Shows, script_of}
 use Rattle.rx_world.specs.Tells.{told}
 use Rattle.rx_world.proofs.Ending.{runs_answered}
 use Rattle.rx_world.proofs.runs.Running.on.Goals as goal

@@ -1,8 +1,8 @@
 -- The event is made and told, and then its name is kept.
 use Rattle.std.proofs.Common.{None}
-use Rattle.rx_nodes.specs.Events.{IsAccepted}
-use Rattle.rx_world.specs.Lines.{with_accepted}
-use Rattle.rx_world.specs.Parts.{To}
+use Rattle.rx_events.specs.Events.{IsAccepted}
+use Rattle.rx_plan.specs.Lines.{with_accepted}
+use Rattle.rx_plan.specs.Parts.{To}
 use Rattle.rx_world.proofs.Keeping.{accepted_comes}
 use Rattle.rx_world.proofs.Making.{event_kept, event_stopped, event_unkept, server_there}
 use Rattle.rx_world.proofs.world.World.accept_line.Goals as goal

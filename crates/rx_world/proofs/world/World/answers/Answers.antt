@@ -1,10 +1,11 @@
 use Rattle.std.proofs.Common.{◌≡◌, ◌∙◌, ◌<◌, ◌≤◌, List, ap, sym, subst, length, take, drop, suc, get_or}
 use Rattle.std.proofs.lemmas.List.{take_all}
 use Rattle.xdr_value.specs.View.{procs_of, types_of}
-use Rattle.rx_world.specs.Answers.{answer_line, answer_lines}
+use Rattle.rx_plan.specs.Answers.{answer_line, answer_lines}
 use Rattle.rx_world.specs.Runs.{PutsAll}
 use Rattle.rx_world.specs.Showing.{PutsBy}
-use Rattle.rx_world.specs.Stages.{InvokedState, WorldState}
+use Rattle.rx_plan.specs.Stages.{InvokedState}
+use Rattle.rx_world.specs.Shown.{WorldState}
 use Rattle.rx_world.specs.Tells.{told}
 use Rattle.rx_world.proofs.Putting.{lines_more, lines_parted, puts_ended, puts_more, puts_none}
 use Rattle.rx_world.proofs.world.World.answers.Goals as goal

@@ -1,7 +1,7 @@
 use Rattle.std.proofs.Common.{List, Option, take}
 use Rattle.rx_model.specs.declared.event.Noted.{Noted}
 use Rattle.xdr_value.specs.View.{procs_of, types_of}
-use Rattle.rx_world.specs.Answers.{answer_lines}
+use Rattle.rx_plan.specs.Answers.{answer_lines}
 use Rattle.rx_world.specs.Runs.{PutsAll}
 use Rattle.rx_world.specs.Tells.{told}
 use Rattle.rx_world.proofs.world.World.answers.Given as goal

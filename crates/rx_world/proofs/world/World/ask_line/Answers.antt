@@ -1,12 +1,13 @@
 -- The call is looked for, its event is made, and then it is told.
 use Rattle.std.proofs.Common.{refl, subst}
 use Rattle.rx_nodes.specs.Nodes.{Makes}
-use Rattle.rx_nodes.specs.Events.{IsAsked}
+use Rattle.rx_events.specs.Events.{IsAsked}
 use Rattle.rx_script.specs.declared.outcome.PlanWhy.TheVariants as causes
-use Rattle.rx_world.specs.Finds.{call_at}
-use Rattle.rx_world.specs.Parts.{stop_of}
-use Rattle.rx_world.specs.Stages.{WorldState, event}
-use Rattle.rx_world.specs.declared.world.ClientCall.{ClientCall}
+use Rattle.rx_plan.specs.Finds.{call_at}
+use Rattle.rx_world.specs.Ran.{stop_of}
+use Rattle.rx_world.specs.Shown.{WorldState}
+use Rattle.rx_plan.specs.Stages.{event}
+use Rattle.rx_plan.specs.declared.call.ClientCall.{ClientCall}
 use Rattle.rx_world.proofs.Making.{event_told, found_goes, names_none}
 use Rattle.rx_world.proofs.world.World.ask_line.Goals as goal
 

@@ -1,10 +1,11 @@
 -- The client is looked for, the event is made and told, and then its name is kept.
 use Rattle.std.proofs.Common.{None}
-use Rattle.rx_nodes.specs.Events.{IsCalled}
+use Rattle.rx_events.specs.Events.{IsCalled}
 use Rattle.rx_script.specs.declared.outcome.PlanWhy.TheVariants as causes
-use Rattle.rx_world.specs.Finds.{client_at}
-use Rattle.rx_world.specs.Lines.{calls, with_called}
-use Rattle.rx_world.specs.Parts.{To, stop_of}
+use Rattle.rx_plan.specs.Finds.{client_at}
+use Rattle.rx_plan.specs.Lines.{calls, with_called}
+use Rattle.rx_plan.specs.Parts.{To}
+use Rattle.rx_world.specs.Ran.{stop_of}
 use Rattle.rx_world.proofs.Keeping.{called_comes}
 use Rattle.rx_world.proofs.Making.{event_kept, event_stopped, event_unkept, found_goes, names_none}
 use Rattle.rx_world.proofs.world.World.call_line.Goals as goal

@@ -1,7 +1,7 @@
 use Rattle.std.proofs.Common.{None}
-use Rattle.rx_world.specs.declared.lossy.Fate.TheVariants as fates
-use Rattle.rx_world.specs.Network.{delivers}
-use Rattle.rx_world.specs.Stages.{Shows}
+use Rattle.rx_plan.specs.declared.fate.Fate.TheVariants as fates
+use Rattle.rx_plan.specs.Network.{delivers}
+use Rattle.rx_world.specs.Shown.{Shows}
 use Rattle.rx_world.proofs.Following.{on_none}
 use Rattle.rx_world.proofs.LossyMade.{carried, comes_once, holds_wants}
 use Rattle.rx_world.proofs.world.World.carry.Goals as goal

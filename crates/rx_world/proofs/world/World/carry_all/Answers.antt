@@ -2,7 +2,7 @@
 use Rattle.std.proofs.Common.{◌∙◌, append-nil, drop, length, refl, rules, suc, sym}
 use Rattle.std.proofs.lemmas.Iterator.Adapters.{YieldsList-from_vec}
 use Rattle.std.proofs.lemmas.Iterator.Consumers.{YieldsList-end, YieldsList-so_far, YieldsList-turn}
-use Rattle.rx_world.specs.Network.{delivers}
+use Rattle.rx_plan.specs.Network.{delivers}
 use Rattle.rx_world.proofs.Fated.{comes_all, comes_ended, comes_more, drawn_all, held_all, held_more, turn_around}
 use Rattle.rx_world.proofs.Fated.{words_more}
 use Rattle.rx_world.proofs.Playing.{each_none}

@@ -1,8 +1,8 @@
 use Rattle.std.proofs.Common.{◌≡◌, ◌++◌, None}
-use Rattle.rx_world.specs.Lossy.{comes, drawn, fated, gathered, stays}
-use Rattle.rx_world.specs.Network.{delivers}
-use Rattle.rx_world.specs.Parts.{each}
-use Rattle.rx_world.specs.Stages.{Plays, script_of}
+use Rattle.rx_plan.specs.Lossy.{comes, drawn, fated, gathered, stays}
+use Rattle.rx_plan.specs.Network.{delivers}
+use Rattle.rx_plan.specs.Parts.{each}
+use Rattle.rx_world.specs.Shown.{Plays, script_of}
 use Rattle.rx_world.specs.Tells.{told}
 use Rattle.rx_world.proofs.world.World.carry_all.Given as goal
 

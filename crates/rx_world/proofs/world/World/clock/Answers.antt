@@ -1,6 +1,6 @@
 -- The event is made, and then it is told.
-use Rattle.rx_nodes.specs.Events.{IsClocked}
-use Rattle.rx_world.specs.Parts.{stop_of}
+use Rattle.rx_events.specs.Events.{IsClocked}
+use Rattle.rx_world.specs.Ran.{stop_of}
 use Rattle.rx_world.proofs.Making.{event_told}
 use Rattle.rx_world.proofs.world.World.clock.Goals as goal
 

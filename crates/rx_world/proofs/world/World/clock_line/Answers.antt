@@ -2,9 +2,9 @@
 use Rattle.std.proofs.Common.{Some}
 use Rattle.rx_script.specs.declared.outcome.PlanWhy.TheVariants as causes
 use Rattle.rx_world.specs.declared.stop.Stop.TheVariants as stops
-use Rattle.rx_world.specs.Finds.{node_at}
-use Rattle.rx_world.specs.Lines.{clocks}
-use Rattle.rx_world.specs.Parts.{stop_of}
+use Rattle.rx_plan.specs.Finds.{node_at}
+use Rattle.rx_plan.specs.Lines.{clocks}
+use Rattle.rx_world.specs.Ran.{stop_of}
 use Rattle.rx_world.proofs.Clocking.{clock_made, clock_refused}
 use Rattle.rx_world.proofs.Making.{found_goes, names_none}
 use Rattle.rx_world.proofs.world.World.clock_line.Goals as goal

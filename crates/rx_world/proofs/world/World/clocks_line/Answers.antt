@@ -1,5 +1,5 @@
 -- Where no moment is later, all clocks are set.
-use Rattle.rx_world.specs.Parts.{stop_of}
+use Rattle.rx_world.specs.Ran.{stop_of}
 use Rattle.rx_world.proofs.Clocking.{clocks_made, clocks_refused}
 use Rattle.rx_world.proofs.world.World.clocks_line.Goals as goal
 

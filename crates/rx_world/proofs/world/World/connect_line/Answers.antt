@@ -1,8 +1,8 @@
 -- The client is looked for, the event is made, and then it is told.
 use Rattle.rx_script.specs.declared.outcome.PlanWhy.TheVariants as causes
-use Rattle.rx_world.specs.Finds.{client_at}
-use Rattle.rx_world.specs.Lines.{connects}
-use Rattle.rx_world.specs.Parts.{stop_of}
+use Rattle.rx_plan.specs.Finds.{client_at}
+use Rattle.rx_plan.specs.Lines.{connects}
+use Rattle.rx_world.specs.Ran.{stop_of}
 use Rattle.rx_world.proofs.Making.{found_goes, link_told, names_none}
 use Rattle.rx_world.proofs.world.World.connect_line.Goals as goal
 

@@ -1,10 +1,10 @@
 -- The datagram is looked for, and then it is delivered.
 use Rattle.std.proofs.Common.{None, Some, refl}
 use Rattle.rx_script.specs.declared.outcome.PlanWhy.TheVariants as causes
-use Rattle.rx_world.specs.Finds.{numbered}
-use Rattle.rx_world.specs.Network.{delivers}
-use Rattle.rx_world.specs.Parts.{stop_of}
-use Rattle.rx_world.specs.Stages.{Stage}
+use Rattle.rx_plan.specs.Finds.{numbered}
+use Rattle.rx_plan.specs.Network.{delivers}
+use Rattle.rx_world.specs.Ran.{stop_of}
+use Rattle.rx_plan.specs.Stages.{Stage}
 use Rattle.rx_world.proofs.Delivering.{nodes_play}
 use Rattle.rx_world.proofs.Keeping.{packet_there}
 use Rattle.rx_world.proofs.Making.{found_goes}

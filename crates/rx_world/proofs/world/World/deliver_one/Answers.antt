@@ -1,5 +1,5 @@
 use Rattle.std.proofs.Common.{refl}
-use Rattle.rx_world.specs.Network.{delivers}
+use Rattle.rx_plan.specs.Network.{delivers}
 use Rattle.rx_world.specs.contracts.world.World.{the_view}
 use Rattle.rx_world.proofs.RoundsMade.{plays_from}
 use Rattle.rx_world.proofs.world.World.deliver_one.Goals as goal

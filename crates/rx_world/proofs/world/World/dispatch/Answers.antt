@@ -1,4 +1,4 @@
-use Rattle.rx_dispatch.specs.Handlers.{handlers_of}
+use Rattle.rx_jobs.specs.Handlers.{handlers_of}
 use Rattle.rx_world.specs.contracts.world.World.{the_view}
 use Rattle.rx_world.proofs.TurnsMade.{dispatch_plays}
 use Rattle.rx_world.proofs.world.World.dispatch.Goals as goal

@@ -2,11 +2,11 @@
 use Rattle.std.proofs.Common.{subst, w32}
 use Rattle.std.proofs.lemmas.Int.{to_z-of_z}
 use Rattle.rx_model.specs.declared.names.CallName.{CallName}
-use Rattle.rx_nodes.specs.Events.{IsFinished}
+use Rattle.rx_events.specs.Events.{IsFinished}
 use Rattle.rx_script.specs.declared.outcome.PlanWhy.TheVariants as causes
-use Rattle.rx_world.specs.Finds.{numbered}
-use Rattle.rx_world.specs.Parts.{stop_of}
-use Rattle.rx_world.specs.Stages.{Stage, event}
+use Rattle.rx_plan.specs.Finds.{numbered}
+use Rattle.rx_world.specs.Ran.{stop_of}
+use Rattle.rx_plan.specs.Stages.{Stage, event}
 use Rattle.rx_world.proofs.Making.{event_told, found_goes, names_none, server_there}
 use Rattle.rx_world.proofs.world.World.finish_line.Goals as goal
 

@@ -3,9 +3,9 @@ use Rattle.std.proofs.Common.{◌≡◌, ◌≤◌, ◌∙◌, ◌++◌, ◌∷�
 use Rattle.std.proofs.Common.{slice_get, sym, take}
 use Rattle.std.proofs.lemmas.Grind.{common_steps}
 use Rattle.rx_jumbo.specs.Parts.{parts_of}
-use Rattle.rx_nodes.specs.Events.{IsTaken}
-use Rattle.rx_world.specs.Lines.{forges}
-use Rattle.rx_world.specs.Stages.{event}
+use Rattle.rx_events.specs.Events.{IsTaken}
+use Rattle.rx_plan.specs.Lines.{forges}
+use Rattle.rx_plan.specs.Stages.{event}
 use Rattle.rx_world.specs.declared.stop.Stop.TheVariants as stops
 use Rattle.rx_world.proofs.Joining.{parts_done, parts_more, parts_stop_as}
 use Rattle.rx_world.proofs.Making.{cut_as, each_cut, event_cut}

@@ -1,9 +1,10 @@
 use Rattle.std.proofs.Common.{◌≡◌, None, length, take}
 use Rattle.rx_jumbo.specs.Parts.{parts_of}
-use Rattle.rx_nodes.specs.Events.{IsTaken}
+use Rattle.rx_events.specs.Events.{IsTaken}
 use Rattle.rx_nodes.specs.Nodes.{IsNodeThere}
-use Rattle.rx_world.specs.Parts.{each}
-use Rattle.rx_world.specs.Stages.{Plays, event, script_of}
+use Rattle.rx_plan.specs.Parts.{each}
+use Rattle.rx_world.specs.Shown.{Plays, script_of}
+use Rattle.rx_plan.specs.Stages.{event}
 use Rattle.rx_world.specs.Tells.{told}
 use Rattle.rx_world.proofs.world.World.forge.Given as goal
 

@@ -1,8 +1,8 @@
 -- The node is looked for, and then it takes the parts.
 use Rattle.rx_script.specs.declared.outcome.PlanWhy.TheVariants as causes
-use Rattle.rx_world.specs.Finds.{node_at}
-use Rattle.rx_world.specs.Lines.{forges}
-use Rattle.rx_world.specs.Parts.{stop_of}
+use Rattle.rx_plan.specs.Finds.{node_at}
+use Rattle.rx_plan.specs.Lines.{forges}
+use Rattle.rx_world.specs.Ran.{stop_of}
 use Rattle.rx_world.proofs.Making.{found_goes, names_none}
 use Rattle.rx_world.proofs.world.World.forge_line.Goals as goal
 

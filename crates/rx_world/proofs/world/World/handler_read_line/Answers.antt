@@ -1,10 +1,10 @@
 -- The call is looked for, its event is made, and then it is told.
 use Rattle.rx_model.specs.declared.names.CallName.{CallName}
-use Rattle.rx_nodes.specs.Events.{IsReadIn}
+use Rattle.rx_events.specs.Events.{IsReadIn}
 use Rattle.rx_script.specs.declared.outcome.PlanWhy.TheVariants as causes
-use Rattle.rx_world.specs.Finds.{numbered}
-use Rattle.rx_world.specs.Parts.{stop_of}
-use Rattle.rx_world.specs.Stages.{Stage, event}
+use Rattle.rx_plan.specs.Finds.{numbered}
+use Rattle.rx_world.specs.Ran.{stop_of}
+use Rattle.rx_plan.specs.Stages.{Stage, event}
 use Rattle.rx_world.proofs.Making.{event_cut, event_told, found_goes, names_none, names_wants, server_there}
 use Rattle.rx_world.proofs.world.World.handler_read_line.Goals as goal
 

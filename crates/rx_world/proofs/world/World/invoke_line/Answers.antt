@@ -2,12 +2,13 @@
 use Rattle.std.proofs.Common.{List, subst, ℕ, ◌≡◌}
 use Rattle.hex.specs.Hex.{IsBytes}
 use Rattle.rx_model.specs.declared.event.Event.{Event}
-use Rattle.rx_nodes.specs.Events.{IsCalled}
+use Rattle.rx_events.specs.Events.{IsCalled}
 use Rattle.rx_script.specs.declared.outcome.PlanWhy.TheVariants as causes
-use Rattle.rx_world.specs.Finds.{client_at}
-use Rattle.rx_world.specs.Lines.{IsInvoked, invokes, with_called, with_caller}
-use Rattle.rx_world.specs.Parts.{To, stop_of}
-use Rattle.rx_world.specs.Stages.{name_called}
+use Rattle.rx_plan.specs.Finds.{client_at}
+use Rattle.rx_plan.specs.Lines.{IsInvoked, invokes, with_called, with_caller}
+use Rattle.rx_plan.specs.Parts.{To}
+use Rattle.rx_world.specs.Ran.{stop_of}
+use Rattle.rx_plan.specs.Stages.{name_called}
 use Rattle.rx_world.proofs.Keeping.{invoked_comes}
 use Rattle.rx_world.proofs.Making.{event_kept, event_stopped, event_unkept, found_goes, names_none}
 use Rattle.rx_world.proofs.world.World.invoke_line.Goals as goal

@@ -1,7 +1,7 @@
 -- Where the places are in order and a joiner takes the datagrams, they are delivered.
 use Rattle.std.proofs.Common.{◌+◌, ◌∙◌, ap, refl, sym}
-use Rattle.rx_world.specs.Lines.{can_join, joins_to}
-use Rattle.rx_world.specs.Stages.{WorldState}
+use Rattle.rx_plan.specs.Lines.{can_join, joins_to}
+use Rattle.rx_world.specs.Shown.{WorldState}
 use Rattle.rx_world.specs.declared.stop.Stop.TheVariants as stops
 use Rattle.rx_world.proofs.Joining.{joins_cut, joins_fail, order_fails, order_holds, slice_is}
 use Rattle.rx_world.proofs.Making.{cut_as}

@@ -1,5 +1,5 @@
 -- Both datagrams are looked for, and then those between them are joined.
-use Rattle.rx_world.specs.Parts.{stop_of}
+use Rattle.rx_world.specs.Ran.{stop_of}
 use Rattle.rx_world.proofs.Joining.{first_lacks, joins_behind, second_lacks}
 use Rattle.rx_world.proofs.world.World.jumbo_line.Goals as goal
 

@@ -3,12 +3,13 @@ use mir.Val.{SFits}
 use Rattle.std.proofs.Common.{of_z, refl, rules, string_bytes, to_z, w32}
 use Rattle.std.proofs.lemmas.Int.{to_z-of_z}
 use Rattle.xdr_value.specs.View.{procs_of, values_of}
-use Rattle.rx_nodes.specs.Events.{IsCancelled, IsFinished, IsReplied, IsSaid}
-use Rattle.rx_dispatch.specs.Handlers.{handlers_of}
+use Rattle.rx_events.specs.Events.{IsCancelled, IsFinished, IsReplied, IsSaid}
+use Rattle.rx_jobs.specs.Handlers.{handlers_of}
 use Rattle.rx_script.specs.Procs.{proc_named}
-use Rattle.rx_world.specs.Finds.{at_accepted, at_call, at_client, at_node}
-use Rattle.rx_world.specs.Lines.{bytes_of, forges, invokes}
-use Rattle.rx_world.specs.Stages.{event, script_of}
+use Rattle.rx_plan.specs.Finds.{at_accepted, at_call, at_client, at_node}
+use Rattle.rx_plan.specs.Lines.{bytes_of, forges, invokes}
+use Rattle.rx_plan.specs.Stages.{event}
+use Rattle.rx_world.specs.Shown.{script_of}
 use Rattle.rx_world.specs.declared.stop.Stop.TheVariants as stops
 use Rattle.rx_world.proofs.Lining.{code_is, invoke_cut}
 use Rattle.rx_world.proofs.Making.{bytes_are, cut_as, late_line, line_is}

@@ -1,7 +1,7 @@
 use Rattle.std.proofs.Common.{◌∙◌, refl}
-use Rattle.rx_dispatch.specs.Handlers.{handlers_of}
-use Rattle.rx_world.specs.Lossy.{lossy}
-use Rattle.rx_world.specs.Stages.{script_of}
+use Rattle.rx_jobs.specs.Handlers.{handlers_of}
+use Rattle.rx_plan.specs.Lossy.{lossy}
+use Rattle.rx_world.specs.Shown.{script_of}
 use Rattle.rx_world.specs.contracts.world.World.{the_view}
 use Rattle.rx_world.proofs.LossyRounds.{lossy_all, lossy_by, lossy_ended, lossy_onward, lossy_stops, onward_first}
 use Rattle.rx_world.proofs.world.World.lossy.Goals as goal

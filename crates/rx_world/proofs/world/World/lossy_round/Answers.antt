@@ -1,6 +1,6 @@
 use Rattle.std.proofs.Common.{◌∙◌}
-use Rattle.rx_dispatch.specs.Handlers.{handlers_of}
-use Rattle.rx_world.specs.Stages.{script_of}
+use Rattle.rx_jobs.specs.Handlers.{handlers_of}
+use Rattle.rx_world.specs.Shown.{script_of}
 use Rattle.rx_world.proofs.LossyRounds.{held_behind, lossy_delivers, lossy_fates, lossy_polls, lossy_settles}
 use Rattle.rx_world.proofs.LossyRounds.{lossy_turned}
 use Rattle.rx_world.proofs.RoundsKept.{delivered_of, turned_by}

@@ -1,7 +1,9 @@
 use Rattle.std.proofs.Common.{◌≡◌, ◌+◌, ◌∙◌, inl, inr, refl, ap, length, arith}
-use Rattle.rx_world.specs.Parts.{each, stop_of}
-use Rattle.rx_world.specs.Rounds.{clients_first, moves_on}
-use Rattle.rx_world.specs.Stages.{Shows, Stage, WorldState}
+use Rattle.rx_plan.specs.Parts.{each}
+use Rattle.rx_world.specs.Ran.{stop_of}
+use Rattle.rx_plan.specs.Rounds.{clients_first, moves_on}
+use Rattle.rx_world.specs.Shown.{Shows, WorldState}
+use Rattle.rx_plan.specs.Stages.{Stage}
 use Rattle.rx_world.proofs.Following.{on_none}
 use Rattle.rx_world.proofs.Numbers.{clients_listed, plays_few}
 use Rattle.rx_world.proofs.RoundsMade.{client_ended, client_more, early_left, server_last}

@@ -1,6 +1,6 @@
 use Rattle.std.proofs.Common.{◌+◌, ◌∙◌, ap}
 use Rattle.rx_nodes.specs.Nodes.{moment_of}
-use Rattle.rx_world.specs.Stages.{WorldState}
+use Rattle.rx_world.specs.Shown.{WorldState}
 use Rattle.rx_world.specs.contracts.world.World.{the_view}
 use Rattle.rx_world.proofs.RoundsMade.{move_plays}
 use Rattle.rx_world.proofs.world.World.move_on.Goals as goal

@@ -1,7 +1,9 @@
 use Rattle.std.proofs.Common.{◌≡◌, ◌+◌, ◌∙◌, refl, ap, length, arith}
-use Rattle.rx_world.specs.Parts.{each, stop_of}
-use Rattle.rx_world.specs.Rounds.{Polled, ShowsGiven, clients_first, polls_out}
-use Rattle.rx_world.specs.Stages.{WorldState}
+use Rattle.rx_plan.specs.Parts.{each}
+use Rattle.rx_world.specs.Ran.{stop_of}
+use Rattle.rx_plan.specs.Rounds.{Polled, clients_first, polls_out}
+use Rattle.rx_world.specs.RoundsPlayed.{ShowsGiven}
+use Rattle.rx_world.specs.Shown.{WorldState}
 use Rattle.rx_world.proofs.Following.{on_none}
 use Rattle.rx_world.proofs.Numbers.{given_few}
 use Rattle.rx_world.proofs.RoundsMade.{client_ended, client_more, given_listed, server_last}

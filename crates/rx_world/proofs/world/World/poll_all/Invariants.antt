@@ -1,8 +1,9 @@
 use Rattle.std.proofs.Common.{◌≡◌, None, drop, length}
-use Rattle.rx_world.specs.Network.{below}
-use Rattle.rx_world.specs.Parts.{each}
-use Rattle.rx_world.specs.Rounds.{PlaysGiven, polls_out}
-use Rattle.rx_world.specs.Stages.{script_of}
+use Rattle.rx_plan.specs.Network.{below}
+use Rattle.rx_plan.specs.Parts.{each}
+use Rattle.rx_world.specs.RoundsPlayed.{PlaysGiven}
+use Rattle.rx_plan.specs.Rounds.{polls_out}
+use Rattle.rx_world.specs.Shown.{script_of}
 use Rattle.rx_world.specs.Tells.{told}
 use Rattle.rx_world.proofs.world.World.poll_all.Given as goal
 

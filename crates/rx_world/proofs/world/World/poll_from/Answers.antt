@@ -1,6 +1,7 @@
 use Rattle.std.proofs.Common.{◌≡◌, ◌≤◌, ◌∙◌, refl, ap, true, false, length, rules, arith}
-use Rattle.rx_world.specs.Rounds.{more_from, polling}
-use Rattle.rx_world.specs.Stages.{WorldState}
+use Rattle.rx_world.specs.RoundsPlayed.{more_from}
+use Rattle.rx_plan.specs.Rounds.{polling}
+use Rattle.rx_world.specs.Shown.{WorldState}
 use Rattle.rx_world.specs.Tells.{Told, told}
 use Rattle.rx_world.proofs.Going.{goes_ended, going_here, turn_endless}
 use Rattle.rx_world.proofs.Polling.{polls_end, polls_more}

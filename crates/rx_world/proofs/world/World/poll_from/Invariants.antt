@@ -1,5 +1,6 @@
 use Rattle.std.proofs.Common.{◌≡◌, length}
-use Rattle.rx_world.specs.Rounds.{more_from, polling}
+use Rattle.rx_world.specs.RoundsPlayed.{more_from}
+use Rattle.rx_plan.specs.Rounds.{polling}
 use Rattle.rx_world.specs.Tells.{told}
 use Rattle.rx_world.proofs.Going.{Going}
 use Rattle.rx_world.proofs.world.World.poll_from.Given as goal

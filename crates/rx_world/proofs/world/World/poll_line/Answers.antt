@@ -1,10 +1,10 @@
 -- The node is looked for, the event is made and told, and then its datagram is kept.
-use Rattle.rx_nodes.specs.Events.{IsPolled}
+use Rattle.rx_events.specs.Events.{IsPolled}
 use Rattle.rx_script.specs.declared.outcome.PlanWhy.TheVariants as causes
-use Rattle.rx_world.specs.Finds.{node_at}
-use Rattle.rx_world.specs.Lines.{given_packet, polls_line, with_packet}
-use Rattle.rx_world.specs.Parts.{stop_of}
-use Rattle.rx_world.specs.Stages.{host_at}
+use Rattle.rx_plan.specs.Finds.{node_at}
+use Rattle.rx_plan.specs.Lines.{given_packet, polls_line, with_packet}
+use Rattle.rx_world.specs.Ran.{stop_of}
+use Rattle.rx_plan.specs.Stages.{host_at}
 use Rattle.rx_world.proofs.Keeping.{polled_comes}
 use Rattle.rx_world.proofs.Making.{event_kept, event_lacks_as, event_stopped, found_goes, names_none}
 use Rattle.rx_world.proofs.world.World.poll_line.Goals as goal

@@ -1,5 +1,5 @@
 use Rattle.std.proofs.Common.{ap}
-use Rattle.rx_world.specs.Stages.{WorldState}
+use Rattle.rx_world.specs.Shown.{WorldState}
 use Rattle.rx_world.proofs.Polling.{once_stops, once_wants, poll_kept, polls_seen}
 use Rattle.rx_world.proofs.world.World.poll_once.Goals as goal
 

@@ -1,6 +1,6 @@
 use Rattle.std.proofs.Common.{◌∙◌, ap}
 use Rattle.rx_nodes.specs.Nodes.{host_of}
-use Rattle.rx_world.specs.Stages.{WorldState}
+use Rattle.rx_world.specs.Shown.{WorldState}
 use Rattle.rx_world.proofs.Polling.{out_plays}
 use Rattle.rx_world.proofs.world.World.poll_out.Goals as goal
 

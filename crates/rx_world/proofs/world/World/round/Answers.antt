@@ -1,6 +1,6 @@
 use Rattle.std.proofs.Common.{◌≡◌, ◌∙◌, ◌==◌, length, rules}
-use Rattle.rx_dispatch.specs.Handlers.{handlers_of}
-use Rattle.rx_world.specs.Stages.{script_of}
+use Rattle.rx_jobs.specs.Handlers.{handlers_of}
+use Rattle.rx_world.specs.Shown.{script_of}
 use Rattle.rx_world.proofs.RoundsKept.{delivered_of, turned_by}
 use Rattle.rx_world.proofs.RoundsMade.{round_delivers, round_polls, round_settles, round_turns}
 use Rattle.rx_world.proofs.world.World.round.Goals as goal

@@ -1,6 +1,6 @@
 use Rattle.std.proofs.Common.{◌∙◌}
-use Rattle.rx_dispatch.specs.Handlers.{handlers_of}
-use Rattle.rx_world.specs.Stages.{script_of}
+use Rattle.rx_jobs.specs.Handlers.{handlers_of}
+use Rattle.rx_world.specs.Shown.{script_of}
 use Rattle.rx_world.specs.contracts.world.World.{the_view}
 use Rattle.rx_world.proofs.RoundsBy.{round_by}
 use Rattle.rx_world.proofs.RoundsMade.{onward_all, onward_more, onward_over, onward_stops}

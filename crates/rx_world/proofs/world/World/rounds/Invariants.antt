@@ -1,7 +1,7 @@
 use Rattle.std.proofs.Common.{◌≡◌, ◌-◌}
-use Rattle.rx_dispatch.specs.Handlers.{handlers_of}
-use Rattle.rx_world.specs.Rounds.{rounds}
-use Rattle.rx_world.specs.Stages.{script_of}
+use Rattle.rx_jobs.specs.Handlers.{handlers_of}
+use Rattle.rx_plan.specs.Rounds.{rounds}
+use Rattle.rx_world.specs.Shown.{script_of}
 use Rattle.rx_world.specs.Tells.{told}
 use Rattle.rx_world.proofs.RoundsMade.{Onward}
 use Rattle.rx_world.proofs.world.World.rounds.Given as goal

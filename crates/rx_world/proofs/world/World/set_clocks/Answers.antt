@@ -1,8 +1,8 @@
 -- One clock is set after another, the server's last.
 use Rattle.std.proofs.Common.{◌≡◌, ◌<◌, ◌≤◌, ◌∙◌, suc, ap, arith, length, refl, subst, sym}
-use Rattle.rx_world.specs.Lines.{sets_clocks}
-use Rattle.rx_world.specs.Parts.{stop_of}
-use Rattle.rx_world.specs.Stages.{WorldState}
+use Rattle.rx_plan.specs.Lines.{sets_clocks}
+use Rattle.rx_world.specs.Ran.{stop_of}
+use Rattle.rx_world.specs.Shown.{WorldState}
 use Rattle.rx_world.proofs.Clocking.{clocks_all_set, clocks_more, clocks_stop_as, count_kept, moment_kept}
 use Rattle.rx_world.proofs.Clocking.{none_later, sets}
 use Rattle.rx_world.proofs.Numbers.{plays_few}

@@ -1,8 +1,8 @@
 use Rattle.std.proofs.Common.{◌≡◌, ◌≤◌, ℕ, None, drop, length}
 use Rattle.rx_nodes.specs.Nodes.{moment_of}
-use Rattle.rx_world.specs.Network.{below}
-use Rattle.rx_world.specs.Parts.{each}
-use Rattle.rx_world.specs.Stages.{Plays, script_of}
+use Rattle.rx_plan.specs.Network.{below}
+use Rattle.rx_plan.specs.Parts.{each}
+use Rattle.rx_world.specs.Shown.{Plays, script_of}
 use Rattle.rx_world.specs.Tells.{told}
 use Rattle.rx_world.proofs.Clocking.{sets}
 use Rattle.rx_world.proofs.world.World.set_clocks.Given as goal

@@ -1,8 +1,8 @@
 -- The event is made, and then it is told.
 use Rattle.std.proofs.Common.{refl}
-use Rattle.rx_nodes.specs.Events.{IsTaken}
-use Rattle.rx_world.specs.Parts.{stop_of}
-use Rattle.rx_world.specs.Stages.{event}
+use Rattle.rx_events.specs.Events.{IsTaken}
+use Rattle.rx_world.specs.Ran.{stop_of}
+use Rattle.rx_plan.specs.Stages.{event}
 use Rattle.rx_world.specs.declared.stop.Stop.TheVariants as stops
 use Rattle.rx_world.proofs.Making.{cut_as, event_cut, event_told}
 use Rattle.rx_world.proofs.world.World.take_part.Goals as goal

@@ -1,6 +1,6 @@
-use Rattle.rx_dispatch.specs.Handlers.{handlers_of}
-use Rattle.rx_world.specs.Stages.{script_of}
-use Rattle.rx_world.specs.Turned.{dispatches, turns_all}
+use Rattle.rx_jobs.specs.Handlers.{handlers_of}
+use Rattle.rx_world.specs.Shown.{script_of}
+use Rattle.rx_plan.specs.Turned.{dispatches, turns_all}
 use Rattle.rx_world.proofs.Playing.{plays_then}
 use Rattle.rx_world.proofs.RoundsMade.{turns_stop}
 use Rattle.rx_world.proofs.world.World.turn_all.Goals as goal

@@ -1,9 +1,9 @@
 -- The node is looked for, and then its programs have a turn.
-use Rattle.rx_dispatch.specs.Handlers.{handlers_of}
+use Rattle.rx_jobs.specs.Handlers.{handlers_of}
 use Rattle.rx_script.specs.declared.outcome.PlanWhy.TheVariants as causes
-use Rattle.rx_world.specs.Finds.{node_at}
-use Rattle.rx_world.specs.Lines.{turn_line}
-use Rattle.rx_world.specs.Stages.{script_of}
+use Rattle.rx_plan.specs.Finds.{node_at}
+use Rattle.rx_plan.specs.Lines.{turn_line}
+use Rattle.rx_world.specs.Shown.{script_of}
 use Rattle.rx_world.proofs.Making.{names_none}
 use Rattle.rx_world.proofs.world.World.turn_line.Goals as goal
 

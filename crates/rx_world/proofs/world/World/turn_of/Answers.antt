@@ -1,4 +1,4 @@
-use Rattle.rx_world.specs.Turned.{turns_on}
+use Rattle.rx_plan.specs.Turned.{turns_on}
 use Rattle.rx_world.specs.contracts.world.World.{the_view}
 use Rattle.rx_world.proofs.CallersMade.{world_turned}
 use Rattle.rx_world.proofs.world.World.turn_of.Goals as goal

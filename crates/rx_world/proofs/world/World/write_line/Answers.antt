@@ -1,10 +1,10 @@
 -- The call is looked for, its event is made, and then it is told.
-use Rattle.rx_nodes.specs.Events.{IsSaid}
+use Rattle.rx_events.specs.Events.{IsSaid}
 use Rattle.rx_script.specs.declared.outcome.PlanWhy.TheVariants as causes
-use Rattle.rx_world.specs.Finds.{call_at}
-use Rattle.rx_world.specs.Parts.{stop_of}
-use Rattle.rx_world.specs.Stages.{event}
-use Rattle.rx_world.specs.declared.world.ClientCall.{ClientCall}
+use Rattle.rx_plan.specs.Finds.{call_at}
+use Rattle.rx_world.specs.Ran.{stop_of}
+use Rattle.rx_plan.specs.Stages.{event}
+use Rattle.rx_plan.specs.declared.call.ClientCall.{ClientCall}
 use Rattle.rx_world.proofs.Making.{event_cut, event_told, found_goes, names_none, names_wants}
 use Rattle.rx_world.proofs.world.World.write_line.Goals as goal
 

@@ -1,5 +1,0 @@
-use Rattle.rx_caller.proofs.Driving.{tells_driven}
-use Rattle.rx_caller.proofs.laws.tells_of_its_call.Goals as goal
-
-pub returns : goal.returns
-returns c = tells_driven

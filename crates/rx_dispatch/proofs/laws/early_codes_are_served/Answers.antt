@@ -1,8 +1,0 @@
-use Rattle.rx_dispatch.proofs.EarlyLaws.{begun_served, early_served}
-use Rattle.rx_dispatch.proofs.laws.early_codes_are_served.Goals as goal
-
-pub returns-clause-begun : goal.returns-clause-begun
-returns-clause-begun c = begun_served
-
-pub returns-clause-ended : goal.returns-clause-ended
-returns-clause-ended c = early_served

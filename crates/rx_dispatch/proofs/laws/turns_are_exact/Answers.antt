@@ -1,5 +1,0 @@
-use Rattle.rx_dispatch.proofs.Driving.{drives_exact}
-use Rattle.rx_dispatch.proofs.laws.turns_are_exact.Goals as goal
-
-pub returns : goal.returns
-returns c = drives_exact

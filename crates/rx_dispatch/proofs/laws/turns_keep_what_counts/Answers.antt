@@ -1,5 +1,0 @@
-use Rattle.rx_dispatch.proofs.KeptTurns.{drives_kept}
-use Rattle.rx_dispatch.proofs.laws.turns_keep_what_counts.Goals as goal
-
-pub returns : goal.returns
-returns c = drives_kept

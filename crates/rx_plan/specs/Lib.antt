@@ -1,0 +1,14 @@
+pub mod Answering
+pub mod Answers
+pub mod Causes
+pub mod Finds
+pub mod Follows
+pub mod Lines
+pub mod Lossy
+pub mod Network
+pub mod Parts
+pub mod Programs
+pub mod Promises
+pub mod Rounds
+pub mod Stages
+pub mod Turned

@@ -1,5 +1,0 @@
-use Rattle.rx_world.proofs.Promised.{plans_legal, plans_whole}
-use Rattle.rx_world.proofs.laws.plans_are_legal.Goals as goal
-
-pub returns : goal.returns
-returns c = record { made = plans_legal; whole = plans_whole }

@@ -1,5 +1,0 @@
-use Rattle.rx_world.proofs.Promised.{plan_promises}
-use Rattle.rx_world.proofs.laws.plans_keep_promises.Goals as goal
-
-pub returns : goal.returns
-returns c = plan_promises

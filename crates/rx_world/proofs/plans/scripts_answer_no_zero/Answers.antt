@@ -1,5 +1,0 @@
-use Rattle.rx_world.proofs.ScriptReading.{script_some}
-use Rattle.rx_world.proofs.plans.scripts_answer_no_zero.Goals as goal
-
-pub returns : goal.returns
-returns c = script_some
