@@ -3,7 +3,7 @@
 # A stream of so many bytes (16,777,216) goes up and down through interop/proxy.c, so often (3 times) and in each cell. A
 # cell is LOST:DELAY, how many of a hundred datagrams are lost, each way, and the milliseconds that each is under way:
 # 0, 0.1, 1, 3 and 10 with 0, 2 and 20, unless some are named. Of each hundred one is repeated besides, and one goes
-# behind later ones. Run N of each pair of ends has the losses that the seed N draws.
+# behind later ones. Run N of each pair of ends has the losses that are drawn from N.
 # The peers are those of interop/: a C client and a C server on libafsrpc.a, without jumbograms. Prints the table of
 # medians in seconds, a line for each cell and direction; a run that isn't done in 60 seconds counts as longer than any.
 # All counts as it is used: a client's start and end too. All windows are those by default.

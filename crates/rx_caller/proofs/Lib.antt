@@ -1,3 +1,4 @@
 pub mod Blocks
 pub mod Measure
 pub mod Turning
+pub mod Errors

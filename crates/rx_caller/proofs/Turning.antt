@@ -1,5 +1,5 @@
 -- A turn, event by event.
-use Rattle.std.proofs.Common.{◌≡◌, ◌<◌, ◌++◌, inl, ℕ, List, [], ◌∷◌, Option, Some, None, refl, ◌∙◌, sym, subst}
+use Rattle.std.proofs.Common.{◌≡◌, ◌<◌, ◌++◌, ℕ, List, [], ◌∷◌, Option, Some, None, refl, ◌∙◌, sym, subst}
 use Rattle.rx_model.specs.declared.answers.ReadGot.TheVariants as readers
 use Rattle.rx_model.specs.declared.event.Event.{Event}
 use Rattle.rx_model.specs.declared.event.Event.TheVariants as events
@@ -7,14 +7,15 @@ use Rattle.rx_model.specs.declared.event.Noted.{Noted}
 use Rattle.rx_node.specs.Node.{NodeState, setup_of}
 use Rattle.rx_node.specs.Steps.{StandsNode}
 use Rattle.rx_rules.specs.Classes.{Class}
-use Rattle.rx_wire.specs.Advances.{Advances, Turned}
+use Rattle.rx_wire.specs.Advances.{Advances, Refused, Turned}
 use Rattle.rx_wire.specs.Journal.{HasNoted}
 use Rattle.rx_wire.specs.Turns.{Runs, after_all, goes, noted, stays}
 use Rattle.rx_wire.proofs.AdvanceLaws.{Advances-append, Advances-none, Advances-one, Turned-of}
-use Rattle.rx_wire.proofs.TurnLaws.{HasNotedMost-append, HasNotedMost-refused, Runs-append, Runs-one, after_all-append}
+use Rattle.rx_wire.proofs.TurnLaws.{HasNotedButLast-append, HasNotedButLast-one, Runs-append, Runs-one, after_all-append}
 use Rattle.rx_asks.specs.Asks.{begun, calling, heard}
-use Rattle.rx_caller.specs.Turn.{Between, Makes, MakesNext, Stays, StopsAt}
+use Rattle.rx_caller.specs.Turn.{Between, CallerStops, CallerWants, Makes, MakesNext, Stays}
 use Rattle.rx_asks.specs.View.{CallerState}
+use Rattle.rx_caller.specs.declared.fault.CallerFault.TheVariants as faults
 use Rattle.rx_caller.proofs.Measure.{left_of, smaller}
 
 -- a turn so far, all of whose events were noted; the client is set up as before
@@ -105,15 +106,15 @@ module _ (class : List ℕ → Class) (limit : ℕ) (v w u : CallerState) (old m
 
     -- one more, whose note was refused
     pub cut_off : after ≡ now
-        → StopsAt (calling limit) v.node (begun v) u (StandsNode class old) (StandsNode class new) before after
+        → Refused (calling limit) v.node (begun v) u (StandsNode class old) (StandsNode class new) before after
     cut_off same =
         record {
           events = going.advances.events ++ e ∷ [];
           runs = more-runs;
           standing = more-stands;
           noting =
-              HasNotedMost-append before now after v.node going.advances.events (e ∷ []) going.advances.noting
-              (HasNotedMost-refused now after v.node e same);
+              HasNotedButLast-append before now after v.node going.advances.events (e ∷ []) going.advances.noting
+              (HasNotedButLast-one now after v.node e same);
         }
 
   module _ (still : Stays (record { old = w; new = u; client_old = mid; client_new = new })) where
@@ -126,16 +127,11 @@ module _ (class : List ℕ → Class) (limit : ℕ) (v w u : CallerState) (old m
         (subst (λ (t : CallerState). Advances (calling limit) v.node (begun v) t (StandsNode class old)
         (StandsNode class mid) before now) (sym still.0) going.advances)
 
-    -- nor in this turn
-    pub cut_between :
-        StopsAt (calling limit) v.node (begun v) u (StandsNode class old) (StandsNode class new) before now
-    cut_between =
-        record {
-          events = no_further.events;
-          runs = no_further.runs;
-          standing = no_further.standing;
-          noting = inl no_further.noting;
-        }
+    -- since the next one wants memory
+    pub cut_between : CallerWants limit w
+        → CallerStops limit v.node (begun v) u (StandsNode class old) (StandsNode class new) before now
+        faults.OutOfMemory
+    cut_between wants = (no_further, subst (CallerWants limit) (sym still.0) wants)
 
     -- and none is asked
     pub turn_over : (calling limit).asks w ≡ None

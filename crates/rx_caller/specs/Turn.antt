@@ -5,8 +5,12 @@ use Rattle.rx_model.specs.declared.event.Noted.{Noted}
 use Rattle.rx_node.specs.Node.{NodeState}
 use Rattle.rx_node.specs.Steps.{AnswersNode}
 use Rattle.rx_rules.specs.Classes.{Class}
-use Rattle.rx_wire.specs.Turns.{HasNotedMost, Program, Runs, after_all}
-use Rattle.rx_asks.specs.Asks.{Asking, IsAsked, calling, heard}
+use Rattle.rx_wire.specs.Advances.{Advances, Refused}
+use Rattle.rx_asks.specs.declared.ask.Ask.{Ask}
+use Rattle.rx_asks.specs.declared.ask.Ask.TheVariants as asks
+use Rattle.rx_caller.specs.declared.fault.CallerFault.{CallerFault}
+use Rattle.rx_caller.specs.declared.fault.CallerFault.TheVariants as faults
+use Rattle.rx_asks.specs.Asks.{Asking, IsAsked, calling, heard, next_ask}
 use Rattle.rx_asks.specs.View.{CallerState}
 
 -- a caller and its client before and after one or more calls
@@ -37,11 +41,22 @@ abbrev pub MakesNext : (List ℕ → Class) → ℕ → Between → Option Event
 MakesNext class limit b None = ((calling limit).asks b.old ≡ None) × Stays b
 MakesNext class limit b (Some e) = Makes class limit b e
 
--- there are events of a program that go from one view to the other; behind each history for which its node stood it
--- stands with them; and they were noted, but maybe for the last one
-pub record StopsAt {View Ask : Type 0} (p : Program View Ask) (node : ℕ) (v w : View)
-    (stood stands : List Event → Type 0) (before after : Option (List Noted)) : Type 0 where
-  pub events : List Event
-  pub runs : Runs p v events w
-  pub standing : (h : List Event) → stood h → stands (after_all events h)
-  pub noting : HasNotedMost before after node events
+-- a call takes memory for bytes: an offer or a read, and neither a shut nor a cancel
+abbrev pub TakesBytes : Option Ask → Type 0
+TakesBytes None = ⊥
+TakesBytes (Some asks.Offer) = Unit {0}
+TakesBytes (Some asks.Shut) = ⊥
+TakesBytes (Some asks.Read) = Unit {0}
+TakesBytes (Some asks.Cancel) = ⊥
+
+-- the next call of a caller that keeps at most so many bytes of a reply wants memory
+abbrev pub CallerWants : ℕ → CallerState → Type 0
+CallerWants limit v = TakesBytes (next_ask limit v)
+
+-- a turn that stops early made its first calls: the next one wants memory, or the note of the last was refused
+abbrev pub CallerStops : ℕ → ℕ → CallerState → CallerState → (List Event → Type 0) → (List Event → Type 0)
+    → Option (List Noted) → Option (List Noted) → CallerFault → Type 0
+CallerStops limit node v w stood stands before after faults.OutOfMemory =
+    Advances (calling limit) node v w stood stands before after × CallerWants limit w
+CallerStops limit node v w stood stands before after faults.Unnoted =
+    Refused (calling limit) node v w stood stands before after

@@ -1,13 +1,14 @@
-ghost use Rattle.std.specs.Prelude.{◌≡◌, IfOk, OnErr, OnOk, is_some};
+ghost use Rattle.std.specs.Prelude.{◌≡◌, IfErr, IfOk, OnErr, OnOk, is_some, true};
 ghost use Rattle.rx_node.specs.Node.{setup_of};
 ghost use Rattle.rx_node.specs.Steps.{StandsNode};
 ghost use Rattle.rx_wire.specs.Advances.{Turned};
 ghost use Rattle.rx_asks.specs.declared.ask.Ask.TheVariants as asks;
 ghost use Rattle.rx_asks.specs.Asks.{asking, begun, calling, is_done, next_ask, next_offering};
-ghost use Rattle.rx_caller.specs.Turn.{Does, MakesNext, Stays, StopsAt};
+ghost use Rattle.rx_caller.specs.Turn.{CallerStops, CallerWants, Does, MakesNext, Stays};
 ghost use Rattle.rx_asks.specs.View.{caller_for};
 
 use crate::calls::{append, end_after, next_block, note, phase_after, phase_offered, read, write};
+use crate::fault::CallerFault;
 use rx_asks::{Ask, BLOCK_BYTES, CC_UNMARSHAL, Phase, REPLY_BYTES};
 use rx_class::Class;
 use rx_client::Client;
@@ -93,17 +94,19 @@ impl Caller {
 
     /// Makes a turn, notes its events, and answers whether it is finished. It offers 4,096 bytes at a time until less
     /// is accepted, and shuts once all is; then it reads 4,096 at a time until a read gives none, or the call's end. A
-    /// reply that grows too long is given up. One that is finished makes no call.
+    /// reply that grows too long is given up. One that is finished makes no call. Where memory is wanted, or a note is
+    /// refused, the calls made so far are those of the turn's beginning.
     pub fn turn<C: Class, J: Journal>(
         &mut self,
         client: &mut Client<C>,
         book: &mut J,
-    ) -> Result<bool, AllocError>
+    ) -> Result<bool, CallerFault>
         ensures turned { OnOk result (Turned (calling REPLY_BYTES) self.old.node (begun self.old) self.new
             (StandsNode C.class_of client.old) (StandsNode C.class_of client.new) (J.told book.old) (J.told book.new)) }
         ensures finished { IfOk result (λ done. done ≡ is_some self.new.end) }
-        ensures wanting { OnErr result (StopsAt (calling REPLY_BYTES) self.old.node (begun self.old) self.new
+        ensures stops { IfErr result (CallerStops REPLY_BYTES self.old.node (begun self.old) self.new
             (StandsNode C.class_of client.old) (StandsNode C.class_of client.new) (J.told book.old) (J.told book.new)) }
+        ensures unnoted { IfErr result (λ fault. fault ≡ CallerFault.Unnoted → J.may_want ≡ true) }
         ensures setup { setup_of C.class_of client.new ≡ setup_of C.class_of client.old }
     {
         self.turn_within(REPLY_BYTES, client, book)
@@ -115,12 +118,13 @@ impl Caller {
         limit: usize,
         client: &mut Client<C>,
         book: &mut J,
-    ) -> Result<bool, AllocError>
+    ) -> Result<bool, CallerFault>
         ensures turned { OnOk result (Turned (calling limit) self.old.node (begun self.old) self.new
             (StandsNode C.class_of client.old) (StandsNode C.class_of client.new) (J.told book.old) (J.told book.new)) }
         ensures finished { IfOk result (λ done. done ≡ is_some self.new.end) }
-        ensures wanting { OnErr result (StopsAt (calling limit) self.old.node (begun self.old) self.new
+        ensures stops { IfErr result (CallerStops limit self.old.node (begun self.old) self.new
             (StandsNode C.class_of client.old) (StandsNode C.class_of client.new) (J.told book.old) (J.told book.new)) }
+        ensures unnoted { IfErr result (λ fault. fault ≡ CallerFault.Unnoted → J.may_want ≡ true) }
         ensures setup { setup_of C.class_of client.new ≡ setup_of C.class_of client.old }
     {
         self.begin();
@@ -144,6 +148,7 @@ impl Caller {
             (record { old = self.old; new = self.new; client_old = client.old; client_new = client.new })) }
         ensures wanting { OnErr result (Stays
             (record { old = self.old; new = self.new; client_old = client.old; client_new = client.new })) }
+        ensures wants { OnErr result (CallerWants REPLY_BYTES self.old) }
         ensures setup { setup_of C.class_of client.new ≡ setup_of C.class_of client.old }
     {
         self.step_within(REPLY_BYTES, client)
@@ -159,6 +164,7 @@ impl Caller {
             (record { old = self.old; new = self.new; client_old = client.old; client_new = client.new })) }
         ensures wanting { OnErr result (Stays
             (record { old = self.old; new = self.new; client_old = client.old; client_new = client.new })) }
+        ensures wants { OnErr result (CallerWants limit self.old) }
         ensures setup { setup_of C.class_of client.new ≡ setup_of C.class_of client.old }
     {
         match self.next(limit) {

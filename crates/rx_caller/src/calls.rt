@@ -1,6 +1,6 @@
 //! The calls of a client that a caller makes, with the bytes of their events, and what it knows behind them.
 
-ghost use Rattle.std.specs.Prelude.{◌≡◌, ◌≤◌, ◌+◌, ◌++◌, IfOk, OnErr, OnOk, length, take, drop, vec_capacity, vec_len};
+ghost use Rattle.std.specs.Prelude.{◌≡◌, ◌≤◌, ◌+◌, ◌++◌, true, IfErr, IfOk, OnErr, OnOk, length, take, drop, vec_capacity, vec_len};
 ghost use Rattle.rx_model.specs.declared.answers.ReadGot.TheVariants as readers;
 ghost use Rattle.rx_model.specs.declared.answers.WroteGot.TheVariants as writers;
 ghost use Rattle.rx_model.specs.declared.event.Event.TheVariants as events;
@@ -12,6 +12,7 @@ ghost use Rattle.rx_wire.specs.Journal.{HasNoted};
 ghost use Rattle.rx_wire.specs.Turns.{noted};
 ghost use Rattle.rx_asks.specs.Asks as rules;
 
+use crate::fault::CallerFault;
 use rx_asks::{BLOCK_BYTES, Phase};
 use rx_class::Class;
 use rx_client::Client;
@@ -95,11 +96,16 @@ pub fn append(to: &mut Vec<u8>, bytes: &[u8])
 }
 
 /// Notes an event of a node.
-pub fn note<J: Journal>(book: &mut J, node: u32, event: Event) -> Result<(), AllocError>
+pub fn note<J: Journal>(book: &mut J, node: u32, event: Event) -> Result<(), CallerFault>
     ensures ok { OnOk result (HasNoted (J.told book.old) (J.told book.new) (noted node event)) }
     ensures err { OnErr result (J.told book.new ≡ J.told book.old) }
+    ensures refused { IfErr result (λ fault. fault ≡ CallerFault.Unnoted) }
+    ensures wants { OnErr result (J.may_want ≡ true) }
 {
-    book.note(node, &event)
+    match book.note(node, &event) {
+        Ok(()) => Ok(()),
+        Err(_) => Err(CallerFault::Unnoted),
+    }
 }
 
 /// Where a turn stands behind an offer of so many bytes, of which so many were accepted.

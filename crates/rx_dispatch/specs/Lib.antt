@@ -1,4 +1,5 @@
 pub mod Calls
+pub mod Wanting
 pub mod Making
 pub mod States
 pub mod Desks

@@ -6,12 +6,13 @@ use Rattle.rx_model.specs.declared.event.Noted.{Noted}
 use Rattle.rx_model.specs.declared.names.CallName.{CallName}
 use Rattle.rx_rules.specs.Classes.{Class}
 use Rattle.rx_server.specs.Server.{Answered, ServerState}
-use Rattle.rx_wire.specs.Advances.{Advances, Stops}
+use Rattle.rx_wire.specs.Advances.{Advances, Refused}
 use Rattle.rx_jobs.specs.Handlers.{Handlers}
 use Rattle.rx_dispatch.specs.Desks.{IsRemembered}
 use Rattle.rx_jobs.specs.Jobs.{Ask, IsCall, JobState, want_in}
 use Rattle.rx_dispatch.specs.Rounds.{RoundState, turning_of}
 use Rattle.rx_jobs.specs.Dispatching.{Turning, dispatching, heard_accept, over}
+use Rattle.rx_dispatch.specs.Wanting.{WantsMemory}
 use Rattle.rx_dispatch.specs.declared.fault.TurnFault.{TurnFault}
 use Rattle.rx_dispatch.specs.declared.fault.TurnFault.TheVariants as faults
 use Rattle.rx_dispatch.specs.declared.job.Next.TheVariants as nexts
@@ -53,13 +54,17 @@ NotesCall g node old new jobs stood stands before after true =
 NotesCall g node old new jobs stood stands before after false =
     (new ≡ over jobs) × Advances (dispatching g) node old new stood stands before after
 
--- a turn that stops early made its first calls, and where it has no end at least 2^64 - 1
-abbrev pub StopsBy : Handlers → ℕ → Turning → (List Event → Type 0) → (List Event → Type 0) → Option (List Noted)
-    → Option (List Noted) → TurnFault → Type 0
-StopsBy g node v stood stands before after faults.OutOfMemory =
-    Stops (dispatching g) node v stood stands before after
-StopsBy g node v stood stands before after faults.Endless =
-    (s : Stops (dispatching g) node v stood stands before after) × (2 ^ 64 - 1 ≤ length s.events)
+-- a turn that stops early made its first calls: the next one wants memory; or the note of the last was refused; or
+-- there were at least 2^64 - 1 of them
+abbrev pub StopsBy : Handlers → ℕ → Turning → RoundState → (List Event → Type 0) → (List Event → Type 0)
+    → Option (List Noted) → Option (List Noted) → TurnFault → Type 0
+StopsBy g node v r stood stands before after faults.OutOfMemory =
+    Advances (dispatching g) node v (turning_of g r) stood stands before after × WantsMemory g r
+StopsBy g node v r stood stands before after faults.Unnoted =
+    Refused (dispatching g) node v (turning_of g r) stood stands before after
+StopsBy g node v r stood stands before after faults.Endless =
+    (made : Advances (dispatching g) node v (turning_of g r) stood stands before after)
+    × (2 ^ 64 - 1 ≤ length made.events)
 
 -- ---- what is remembered
 

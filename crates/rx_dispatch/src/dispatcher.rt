@@ -1,14 +1,17 @@
 //! The dispatcher and its turns.
 
-ghost use Rattle.std.specs.Prelude.{◌≡◌, [], length, IfErr, IfOk, OnOk, OnErr};
+ghost use Rattle.std.specs.Prelude.{◌≡◌, [], length, true, IfErr, IfOk, OnOk, OnErr};
 ghost use Rattle.rx_node.specs.Node.{setup_of};
 ghost use Rattle.rx_script.specs.Saying.{blocks_of};
 ghost use Rattle.rx_server.specs.Server.{Stands};
-ghost use Rattle.rx_wire.specs.Advances.{Stops, Turned};
+ghost use Rattle.rx_wire.specs.Advances.{Turned};
+ghost use Rattle.rx_wire.specs.Journal.{HasNoted};
+ghost use Rattle.rx_wire.specs.Turns.{noted};
 ghost use Rattle.rx_jobs.specs.Dispatching.{accepts, dispatching, over};
 ghost use Rattle.rx_dispatch.specs.Rounds.{begun_turn, resting, turning_of};
 ghost use Rattle.rx_dispatch.specs.Making.{Kept, NextCall, NotesCall, Remembers, StopsBy};
 ghost use Rattle.rx_dispatch.specs.States.{state_of};
+ghost use Rattle.rx_dispatch.specs.Wanting.{WantsMemory};
 ghost use Rattle.rx_jobs.specs.Handlers.{handlers_of};
 
 use crate::desk::Desk;
@@ -53,8 +56,8 @@ impl Dispatcher {
     }
 
     /// One turn: accepts until no call waits, and then gives each job, in the order of acceptance, one step. Each call
-    /// is noted. Where memory is wanted, the calls made so far are those of the turn's beginning; so they are where
-    /// 2^64 - 1 were made and the turn isn't over.
+    /// is noted. Where memory is wanted, the calls made so far are those of the turn's beginning; so they are where a
+    /// note is refused, and where 2^64 - 1 were made and the turn isn't over.
     pub fn turn<C: Class, J: Journal>(
         &mut self,
         iface: &Interface,
@@ -65,8 +68,9 @@ impl Dispatcher {
             (state_of self.old).node (accepts (state_of self.old).round.jobs) (over (state_of self.new).round.jobs)
             (Stands C.class_of server.old) (Stands C.class_of server.new) (J.told book.old) (J.told book.new)) }
         ensures stops { IfErr result (StopsBy (handlers_of iface.now (state_of self.old).script)
-            (state_of self.old).node (accepts (state_of self.old).round.jobs)
+            (state_of self.old).node (accepts (state_of self.old).round.jobs) (state_of self.new).round
             (Stands C.class_of server.old) (Stands C.class_of server.new) (J.told book.old) (J.told book.new)) }
+        ensures unnoted { IfErr result (λ fault. fault ≡ TurnFault.Unnoted → J.may_want ≡ true) }
         ensures node { (state_of self.new).node ≡ (state_of self.old).node }
         ensures script { (state_of self.new).script ≡ (state_of self.old).script }
         ensures setup { setup_of C.class_of server.new.node ≡ setup_of C.class_of server.old.node }
@@ -86,7 +90,7 @@ impl Dispatcher {
         iface: &Interface,
         server: &mut Server<C>,
         book: &mut J,
-    ) -> Result<bool, AllocError>
+    ) -> Result<bool, TurnFault>
         requires { Remembers (handlers_of iface.now (state_of self.old).script) (state_of self.old).round }
         ensures noted { IfOk result (NotesCall (handlers_of iface.now (state_of self.old).script)
             (state_of self.old).node
@@ -94,10 +98,12 @@ impl Dispatcher {
             (turning_of (handlers_of iface.now (state_of self.old).script) (state_of self.new).round)
             (state_of self.new).round.jobs
             (Stands C.class_of server.old) (Stands C.class_of server.new) (J.told book.old) (J.told book.new)) }
-        ensures wanting { OnErr result (Stops (dispatching (handlers_of iface.now (state_of self.old).script))
+        ensures stops { IfErr result (StopsBy (handlers_of iface.now (state_of self.old).script)
             (state_of self.old).node
             (turning_of (handlers_of iface.now (state_of self.old).script) (state_of self.old).round)
+            (state_of self.new).round
             (Stands C.class_of server.old) (Stands C.class_of server.new) (J.told book.old) (J.told book.new)) }
+        ensures unnoted { IfErr result (λ fault. fault ≡ TurnFault.Unnoted → J.may_want ≡ true) }
         ensures remembered { Remembers (handlers_of iface.now (state_of self.new).script) (state_of self.new).round }
         ensures node { (state_of self.new).node ≡ (state_of self.old).node }
         ensures script { (state_of self.new).script ≡ (state_of self.old).script }
@@ -106,7 +112,7 @@ impl Dispatcher {
         match self.step(iface, server)? {
             None => Ok(false),
             Some(event) => {
-                book.note(self.node, &event)?;
+                note(self.node, &event, book)?;
                 Ok(true)
             }
         }
@@ -135,6 +141,8 @@ impl Dispatcher {
             (turning_of (handlers_of iface.now (state_of self.old).script) (state_of self.old).round)
             (turning_of (handlers_of iface.now (state_of self.old).script) (state_of self.new).round)
             server.old server.new) }
+        ensures wants { OnErr result (WantsMemory (handlers_of iface.now (state_of self.old).script)
+            (state_of self.new).round) }
         ensures remembered { Remembers (handlers_of iface.now (state_of self.new).script) (state_of self.new).round }
         ensures node { (state_of self.new).node ≡ (state_of self.old).node }
         ensures script { (state_of self.new).script ≡ (state_of self.old).script }
@@ -146,5 +154,18 @@ impl Dispatcher {
             script: &self.script,
         };
         self.round.step(&desk, server)
+    }
+}
+
+/// Notes a call for a node.
+fn note<J: Journal>(node: u32, event: &Event, book: &mut J) -> Result<(), TurnFault>
+    ensures ok { OnOk result (HasNoted (J.told book.old) (J.told book.new) (noted node event.now)) }
+    ensures err { OnErr result (J.told book.new ≡ J.told book.old) }
+    ensures refused { IfErr result (λ fault. fault ≡ TurnFault.Unnoted) }
+    ensures wants { OnErr result (J.may_want ≡ true) }
+{
+    match book.note(node, event) {
+        Ok(()) => Ok(()),
+        Err(_) => Err(TurnFault::Unnoted),
     }
 }

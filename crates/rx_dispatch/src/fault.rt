@@ -6,11 +6,13 @@ ghost use Rattle.rx_dispatch.specs.declared.fault.TurnFault.TheVariants.{OutOfMe
 use std::alloc::AllocError;
 use thiserror::Error;
 
-/// Want of memory, or a turn that made 2^64 - 1 calls and wasn't over.
+/// Want of memory for a call; a note that the journal refused; or a turn that made 2^64 - 1 calls and wasn't over.
 #[derive(Clone, Copy, Debug, PartialEq, Eq, Error)]
 pub enum TurnFault {
     #[error("out of memory")]
     OutOfMemory,
+    #[error("no memory for a note")]
+    Unnoted,
     #[error("a turn without an end")]
     Endless,
 }

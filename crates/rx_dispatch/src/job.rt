@@ -1,13 +1,14 @@
 //! A call that was accepted and isn't finished.
 
-ghost use Rattle.std.specs.Prelude.{◌≡◌, true, IfOk, OnOk, OnErr, drop, length, take};
+ghost use Rattle.std.specs.Prelude.{◌≡◌, nat_lt, true, Some, IfOk, OnOk, OnErr, drop, length, take};
 ghost use Rattle.rx_node.specs.Node.{setup_of};
 ghost use Rattle.rx_dispatch.specs.Calls.{Called};
 ghost use Rattle.rx_dispatch.specs.Desks.{IsFound, IsRemembered, handlers_at};
 ghost use Rattle.rx_jobs.specs.Handlers.{served_for};
-ghost use Rattle.rx_jobs.specs.Jobs.{begun, coded_want, decided, grown, heard_write, next_want};
+ghost use Rattle.rx_jobs.specs.Jobs.{begun, coded_want, decided, grown, heard_write, next_want, settled, stepped, waited, waits, want_in};
 ghost use Rattle.rx_dispatch.specs.Rounds.{resolved};
-ghost use Rattle.rx_jobs.specs.Jobs.{settled, stepped, waited, waits, want_in};
+ghost use Rattle.rx_jobs.specs.Keeping.{kept_of};
+ghost use Rattle.rx_dispatch.specs.Wanting.{CopiesBytes, LooksInto};
 ghost use Rattle.rx_jobs.specs.declared.job.Want.TheVariants as wants;
 
 use crate::calls::{append, ended_after, front, next_after, read, write};
@@ -148,6 +149,7 @@ impl Job {
         ensures resolved { IfOk result (λ phase. resolved (handlers_at desk.now) next self.old
             ≡ record { job = self.new; phase = phase }) }
         ensures wanting { OnErr result (self.new ≡ self.old) }
+        ensures wants { OnErr result (LooksInto (handlers_at desk.now) next self.old) }
         ensures remembered { IsRemembered (handlers_at desk.now) self.new.request found.new }
     {
         match next {
@@ -173,6 +175,7 @@ impl Job {
     fn begin(&mut self, desk: &Desk<'_>) -> Result<(), AllocError>
         ensures begun { OnOk result (self.new ≡ stepped (handlers_at desk.now) self.old) }
         ensures wanting { OnErr result (self.new ≡ self.old) }
+        ensures wants { OnErr result (waits self.old ≡ true) }
     {
         if self.waits() {
             return self.settle(desk, self.steps + 1);
@@ -191,6 +194,8 @@ impl Job {
         requires { IsRemembered (handlers_at desk.now) self.old.request found.old }
         ensures grown { OnOk result (self.new ≡ grown (handlers_at desk.now) before self.old) }
         ensures wanting { OnErr result (self.new ≡ self.old) }
+        ensures wants { OnErr result
+            (nat_lt before (length (kept_of (handlers_at desk.now) self.old.request)) ≡ true) }
         ensures remembered { IsRemembered (handlers_at desk.now) self.new.request found.new }
     {
         let kept = kept_of(desk, &self.request);
@@ -286,6 +291,7 @@ impl Job {
         ensures called { IfOk result (λ r. Called C.class_of self.old want self.new r.1 server.old server.new r.0) }
         ensures kept { OnErr result (self.new ≡ self.old) }
         ensures wanting { OnErr result (server.new ≡ server.old) }
+        ensures wants { OnErr result (CopiesBytes (Some want)) }
         ensures setup { setup_of C.class_of server.new.node ≡ setup_of C.class_of server.old.node }
     {
         match want {

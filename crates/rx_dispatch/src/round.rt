@@ -8,6 +8,7 @@ ghost use Rattle.rx_dispatch.specs.Desks.{handlers_at};
 ghost use Rattle.rx_jobs.specs.Jobs.{is_staying};
 ghost use Rattle.rx_dispatch.specs.Making.{HearsAccept, IsNext, Kept, MakesCall, NextCall, Ready, Remembers, WantsNone};
 ghost use Rattle.rx_dispatch.specs.States.{round_of};
+ghost use Rattle.rx_dispatch.specs.Wanting.{WantsMemory};
 ghost use Rattle.rx_dispatch.specs.declared.round.Stage.TheVariants as stages;
 ghost use Rattle.rx_dispatch.specs.declared.job.Next.TheVariants as nexts;
 
@@ -89,6 +90,7 @@ impl Round {
             (turning_of (handlers_at desk.now) (round_of self.old))
             (turning_of (handlers_at desk.now) (round_of self.new))
             server.old server.new) }
+        ensures wants { OnErr result (WantsMemory (handlers_at desk.now) (round_of self.new)) }
         ensures remembered { Remembers (handlers_at desk.now) (round_of self.new) }
         ensures setup { setup_of C.class_of server.new.node ≡ setup_of C.class_of server.old.node }
     {
@@ -114,6 +116,7 @@ impl Round {
             (turning_of (handlers_at desk.now) (round_of self.old))
             (turning_of (handlers_at desk.now) (round_of self.new))
             server.old server.new) }
+        ensures wants { OnErr result (WantsMemory (handlers_at desk.now) (round_of self.new)) }
         ensures remembered { Remembers (handlers_at desk.now) (round_of self.new) }
         ensures setup { setup_of C.class_of server.new.node ≡ setup_of C.class_of server.old.node }
     {
@@ -159,6 +162,7 @@ impl Round {
             (turning_of (handlers_at desk.now) (round_of self.old))
             (turning_of (handlers_at desk.now) (round_of self.new))
             server.old server.new) }
+        ensures wants { OnErr result (WantsMemory (handlers_at desk.now) (round_of self.new)) }
         ensures remembered { Remembers (handlers_at desk.now) (round_of self.new) }
         ensures setup { setup_of C.class_of server.new.node ≡ setup_of C.class_of server.old.node }
     {
@@ -178,6 +182,7 @@ impl Round {
         ensures same { turning_of (handlers_at desk.now) (round_of self.new)
             ≡ turning_of (handlers_at desk.now) (round_of self.old) }
         ensures next { IfOk result (IsNext (round_of self.new)) }
+        ensures wants { OnErr result (WantsMemory (handlers_at desk.now) (round_of self.new)) }
         ensures serving { self.new.stage ≡ stages.Serving }
         ensures remembered { Remembers (handlers_at desk.now) (round_of self.new) }
     {
@@ -200,6 +205,7 @@ impl Round {
         ensures same { turning_of (handlers_at desk.now) (round_of self.new)
             ≡ turning_of (handlers_at desk.now) (round_of self.old) }
         ensures next { IfOk result (λ phase. self.new.next ≡ nexts.Go phase) }
+        ensures wants { OnErr result (WantsMemory (handlers_at desk.now) (round_of self.new)) }
         ensures serving { self.new.stage ≡ stages.Serving }
         ensures place { self.new.place ≡ self.old.place }
         ensures as_many { length self.new.jobs.items ≡ length self.old.jobs.items }
@@ -244,6 +250,7 @@ impl Round {
             (turning_of (handlers_at desk.now) (round_of self.old))
             (turning_of (handlers_at desk.now) (round_of self.new))
             server.old server.new) }
+        ensures wants { OnErr result (WantsMemory (handlers_at desk.now) (round_of self.new)) }
         ensures remembered { Remembers (handlers_at desk.now) (round_of self.new) }
         ensures setup { setup_of C.class_of server.new.node ≡ setup_of C.class_of server.old.node }
     {

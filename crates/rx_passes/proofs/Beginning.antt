@@ -43,6 +43,7 @@ module _ {A : Type 0} (n : ℕ) (s : Setup) (s0 s1 : List Event → Type 0) (boo
   answered shows (Some stops.SinkFault) there notes = absurd notes
   answered shows (Some stops.WireFault) there notes = absurd notes
   answered shows (Some stops.Endless) there notes = absurd notes
+  answered shows (Some stops.Unformatted) there notes = absurd notes
 
 -- a client at the start of its life stands for the clock alone behind it
 pub clocked_alone : (n : ℕ) (s : Setup) (s0 s1 : List Event → Type 0) (a b : Told) (shows : Unit {0} → Type 0) → s0 []

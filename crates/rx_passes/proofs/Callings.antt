@@ -5,8 +5,11 @@ use Rattle.std.proofs.Common.{inl, inr, sym, ap, subst, rules}
 use Rattle.std.specs.Prelude.{is_some}
 use Rattle.rx_base.specs.Sink.{Gained, HasRisen}
 use Rattle.rx_asks.specs.Asks.{Asking, Cancels, IsAsked, Offers, Reads, Shuts, begun, calling, heard}
-use Rattle.rx_caller.specs.Turn.{StopsAt}
+use Rattle.rx_caller.specs.Turn.{CallerStops}
 use Rattle.rx_asks.specs.View.{CallerState}
+use Rattle.rx_caller.specs.declared.caller.TheConstants.{REPLY_BYTES}
+use Rattle.rx_caller.specs.declared.fault.CallerFault.{CallerFault}
+use Rattle.rx_caller.specs.declared.fault.CallerFault.TheVariants as faults
 use Rattle.rx_asks.specs.declared.ask.TheConstants.{REPLY_BYTES}
 use Rattle.rx_law.specs.Sides.{with_clock}
 use Rattle.rx_model.specs.declared.answers.ReadGot.TheVariants as readers
@@ -17,7 +20,7 @@ use Rattle.rx_rules.specs.Rules.{Legal}
 use Rattle.rx_rules.specs.Setup.{Setup}
 use Rattle.rx_udp.specs.Wire.{Logged}
 use Rattle.rx_wire.specs.Advances.{Turned}
-use Rattle.rx_wire.specs.Turns.{HasNotedMost, Runs, after_all, goes, stays}
+use Rattle.rx_wire.specs.Turns.{HasNotedAll, HasNotedButLast, Runs, after_all, goes, stays}
 use Rattle.rx_wire.proofs.TurnLaws.{after_all-append}
 use Rattle.rx_passes.specs.Calls.{CallEnds, CallMade, CallPassed, CallTerms, IsCut, IsEnded, IsSpent, call_play}
 use Rattle.rx_passes.specs.Calls.{call_take}
@@ -27,14 +30,14 @@ use Rattle.rx_passes.specs.declared.stop.Stop.{Stop}
 use Rattle.rx_passes.specs.declared.stop.Stop.TheVariants as stops
 use Rattle.rx_passes.specs.Parts.{Came, Cut, Part, Place, To, behind}
 use Rattle.rx_passes.specs.Ports.{takes}
-use Rattle.rx_passes.specs.Runs.{Fits, IsAt, Plays, Ran, Stops, change}
+use Rattle.rx_passes.specs.Runs.{Fits, IsAt, Plays, Ran, Stops, change, stop_for}
 use Rattle.rx_passes.specs.Serves.{pass, passed_more, passed_none, plays}
-use Rattle.rx_passes.specs.Tells.{Gains, SinkTells, Told, WantsAt, WireTells, sink_tells, told, wants_next}
-use Rattle.rx_passes.specs.Tells.{wants_note}
+use Rattle.rx_passes.specs.Tells.{Gains, Refuses, SinkTells, Told, WireTells, sink_tells, told}
 use Rattle.rx_passes.specs.Texts.{event_line, lines}
+use Rattle.rx_passes.proofs.Lineless.{pass_lineless, play_lineless}
 use Rattle.rx_passes.proofs.Placing.{behind_both}
 use Rattle.rx_passes.proofs.Telling.{breaks_behind, gained_none, gains_both, gains_none, lines_both, logged_none}
-use Rattle.rx_passes.proofs.Telling.{refuses_behind, wants_behind}
+use Rattle.rx_passes.proofs.Telling.{refuses_behind}
 use Rattle.rx_passes.proofs.Turning.{still}
 
 -- ---- what the calls of a caller are
@@ -92,6 +95,11 @@ front_none : (xs ys : List ℕ) → xs ++ ys ≡ [] → xs ≡ []
 front_none [] ys none = refl
 front_none (x ∷ xs) ys none = absurd (cc (none))
 
+-- a turn that ends passes for a refused note stopped for one
+pub unnoted_for : (fault : CallerFault) → stop_for fault ≡ stops.Unnoted → fault ≡ faults.Unnoted
+unnoted_for faults.OutOfMemory is = absurd (cc (is))
+unnoted_for faults.Unnoted is = refl
+
 -- ---- its turns
 
 module _ (n : ℕ) (s : Setup) (v w : CallerState) (s0 s1 : List Event → Type 0) (before after : Option (List Noted))
@@ -129,34 +137,47 @@ module _ (n : ℕ) (s : Setup) (v w : CallerState) (s0 s1 : List Event → Type 
   quietly : (es : List Event) → lines es ≡ [] → Gained sink.put sink.put (lines es)
   quietly es quiet = subst (λ (xs : List ℕ). Gained sink.put sink.put xs) (sym quiet) (gained_none sink.put)
 
-  wanted_at : {es : List Event} → HasNotedMost before after n es → lines es ≡ []
-      → WantsAt n (told before sink wire) (told after sink wire) es
-  wanted_at {es} (inl all) quiet = wants_next es all (quietly es quiet)
-  wanted_at {es} (inr most) quiet =
-      subst (λ (xs : List Event). WantsAt n (told before sink wire) (told after sink wire) xs) (sym most.are)
-      (wants_note most.front most.last most.noted_front
-      (quietly most.front (front_none (lines most.front) (lines (most.last ∷ []))
-      (sym (lines_both most.front (most.last ∷ [])) ∙ sym (ap lines most.are) ∙ quiet))))
+  -- all its events were noted, and no line put
+  quiet_gains : (es : List Event) → HasNotedAll before after n es → lines es ≡ []
+      → Gains n (told before sink wire) (told after sink wire) es []
+  quiet_gains es all quiet =
+      record { noted = all; put = quietly es quiet; log = logged_none wire.traffic; puts = refl; calls = refl }
 
-  -- memory is wanted in it
-  pub call_wanted : (shows : CallerState → Type 0) → StopsAt (calling REPLY_BYTES) n (begun v) w s0 s1 before after
-      → Plays (change n s s0 s1 (told before sink wire) (told after sink wire)) (calls v) shows (Some stops.OutOfMemory)
-  call_wanted shows x p at =
+  -- or all but the last, whose note was refused
+  quiet_refuses : (es : List Event) → HasNotedButLast before after n es → lines es ≡ []
+      → Refuses n (told before sink wire) (told after sink wire) es []
+  quiet_refuses es most quiet =
+      record {
+        early = most.front;
+        last = most.last;
+        are = most.are;
+        gains = quiet_gains most.front most.noted_front
+            (front_none (lines most.front) (lines (most.last ∷ []))
+            (sym (lines_both most.front (most.last ∷ [])) ∙ sym (ap lines most.are) ∙ quiet));
+      }
+
+  -- it stops early
+  pub call_stopped_at : (shows : CallerState → Type 0) (fault : CallerFault)
+      → CallerStops REPLY_BYTES n (begun v) w s0 s1 before after fault
+      → Plays (change n s s0 s1 (told before sink wire) (told after sink wire)) (calls v) shows
+      (Some (stop_for fault))
+  call_stopped_at shows faults.OutOfMemory (x, wants) p at =
       record {
         events = x.events;
         log = [];
         came = Cut stops.OutOfMemory;
-        made = (refl, refl, (w, x.runs));
+        made = (refl, (w, x.runs, wants));
         standing = x.standing p.history at.standing;
-        fits = (
-          refl,
-          record {
-            wanted = wanted_at x.noting (lines_quiet REPLY_BYTES (begun v) w x.events x.runs);
-            log = logged_none wire.traffic;
-            puts = refl;
-            calls = refl;
-          },
-        );
+        fits = (refl, quiet_gains x.events x.noting (lines_quiet REPLY_BYTES (begun v) w x.events x.runs));
+      }
+  call_stopped_at shows faults.Unnoted x p at =
+      record {
+        events = x.events;
+        log = [];
+        came = Cut stops.Unnoted;
+        made = (refl, (w, x.runs, tt));
+        standing = x.standing p.history at.standing;
+        fits = (refl, quiet_refuses x.events x.noting (lines_quiet REPLY_BYTES (begun v) w x.events x.runs));
       }
 
 -- ---- its passes, so far
@@ -228,20 +249,21 @@ module _ (t : CallTerms) (v : CallerState) (p : Place) (n : ℕ) (w : CallerStat
 
   -- what was told where passes ended behind those so far
   stopped_ends : (sink : SinkTells) (es : List Event) (ls : List Logged) (stop : Stop)
-      → (stop ≡ stops.SinkFault → ⊥) → Stops (moves sink) es ls stop
+      → (stop ≡ stops.SinkFault → ⊥) → (stop ≡ stops.Unformatted → ⊥) → Stops (moves sink) es ls stop
       → CallEnds 1 (Err stop) (IsCut stop) (told n0 sink w0) (told na sink wa) ((x sink).events ++ es)
       ((x sink).log ++ ls)
-  stopped_ends sink es ls stops.OutOfMemory none ends =
-      wants_behind 1 (told n0 sink w0) (told nb sink wb) (told na sink wa) (x sink).events es (x sink).log ls
+  stopped_ends sink es ls stops.OutOfMemory none unlined ends =
+      gains_both 1 (told n0 sink w0) (told nb sink wb) (told na sink wa) (x sink).events es (x sink).log ls
       (x sink).told ends
-  stopped_ends sink es ls stops.SinkFault none ends = absurd (none refl)
-  stopped_ends sink es ls stops.WireFault none ends =
+  stopped_ends sink es ls stops.SinkFault none unlined ends = absurd (none refl)
+  stopped_ends sink es ls stops.Unformatted none unlined ends = absurd (unlined refl)
+  stopped_ends sink es ls stops.WireFault none unlined ends =
       breaks_behind 1 (told n0 sink w0) (told nb sink wb) (told na sink wa) (x sink).events es (x sink).log ls
       (x sink).told ends
-  stopped_ends sink es ls stops.Unnoted none ends =
+  stopped_ends sink es ls stops.Unnoted none unlined ends =
       refuses_behind 1 (told n0 sink w0) (told nb sink wb) (told na sink wa) (x sink).events es (x sink).log ls
       (x sink).told ends
-  stopped_ends sink es ls stops.Endless none ends =
+  stopped_ends sink es ls stops.Endless none unlined ends =
       gains_both 1 (told n0 sink w0) (told nb sink wb) (told na sink wa) (x sink).events es (x sink).log ls
       (x sink).told ends
 
@@ -252,6 +274,7 @@ module _ (t : CallTerms) (v : CallerState) (p : Place) (n : ℕ) (w : CallerStat
   sinks_hold part shows stops.WireFault plays is = search rules
   sinks_hold part shows stops.Unnoted plays is = search rules
   sinks_hold part shows stops.Endless plays is = search rules
+  sinks_hold part shows stops.Unformatted plays is = search rules
   sinks_hold part shows stops.SinkFault plays is = of r.came r.fits
     where
       none : SinkTells
@@ -287,7 +310,9 @@ module _ (t : CallTerms) (v : CallerState) (p : Place) (n : ℕ) (w : CallerStat
             calls = calls_cut stop n (x sink).events r.events (x sink).log r.log w low (x sink).passed
                 (subst (λ (k : Stop). whole_pass (here sink) r.events r.log (Cut k)) fits.0 made);
             legal = legal_behind sink r.events law r.standing;
-            ends = stopped_ends sink r.events r.log stop (sinks_hold whole_pass shows stop plays) fits.1;
+            ends = stopped_ends sink r.events r.log stop (sinks_hold whole_pass shows stop plays)
+                (λ is. pass_lineless t.most t.setup None w (here sink) r.events r.log
+                (subst (λ (k : Stop). whole_pass (here sink) r.events r.log (Cut k)) (fits.0 ∙ is) made)) fits.1;
           }
 
   -- passes ended in the last one
@@ -313,7 +338,9 @@ module _ (t : CallTerms) (v : CallerState) (p : Place) (n : ℕ) (w : CallerStat
                 (subst (λ (k : ℕ). CallPassed t v p k (x sink).events (x sink).log w) all (x sink).passed)
                 (subst (λ (k : Stop). call_play t w (here sink) r.events r.log (Cut k)) fits.0 made);
             legal = legal_behind sink r.events law r.standing;
-            ends = stopped_ends sink r.events r.log stop (sinks_hold (call_play t w) shows stop plays) fits.1;
+            ends = stopped_ends sink r.events r.log stop (sinks_hold (call_play t w) shows stop plays)
+                (λ is. play_lineless t.most w (here sink) r.events r.log
+                (subst (λ (k : Stop). call_play t w (here sink) r.events r.log (Cut k)) (fits.0 ∙ is) made)) fits.1;
           }
 
   -- the call ended in a pass

@@ -54,6 +54,7 @@ clock_told n s s0 s1 book after sink wire now (Some stops.OutOfMemory) is answer
 clock_told n s s0 s1 book after sink wire now (Some stops.SinkFault) is answers notes = absurd notes
 clock_told n s s0 s1 book after sink wire now (Some stops.WireFault) is answers notes = absurd notes
 clock_told n s s0 s1 book after sink wire now (Some stops.Endless) is answers notes = absurd notes
+clock_told n s s0 s1 book after sink wire now (Some stops.Unformatted) is answers notes = absurd notes
 
 -- a node isn't ahead of its wire
 pub never_ahead : (s : Setup) (stands : List Event → Type 0) (now moment : ℕ) → IsBehind s stands now

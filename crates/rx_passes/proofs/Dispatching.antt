@@ -82,6 +82,7 @@ refused_of node before after first last e stops.OutOfMemory none sink = absurd n
 refused_of node before after first last e stops.SinkFault none sink = absurd none
 refused_of node before after first last e stops.WireFault none sink = absurd none
 refused_of node before after first last e stops.Endless none sink = absurd none
+refused_of node before after first last e stops.Unformatted none sink = absurd none
 
 -- ---- in a turn
 
@@ -139,10 +140,13 @@ module _ (class : List ℕ → Class) (g : Handlers) (jobs : List JobState) (old
   -- what is told of a call behind which passes end
   short_of : (e : Event) (o : Option Stop) (stop : Stop) → TellsOne 0 before after first last e o → o ≡ Some stop
       → IsTold stop
-  short_of e o stops.OutOfMemory tells is = tt
+  short_of e o stops.Unformatted tells is = tt
   short_of e o stops.SinkFault tells is = tt
   short_of e o stops.Unnoted tells is = tt
   short_of e o stops.Endless (tells_refused none same) is = absurd (cc (is))
+  short_of e o stops.OutOfMemory (tells_refused none same) is = absurd (cc (is))
+  short_of e o stops.OutOfMemory (tells_line why one puts) is =
+      subst (λ (x : Option Stop). PutsLine first last (event_line e) x) is puts
   short_of e o stops.WireFault (tells_refused none same) is = absurd (cc (is))
   short_of e o stops.Endless (tells_line why one puts) is =
       subst (λ (x : Option Stop). PutsLine first last (event_line e) x) is puts
@@ -159,7 +163,10 @@ module _ (class : List ℕ → Class) (g : Handlers) (jobs : List JobState) (old
   stops_of s e o stops.SinkFault (tells_refused none same) is = absurd (cc (is))
   stops_of s e o stops.WireFault (tells_refused none same) is = absurd (cc (is))
   stops_of s e o stops.Endless (tells_refused none same) is = absurd (cc (is))
+  stops_of s e o stops.Unformatted (tells_refused none same) is = absurd (cc (is))
   stops_of s e o stops.OutOfMemory (tells_line why one puts) is =
+      absurd (subst (λ (x : Option Stop). PutsLine first last (event_line e) x) is puts)
+  stops_of s e o stops.Unformatted (tells_line why one puts) is =
       told_wants 0 before after first last wire e one
       (subst (λ (x : Option Stop). PutsLine first last (event_line e) x) is puts)
   stops_of s e o stops.SinkFault (tells_line why one puts) is =
@@ -186,7 +193,7 @@ module _ (class : List ℕ → Class) (g : Handlers) (jobs : List JobState) (old
       (sym h.made.told) h.made.answered (short_of h.event (Some why) stop h.told (ap Some same))
       (stops_of s h.event (Some why) stop h.told (ap Some same)))
   calls_stopped s shows x r (handles_wants why w) stop is =
-      (let same : stops.OutOfMemory ≡ stop = sym w.wants ∙ cc (is) in
+      (let same : stops.OutOfMemory ≡ stop = sym w.stop_is ∙ cc (is) in
       subst (λ (z : Stop). Plays (change 0 s s0 (Stands class serves) a (told after last wire)) (dispatches g jobs)
       shows
       (Some z)) same
@@ -198,4 +205,4 @@ module _ (class : List ℕ → Class) (g : Handlers) (jobs : List JobState) (old
       shows (Some stops.OutOfMemory)) (sym w.server)
       (went_wants 0 s g jobs s0 (Stands class served) (turning_of g old) a (told before first wire) count
       same_wire shows
-      x)))))
+      x (record { round = new; is = w.same; wants = w.wants }))))))

@@ -102,6 +102,7 @@ empties_given j new to bytes first last (Some stops.SinkFault) host parts some i
 empties_given j new to bytes first last (Some stops.OutOfMemory) host parts some is within gave = absurd gave
 empties_given j new to bytes first last (Some stops.Unnoted) host parts some is within gave = absurd gave
 empties_given j new to bytes first last (Some stops.Endless) host parts some is within gave = absurd gave
+empties_given j new to bytes first last (Some stops.Unformatted) host parts some is within gave = absurd gave
 
 -- ---- one datagram more
 

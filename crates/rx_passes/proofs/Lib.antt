@@ -16,3 +16,4 @@ pub mod Bringing
 pub mod Driving
 pub mod Fresh
 pub mod ToldCalls
+pub mod Lineless

@@ -168,7 +168,8 @@ module _ (t : Terms) (p : Place) (n : ℕ) (jobs next : List JobState) (s1 s2 : 
   stopped_ends : (es : List Event) (ls : List Logged) (stop : Stop)
       → Stops (change 0 t.setup s1 s2 mid after) es ls stop
       → ServeEnds 0 (Err stop) (IsCut stop) before after (x.events ++ es) (x.log ++ ls)
-  stopped_ends es ls stops.OutOfMemory told = wants_behind 0 before mid after x.events es x.log ls x.told told
+  stopped_ends es ls stops.OutOfMemory told = gains_both 0 before mid after x.events es x.log ls x.told told
+  stopped_ends es ls stops.Unformatted told = wants_behind 0 before mid after x.events es x.log ls x.told told
   stopped_ends es ls stops.SinkFault told = fails_behind 0 before mid after x.events es x.log ls x.told told
   stopped_ends es ls stops.WireFault told = breaks_behind 0 before mid after x.events es x.log ls x.told told
   stopped_ends es ls stops.Unnoted told = refuses_behind 0 before mid after x.events es x.log ls x.told told
@@ -278,6 +279,7 @@ module _ (t : Terms) (p : Place) (n : ℕ) (jobs next : List JobState) (s1 s2 : 
   serving_up_failed plays low late law last stops.WireFault puts = absurd puts
   serving_up_failed plays low late law last stops.Unnoted puts = absurd puts
   serving_up_failed plays low late law last stops.Endless puts = absurd puts
+  serving_up_failed plays low late law last stops.Unformatted puts = absurd puts
 
   -- all takes were made: the last pass was made up to its take
   pub serving_spent : Plays (change 0 t.setup s1 s2 mid after) (serve_play t jobs) (λ js. js ≡ next) None
@@ -408,8 +410,9 @@ pub ready_stopped : (terms : Setup → ℕ → Terms) (setup : Setup) (host : Ho
     (noted : Option (List Noted)) (s0 s1 : SinkTells) (wire : WireTells)
     → PutsLine s0 s1 (ready_line host) (Some stop)
     → ServesBound terms setup host (Err stop) (told noted s0 wire) (told noted s1 wire)
-ready_stopped terms setup host stops.OutOfMemory noted s0 s1 wire puts =
-    inl (refl, ap (λ (s : SinkTells). told noted s wire) puts)
+ready_stopped terms setup host stops.OutOfMemory noted s0 s1 wire puts = absurd puts
+ready_stopped terms setup host stops.Unformatted noted s0 s1 wire puts =
+    inl (inr refl, ap (λ (s : SinkTells). told noted s wire) puts.0)
 ready_stopped terms setup host stops.SinkFault noted s0 s1 wire puts =
     inr (inl (refl, refl, refl, puts.0, puts.1))
 ready_stopped terms setup host stops.WireFault noted s0 s1 wire puts = absurd puts

@@ -426,6 +426,7 @@ module _ (n : ℕ) (s : Setup) (stands : List Event → Type 0) (book : Option (
   flush_plays (Some stops.SinkFault) e p at = absurd e.passes.gave
   flush_plays (Some stops.Unnoted) e p at = absurd e.passes.gave
   flush_plays (Some stops.Endless) e p at = absurd e.passes.gave
+  flush_plays (Some stops.Unformatted) e p at = absurd e.passes.gave
 
 module _ (n : ℕ) (s : Setup) (s0 s1 s2 : List Event → Type 0) (a b c : Told) (most : ℕ) (j k : JoinerState)
     (count : ℕ) (is : j.most ≡ most) where
@@ -602,6 +603,7 @@ polled_on n s s0 s1 book after sink first last j k d (Err stops.WireFault) answe
 polled_on n s s0 s1 book after sink first last j k d (Err stops.OutOfMemory) answers passed is = absurd passed
 polled_on n s s0 s1 book after sink first last j k d (Err stops.SinkFault) answers passed is = absurd passed
 polled_on n s s0 s1 book after sink first last j k d (Err stops.Endless) answers passed is = absurd passed
+polled_on n s s0 s1 book after sink first last j k d (Err stops.Unformatted) answers passed is = absurd passed
 
 -- a single datagram that is short enough
 pub single_in : (s : Setup) (s0 s1 : List Event → Type 0) (now : ℕ) (to : Host) (d b : List ℕ) → d ≡ b
@@ -626,6 +628,7 @@ none_on n s s0 s1 book after sink wire j (Err stops.OutOfMemory) answers notes i
 none_on n s s0 s1 book after sink wire j (Err stops.SinkFault) answers notes is = absurd notes
 none_on n s s0 s1 book after sink wire j (Err stops.WireFault) answers notes is = absurd notes
 none_on n s s0 s1 book after sink wire j (Err stops.Endless) answers notes is = absurd notes
+none_on n s s0 s1 book after sink wire j (Err stops.Unformatted) answers notes is = absurd notes
 
 -- the same by the view of a node's ports, with the bytes that the poll wrote
 pub polled_in : (v : PortsState) (n : ℕ) (j : JoinerState) → record { node = n; joiner = j } ≡ v → (s : Setup)

@@ -37,8 +37,8 @@ plays_to n s stands t shows a there p at =
 pub stops_behind : (n : ℕ) (s : Setup) (s0 s1 s2 : List Event → Type 0) (a b c : Told) (es fs : List Event)
     (ls ms : List Logged) (stop : Stop) → Gains n a b es ls → Stops (change n s s1 s2 b c) fs ms stop
     → Stops (change n s s0 s2 a c) (es ++ fs) (ls ++ ms) stop
-stops_behind n s s0 s1 s2 a b c es fs ls ms stops.OutOfMemory told rest =
-    wants_behind n a b c es fs ls ms told rest
+stops_behind n s s0 s1 s2 a b c es fs ls ms stops.OutOfMemory told rest = gains_both n a b c es fs ls ms told rest
+stops_behind n s s0 s1 s2 a b c es fs ls ms stops.Unformatted told rest = wants_behind n a b c es fs ls ms told rest
 stops_behind n s s0 s1 s2 a b c es fs ls ms stops.SinkFault told rest = fails_behind n a b c es fs ls ms told rest
 stops_behind n s s0 s1 s2 a b c es fs ls ms stops.WireFault told rest = breaks_behind n a b c es fs ls ms told rest
 stops_behind n s s0 s1 s2 a b c es fs ls ms stops.Unnoted told rest = refuses_behind n a b c es fs ls ms told rest

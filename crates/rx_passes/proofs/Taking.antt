@@ -66,6 +66,7 @@ part_told n s s0 s1 book after sink wire from b got (Some stops.OutOfMemory) ans
 part_told n s s0 s1 book after sink wire from b got (Some stops.SinkFault) answers notes = absurd notes
 part_told n s s0 s1 book after sink wire from b got (Some stops.WireFault) answers notes = absurd notes
 part_told n s s0 s1 book after sink wire from b got (Some stops.Endless) answers notes = absurd notes
+part_told n s s0 s1 book after sink wire from b got (Some stops.Unformatted) answers notes = absurd notes
 
 -- ---- several
 

@@ -8,8 +8,8 @@ use Rattle.rx_model.specs.declared.event.Noted.{Noted}
 use Rattle.rx_udp.specs.Wire.{HasLogged, Logged, Traffic}
 use Rattle.rx_wire.specs.Turns.{HasNotedAll}
 use Rattle.rx_wire.proofs.TurnLaws.{HasNotedAll-append, HasNotedAll-none}
-use Rattle.rx_passes.specs.Tells.{Breaks, Fails, GainedLast, Gains, HasLoggedAll, Refuses, Told, Wants, WantsAt}
-use Rattle.rx_passes.specs.Tells.{logged_all, wants_line, wants_next, wants_note}
+use Rattle.rx_passes.specs.Tells.{Breaks, Fails, GainedLast, Gains, HasLoggedAll, Refuses, Told, Wants}
+use Rattle.rx_passes.specs.Tells.{logged_all}
 use Rattle.rx_passes.specs.Texts.{event_line, lines}
 
 -- ---- lines
@@ -94,29 +94,16 @@ gains_both node a b c es fs ls ms x y =
       calls = y.calls ∙ x.calls;
     }
 
--- where memory was wanted behind what was told whole
-wants_at : (node : ℕ) (a b c : Told) (es fs : List Event) → HasNotedAll a.noted b.noted node es
-    → Gained a.sink.put b.sink.put (lines es) → WantsAt node b c fs → WantsAt node a c (es ++ fs)
-wants_at node a b c es fs noted put (wants_next gs all whole) =
-    wants_next (es ++ gs) (HasNotedAll-append a.noted b.noted c.noted node es gs noted all)
-    (put_both a.sink.put b.sink.put c.sink.put es gs put whole)
-wants_at node a b c es fs noted put (wants_line gs e all whole) =
-    (let are : (es ++ gs) ++ e ∷ [] ≡ es ++ (gs ++ e ∷ []) = append_assoc es gs (e ∷ []) in
-    subst (λ (xs : List Event). WantsAt node a c xs) are
-    (wants_line (es ++ gs) e
-    (subst (λ (xs : List Event). HasNotedAll a.noted c.noted node xs) (sym are)
-    (HasNotedAll-append a.noted b.noted c.noted node es (gs ++ e ∷ []) noted all))
-    (put_both a.sink.put b.sink.put c.sink.put es gs put whole)))
-wants_at node a b c es fs noted put (wants_note gs e front whole) =
-    subst (λ (xs : List Event). WantsAt node a c xs) (append_assoc es gs (e ∷ []))
-    (wants_note (es ++ gs) e (HasNotedAll-append a.noted b.noted c.noted node es gs noted front)
-    (put_both a.sink.put b.sink.put c.sink.put es gs put whole))
-
 pub wants_behind : (node : ℕ) (a b c : Told) (es fs : List Event) (ls ms : List Logged) → Gains node a b es ls
     → Wants node b c fs ms → Wants node a c (es ++ fs) (ls ++ ms)
 wants_behind node a b c es fs ls ms x y =
     record {
-      wanted = wants_at node a b c es fs x.noted x.put y.wanted;
+      early = es ++ y.early;
+      last = y.last;
+      are = ap (λ (xs : List Event). es ++ xs) y.are ∙ sym (append_assoc es y.early (y.last ∷ []));
+      noted = HasNotedAll-append a.noted b.noted c.noted node es fs x.noted y.noted;
+      put = put_both a.sink.put b.sink.put c.sink.put es y.early x.put y.put;
+      lined = y.lined;
       log = logged_both a.wire.traffic b.wire.traffic c.wire.traffic ls ms x.log y.log;
       puts = y.puts ∙ x.puts;
       calls = y.calls ∙ x.calls;
@@ -165,15 +152,4 @@ breaks_behind node a b c es fs ls ms x y =
       log = logged_both a.wire.traffic b.wire.traffic c.wire.traffic ls ms x.log y.log;
       puts = y.puts ∙ x.puts;
       calls = risen_behind a.wire.faults b.wire.faults c.wire.faults x.calls y.calls;
-    }
-
--- what was told whole is told where memory is wanted behind it
-pub wants_then : (node : ℕ) (a b : Told) (es : List Event) (ls : List Logged) → Gains node a b es ls
-    → Wants node a b es ls
-wants_then node a b es ls x =
-    record {
-      wanted = wants_next es x.noted x.put;
-      log = x.log;
-      puts = x.puts;
-      calls = x.calls;
     }

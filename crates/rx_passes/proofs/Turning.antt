@@ -5,6 +5,7 @@ use Rattle.std.proofs.lemmas.List.{append-nil, length-append}
 use Rattle.rx_jobs.specs.Dispatching.{Turning, accepts, dispatching, over}
 use Rattle.rx_jobs.specs.Handlers.{Handlers}
 use Rattle.rx_jobs.specs.Jobs.{Ask, IsCall, JobState, accept, finish, read, write}
+use Rattle.rx_dispatch.specs.Wanting.{IsWanting}
 use Rattle.rx_model.specs.declared.event.Event.{Event}
 use Rattle.rx_model.specs.declared.event.Noted.{Noted}
 use Rattle.rx_law.proofs.Moments.{now-after}
@@ -21,11 +22,10 @@ use Rattle.rx_passes.specs.Nodes.{Answers}
 use Rattle.rx_passes.specs.Parts.{Cut, To}
 use Rattle.rx_passes.specs.Runs.{Plays, Stops, change}
 use Rattle.rx_passes.specs.Serves.{CutsTurn, dispatches}
-use Rattle.rx_passes.specs.Tells.{Fails, Gains, Refuses, SinkTells, Told, Wants, WireTells, told, wants_line}
+use Rattle.rx_passes.specs.Tells.{Fails, Gains, Refuses, SinkTells, Told, Wants, WireTells, told}
 use Rattle.rx_passes.specs.Texts.{event_line, lines}
 use Rattle.rx_passes.proofs.Telling.{gained_none, gains_both, gains_none, logged_none, unnoted}
 use Rattle.rx_passes.proofs.Running.{stops_behind}
-use Rattle.rx_passes.proofs.Telling.{wants_then}
 
 -- ---- what is told of one call
 
@@ -60,13 +60,18 @@ module _ (n : ℕ) (book after : Option (List Noted)) (first last : SinkTells) (
   nothing_put same =
       subst (λ (k : SinkTells). Rattle.rx_base.specs.Sink.Gained first.put k.put []) (sym same) (gained_none first.put)
 
-  pub told_wants : HasNoted book after (noted n e) → last ≡ first
+  pub told_wants : HasNoted book after (noted n e) → PutsLine first last (event_line e) (Some stops.Unformatted)
       → Wants n (told book first wire) (told after last wire) (e ∷ []) []
-  told_wants one same =
+  told_wants one puts =
       record {
-        wanted = wants_line [] e (HasNotedAll-one book after n e one) (nothing_put same);
+        early = [];
+        last = e;
+        are = refl;
+        noted = HasNotedAll-one book after n e one;
+        put = nothing_put puts.0;
+        lined = puts.1;
         log = logged_none wire.traffic;
-        puts = ap (λ (k : SinkTells). k.faults) same;
+        puts = ap (λ (k : SinkTells). k.faults) puts.0;
         calls = refl;
       }
 
@@ -169,17 +174,17 @@ module _ (n : ℕ) (s : Setup) (g : Handlers) (jobs : List JobState) (s0 s1 : Li
         );
       }
 
-  -- memory is wanted before the next call
+  -- memory is wanted for the next call
   pub went_wants : (shows : List JobState → Type 0) → Went (dispatching g) n s0 s1 (accepts jobs) v a b count
-      → Plays (change n s s0 s1 a b) (dispatches g jobs) shows (Some stops.OutOfMemory)
-  went_wants shows x p at =
+      → IsWanting g v → Plays (change n s s0 s1 a b) (dispatches g jobs) shows (Some stops.OutOfMemory)
+  went_wants shows x wants p at =
       record {
         events = x.events;
         log = [];
         came = Cut stops.OutOfMemory;
-        made = (tt, refl, (v, x.runs));
+        made = (refl, (v, x.runs, wants));
         standing = x.standing p.history at.standing;
-        fits = (refl, wants_then n a b x.events [] x.told);
+        fits = (refl, x.told);
       }
 
   -- calls come to no end
@@ -190,25 +195,27 @@ module _ (n : ℕ) (s : Setup) (g : Handlers) (jobs : List JobState) (s0 s1 : Li
         events = x.events;
         log = [];
         came = Cut stops.Endless;
-        made = (subst (λ (k : ℕ). 2 ^ 64 - 1 ≤ k) (sym x.counted) many, refl, (v, x.runs));
+        made = (refl, (v, x.runs, subst (λ (k : ℕ). 2 ^ 64 - 1 ≤ k) (sym x.counted) many));
         standing = x.standing p.history at.standing;
         fits = (refl, x.told);
       }
 
--- how passes end at one call of a turn: memory is wanted, the sink fails, or its note is refused
+-- how passes end at one call of a turn: there is no memory for its line, the sink fails, or its note is refused
 abbrev pub IsTold : Stop → Type 0
-IsTold stops.OutOfMemory = Unit {0}
+IsTold stops.OutOfMemory = ⊥
+IsTold stops.Unformatted = Unit {0}
 IsTold stops.SinkFault = Unit {0}
 IsTold stops.Unnoted = Unit {0}
 IsTold stops.Endless = ⊥
 IsTold stops.WireFault = ⊥
 
-cuts_told : (stop : Stop) (es : List Event) → IsTold stop → CutsTurn stop es
-cuts_told stops.OutOfMemory es short = tt
-cuts_told stops.SinkFault es short = tt
-cuts_told stops.Unnoted es short = tt
-cuts_told stops.Endless es short = absurd short
-cuts_told stops.WireFault es short = absurd short
+cuts_told : (g : Handlers) (stop : Stop) (es : List Event) (t : Turning) → IsTold stop → CutsTurn g stop es t
+cuts_told g stops.OutOfMemory es t short = absurd short
+cuts_told g stops.Unformatted es t short = tt
+cuts_told g stops.SinkFault es t short = tt
+cuts_told g stops.Unnoted es t short = tt
+cuts_told g stops.Endless es t short = absurd short
+cuts_told g stops.WireFault es t short = absurd short
 
 -- passes ended at the next call
 pub went_stops : (n : ℕ) (s z : Setup) (g : Handlers) (jobs : List JobState) (s0 s1 s2 : List Event → Type 0)
@@ -223,12 +230,12 @@ went_stops n s z g jobs s0 s1 s2 v u a b c count ask e shows stop x asked is hea
       log = [];
       came = Cut stop;
       made = (
-        cuts_told stop (x.events ++ e ∷ []) short,
         refl,
         (
           u,
           Runs-append (dispatching g) (accepts jobs) v u x.events (e ∷ []) x.runs
               (subst (Runs (dispatching g) v (e ∷ [])) heard (Runs-one (dispatching g) v ask e asked is)),
+          cuts_told g stop (x.events ++ e ∷ []) u short,
         ),
       );
       standing = subst s2 (sym (after_all-append x.events (e ∷ []) p.history))

@@ -2,7 +2,9 @@
 use Rattle.std.specs.Prelude.{◌≡◌, ◌<◌, ◌≤◌, ◌⊎◌, ℕ, true, List, [], ◌++◌, None, Result, Ok, Err, is_some}
 use Rattle.rx_base.specs.Sink.{HasRisen}
 use Rattle.rx_asks.specs.Asks.{begun, calling}
+use Rattle.rx_caller.specs.Turn.{CallerWants}
 use Rattle.rx_asks.specs.View.{CallerState, caller_for}
+use Rattle.rx_caller.specs.declared.caller.TheConstants.{REPLY_BYTES}
 use Rattle.rx_asks.specs.declared.ask.TheConstants.{REPLY_BYTES}
 use Rattle.rx_model.specs.declared.event.Event.{Event}
 use Rattle.rx_model.specs.declared.event.Event.TheVariants as events
@@ -21,7 +23,7 @@ use Rattle.rx_passes.specs.declared.stop.Stop.TheVariants as stops
 use Rattle.rx_passes.specs.Parts.{To, Cut, One, Part, Place, Then, behind}
 use Rattle.rx_passes.specs.Ports.{clocks, takes}
 use Rattle.rx_passes.specs.Serves.{Passed, pass, plays}
-use Rattle.rx_passes.specs.Tells.{Breaks, Gains, Refuses, Told, Wants}
+use Rattle.rx_passes.specs.Tells.{Breaks, Gains, Refuses, Told}
 
 -- ---- the beginning
 
@@ -43,11 +45,20 @@ begins w = Then clocks (λ u. begins_to w.to w.service)
 
 -- ---- passes
 
--- a turn of the caller, unless it wants memory
+-- why a turn of a caller that came so far ends passes: its next call wants memory, or a note is refused
+abbrev pub CutsCaller : Stop → CallerState → Type 0
+CutsCaller stops.OutOfMemory w = CallerWants REPLY_BYTES w
+CutsCaller stops.Unnoted w = Unit {0}
+CutsCaller stops.Unformatted w = ⊥
+CutsCaller stops.SinkFault w = ⊥
+CutsCaller stops.WireFault w = ⊥
+CutsCaller stops.Endless w = ⊥
+
+-- a turn of the caller, unless passes end in it
 abbrev pub calls : CallerState → Part CallerState
 calls v p es ls (To w) = (ls ≡ []) × Turns (calling REPLY_BYTES) (begun v) es w
 calls v p es ls (Cut stop) =
-    (stop ≡ stops.OutOfMemory) × (ls ≡ []) × ((w : CallerState) × Runs (calling REPLY_BYTES) (begun v) es w)
+    (ls ≡ []) × ((w : CallerState) × Runs (calling REPLY_BYTES) (begun v) es w × CutsCaller stop w)
 
 -- what a call is made by: how its client is set up, how many datagrams at most are given as one, and how many takes are
 -- made at most
@@ -104,7 +115,7 @@ abbrev pub CallEnds : ℕ → Result CallEnd Stop → CallCame → Told → Told
 CallEnds node (Ok (call_ends.Ended caller)) (IsEnded v) before after es ls =
     (caller ≡ v) × Gains node before after es ls
 CallEnds node (Ok call_ends.TurnsSpent) IsSpent before after es ls = Gains node before after es ls
-CallEnds node (Err stops.OutOfMemory) (IsCut stops.OutOfMemory) before after es ls = Wants node before after es ls
+CallEnds node (Err stops.OutOfMemory) (IsCut stops.OutOfMemory) before after es ls = Gains node before after es ls
 CallEnds node (Err stops.WireFault) (IsCut stops.WireFault) before after es ls = Breaks node before after es ls
 CallEnds node (Err stops.Unnoted) (IsCut stops.Unnoted) before after es ls = Refuses node before after es ls
 CallEnds node (Err stops.Endless) (IsCut stops.Endless) before after es ls = Gains node before after es ls

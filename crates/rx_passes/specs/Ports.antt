@@ -71,6 +71,7 @@ CutsPolls stops.Unnoted missing es = Unit {0}
 CutsPolls stops.WireFault missing es = missing ≢ []
 CutsPolls stops.Endless missing es = (missing ≡ []) × (2 ^ 64 - 1 ≤ length es)
 CutsPolls stops.OutOfMemory missing es = ⊥
+CutsPolls stops.Unformatted missing es = ⊥
 CutsPolls stops.SinkFault missing es = ⊥
 
 -- polls in which passes ended: what they gave was given on the wire, joined, but for a suffix that is missing
@@ -180,6 +181,7 @@ Gave before after given (Some stops.SinkFault) = ⊥
 Gave before after given (Some stops.OutOfMemory) = ⊥
 Gave before after given (Some stops.Unnoted) = ⊥
 Gave before after given (Some stops.Endless) = ⊥
+Gave before after given (Some stops.Unformatted) = ⊥
 
 -- what is held back behind these datagrams given: nothing is missing where the wire didn't fail, and some where it did
 abbrev pub Behind : List (Host × List ℕ) → List (Host × List ℕ) → JoinerState → Option Stop → Type 0
@@ -240,6 +242,7 @@ NotesOne node before after e (Some stops.OutOfMemory) = ⊥
 NotesOne node before after e (Some stops.SinkFault) = ⊥
 NotesOne node before after e (Some stops.WireFault) = ⊥
 NotesOne node before after e (Some stops.Endless) = ⊥
+NotesOne node before after e (Some stops.Unformatted) = ⊥
 
 -- the wire gave a datagram, or failed
 abbrev pub GivesOne : WireTells → WireTells → Host × List ℕ → Option Stop → Type 0
@@ -252,6 +255,7 @@ GivesOne before after d (Some stops.SinkFault) = ⊥
 GivesOne before after d (Some stops.OutOfMemory) = ⊥
 GivesOne before after d (Some stops.Unnoted) = ⊥
 GivesOne before after d (Some stops.Endless) = ⊥
+GivesOne before after d (Some stops.Unformatted) = ⊥
 
 -- a datagram that was polled was noted and passed on; or its note was refused; or the wire failed
 abbrev pub PassesOn : ℕ → JoinerState → JoinerState → Option (List Noted) → Option (List Noted) → Host × List ℕ
@@ -262,6 +266,7 @@ PassesOn node old new before after d first last (Some stops.Unnoted) = (after �
 PassesOn node old new before after d first last (Some stops.OutOfMemory) = ⊥
 PassesOn node old new before after d first last (Some stops.SinkFault) = ⊥
 PassesOn node old new before after d first last (Some stops.Endless) = ⊥
+PassesOn node old new before after d first last (Some stops.Unformatted) = ⊥
 PassesOn node old new before after d first last (Some stops.WireFault) =
     HasNoted before after (noted node (events.Polled (Some d)))
     × Passes (held old ++ d ∷ []) old new first last (Some stops.WireFault)

@@ -1,5 +1,7 @@
 -- What was made of a part, from what was told before it to what is told behind it. Public clauses cite this module.
 use Rattle.std.specs.Prelude.{◌≡◌, ◌≤◌, ℕ, List, Option, Some, None, Result, Ok, Err}
+use Rattle.rx_caller.specs.declared.fault.CallerFault.{CallerFault}
+use Rattle.rx_caller.specs.declared.fault.CallerFault.TheVariants as faults
 use Rattle.rx_model.specs.declared.event.Event.{Event}
 use Rattle.rx_rules.specs.After.{looks}
 use Rattle.rx_rules.specs.Setup.{Setup}
@@ -13,6 +15,11 @@ use Rattle.rx_passes.specs.Tells.{Breaks, Fails, Gains, Refuses, Told, Wants}
 abbrev pub stop_of : {T : Type 0} → Result T Stop → Option Stop
 stop_of (Ok t) = None
 stop_of (Err stop) = Some stop
+
+-- why a turn of a caller that stopped early ends passes
+abbrev pub stop_for : CallerFault → Stop
+stop_for faults.OutOfMemory = stops.OutOfMemory
+stop_for faults.Unnoted = stops.Unnoted
 
 -- a node with its number, how it is set up, and for which histories it stood before and stands behind a part; and what
 -- was told before and behind it
@@ -41,7 +48,8 @@ IsBehind s stands now = (h : List Event) × stands h × ((looks s h).now ≤ now
 
 -- what was told of what was made, where passes end for this reason
 abbrev pub Stops : Change → List Event → List Logged → Stop → Type 0
-Stops c es ls stops.OutOfMemory = Wants c.node c.before c.after es ls
+Stops c es ls stops.OutOfMemory = Gains c.node c.before c.after es ls
+Stops c es ls stops.Unformatted = Wants c.node c.before c.after es ls
 Stops c es ls stops.SinkFault = Fails c.node c.before c.after es ls
 Stops c es ls stops.WireFault = Breaks c.node c.before c.after es ls
 Stops c es ls stops.Unnoted = Refuses c.node c.before c.after es ls

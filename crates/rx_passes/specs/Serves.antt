@@ -3,6 +3,7 @@ use Rattle.std.specs.Prelude.{◌≡◌, ◌-◌, ◌^◌, ◌<◌, ◌≤◌, �
 use Rattle.rx_jobs.specs.Dispatching.{Turning, accepts, dispatching, over}
 use Rattle.rx_jobs.specs.Handlers.{Handlers}
 use Rattle.rx_jobs.specs.Jobs.{JobState}
+use Rattle.rx_dispatch.specs.Wanting.{IsWanting}
 use Rattle.rx_model.specs.declared.event.Event.{Event}
 use Rattle.rx_rules.specs.Setup.{Setup}
 use Rattle.rx_udp.specs.Wire.{Logged}
@@ -36,20 +37,21 @@ pub data Passed {V : Type 0} (play : V → Part V) (take : Part (Unit {0})) (goe
 
 -- ---- serving
 
--- why a turn of the handlers ends passes: memory is wanted, the sink fails, a note is refused, or the turn has 2^64 - 1
--- calls or more
-abbrev pub CutsTurn : Stop → List Event → Type 0
-CutsTurn stops.OutOfMemory es = Unit {0}
-CutsTurn stops.SinkFault es = Unit {0}
-CutsTurn stops.Unnoted es = Unit {0}
-CutsTurn stops.Endless es = 2 ^ 64 - 1 ≤ length es
-CutsTurn stops.WireFault es = ⊥
+-- why a turn of the handlers that came so far ends passes: its next call wants memory, the sink fails, there is no memory
+-- for a line, a note is refused, or the turn has 2^64 - 1 calls or more
+abbrev pub CutsTurn : Handlers → Stop → List Event → Turning → Type 0
+CutsTurn g stops.OutOfMemory es t = IsWanting g t
+CutsTurn g stops.Unformatted es t = Unit {0}
+CutsTurn g stops.SinkFault es t = Unit {0}
+CutsTurn g stops.Unnoted es t = Unit {0}
+CutsTurn g stops.Endless es t = 2 ^ 64 - 1 ≤ length es
+CutsTurn g stops.WireFault es t = ⊥
 
 -- a turn of the handlers that have these jobs, unless passes end in it
 abbrev pub dispatches : Handlers → List JobState → Part (List JobState)
 dispatches g jobs at es ls (To after) = (ls ≡ []) × Turns (dispatching g) (accepts jobs) es (over after)
 dispatches g jobs at es ls (Cut stop) =
-    CutsTurn stop es × (ls ≡ []) × ((w : Turning) × Runs (dispatching g) (accepts jobs) es w)
+    (ls ≡ []) × ((w : Turning) × Runs (dispatching g) (accepts jobs) es w × CutsTurn g stop es w)
 
 -- what a server serves by: its handlers, how it is set up, how many datagrams at most are given as one, how many takes
 -- are made at most, and up to which moment it serves

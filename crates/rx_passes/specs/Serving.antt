@@ -52,7 +52,8 @@ pub record FailsUp (node : ℕ) (before after : Told) (es : List Event) (ls : Li
 abbrev pub ServeEnds : ℕ → Result ServeEnd Stop → ServeCame → Told → Told → List Event → List Logged → Type 0
 ServeEnds node (Ok serve_ends.TimeUp) IsUp before after es ls = TellsUp node before after es ls
 ServeEnds node (Ok serve_ends.TurnsSpent) IsSpent before after es ls = Gains node before after es ls
-ServeEnds node (Err stops.OutOfMemory) (IsCut stops.OutOfMemory) before after es ls = Wants node before after es ls
+ServeEnds node (Err stops.OutOfMemory) (IsCut stops.OutOfMemory) before after es ls = Gains node before after es ls
+ServeEnds node (Err stops.Unformatted) (IsCut stops.Unformatted) before after es ls = Wants node before after es ls
 ServeEnds node (Err stops.SinkFault) (IsCut stops.SinkFault) before after es ls = Fails node before after es ls
 ServeEnds node (Err stops.SinkFault) IsUp before after es ls = FailsUp node before after es ls
 ServeEnds node (Err stops.WireFault) (IsCut stops.WireFault) before after es ls = Breaks node before after es ls
@@ -79,11 +80,11 @@ pub record ServesNothing (result : Result ServeEnd Stop) (before after : Told) :
   pub traffic : after.wire.traffic ≡ before.wire.traffic
   pub calls : HasRisen before.wire.faults after.wire.faults
 
--- what follows a bind: memory was wanted before any line; or the sink failed at the line that it is ready; or that was
--- put, and passes were made
+-- what follows a bind: memory was wanted to make the node, or for the line that it is ready; or the sink failed at that
+-- line; or it was put, and passes were made
 abbrev pub ServesBound : (Setup → ℕ → Terms) → Setup → Host → Result ServeEnd Stop → Told → Told → Type 0
 ServesBound terms setup host result before after =
-    ((result ≡ Err stops.OutOfMemory) × (after ≡ before))
+    (((result ≡ Err stops.OutOfMemory) ⊎ (result ≡ Err stops.Unformatted)) × (after ≡ before))
     ⊎ ((result ≡ Err stops.SinkFault) × (after.noted ≡ before.noted) × (after.wire ≡ before.wire)
     × GainedSome before.sink.put after.sink.put (ready_line host) × HasRisen before.sink.faults after.sink.faults)
     ⊎ ((between : Told) × (between.noted ≡ before.noted) × (between.wire ≡ before.wire)

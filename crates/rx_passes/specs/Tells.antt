@@ -56,21 +56,14 @@ pub record Gains (node : ℕ) (before after : Told) (es : List Event) (ls : List
   pub puts : after.sink.faults ≡ before.sink.faults
   pub calls : after.wire.faults ≡ before.wire.faults
 
--- where memory was wanted for what is told of these events
-pub data WantsAt (node : ℕ) (before after : Told) : List Event → Type 0 where
-  -- behind them all
-  wants_next : (es : List Event) → HasNotedAll before.noted after.noted node es
-      → Gained before.sink.put after.sink.put (lines es) → WantsAt node before after es
-  -- at the line of the last
-  wants_line : (es : List Event) (e : Event) → HasNotedAll before.noted after.noted node (es ++ e ∷ [])
-      → Gained before.sink.put after.sink.put (lines es) → WantsAt node before after (es ++ e ∷ [])
-  -- at its note
-  wants_note : (es : List Event) (e : Event) → HasNotedAll before.noted after.noted node es
-      → Gained before.sink.put after.sink.put (lines es) → WantsAt node before after (es ++ e ∷ [])
-
--- the same but that memory was wanted
+-- the same but that there was no memory for the line of the last event, which has one
 pub record Wants (node : ℕ) (before after : Told) (es : List Event) (ls : List Logged) : Type 0 where
-  pub wanted : WantsAt node before after es
+  pub early : List Event
+  pub last : Event
+  pub are : es ≡ early ++ last ∷ []
+  pub noted : HasNotedAll before.noted after.noted node es
+  pub put : Gained before.sink.put after.sink.put (lines early)
+  pub lined : event_line last ≢ []
   pub log : HasLoggedAll before.wire.traffic after.wire.traffic ls
   pub puts : after.sink.faults ≡ before.sink.faults
   pub calls : after.wire.faults ≡ before.wire.faults

@@ -4,6 +4,7 @@ use Rattle.rx_dispatch.specs.Rounds.{RoundState, turning_of}
 use Rattle.rx_jobs.specs.Dispatching.{over}
 use Rattle.rx_jobs.specs.Handlers.{Handlers}
 use Rattle.rx_dispatch.specs.Making.{MakesCall}
+use Rattle.rx_dispatch.specs.Wanting.{WantsMemory}
 use Rattle.rx_model.specs.declared.event.Event.{Event}
 use Rattle.rx_model.specs.declared.event.Noted.{Noted}
 use Rattle.rx_rules.specs.Classes.{Class}
@@ -16,7 +17,7 @@ use Rattle.rx_passes.specs.Lines.{PutsLine}
 use Rattle.rx_passes.specs.Tells.{SinkTells}
 use Rattle.rx_passes.specs.Texts.{event_line}
 
--- an event was noted, and its line put; or its note was refused; or memory was wanted for its line; or the sink failed
+-- an event was noted, and its line put; or its note was refused; or there was no memory for its line; or the sink failed
 pub data TellsOne (node : ℕ) (before after : Option (List Noted)) (first last : SinkTells) (e : Event)
     : Option Stop → Type 0 where
   tells_refused : after ≡ before → last ≡ first → TellsOne node before after first last e (Some stops.Unnoted)
@@ -39,10 +40,12 @@ pub record Rests (g : Handlers) (old new : RoundState) (served serves : ServerSt
   pub noted : after ≡ before
   pub sink : last ≡ first
 
--- memory was wanted before the next call
-pub record WantsFirst (served serves : ServerState) (before after : Option (List Noted)) (first last : SinkTells)
-    (stop : Stop) : Type 0 where
-  pub wants : stop ≡ stops.OutOfMemory
+-- the next call wants memory, and wasn't made
+pub record WantsFirst (g : Handlers) (old new : RoundState) (served serves : ServerState)
+    (before after : Option (List Noted)) (first last : SinkTells) (stop : Stop) : Type 0 where
+  pub stop_is : stop ≡ stops.OutOfMemory
+  pub wants : WantsMemory g new
+  pub same : turning_of g new ≡ turning_of g old
   pub server : serves ≡ served
   pub noted : after ≡ before
   pub sink : last ≡ first
@@ -56,5 +59,5 @@ pub data Handles (class : List ℕ → Class) (g : Handlers) (old new : RoundSta
       → Handles class g old new served serves before after first last (Ok false)
   handles_stop : (stop : Stop) → Handled class g old new served serves before after first last (Some stop)
       → Handles class g old new served serves before after first last (Err stop)
-  handles_wants : (stop : Stop) → WantsFirst served serves before after first last stop
+  handles_wants : (stop : Stop) → WantsFirst g old new served serves before after first last stop
       → Handles class g old new served serves before after first last (Err stop)

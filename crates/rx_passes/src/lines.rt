@@ -37,8 +37,10 @@ impl Lines {
         ensures { PutsLine (sink_tells (O.told out.old) (O.faults out.old))
             (sink_tells (O.told out.new) (O.faults out.new)) (ready_line host) (stop_of result) }
     {
-        self.write_ready(host)?;
-        put(out, self.line.as_str())
+        match self.write_ready(host) {
+            Ok(()) => put(out, self.line.as_str()),
+            Err(_) => Err(Stop::Unformatted),
+        }
     }
 
     /// Puts the line of an event of the handlers, if it has one.
@@ -71,8 +73,10 @@ impl Lines {
         ensures { PutsLine (sink_tells (O.told out.old) (O.faults out.old))
             (sink_tells (O.told out.new) (O.faults out.new)) (accept_line call.now) (stop_of result) }
     {
-        self.write_accept(call)?;
-        put(out, self.line.as_str())
+        match self.write_accept(call) {
+            Ok(()) => put(out, self.line.as_str()),
+            Err(_) => Err(Stop::Unformatted),
+        }
     }
 
     fn finished<O: Sink>(
@@ -85,8 +89,10 @@ impl Lines {
         ensures { PutsLine (sink_tells (O.told out.old) (O.faults out.old))
             (sink_tells (O.told out.new) (O.faults out.new)) (finish_line call.now code got) (stop_of result) }
     {
-        self.write_finish(call, code, got)?;
-        put(out, self.line.as_str())
+        match self.write_finish(call, code, got) {
+            Ok(()) => put(out, self.line.as_str()),
+            Err(_) => Err(Stop::Unformatted),
+        }
     }
 
     fn write_ready(&mut self, host: Host) -> Result<(), AllocError>

@@ -1,6 +1,7 @@
 //! Why passes end before they are done.
 ghost use Rattle.std.specs.Prelude.{◌≡◌};
 
+use rx_caller::CallerFault;
 use std::alloc::AllocError;
 
 /// Why passes end before they are done.
@@ -10,8 +11,10 @@ pub enum Stop {
     SinkFault,
     /// A call of the wire failed.
     WireFault,
-    /// A handler, a caller, a line or the making of the node wanted memory.
+    /// A handler, a caller or the making of the node wanted memory.
     OutOfMemory,
+    /// There was no memory for the text of a line.
+    Unformatted,
     /// The journal wanted memory for the note of an event.
     Unnoted,
     /// A polling, or a turn of the handlers, came to no end within 2^64 - 1 events.
@@ -26,5 +29,19 @@ impl From<AllocError> for Stop {
 
     fn from(_: AllocError) -> Stop {
         Stop::OutOfMemory
+    }
+}
+
+impl From<CallerFault> for Stop {
+    ghost use Rattle.std.specs.Prelude.{◌≡◌};
+    ghost use Rattle.rx_passes.specs.Runs.{stop_for};
+
+    ghost from_gives = { λ fault stop. stop ≡ stop_for fault };
+
+    fn from(fault: CallerFault) -> Stop {
+        match fault {
+            CallerFault::OutOfMemory => Stop::OutOfMemory,
+            CallerFault::Unnoted => Stop::Unnoted,
+        }
     }
 }

@@ -109,6 +109,7 @@ long_by a w request secret (Ok (call_ends.Ended v)) before after first last n ca
 long_by a w request secret (Ok call_ends.TurnsSpent) before after first last n can told by =
     let is = by.0 in absurd cc
 long_by a w request secret (Err stops.SinkFault) before after first last n can told by = absurd by
+long_by a w request secret (Err stops.Unformatted) before after first last n can told by = absurd by
 long_by a w request secret (Err stops.WireFault) before after first last n can told by = let is = by.0 in absurd cc
 long_by a w request secret (Err stops.OutOfMemory) before after first last n can told by =
     let is = by.0 in absurd cc

@@ -1,5 +1,6 @@
 -- Lemmas on the faults of a sink and a wire that serving and calling count.
 use Rattle.std.proofs.Common.{◌≡◌, ◌≢◌, ℕ, List, Result, Ok, Err, ap, inl, inr, refl, subst}
+use Rattle.std.specs.Prelude.{IfErr}
 use Rattle.rx_base.specs.Sink.{HasRisen}
 use Rattle.rx_model.specs.declared.event.Event.{Event}
 use Rattle.rx_model.specs.declared.names.Host.{Host}
@@ -48,6 +49,7 @@ ServeCounts (Ok end) k = (k.sink_new ≡ k.sink_old) × (k.wire_new ≡ k.wire_o
 ServeCounts (Err stops.SinkFault) k = HasRisen k.sink_old k.sink_new × (k.wire_new ≡ k.wire_old)
 ServeCounts (Err stops.WireFault) k = (k.sink_new ≡ k.sink_old) × HasRisen k.wire_old k.wire_new
 ServeCounts (Err stops.OutOfMemory) k = (k.sink_new ≡ k.sink_old) × (k.wire_new ≡ k.wire_old)
+ServeCounts (Err stops.Unformatted) k = (k.sink_new ≡ k.sink_old) × (k.wire_new ≡ k.wire_old)
 ServeCounts (Err stops.Unnoted) k = (k.sink_new ≡ k.sink_old) × (k.wire_new ≡ k.wire_old)
 ServeCounts (Err stops.Endless) k = (k.sink_new ≡ k.sink_old) × (k.wire_new ≡ k.wire_old)
 
@@ -56,6 +58,7 @@ ends_count : (node : ℕ) (result : Result ServeEnd Stop) (came : ServeCame) (be
 ends_count node (Ok serve_ends.TimeUp) IsUp before after es ls told = (told.puts, told.calls)
 ends_count node (Ok serve_ends.TurnsSpent) IsSpent before after es ls told = (told.puts, told.calls)
 ends_count node (Err stops.OutOfMemory) (IsCut stops.OutOfMemory) before after es ls told = (told.puts, told.calls)
+ends_count node (Err stops.Unformatted) (IsCut stops.Unformatted) before after es ls told = (told.puts, told.calls)
 ends_count node (Err stops.Unnoted) (IsCut stops.Unnoted) before after es ls told =
     (told.gains.puts, told.gains.calls)
 ends_count node (Err stops.Endless) (IsCut stops.Endless) before after es ls told = (told.puts, told.calls)
@@ -72,7 +75,8 @@ counts_from result first before after sink wire counted = rw (sink, wire) at cou
 
 bound_counts : (terms : Setup → ℕ → Terms) (setup : Setup) (host : Host) (result : Result ServeEnd Stop)
     (before after : Told) → ServesBound terms setup host result before after → ServeCounts result (counts before after)
-bound_counts terms setup host result before after (inl wants) = rw (wants.0, wants.1) (refl, refl)
+bound_counts terms setup host result before after (inl (inl wants, same)) = rw (wants, same) (refl, refl)
+bound_counts terms setup host result before after (inl (inr wants, same)) = rw (wants, same) (refl, refl)
 bound_counts terms setup host result before after (inr (inl fails)) =
     rw fails.0 (fails.4, ap (λ (w : WireTells). w.faults) fails.2)
 bound_counts terms setup host result before after (inr (inr (between, noted, wire, put, same, serving))) =
@@ -127,6 +131,12 @@ faults_by turns (Err stops.OutOfMemory) outcome before after is k = rw is (recor
   wire_fault = λ e. absurd cc;
   no_wire_fault = λ ne. k.1;
 })
+faults_by turns (Err stops.Unformatted) outcome before after is k = rw is (record {
+  sink_fault = λ e. absurd cc;
+  no_sink_fault = λ ne. k.0;
+  wire_fault = λ e. absurd cc;
+  no_wire_fault = λ ne. k.1;
+})
 faults_by turns (Err stops.Unnoted) outcome before after is k = rw is (record {
   sink_fault = λ e. absurd cc;
   no_sink_fault = λ ne. k.0;
@@ -156,6 +166,7 @@ CallCounts (Ok end) old new = new ≡ old
 CallCounts (Err stops.SinkFault) old new = ⊥
 CallCounts (Err stops.WireFault) old new = HasRisen old new
 CallCounts (Err stops.OutOfMemory) old new = new ≡ old
+CallCounts (Err stops.Unformatted) old new = ⊥
 CallCounts (Err stops.Unnoted) old new = new ≡ old
 CallCounts (Err stops.Endless) old new = new ≡ old
 
@@ -193,6 +204,18 @@ pub no_sink_ends : (w : Calling) (request : List ℕ) (class : Class) (result : 
 no_sink_ends w request class result before after call is =
     let counted = call_counts w request class result before after call in rw is at counted
 
+-- nor for want of a line
+pub no_line_ends : (w : Calling) (request : List ℕ) (class : Class) (result : Result CallEnd Stop)
+    (before after : Told) → CallIs w request class result before after → result ≢ Err stops.Unformatted
+no_line_ends w request class result before after call is =
+    let counted = call_counts w request class result before after call in rw is at counted
+
+-- where it ends with a refused note, what holds of such an end holds
+pub unnoted_holds : {T Q : Type 0} (result : Result T Stop) → IfErr result (λ stop. stop ≡ stops.Unnoted → Q)
+    → result ≡ Err stops.Unnoted → Q
+unnoted_holds (Ok it) holds is = absurd (cc (is))
+unnoted_holds (Err stop) holds is = holds (cc (is))
+
 -- it counts a fault of the wire where it ends with that
 pub call_risen : (w : Calling) (request : List ℕ) (class : Class) (result : Result CallEnd Stop)
     (before after : Told) → CallIs w request class result before after → result ≡ Err stops.WireFault
@@ -206,6 +229,7 @@ same_unless (Ok end) old new counted not = counted
 same_unless (Err stops.SinkFault) old new counted not = absurd counted
 same_unless (Err stops.WireFault) old new counted not = absurd (not refl)
 same_unless (Err stops.OutOfMemory) old new counted not = counted
+same_unless (Err stops.Unformatted) old new counted not = absurd counted
 same_unless (Err stops.Unnoted) old new counted not = counted
 same_unless (Err stops.Endless) old new counted not = counted
 

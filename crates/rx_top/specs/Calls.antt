@@ -175,8 +175,8 @@ IsFinished call_ends.TurnsSpent = ⊤
 abbrev pub EndsByCaller : CallAsked → CallerState → WireOutcome → SinkTells → SinkTells → Type 0
 EndsByCaller a v = EndsByEnd a v.reply v.end
 
--- how it ends by how a call with so many takes at most ended, and what was put: out of memory too where the journal
--- refused a note, and where a polling has no end
+-- how it ends by how a call with so many takes at most ended, and what was put: out of memory too where a polling has no
+-- end
 abbrev pub EndsByCall : CallAsked → ℕ → Result CallEnd Stop → WireOutcome → SinkTells → SinkTells → Type 0
 EndsByCall a turns (Ok (call_ends.Ended v)) outcome before after = EndsByCaller a v outcome before after
 EndsByCall a turns (Ok call_ends.TurnsSpent) outcome before after =
@@ -184,7 +184,8 @@ EndsByCall a turns (Ok call_ends.TurnsSpent) outcome before after =
 EndsByCall a turns (Err stops.WireFault) outcome before after = (outcome ≡ outcomes.WireFault) × (after ≡ before)
 EndsByCall a turns (Err stops.OutOfMemory) outcome before after =
     (outcome ≡ outcomes.OutOfMemory) × (after ≡ before)
-EndsByCall a turns (Err stops.Unnoted) outcome before after = (outcome ≡ outcomes.OutOfMemory) × (after ≡ before)
+EndsByCall a turns (Err stops.Unformatted) outcome before after = ⊥
+EndsByCall a turns (Err stops.Unnoted) outcome before after = (outcome ≡ outcomes.Unnoted) × (after ≡ before)
 EndsByCall a turns (Err stops.Endless) outcome before after = (outcome ≡ outcomes.OutOfMemory) × (after ≡ before)
 EndsByCall a turns (Err stops.SinkFault) outcome before after = ⊥
 
@@ -250,8 +251,9 @@ abbrev pub CallsByFiles : WireOutcome → CallWords → Calling → Reads → To
 CallsByFiles outcome words w r before after =
     ((outcome ≡ outcomes.OutOfMemory) × ReadNone r × (after ≡ before)) ⊎ CallsAtXg words w outcome r before after
 
--- what the program leaves of it: the status of how it ended, and the line of that said
-abbrev pub CallLeaves : Status → CallWords → Calling → Reads → Told → Told → (List ℕ → Type 0) → Type 0
-CallLeaves status words w r before after IsSaid =
+-- what the program leaves of it: the status of how it ended, and the line of that said; and only a journal that may want
+-- memory refused a note
+abbrev pub CallLeaves : Status → CallWords → Calling → Reads → Told → Told → Bool → (List ℕ → Type 0) → Type 0
+CallLeaves status words w r before after may_want IsSaid =
     (outcome : WireOutcome) × (status ≡ wire_status outcome) × CallsByFiles outcome words w r before after
-    × IsSaid (wire_said outcome)
+    × (outcome ≡ outcomes.Unnoted → may_want ≡ true) × IsSaid (wire_said outcome)

@@ -93,7 +93,8 @@ CanDo (jobs.Call words w) = CanCall w
 CanDo (jobs.Compile xg) = Unit {0}
 CanDo jobs.Nothing = Unit {0}
 
--- what is told around a job: by the files, by the files and `out`, by the journal and `out`, and by these and the wire
+-- what is told around a job: by the files, by the files and `out`, by the journal and `out`, and by these and the wire;
+-- and whether the journal may want memory
 pub record Outside : Type 0 where
   pub reads : Reads
   pub seen : Seen
@@ -101,13 +102,14 @@ pub record Outside : Type 0 where
   pub after : Told
   pub before_wire : WireTold
   pub after_wire : WireTold
+  pub may_want : Bool
 
 -- what the program leaves of a job: the status of how it ended, and the line of that said
 abbrev pub JobLeaves : Job → Status → Outside → (List ℕ → Type 0) → Type 0
 JobLeaves (jobs.Sim names) status o IsSaid = SimLeaves status names o.reads o.before o.after IsSaid
 JobLeaves (jobs.Serve names w) status o IsSaid =
-    ServeLeaves status names w o.reads o.before_wire o.after_wire IsSaid
+    ServeLeaves status names w o.reads o.before_wire o.after_wire o.may_want IsSaid
 JobLeaves (jobs.Call words w) status o IsSaid =
-    CallLeaves status words w o.reads o.before_wire o.after_wire IsSaid
+    CallLeaves status words w o.reads o.before_wire o.after_wire o.may_want IsSaid
 JobLeaves (jobs.Compile xg) status o IsSaid = CompileLeaves status xg o.seen IsSaid
 JobLeaves jobs.Nothing status o IsSaid = (status ≡ statuses.Usage) × IsSaid usage_text

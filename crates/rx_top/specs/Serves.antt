@@ -1,5 +1,5 @@
 -- What `serve` does and leaves, by how it ended. Public clauses cite this module.
-use Rattle.std.specs.Prelude.{◌≡◌, ◌⊎◌, ◌≤◌, ◌^◌, ℕ, List, Some, Result, Ok, Err, IsSomeAnd}
+use Rattle.std.specs.Prelude.{◌≡◌, ◌⊎◌, ◌≤◌, ◌^◌, ℕ, Bool, true, List, Some, Result, Ok, Err, IsSomeAnd}
 use Rattle.rx_jumbo.specs.declared.sizes.TheConstants.{JUMBO_PARTS}
 use Rattle.rx_rules.specs.Classes.{Class}
 use Rattle.rx_rules.specs.Setup.{FitsLimits}
@@ -28,7 +28,7 @@ pub record CanServe (w : Serving) : Type 0 where
   pub few : w.jumbo ≤ JUMBO_PARTS
   pub span : w.span ≤ 2 ^ 40
 
--- how `serve` ends, by how serving with so many takes at most ended: out of memory too where the journal refused a note,
+-- how `serve` ends, by how serving with so many takes at most ended: out of memory too where there was none for a line,
 -- and where a polling or a turn has no end
 abbrev pub EndsByServing : ℕ → Result ServeEnd Stop → WireOutcome → Type 0
 EndsByServing turns (Ok serve_ends.TimeUp) outcome = outcome ≡ outcomes.Done
@@ -36,7 +36,8 @@ EndsByServing turns (Ok serve_ends.TurnsSpent) outcome = outcome ≡ outcomes.Tu
 EndsByServing turns (Err stops.SinkFault) outcome = outcome ≡ outcomes.SinkFault
 EndsByServing turns (Err stops.WireFault) outcome = outcome ≡ outcomes.WireFault
 EndsByServing turns (Err stops.OutOfMemory) outcome = outcome ≡ outcomes.OutOfMemory
-EndsByServing turns (Err stops.Unnoted) outcome = outcome ≡ outcomes.OutOfMemory
+EndsByServing turns (Err stops.Unformatted) outcome = outcome ≡ outcomes.OutOfMemory
+EndsByServing turns (Err stops.Unnoted) outcome = outcome ≡ outcomes.Unnoted
 EndsByServing turns (Err stops.Endless) outcome = outcome ≡ outcomes.OutOfMemory
 
 -- over an interface, a script and a class, a node was served as the words say, and `serve` ended as that did
@@ -73,8 +74,9 @@ abbrev pub ServesByFiles : WireOutcome → ServeFiles → Serving → Reads → 
 ServesByFiles outcome names w r before after =
     ((outcome ≡ outcomes.OutOfMemory) × ReadNone r × (after ≡ before)) ⊎ ServesAtXg names w outcome r before after
 
--- what the program leaves of it: the status of how it ended, and the line of that said
-abbrev pub ServeLeaves : Status → ServeFiles → Serving → Reads → Told → Told → (List ℕ → Type 0) → Type 0
-ServeLeaves status names w r before after IsSaid =
+-- what the program leaves of it: the status of how it ended, and the line of that said; and only a journal that may want
+-- memory refused a note
+abbrev pub ServeLeaves : Status → ServeFiles → Serving → Reads → Told → Told → Bool → (List ℕ → Type 0) → Type 0
+ServeLeaves status names w r before after may_want IsSaid =
     (outcome : WireOutcome) × (status ≡ wire_status outcome) × ServesByFiles outcome names w r before after
-    × IsSaid (wire_said outcome)
+    × (outcome ≡ outcomes.Unnoted → may_want ≡ true) × IsSaid (wire_said outcome)

@@ -33,6 +33,7 @@ wire_status outcomes.SinkFault = statuses.SinkFault
 wire_status outcomes.WireFault = statuses.WireFault
 wire_status (outcomes.TurnsSpent turns) = statuses.TurnsSpent
 wire_status outcomes.OutOfMemory = statuses.Memory
+wire_status outcomes.Unnoted = statuses.Memory
 
 -- how the program would end by a part of `serve` or `call`: it goes on, or the part ends it
 abbrev pub wire_status_in : {T : Type 0} → Result T WireOutcome → Status
@@ -67,6 +68,7 @@ wire_said outcomes.SinkFault = unwritten_text
 wire_said outcomes.WireFault = codes "rx: network fault\n"
 wire_said (outcomes.TurnsSpent turns) = codes "rx: turns spent " ++ decimal turns ++ codes "\n"
 wire_said outcomes.OutOfMemory = memory_text
+wire_said outcomes.Unnoted = memory_text
 
 -- ---- files
 

@@ -1,6 +1,6 @@
 //! The command that makes one call over a wire.
 
-ghost use Rattle.std.specs.Prelude.{◌≡◌, ◌≢◌, List, ℕ};
+ghost use Rattle.std.specs.Prelude.{◌≡◌, ◌≢◌, List, ℕ, true};
 ghost use Rattle.std.specs.List.{Contains};
 ghost use Rattle.rx_base.specs.Sink.{HasRisen};
 ghost use Rattle.rx_passes.specs.Tells.{sink_tells, told, wire_tells};
@@ -58,6 +58,7 @@ pub fn call_files<'a, F: Files, O: Sink, W: Wire, J: Journal>(
     ensures no_file_fault { wire_status result ≢ Status.FileFault → F.faults files.new ≡ F.faults files.old }
     ensures sink_fault { wire_status result ≡ Status.SinkFault → HasRisen (O.faults out.old) (O.faults out.new) }
     ensures no_sink_fault { wire_status result ≢ Status.SinkFault → O.faults out.new ≡ O.faults out.old }
+    ensures unnoted { result ≡ WireOutcome.Unnoted → J.may_want ≡ true }
     ensures wire_fault { wire_status result ≡ Status.WireFault → HasRisen (W.faults wire.old) (W.faults wire.new) }
     ensures no_wire_fault { wire_status result ≢ Status.WireFault → W.faults wire.new ≡ W.faults wire.old }
     ensures same_contents { F.contents files.new ≡ F.contents files.old }
@@ -92,6 +93,7 @@ fn call_over<'a, F: Files, O: Sink, W: Wire, J: Journal>(
     ensures no_file_fault { wire_status result ≢ Status.FileFault → F.faults files.new ≡ F.faults files.old }
     ensures sink_fault { wire_status result ≡ Status.SinkFault → HasRisen (O.faults out.old) (O.faults out.new) }
     ensures no_sink_fault { wire_status result ≢ Status.SinkFault → O.faults out.new ≡ O.faults out.old }
+    ensures unnoted { result ≡ WireOutcome.Unnoted → J.may_want ≡ true }
     ensures wire_fault { wire_status result ≡ Status.WireFault → HasRisen (W.faults wire.old) (W.faults wire.new) }
     ensures no_wire_fault { wire_status result ≢ Status.WireFault → W.faults wire.new ≡ W.faults wire.old }
     ensures same_contents { F.contents files.new ≡ F.contents files.old }
@@ -128,6 +130,7 @@ fn call_proc<'a, F: Files, O: Sink, W: Wire, J: Journal>(
     ensures no_file_fault { wire_status result ≢ Status.FileFault → F.faults files.new ≡ F.faults files.old }
     ensures sink_fault { wire_status result ≡ Status.SinkFault → HasRisen (O.faults out.old) (O.faults out.new) }
     ensures no_sink_fault { wire_status result ≢ Status.SinkFault → O.faults out.new ≡ O.faults out.old }
+    ensures unnoted { result ≡ WireOutcome.Unnoted → J.may_want ≡ true }
     ensures wire_fault { wire_status result ≡ Status.WireFault → HasRisen (W.faults wire.old) (W.faults wire.new) }
     ensures no_wire_fault { wire_status result ≢ Status.WireFault → W.faults wire.new ≡ W.faults wire.old }
     ensures same_contents { F.contents files.new ≡ F.contents files.old }
@@ -164,6 +167,7 @@ fn call_streams<'a, F: Files, O: Sink, W: Wire, J: Journal>(
     ensures no_file_fault { wire_status result ≢ Status.FileFault → F.faults files.new ≡ F.faults files.old }
     ensures sink_fault { wire_status result ≡ Status.SinkFault → HasRisen (O.faults out.old) (O.faults out.new) }
     ensures no_sink_fault { wire_status result ≢ Status.SinkFault → O.faults out.new ≡ O.faults out.old }
+    ensures unnoted { result ≡ WireOutcome.Unnoted → J.may_want ≡ true }
     ensures wire_fault { wire_status result ≡ Status.WireFault → HasRisen (W.faults wire.old) (W.faults wire.new) }
     ensures no_wire_fault { wire_status result ≢ Status.WireFault → W.faults wire.new ≡ W.faults wire.old }
     ensures same_contents { F.contents files.new ≡ F.contents files.old }
@@ -204,6 +208,7 @@ fn call_said<'a, F: Files, O: Sink, W: Wire, J: Journal>(
     ensures no_file_fault { wire_status result ≢ Status.FileFault → F.faults files.new ≡ F.faults files.old }
     ensures sink_fault { wire_status result ≡ Status.SinkFault → HasRisen (O.faults out.old) (O.faults out.new) }
     ensures no_sink_fault { wire_status result ≢ Status.SinkFault → O.faults out.new ≡ O.faults out.old }
+    ensures unnoted { result ≡ WireOutcome.Unnoted → J.may_want ≡ true }
     ensures wire_fault { wire_status result ≡ Status.WireFault → HasRisen (W.faults wire.old) (W.faults wire.new) }
     ensures no_wire_fault { wire_status result ≢ Status.WireFault → W.faults wire.new ≡ W.faults wire.old }
     ensures same_contents { F.contents files.new ≡ F.contents files.old }
@@ -243,6 +248,7 @@ fn call_sent<'a, F: Files, O: Sink, W: Wire, J: Journal>(
     ensures no_file_fault { wire_status result ≢ Status.FileFault → F.faults files.new ≡ F.faults files.old }
     ensures sink_fault { wire_status result ≡ Status.SinkFault → HasRisen (O.faults out.old) (O.faults out.new) }
     ensures no_sink_fault { wire_status result ≢ Status.SinkFault → O.faults out.new ≡ O.faults out.old }
+    ensures unnoted { result ≡ WireOutcome.Unnoted → J.may_want ≡ true }
     ensures wire_fault { wire_status result ≡ Status.WireFault → HasRisen (W.faults wire.old) (W.faults wire.new) }
     ensures no_wire_fault { wire_status result ≢ Status.WireFault → W.faults wire.new ≡ W.faults wire.old }
     ensures same_contents { F.contents files.new ≡ F.contents files.old }

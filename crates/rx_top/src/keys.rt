@@ -1,6 +1,6 @@
 //! The keys of nodes.
 
-ghost use Rattle.std.specs.Prelude.{◌≡◌, ◌≢◌, IfErr, IfOk, IsSomeAnd, Some};
+ghost use Rattle.std.specs.Prelude.{◌≡◌, ◌≢◌, Err, IfErr, IfOk, IsSomeAnd, Some};
 ghost use Rattle.rx_base.specs.Count.{one_more};
 ghost use Rattle.rx_base.specs.Sink.{HasRisen};
 ghost use Rattle.rx_token.specs.Chosen.{chosen, secret_of};
@@ -28,6 +28,7 @@ pub fn named_class<'a, F: Files>(
     ensures no_file_fault { wire_status_in result ≢ Status.FileFault → F.faults files.new ≡ F.faults files.old }
     ensures no_sink_fault { wire_status_in result ≢ Status.SinkFault }
     ensures no_wire_fault { wire_status_in result ≢ Status.WireFault }
+    ensures noted { result ≢ Err WireOutcome.Unnoted }
     ensures reads { F.reads files.new ≡ read_on key.now (F.reads files.old) }
     ensures same_contents { F.contents files.new ≡ F.contents files.old }
     ensures same_failed_last { wire_status_in result ≢ Status.FileFault
@@ -50,6 +51,7 @@ fn class_file<'a, F: Files>(
     ensures no_file_fault { wire_status_in result ≢ Status.FileFault → F.faults files.new ≡ F.faults files.old }
     ensures no_sink_fault { wire_status_in result ≢ Status.SinkFault }
     ensures no_wire_fault { wire_status_in result ≢ Status.WireFault }
+    ensures noted { result ≢ Err WireOutcome.Unnoted }
     ensures reads { F.reads files.new ≡ one_more (F.reads files.old) }
     ensures same_contents { F.contents files.new ≡ F.contents files.old }
     ensures same_failed_last { wire_status_in result ≢ Status.FileFault
@@ -68,6 +70,7 @@ fn class_in<'a>(name: &'a str, bytes: &[u8]) -> Result<Chosen, WireOutcome<'a>>
     ensures no_file_fault { wire_status_in result ≢ Status.FileFault }
     ensures no_sink_fault { wire_status_in result ≢ Status.SinkFault }
     ensures no_wire_fault { wire_status_in result ≢ Status.WireFault }
+    ensures noted { result ≢ Err WireOutcome.Unnoted }
 {
     if bytes.len() != KEY_BYTES {
         return Err(WireOutcome::BadKey { file: name });

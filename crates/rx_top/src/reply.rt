@@ -50,6 +50,7 @@ pub fn call_with<'a, O: Sink, W: Wire, J: Journal>(
     ensures no_file_fault { wire_status result ≢ Status.FileFault }
     ensures sink_fault { wire_status result ≡ Status.SinkFault → HasRisen (O.faults out.old) (O.faults out.new) }
     ensures no_sink_fault { wire_status result ≢ Status.SinkFault → O.faults out.new ≡ O.faults out.old }
+    ensures unnoted { result ≡ WireOutcome.Unnoted → J.may_want ≡ true }
     ensures wire_fault { wire_status result ≡ Status.WireFault → HasRisen (W.faults wire.old) (W.faults wire.new) }
     ensures no_wire_fault { wire_status result ≢ Status.WireFault → W.faults wire.new ≡ W.faults wire.old }
 {
@@ -70,10 +71,12 @@ fn called<'a, O: Sink>(
 ) -> WireOutcome<'a>
     requires one { Contains (procs_of iface.now.procs.items) (proc_of p.now) }
     requires no_sink { got ≢ Err Stop.SinkFault }
+    requires no_line { got ≢ Err Stop.Unformatted }
     requires finished { IfOk got IsFinished }
     ensures ends { EndsByCall (asked_of iface.now p.now down)
         turns got result (sink_tells (O.told out.old) (O.faults out.old))
         (sink_tells (O.told out.new) (O.faults out.new)) }
+    ensures unnoted { result ≡ WireOutcome.Unnoted → got ≡ Err Stop.Unnoted }
     ensures wire_fault { wire_status result ≡ Status.WireFault → got ≡ Err Stop.WireFault }
     ensures no_wire_fault { wire_status result ≢ Status.WireFault → got ≢ Err Stop.WireFault }
     ensures no_file_fault { wire_status result ≢ Status.FileFault }
@@ -83,9 +86,10 @@ fn called<'a, O: Sink>(
     match got {
         Ok(CallEnd::Ended(caller)) => ended(alloc, iface, p, down, &caller, out),
         Ok(CallEnd::TurnsSpent) => WireOutcome::TurnsSpent { turns },
-        Err(Stop::SinkFault) => unreachable!(),
+        Err(Stop::SinkFault | Stop::Unformatted) => unreachable!(),
         Err(Stop::WireFault) => WireOutcome::WireFault,
-        Err(Stop::OutOfMemory | Stop::Unnoted | Stop::Endless) => WireOutcome::OutOfMemory,
+        Err(Stop::OutOfMemory | Stop::Endless) => WireOutcome::OutOfMemory,
+        Err(Stop::Unnoted) => WireOutcome::Unnoted,
     }
 }
 
@@ -107,6 +111,7 @@ fn ended<'a, O: Sink>(
     ensures sink_fault { wire_status result ≡ Status.SinkFault → HasRisen (O.faults out.old) (O.faults out.new) }
     ensures no_sink_fault { wire_status result ≢ Status.SinkFault → O.faults out.new ≡ O.faults out.old }
     ensures no_wire_fault { wire_status result ≢ Status.WireFault }
+    ensures noted { result ≢ WireOutcome.Unnoted }
 {
     match caller.ended() {
         Some(End::Ok) => put_reply(alloc, iface, p, down, caller.reply(), out),
@@ -134,6 +139,7 @@ fn put_reply<'a, O: Sink>(
     ensures sink_fault { wire_status result ≡ Status.SinkFault → HasRisen (O.faults out.old) (O.faults out.new) }
     ensures no_sink_fault { wire_status result ≢ Status.SinkFault → O.faults out.new ≡ O.faults out.old }
     ensures no_wire_fault { wire_status result ≢ Status.WireFault }
+    ensures noted { result ≢ WireOutcome.Unnoted }
 {
     match reply_parts(alloc, iface, p, down, reply) {
         Ok(Some(parts)) => put_line(&parts, out),
@@ -150,6 +156,7 @@ fn put_line<'a, O: Sink>(parts: &ReplyParts<'_>, out: &mut O) -> WireOutcome<'a>
     ensures sink_fault { wire_status result ≡ Status.SinkFault → HasRisen (O.faults out.old) (O.faults out.new) }
     ensures no_sink_fault { wire_status result ≢ Status.SinkFault → O.faults out.new ≡ O.faults out.old }
     ensures no_wire_fault { wire_status result ≢ Status.WireFault }
+    ensures noted { result ≢ WireOutcome.Unnoted }
 {
     match put_ok_line(parts, out) {
         Ok(()) => WireOutcome::Done,

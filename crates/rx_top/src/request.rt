@@ -37,6 +37,7 @@ pub fn said_by<'a>(
     ensures no_file_fault { wire_status_in result ≢ Status.FileFault }
     ensures no_sink_fault { wire_status_in result ≢ Status.SinkFault }
     ensures no_wire_fault { wire_status_in result ≢ Status.WireFault }
+    ensures noted { result ≢ Err WireOutcome.Unnoted }
 {
     match args_from_json(alloc, iface, &p.args, text) {
         Ok(values) => spelled(alloc, iface, p, &values),
@@ -61,6 +62,7 @@ fn spelled<'a>(
     ensures no_file_fault { wire_status_in result ≢ Status.FileFault }
     ensures no_sink_fault { wire_status_in result ≢ Status.SinkFault }
     ensures no_wire_fault { wire_status_in result ≢ Status.WireFault }
+    ensures noted { result ≢ Err WireOutcome.Unnoted }
 {
     match request_bytes(alloc, iface, p, values, None) {
         Ok(request) => Ok(request),
@@ -76,6 +78,7 @@ fn misfit<'a>(fault: JsonFault) -> WireOutcome<'a>
     ensures no_file_fault { wire_status result ≢ Status.FileFault }
     ensures no_sink_fault { wire_status result ≢ Status.SinkFault }
     ensures no_wire_fault { wire_status result ≢ Status.WireFault }
+    ensures noted { result ≢ WireOutcome.Unnoted }
 {
     match fault {
         JsonFault::NotJson => WireOutcome::BadArgs(ArgsFault::NotJson),
@@ -100,6 +103,7 @@ pub fn sent_with<'a, F: Files>(
     ensures no_file_fault { wire_status_in result ≢ Status.FileFault → F.faults files.new ≡ F.faults files.old }
     ensures no_sink_fault { wire_status_in result ≢ Status.SinkFault }
     ensures no_wire_fault { wire_status_in result ≢ Status.WireFault }
+    ensures noted { result ≢ Err WireOutcome.Unnoted }
     ensures reads { IfOk result (λ bytes. F.reads files.new ≡ read_on up.now (F.reads files.old)) }
     ensures same_contents { F.contents files.new ≡ F.contents files.old }
     ensures same_failed_last { wire_status_in result ≢ Status.FileFault
@@ -124,6 +128,7 @@ fn upload_file<'a, F: Files>(
     ensures no_file_fault { wire_status_in result ≢ Status.FileFault → F.faults files.new ≡ F.faults files.old }
     ensures no_sink_fault { wire_status_in result ≢ Status.SinkFault }
     ensures no_wire_fault { wire_status_in result ≢ Status.WireFault }
+    ensures noted { result ≢ Err WireOutcome.Unnoted }
     ensures reads { IfOk result (λ bytes. F.reads files.new ≡ one_more (F.reads files.old)) }
     ensures same_contents { F.contents files.new ≡ F.contents files.old }
     ensures same_failed_last { wire_status_in result ≢ Status.FileFault
@@ -149,6 +154,7 @@ fn uploaded<'a>(mut bytes: Vec<u8>, at: usize) -> Result<Vec<u8>, WireOutcome<'a
     ensures no_file_fault { wire_status_in result ≢ Status.FileFault }
     ensures no_sink_fault { wire_status_in result ≢ Status.SinkFault }
     ensures no_wire_fault { wire_status_in result ≢ Status.WireFault }
+    ensures noted { result ≢ Err WireOutcome.Unnoted }
 {
     if bytes.len() - (at + 4) > MAX_COUNTED_BYTES as usize {
         return Err(WireOutcome::BadArgs(ArgsFault::Number));

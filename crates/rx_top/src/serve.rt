@@ -1,6 +1,6 @@
 //! The command that serves a node over a wire.
 
-ghost use Rattle.std.specs.Prelude.{◌≡◌, ◌≢◌};
+ghost use Rattle.std.specs.Prelude.{◌≡◌, ◌≢◌, true, Err};
 ghost use Rattle.rx_base.specs.Sink.{HasRisen};
 ghost use Rattle.rx_passes.specs.Tells.{sink_tells, told, wire_tells};
 ghost use Rattle.rx_script.specs.Saying.{blocks_of};
@@ -52,6 +52,7 @@ pub fn serve_files<'a, F: Files, O: Sink, W: Wire, J: Journal>(
     ensures no_file_fault { wire_status result ≢ Status.FileFault → F.faults files.new ≡ F.faults files.old }
     ensures sink_fault { wire_status result ≡ Status.SinkFault → HasRisen (O.faults out.old) (O.faults out.new) }
     ensures no_sink_fault { wire_status result ≢ Status.SinkFault → O.faults out.new ≡ O.faults out.old }
+    ensures unnoted { result ≡ WireOutcome.Unnoted → J.may_want ≡ true }
     ensures wire_fault { wire_status result ≡ Status.WireFault → HasRisen (W.faults wire.old) (W.faults wire.new) }
     ensures no_wire_fault { wire_status result ≢ Status.WireFault → W.faults wire.new ≡ W.faults wire.old }
     ensures same_contents { F.contents files.new ≡ F.contents files.old }
@@ -86,6 +87,7 @@ fn serve_over<'a, F: Files, O: Sink, W: Wire, J: Journal>(
     ensures no_file_fault { wire_status result ≢ Status.FileFault → F.faults files.new ≡ F.faults files.old }
     ensures sink_fault { wire_status result ≡ Status.SinkFault → HasRisen (O.faults out.old) (O.faults out.new) }
     ensures no_sink_fault { wire_status result ≢ Status.SinkFault → O.faults out.new ≡ O.faults out.old }
+    ensures unnoted { result ≡ WireOutcome.Unnoted → J.may_want ≡ true }
     ensures wire_fault { wire_status result ≡ Status.WireFault → HasRisen (W.faults wire.old) (W.faults wire.new) }
     ensures no_wire_fault { wire_status result ≢ Status.WireFault → W.faults wire.new ≡ W.faults wire.old }
     ensures same_contents { F.contents files.new ≡ F.contents files.old }
@@ -121,6 +123,7 @@ fn serve_script<'a, F: Files, O: Sink, W: Wire, J: Journal>(
     ensures no_file_fault { wire_status result ≢ Status.FileFault → F.faults files.new ≡ F.faults files.old }
     ensures sink_fault { wire_status result ≡ Status.SinkFault → HasRisen (O.faults out.old) (O.faults out.new) }
     ensures no_sink_fault { wire_status result ≢ Status.SinkFault → O.faults out.new ≡ O.faults out.old }
+    ensures unnoted { result ≡ WireOutcome.Unnoted → J.may_want ≡ true }
     ensures wire_fault { wire_status result ≡ Status.WireFault → HasRisen (W.faults wire.old) (W.faults wire.new) }
     ensures no_wire_fault { wire_status result ≢ Status.WireFault → W.faults wire.new ≡ W.faults wire.old }
     ensures same_contents { F.contents files.new ≡ F.contents files.old }
@@ -154,6 +157,7 @@ fn serve_with<'a, O: Sink, W: Wire, J: Journal>(
     ensures no_file_fault { wire_status result ≢ Status.FileFault }
     ensures sink_fault { wire_status result ≡ Status.SinkFault → HasRisen (O.faults out.old) (O.faults out.new) }
     ensures no_sink_fault { wire_status result ≢ Status.SinkFault → O.faults out.new ≡ O.faults out.old }
+    ensures unnoted { result ≡ WireOutcome.Unnoted → J.may_want ≡ true }
     ensures wire_fault { wire_status result ≡ Status.WireFault → HasRisen (W.faults wire.old) (W.faults wire.new) }
     ensures no_wire_fault { wire_status result ≢ Status.WireFault → W.faults wire.new ≡ W.faults wire.old }
 {
@@ -163,13 +167,15 @@ fn serve_with<'a, O: Sink, W: Wire, J: Journal>(
 
 /// The outcome of serving with so many takes at most.
 fn served<'a>(got: Result<ServeEnd, Stop>, turns: u64) -> WireOutcome<'a>
-    ensures { EndsByServing turns got result }
+    ensures ends { EndsByServing turns got result }
+    ensures unnoted { result ≡ WireOutcome.Unnoted → got ≡ Err Stop.Unnoted }
 {
     match got {
         Ok(ServeEnd::TimeUp) => WireOutcome::Done,
         Ok(ServeEnd::TurnsSpent) => WireOutcome::TurnsSpent { turns },
         Err(Stop::SinkFault) => WireOutcome::SinkFault,
         Err(Stop::WireFault) => WireOutcome::WireFault,
-        Err(Stop::OutOfMemory | Stop::Unnoted | Stop::Endless) => WireOutcome::OutOfMemory,
+        Err(Stop::OutOfMemory | Stop::Unformatted | Stop::Endless) => WireOutcome::OutOfMemory,
+        Err(Stop::Unnoted) => WireOutcome::Unnoted,
     }
 }

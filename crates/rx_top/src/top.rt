@@ -93,7 +93,7 @@ pub fn rx_main<F: Files, O: Sink, E: Sink, W: Wire, J: Journal>(
         (told_over (J.told book.old) (sink_tells (O.told out.old) (O.faults out.old))
         (wire_tells (W.told wire.old) (W.faults wire.old) (W.moment wire.old)))
         (told_over (J.told book.new) (sink_tells (O.told out.new) (O.faults out.new))
-        (wire_tells (W.told wire.new) (W.faults wire.new) (W.moment wire.new)))
+        (wire_tells (W.told wire.new) (W.faults wire.new) (W.moment wire.new))) J.may_want
         (IsPut (E.told err.old) (E.told err.new) (E.faults err.old) (E.faults err.new)) }
 
     // What `call XG PROC ARGS --to HOST --epoch N ..` does, and what it says of that.
@@ -114,7 +114,7 @@ pub fn rx_main<F: Files, O: Sink, E: Sink, W: Wire, J: Journal>(
         (told_over (J.told book.old) (sink_tells (O.told out.old) (O.faults out.old))
         (wire_tells (W.told wire.old) (W.faults wire.old) (W.moment wire.old)))
         (told_over (J.told book.new) (sink_tells (O.told out.new) (O.faults out.new))
-        (wire_tells (W.told wire.new) (W.faults wire.new) (W.moment wire.new)))
+        (wire_tells (W.told wire.new) (W.faults wire.new) (W.moment wire.new))) J.may_want
         (IsPut (E.told err.old) (E.told err.new) (E.faults err.old) (E.faults err.new)) }
 
     // What `compile XG` does, and what it says of that.
@@ -163,6 +163,7 @@ fn do_job<F: Files, O: Sink, E: Sink, W: Wire, J: Journal>(
           (wire_tells (W.told wire.old) (W.faults wire.old) (W.moment wire.old));
       after_wire = told_over (J.told book.new) (sink_tells (O.told out.new) (O.faults out.new))
           (wire_tells (W.told wire.new) (W.faults wire.new) (W.moment wire.new));
+      may_want = J.may_want;
     }) (IsPut (E.told err.old) (E.told err.new) (E.faults err.old) (E.faults err.new)) }
     ensures usage { result ≡ Status.Usage → is_job job.now ≡ false }
     ensures nothing { is_job job.now ≡ false → result ≡ Status.Usage }
@@ -238,7 +239,7 @@ fn do_serve<F: Files, O: Sink, E: Sink, W: Wire, J: Journal>(
         (told_over (J.told book.old) (sink_tells (O.told out.old) (O.faults out.old))
         (wire_tells (W.told wire.old) (W.faults wire.old) (W.moment wire.old)))
         (told_over (J.told book.new) (sink_tells (O.told out.new) (O.faults out.new))
-        (wire_tells (W.told wire.new) (W.faults wire.new) (W.moment wire.new)))
+        (wire_tells (W.told wire.new) (W.faults wire.new) (W.moment wire.new))) J.may_want
         (IsPut (E.told err.old) (E.told err.new) (E.faults err.old) (E.faults err.new)) }
     ensures a_command { result ≢ Status.Usage }
     ensures quiet_told { result ≡ Status.Ok → E.told err.new ≡ E.told err.old }
@@ -274,7 +275,7 @@ fn do_call<F: Files, O: Sink, E: Sink, W: Wire, J: Journal>(
         (told_over (J.told book.old) (sink_tells (O.told out.old) (O.faults out.old))
         (wire_tells (W.told wire.old) (W.faults wire.old) (W.moment wire.old)))
         (told_over (J.told book.new) (sink_tells (O.told out.new) (O.faults out.new))
-        (wire_tells (W.told wire.new) (W.faults wire.new) (W.moment wire.new)))
+        (wire_tells (W.told wire.new) (W.faults wire.new) (W.moment wire.new))) J.may_want
         (IsPut (E.told err.old) (E.told err.new) (E.faults err.old) (E.faults err.new)) }
     ensures a_command { result ≢ Status.Usage }
     ensures quiet_told { result ≡ Status.Ok → E.told err.new ≡ E.told err.old }

@@ -46,6 +46,8 @@ pub enum WireOutcome<'a> {
     WireFault,
     TurnsSpent { turns: u64 },
     OutOfMemory,
+    /// The journal has no memory for a note.
+    Unnoted,
 }
 
 impl<'a> WireOutcome<'a> {
@@ -64,6 +66,7 @@ impl<'a> WireOutcome<'a> {
             WireOutcome::WireFault => Status::WireFault,
             WireOutcome::TurnsSpent { .. } => Status::TurnsSpent,
             WireOutcome::OutOfMemory => Status::Memory,
+            WireOutcome::Unnoted => Status::Memory,
         }
     }
 }
@@ -87,6 +90,7 @@ pub fn say_ended<E: Sink>(err: &mut E, outcome: &WireOutcome<'_>)
         WireOutcome::WireFault => say(err, &["rx: network fault\n"]),
         WireOutcome::TurnsSpent { turns } => say_count(err, "rx: turns spent ", *turns),
         WireOutcome::OutOfMemory => say(err, &["rx: out of memory\n"]),
+        WireOutcome::Unnoted => say(err, &["rx: out of memory\n"]),
     }
 }
 

@@ -171,7 +171,10 @@ impl<'a, R: Net + Clock> UdpWire<'a, R> {
         Ok(got)
     }
 
-    // Waits up to this moment, anew behind each wait that ended early.
+    // Waits up to this moment, anew behind each wait that ended early. How often it does is in no clause: a take may fail
+    // at any wait, for what the system answers, and no clause can tell an error of the system from one that is made here.
+    // Nor is there a bound on the waits: anybody may send datagrams that are passed over. So a test has it, which takes
+    // behind a hundred of these.
     fn take_until(&mut self, until: u64, to: &mut [u8]) -> io::Result<Option<(Host, usize)>>
         requires { until < 2 ^ 62 }
         ensures same_bound { self.new.is_bound ≡ self.old.is_bound }

@@ -1,12 +1,12 @@
 -- Parts of turns joined. For this crate and its callers.
-use Rattle.std.proofs.Common.{◌≡◌, inl, ℕ, List, [], ◌∷◌, ◌++◌, Option, Some, None, sym, subst}
+use Rattle.std.proofs.Common.{◌≡◌, ℕ, List, [], ◌∷◌, ◌++◌, Option, Some, None, sym, subst}
 use Rattle.rx_model.specs.declared.event.Event.{Event}
 use Rattle.rx_model.specs.declared.event.Noted.{Noted}
 use Rattle.rx_wire.specs.Journal.{HasNoted}
 use Rattle.rx_wire.specs.Turns.{after_all, noted, Program, Runs, stays, goes}
-use Rattle.rx_wire.specs.Advances.{Advances, Turned, Stops, IsWithin}
+use Rattle.rx_wire.specs.Advances.{Advances, Turned, Refused, IsWithin}
 use Rattle.rx_wire.proofs.TurnLaws.{after_all-append, Runs-append, HasNotedAll-none, HasNotedAll-one}
-use Rattle.rx_wire.proofs.TurnLaws.{HasNotedAll-append, HasNotedMost-append, HasNotedMost-refused}
+use Rattle.rx_wire.proofs.TurnLaws.{HasNotedAll-append, HasNotedButLast-append, HasNotedButLast-one}
 
 -- nothing was done
 pub Advances-none : {View Ask : Type 0} (p : Program View Ask) (node : ℕ) (v : View) (stood : List Event → Type 0)
@@ -31,18 +31,17 @@ Advances-append p node v w u stood mid stands before between after x y = record 
   noting = HasNotedAll-append before between after node x.events y.events x.noting y.noting;
 }
 
--- a part and then one that ends too early
-pub Stops-append : {View Ask : Type 0} (p : Program View Ask) (node : ℕ) (v w : View)
+-- a part and then one whose last event's note was refused
+pub Refused-append : {View Ask : Type 0} (p : Program View Ask) (node : ℕ) (v w u : View)
     (stood mid stands : List Event → Type 0) (before between after : Option (List Noted))
-    → Advances p node v w stood mid before between → Stops p node w mid stands between after
-    → Stops p node v stood stands before after
-Stops-append p node v w stood mid stands before between after x y = record {
+    → Advances p node v w stood mid before between → Refused p node w u mid stands between after
+    → Refused p node v u stood stands before after
+Refused-append p node v w u stood mid stands before between after x y = record {
   events = x.events ++ y.events;
-  view = y.view;
-  runs = Runs-append p v w y.view x.events y.events x.runs y.runs;
+  runs = Runs-append p v w u x.events y.events x.runs y.runs;
   standing = λ h is. subst stands (sym (after_all-append x.events y.events h))
       (y.standing (after_all x.events h) (x.standing h is));
-  noting = HasNotedMost-append before between after node x.events y.events x.noting y.noting;
+  noting = HasNotedButLast-append before between after node x.events y.events x.noting y.noting;
 }
 
 -- one event
@@ -58,28 +57,15 @@ Advances-one p node v w a e stood stands before after asked is heard standing no
 }
 
 -- one event whose note was refused
-pub Stops-refused : {View Ask : Type 0} (p : Program View Ask) (node : ℕ) (v : View) (a : Ask) (e : Event)
+pub Refused-one : {View Ask : Type 0} (p : Program View Ask) (node : ℕ) (v w : View) (a : Ask) (e : Event)
     (stood stands : List Event → Type 0) (before after : Option (List Noted))
-    → p.asks v ≡ Some a → p.is a e → ((h : List Event) → stood h → stands (e ∷ h))
-    → after ≡ before → Stops p node v stood stands before after
-Stops-refused p node v a e stood stands before after asked is standing same = record {
+    → p.asks v ≡ Some a → p.is a e → p.heard v e ≡ w → ((h : List Event) → stood h → stands (e ∷ h))
+    → after ≡ before → Refused p node v w stood stands before after
+Refused-one p node v w a e stood stands before after asked is heard standing same = record {
   events = e ∷ [];
-  view = p.heard v e;
-  runs = goes v a e [] (p.heard v e) asked is (stays (p.heard v e));
+  runs = subst (Runs p v (e ∷ [])) heard (goes v a e [] (p.heard v e) asked is (stays (p.heard v e)));
   standing = standing;
-  noting = HasNotedMost-refused before after node e same;
-}
-
--- a part behind which a turn ends too early
-pub Stops-after : {View Ask : Type 0} (p : Program View Ask) (node : ℕ) (v w : View)
-    (stood stands : List Event → Type 0) (before after : Option (List Noted))
-    → Advances p node v w stood stands before after → Stops p node v stood stands before after
-Stops-after p node v w stood stands before after x = record {
-  events = x.events;
-  view = w;
-  runs = x.runs;
-  standing = x.standing;
-  noting = inl x.noting;
+  noting = HasNotedButLast-one before after node e same;
 }
 
 -- a part behind which the program asks nothing is a whole turn
@@ -112,18 +98,6 @@ pub Advances-within : {View Wide Ask : Type 0} (p : Program View Ask) (q : Progr
 Advances-within p q f within node v w stood stands before after x = record {
   events = x.events;
   runs = Runs-within p q f within v w x.events x.runs;
-  standing = x.standing;
-  noting = x.noting;
-}
-
--- and those of a turn that ends too early
-pub Stops-within : {View Wide Ask : Type 0} (p : Program View Ask) (q : Program Wide Ask) (f : View → Wide)
-    → IsWithin p q f → (node : ℕ) (v : View) (stood stands : List Event → Type 0) (before after : Option (List Noted))
-    → Stops p node v stood stands before after → Stops q node (f v) stood stands before after
-Stops-within p q f within node v stood stands before after x = record {
-  events = x.events;
-  view = f x.view;
-  runs = Runs-within p q f within v x.view x.events x.runs;
   standing = x.standing;
   noting = x.noting;
 }

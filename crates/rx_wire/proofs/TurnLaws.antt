@@ -1,11 +1,11 @@
 -- Turns joined. For this crate and its callers.
-use Rattle.std.proofs.Common.{◌≡◌, inl, inr, ℕ, List, [], ◌∷◌, ◌++◌, map, Option, Some, None, refl, sym, ap, ◌∙◌}
+use Rattle.std.proofs.Common.{◌≡◌, ℕ, List, [], ◌∷◌, ◌++◌, map, Option, Some, None, refl, sym, ap, ◌∙◌}
 use Rattle.std.proofs.Common.{subst, append_assoc}
 use Rattle.std.proofs.lemmas.List.{append-nil, map-append}
 use Rattle.rx_model.specs.declared.event.Event.{Event}
 use Rattle.rx_model.specs.declared.event.Noted.{Noted}
 use Rattle.rx_wire.specs.Journal.{HasNoted}
-use Rattle.rx_wire.specs.Turns.{after_all, noted, HasNotedAll, HasNotedMost, Program, Runs, stays, goes}
+use Rattle.rx_wire.specs.Turns.{after_all, noted, HasNotedAll, HasNotedButLast, Program, Runs, stays, goes}
 
 -- a history behind two lists of events is that behind the second, where the first is behind it already
 pub after_all-append : (xs ys h : List Event) → after_all (xs ++ ys) h ≡ after_all ys (after_all xs h)
@@ -53,24 +53,22 @@ HasNotedAll-append (Some old) mid new node xs ys first second =
     second' ∙ ap Some (append_assoc old (map (noted node) xs) (map (noted node) ys)
     ∙ ap (λ (zs : List Noted). old ++ zs) (sym (map-append (noted node) xs ys)))
 
--- some were noted, and then others but maybe their last one
-pub HasNotedMost-append : (old mid new : Option (List Noted)) (node : ℕ) (xs ys : List Event)
-    → HasNotedAll old mid node xs → HasNotedMost mid new node ys → HasNotedMost old new node (xs ++ ys)
-HasNotedMost-append old mid new node xs ys first (inl second) =
-    inl (HasNotedAll-append old mid new node xs ys first second)
-HasNotedMost-append old mid new node xs ys first (inr second) = inr (record {
+-- some were noted, and then others but their last one
+pub HasNotedButLast-append : (old mid new : Option (List Noted)) (node : ℕ) (xs ys : List Event)
+    → HasNotedAll old mid node xs → HasNotedButLast mid new node ys → HasNotedButLast old new node (xs ++ ys)
+HasNotedButLast-append old mid new node xs ys first second = record {
   front = xs ++ second.front;
   last = second.last;
   are = ap (λ (zs : List Event). xs ++ zs) second.are ∙ sym (append_assoc xs second.front (second.last ∷ []));
   noted_front = HasNotedAll-append old mid new node xs second.front first second.noted_front;
-})
+}
 
 -- an event whose note was refused
-pub HasNotedMost-refused : (old new : Option (List Noted)) (node : ℕ) (e : Event)
-    → new ≡ old → HasNotedMost old new node (e ∷ [])
-HasNotedMost-refused old new node e same = inr (record {
+pub HasNotedButLast-one : (old new : Option (List Noted)) (node : ℕ) (e : Event)
+    → new ≡ old → HasNotedButLast old new node (e ∷ [])
+HasNotedButLast-one old new node e same = record {
   front = [];
   last = e;
   are = refl;
   noted_front = subst (λ (n : Option (List Noted)). HasNotedAll old n node []) (sym same) (HasNotedAll-none old node);
-})
+}

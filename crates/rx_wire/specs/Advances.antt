@@ -3,7 +3,7 @@
 use Rattle.std.specs.Prelude.{◌≡◌, ℕ, List, Option, Some}
 use Rattle.rx_model.specs.declared.event.Event.{Event}
 use Rattle.rx_model.specs.declared.event.Noted.{Noted}
-use Rattle.rx_wire.specs.Turns.{after_all, HasNotedAll, HasNotedMost, Program, Runs, Turns}
+use Rattle.rx_wire.specs.Turns.{after_all, HasNotedAll, HasNotedButLast, Program, Runs, Turns}
 
 -- there are events of the program that go from one view to the other; behind each history for which its node stood it
 -- stands with them; and they all were noted
@@ -22,14 +22,13 @@ pub record Turned {View Ask : Type 0} (p : Program View Ask) (node : ℕ) (v w :
   pub standing : (h : List Event) → stood h → stands (after_all events h)
   pub noting : HasNotedAll before after node events
 
--- the same of a turn that ends too early, for want of memory: the note of its last event may have been refused
-pub record Stops {View Ask : Type 0} (p : Program View Ask) (node : ℕ) (v : View)
+-- the same of a part whose last event's note was refused
+pub record Refused {View Ask : Type 0} (p : Program View Ask) (node : ℕ) (v w : View)
     (stood stands : List Event → Type 0) (before after : Option (List Noted)) : Type 0 where
   pub events : List Event
-  pub view : View
-  pub runs : Runs p v events view
+  pub runs : Runs p v events w
   pub standing : (h : List Event) → stood h → stands (after_all events h)
-  pub noting : HasNotedMost before after node events
+  pub noting : HasNotedButLast before after node events
 
 -- what one program asks and hears another does as well, behind the view that stands for its view
 pub record IsWithin {View Wide Ask : Type 0} (p : Program View Ask) (q : Program Wide Ask) (stands_for : View → Wide)

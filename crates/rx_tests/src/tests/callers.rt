@@ -3,7 +3,7 @@
 ghost use Rattle.std.specs.Prelude.{◌≡◌, ◌<◌};
 
 use super::setup::{CLIENT, LIMITS, SERVER};
-use rx_caller::Caller;
+use rx_caller::{Caller, CallerFault};
 use rx_class::Null;
 use rx_client::Client;
 use rx_due::Steps;
@@ -169,7 +169,7 @@ fn run<L: Ledger>(
     caller: &mut Caller,
     handler: &mut Handler,
     blank: Blank,
-) -> Result<bool, AllocError>
+) -> Result<bool, CallerFault>
     requires name { blank.name ≡ L.name }
     requires parts { blank.parts ≡ L.parts }
     requires some { 0 < blank.parts }
@@ -257,7 +257,7 @@ fn copies(alloc: Global, count: usize) -> Result<Vec<u8>, AllocError> {
 }
 
 /// A whole call: its caller ends as wanted, and its handler reads the request where it reads all.
-fn told(rt: &impl Abort, alloc: Global, case: &Case) -> Result<(), AllocError> {
+fn told(rt: &impl Abort, alloc: Global, case: &Case) -> Result<(), CallerFault> {
     let request = copies(alloc, case.request)?;
     let mut handler = Handler::of(alloc, case.code, case.echoes, copies(alloc, case.replies)?);
     let (mut client, call) = calling(rt, alloc)?;
@@ -291,7 +291,7 @@ fn calls_come_to_their_ends(rt: HostRuntime) -> Result<(), Fail> {
 }
 
 /// Turns without a server: the events of each.
-fn alone(rt: &impl Abort, alloc: Global) -> Result<(), AllocError> {
+fn alone(rt: &impl Abort, alloc: Global) -> Result<(), CallerFault> {
     let (mut client, call) = calling(rt, alloc)?;
     let mut caller = Caller::make(alloc, 1, call, vec![in alloc; 1, 2]?);
     assert!(rt; caller.step(&mut client)?.is_none());
@@ -309,7 +309,7 @@ fn a_cancel_of_others_is_the_end(rt: HostRuntime) -> Result<(), Fail> {
 }
 
 /// A caller whose server is silent.
-fn silence<L: Ledger>(rt: &impl Abort, alloc: Global, blank: Blank) -> Result<(), AllocError>
+fn silence<L: Ledger>(rt: &impl Abort, alloc: Global, blank: Blank) -> Result<(), CallerFault>
     requires name { blank.name ≡ L.name }
     requires parts { blank.parts ≡ L.parts }
     requires some { 0 < blank.parts }

@@ -120,14 +120,9 @@ fn a_refused_note_ends_a_call(rt: HostRuntime) -> Result<(), Fail> {
         let mut wire = MemWire::make(alloc, Vec::new(alloc), LOG_ROOM, Vec::new(alloc))?;
         let request = Vec::from_slice(alloc, &OPCODE)?;
         let mut book = Short { left };
-        let stop = if left < 5 {
-            Stop::Unnoted
-        } else {
-            Stop::OutOfMemory
-        };
         match call(alloc, request, &CALLING, Null, &mut wire, &mut book) {
             Ok(_) => assert!(rt; false, "behind {left} notes"),
-            Err(got) => assert_eq!(rt; got, stop, "behind {left} notes"),
+            Err(stop) => assert_eq!(rt; stop, Stop::Unnoted, "behind {left} notes"),
         }
     }
     Ok(())

@@ -6,13 +6,23 @@ use Rattle.rx_passes.specs.ToldCalls.{CallTold}
 use Rattle.rx_token.specs.Chosen.{chosen, secret_of}
 use Rattle.rx_top.specs.Calls.{CallAsked, asked_of}
 use Rattle.rx_top.proofs.SilenceLemmas.{call_long, ended_told, told_finished}
-use Rattle.rx_top.proofs.WireLemmas.{call_risen, call_same, no_sink_ends}
+use Rattle.rx_top.proofs.WireLemmas.{call_risen, call_same, no_line_ends, no_sink_ends, unnoted_holds}
 use Rattle.rx_top.proofs.reply.call_with.Goals as goal
 
 pub called-requires-clause-no_sink : goal.called-requires-clause-no_sink
 called-requires-clause-no_sink g c =
     let sink : SinkTells = sink_tells (g.O.Sink.told c.args.out.now) (g.O.Sink.faults c.args.out.now) in
     no_sink_ends c.args.calling.now c.args.request.items (chosen (secret_of c.args.class)) c.call-result.result
+    (told (g.J.Journal.told c.args.book.now) sink (wire_tells (g.W.Wire.told c.args.wire.now)
+    (g.W.Wire.faults c.args.wire.now) (g.W.Wire.moment c.args.wire.now)))
+    (told (g.J.Journal.told c.call-result.new.book) sink (wire_tells (g.W.Wire.told c.call-result.new.wire)
+    (g.W.Wire.faults c.call-result.new.wire) (g.W.Wire.moment c.call-result.new.wire)))
+    (c.call-result.ensures.calls sink)
+
+pub called-requires-clause-no_line : goal.called-requires-clause-no_line
+called-requires-clause-no_line g c =
+    let sink : SinkTells = sink_tells (g.O.Sink.told c.args.out.now) (g.O.Sink.faults c.args.out.now) in
+    no_line_ends c.args.calling.now c.args.request.items (chosen (secret_of c.args.class)) c.call-result.result
     (told (g.J.Journal.told c.args.book.now) sink (wire_tells (g.W.Wire.told c.args.wire.now)
     (g.W.Wire.faults c.args.wire.now) (g.W.Wire.moment c.args.wire.now)))
     (told (g.J.Journal.told c.call-result.new.book) sink (wire_tells (g.W.Wire.told c.call-result.new.wire)
@@ -61,6 +71,7 @@ returns g c =
       no_file_fault = c.called.ensures.no_file_fault;
       sink_fault = c.called.ensures.sink_fault;
       no_sink_fault = c.called.ensures.no_sink_fault;
+      unnoted = λ is. unnoted_holds c.call-result.result c.call-result.ensures.unnoted (c.called.ensures.unnoted is);
       wire_fault = λ is. call_risen c.args.calling.now c.args.request.items (chosen (secret_of c.args.class))
           c.call-result.result before after (c.call-result.ensures.calls sink) (c.called.ensures.wire_fault is);
       no_wire_fault = λ not. call_same c.args.calling.now c.args.request.items (chosen (secret_of c.args.class))

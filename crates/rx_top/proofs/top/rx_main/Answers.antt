@@ -35,9 +35,19 @@ returns-in-Err-OutOfMemory-clause-sim g c plan xg script is =
     (outcomes.OutOfMemory, c.end_for_memory.ensures.memory, inl (refl, refl, refl), c.end_for_memory.ensures.said)
 
 pub returns-in-Err-OutOfMemory-clause-serve : goal.returns-in-Err-OutOfMemory-clause-serve
-returns-in-Err-OutOfMemory-clause-serve g c xg script at service span turns limits key nonce jumbo is =
-    (wire_outcomes.OutOfMemory, c.end_for_memory.ensures.memory, inl (refl, refl, refl), c.end_for_memory.ensures.said)
+returns-in-Err-OutOfMemory-clause-serve g c xg script at service span turns limits key nonce jumbo is = (
+  wire_outcomes.OutOfMemory,
+  c.end_for_memory.ensures.memory,
+  inl (refl, refl, refl),
+  λ refused. absurd (cc (refused)),
+  c.end_for_memory.ensures.said,
+)
 
 pub returns-in-Err-OutOfMemory-clause-call : goal.returns-in-Err-OutOfMemory-clause-call
-returns-in-Err-OutOfMemory-clause-call g c xg proc args to epoch from service turns up down window key jumbo is =
-    (wire_outcomes.OutOfMemory, c.end_for_memory.ensures.memory, inl (refl, refl, refl), c.end_for_memory.ensures.said)
+returns-in-Err-OutOfMemory-clause-call g c xg proc args to epoch from service turns up down window key jumbo is = (
+  wire_outcomes.OutOfMemory,
+  c.end_for_memory.ensures.memory,
+  inl (refl, refl, refl),
+  λ refused. absurd (cc (refused)),
+  c.end_for_memory.ensures.said,
+)

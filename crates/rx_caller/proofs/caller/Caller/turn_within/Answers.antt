@@ -1,13 +1,10 @@
-use Rattle.std.proofs.Common.{OnErr, Result, Ok, Err, sym, subst}
+use Rattle.std.proofs.Common.{sym, subst}
 use Rattle.rx_wire.specs.Journal.{HasNoted}
 use Rattle.rx_wire.specs.Turns.{noted}
 use Rattle.rx_asks.specs.View.{CallerState}
-use Rattle.rx_caller.proofs.Turning.{Going, cut_off, going_first, going_on, leaves_less, made_some}
+use Rattle.rx_caller.proofs.Errors.{unnoted_err, wanting_err}
+use Rattle.rx_caller.proofs.Turning.{Going, cut_between, cut_off, going_first, going_on, leaves_less, made_some}
 use Rattle.rx_caller.proofs.caller.Caller.turn_within.Goals as goal
-
-on-err : {A E : Type 0} (r : Result A E) (P : Type 0) → P → OnErr r P
-on-err (Ok x) P holds = tt
-on-err (Err e) P holds = holds
 
 pub loop-event-init : goal.loop-event-init
 loop-event-init g c =
@@ -50,11 +47,12 @@ loop-event-preserved g c =
     (subst (λ (v : CallerState). HasNoted (told c.loop-event.book) (told c.note.new.book)
     (noted v.node c.in-Some.event)) c.self.view_is c.in_ok-note.ensures.ok)
 
-pub returns-in_err-note-clause-wanting : goal.returns-in_err-note-clause-wanting
-returns-in_err-note-clause-wanting g c =
+pub returns-in_err-note-clause-stops : goal.returns-in_err-note-clause-stops
+returns-in_err-note-clause-stops g c =
     let class = g.C.Class.class_of in
     let told = g.J.Journal.told in
-    on-err c.from_residual-in_err-note.result _
+    unnoted_err _ c.from_residual-in_err-note.result c.in_err-note.field-0.0 c.from_residual-in_err-note.ensures.1
+    c.in_err-note.ensures.refused
     (cut_off class c.args.limit c.args.self.now c.loop-event.self c.step_within.new.self c.args.client.now
     c.loop-event.client c.step_within.new.client (told c.args.book.now) (told c.loop-event.book)
     (told c.note.new.book) c.loop-event.invariant c.in-Some.event
@@ -66,3 +64,11 @@ returns-in_err-note-clause-wanting g c =
       client_new = c.step_within.new.client;
     }) c.in_ok-event.field-0 c.in-Some.event c.in-Some.is c.in_ok-event.ensures.made)
     c.step_within.ensures.setup c.in_err-note.ensures.err)
+
+pub returns-in_err-event-clause-stops : goal.returns-in_err-event-clause-stops
+returns-in_err-event-clause-stops g c =
+    let told = g.J.Journal.told in
+    wanting_err _ c.from_residual.result c.from_residual.ensures.1
+    (cut_between g.C.Class.class_of c.args.limit c.args.self.now c.loop-event.self c.step_within.new.self
+    c.args.client.now c.loop-event.client c.step_within.new.client (told c.args.book.now) (told c.loop-event.book)
+    (told c.loop-event.book) c.loop-event.invariant c.in_err-event.ensures.wanting c.in_err-event.ensures.wants)

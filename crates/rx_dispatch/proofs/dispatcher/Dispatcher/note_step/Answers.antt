@@ -4,26 +4,29 @@ use Rattle.rx_wire.specs.Turns.{noted}
 use Rattle.rx_dispatch.specs.Rounds.{turning_of}
 use Rattle.rx_jobs.specs.Handlers.{Handlers, handlers_of}
 use Rattle.rx_dispatch.specs.States.{state_of}
-use Rattle.rx_dispatch.proofs.Errors.{on_err}
-use Rattle.rx_dispatch.proofs.NoteLaws.{kept_stops, none_noted, some_noted, some_refused}
+use Rattle.rx_dispatch.proofs.Errors.{unnoted_err, wanting_err}
+use Rattle.rx_dispatch.proofs.NoteLaws.{kept_advances, none_noted, some_noted, some_refused}
 use Rattle.rx_dispatch.proofs.dispatcher.Dispatcher.note_step.Goals as goal
 
-pub returns-in_err-step-clause-wanting : goal.returns-in_err-step-clause-wanting
-returns-in_err-step-clause-wanting g c =
+pub returns-in_err-step-clause-stops : goal.returns-in_err-step-clause-stops
+returns-in_err-step-clause-stops g c =
     let by : Handlers = handlers_of c.args.iface.now (state_of c.args.self.now).script in
-    on_err c.from_residual.result
-    (kept_stops g.C.Class.class_of by c.args.self.now.node (turning_of by (state_of c.args.self.now).round)
-    (turning_of by (state_of c.step.new.self).round) (state_of c.step.new.self).round.jobs c.args.server.now
-    c.step.new.server (g.J.Journal.told c.args.book.now) (g.J.Journal.told c.args.book.now)
-    c.in_err-step.ensures.wanting)
+    wanting_err _ c.from_residual.result c.from_residual.ensures.1 (
+      kept_advances g.C.Class.class_of by c.args.self.now.node (turning_of by (state_of c.args.self.now).round)
+          (turning_of by (state_of c.step.new.self).round) (state_of c.step.new.self).round.jobs c.args.server.now
+          c.step.new.server (g.J.Journal.told c.args.book.now) (g.J.Journal.told c.args.book.now)
+          c.in_err-step.ensures.wanting,
+      c.in_err-step.ensures.wants,
+    )
 
-pub returns-in_err-note-in-Some-clause-wanting : goal.returns-in_err-note-in-Some-clause-wanting
-returns-in_err-note-in-Some-clause-wanting g c =
+pub returns-in_err-note-in-Some-clause-stops : goal.returns-in_err-note-in-Some-clause-stops
+returns-in_err-note-in-Some-clause-stops g c =
     let by : Handlers = handlers_of c.args.iface.now (state_of c.args.self.now).script in
-    on_err c.from_residual-in_err-note-in-Some.result
+    unnoted_err _ c.from_residual-in_err-note-in-Some.result c.in_err-note-in-Some.field-0.0
+    c.from_residual-in_err-note-in-Some.ensures.1 c.in_err-note-in-Some.ensures.refused
     (some_refused g.C.Class.class_of by c.args.self.now.node (turning_of by (state_of c.args.self.now).round)
     (turning_of by (state_of c.step.new.self).round) (state_of c.step.new.self).round.jobs c.args.server.now
-    c.step.new.server (g.J.Journal.told c.args.book.now) (g.J.Journal.told c.note.new.self) c.in_ok-step.field-0
+    c.step.new.server (g.J.Journal.told c.args.book.now) (g.J.Journal.told c.note.new.book) c.in_ok-step.field-0
     c.in-Some.event c.in-Some.is c.in_ok-step.ensures.made c.in_err-note-in-Some.ensures.err)
 
 pub returns-in-None-clause-noted : goal.returns-in-None-clause-noted
@@ -39,7 +42,7 @@ returns-in_ok-note-in-Some-clause-noted g c =
     let by : Handlers = handlers_of c.args.iface.now (state_of c.args.self.now).script in
     some_noted g.C.Class.class_of by c.args.self.now.node (turning_of by (state_of c.args.self.now).round)
     (turning_of by (state_of c.step.new.self).round) (state_of c.step.new.self).round.jobs c.args.server.now
-    c.step.new.server (g.J.Journal.told c.args.book.now) (g.J.Journal.told c.note.new.self) c.in_ok-step.field-0
+    c.step.new.server (g.J.Journal.told c.args.book.now) (g.J.Journal.told c.note.new.book) c.in_ok-step.field-0
     c.in-Some.event c.in-Some.is c.in_ok-step.ensures.made
-    (subst (λ (n : ℕ). HasNoted (g.J.Journal.told c.args.book.now) (g.J.Journal.told c.note.new.self)
+    (subst (λ (n : ℕ). HasNoted (g.J.Journal.told c.args.book.now) (g.J.Journal.told c.note.new.book)
     (noted n c.in-Some.event)) c.step.ensures.node c.in_ok-note-in-Some.ensures.ok)

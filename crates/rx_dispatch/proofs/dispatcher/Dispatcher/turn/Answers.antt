@@ -5,7 +5,7 @@ use Rattle.rx_jobs.specs.Dispatching.{accepts}
 use Rattle.rx_jobs.specs.Handlers.{Handlers, handlers_of}
 use Rattle.rx_dispatch.specs.Making.{AdvancesBy, Remembers}
 use Rattle.rx_dispatch.specs.States.{state_of}
-use Rattle.rx_dispatch.proofs.Errors.{wanting_err}
+use Rattle.rx_dispatch.proofs.Errors.{passed_err}
 use Rattle.rx_dispatch.proofs.NoteLaws.{AdvancesBy-none, turn_endless, turn_more, turn_over, turn_stops}
 use Rattle.rx_dispatch.proofs.dispatcher.Dispatcher.turn.Goals as goal
 
@@ -50,12 +50,18 @@ calls-preserved g c =
 
 pub returns-in_err-note_step-clause-stops : goal.returns-in_err-note_step-clause-stops
 returns-in_err-note_step-clause-stops g c =
-    wanting_err _ c.from_residual.result c.from_residual.ensures.1
+    passed_err _ c.from_residual.result c.in_err-note_step.field-0.0 c.from_residual.ensures.1
     (turn_stops (handlers_of c.args.iface.now) (state_of c.args.self.now).script (state_of c.calls.self).script
     (state_of c.args.self.now).node (state_of c.calls.self).node c.calls.invariant.script c.calls.invariant.node
     c.calls.made _ (state_of c.calls.self).round (state_of c.note_step.new.self).round _ _ _ _ _ _
-    c.calls.invariant.advances c.in_err-note_step.ensures.wanting)
+    c.calls.invariant.advances c.in_err-note_step.field-0.0 c.in_err-note_step.ensures.stops)
+
+pub returns-in_err-note_step-clause-unnoted : goal.returns-in_err-note_step-clause-unnoted
+returns-in_err-note_step-clause-unnoted g c =
+    passed_err _ c.from_residual.result c.in_err-note_step.field-0.0 c.from_residual.ensures.1
+    c.in_err-note_step.ensures.unnoted
 
 pub returns-clause-stops : goal.returns-clause-stops
 returns-clause-stops g c =
-    turn_endless _ _ c.calls.made _ _ _ _ _ _ c.calls.invariant.advances (omega (arith, c.calls-test.false))
+    turn_endless _ _ c.calls.made _ (state_of c.calls.self).round _ _ _ _ c.calls.invariant.advances
+    (omega (arith, c.calls-test.false))

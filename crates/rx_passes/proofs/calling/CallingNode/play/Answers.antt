@@ -6,8 +6,8 @@ use Rattle.rx_passes.specs.Calls.{calls}
 use Rattle.rx_node.specs.Node.{setup_of}
 use Rattle.rx_passes.specs.Ports.{clocks, polls}
 use Rattle.rx_passes.specs.Tells.{sink_tells, wire_tells}
-use Rattle.rx_passes.specs.declared.stop.Stop.TheVariants as stops
-use Rattle.rx_passes.proofs.Callings.{call_turned, call_wanted, node_kept}
+use Rattle.rx_passes.specs.Runs.{stop_for}
+use Rattle.rx_passes.proofs.Callings.{call_stopped_at, call_turned, node_kept, unnoted_for}
 use Rattle.rx_passes.proofs.Clocking.{AnyTime}
 use Rattle.rx_passes.proofs.Passing.{play_clock, play_first, play_last, play_turn, polls_at}
 use Rattle.rx_passes.proofs.Polling.{Anyhow}
@@ -52,16 +52,23 @@ returns-in_err-give_due-clause-plays g c =
 
 pub returns-in_err-ended-clause-plays : goal.returns-in_err-ended-clause-plays
 returns-in_err-ended-clause-plays g c =
-    λ sink. rw (stopped c.from_residual-in_err-ended.result stops.OutOfMemory c.from_residual-in_err-ended.ensures.1)
+    λ sink. rw (stopped c.from_residual-in_err-ended.result (stop_for c.in_err-ended.field-0.0)
+    c.from_residual-in_err-ended.ensures.1)
     (play_turn 1 _ c.args.self.now.ports.joiner.most calls c.args.self.now.caller
-    (λ (v : CallerState). v ≡ c.turn.new.self) _ _ _ _ _ _ _ _ stops.OutOfMemory (λ (v : CallerState). v ≡
+    (λ (v : CallerState). v ≡ c.turn.new.self) _ _ _ _ _ _ _ _ (stop_for c.in_err-ended.field-0.0) (λ (v : CallerState). v ≡
     c.turn.new.self) (plays_at 1 c.args.self.now.ports.node _ _ _ _ _ _ clocks AnyTime _ c.requires.ready.number refl
     (c.in_ok-clock.ensures.plays sink)) (polls_at 1 c.args.self.now.ports.node _ _ _ _ _ _
     c.args.self.now.ports.joiner.most c.args.self.now.ports.joiner.most _ c.requires.ready.number c.clock.ensures.setup
     refl (c.in_ok-give_due.ensures.plays sink)) (plays_at 1 c.args.self.now.caller.node _ _ _ _ _ _
     (calls c.args.self.now.caller) (λ (v : CallerState). v ≡ c.turn.new.self) _ c.requires.number refl
-    (call_wanted c.args.self.now.caller.node _ c.args.self.now.caller c.turn.new.self _ _ _ _ sink _
-    (λ (v : CallerState). v ≡ c.turn.new.self) c.in_err-ended.ensures.wanting)))
+    (call_stopped_at c.args.self.now.caller.node _ c.args.self.now.caller c.turn.new.self _ _ _ _ sink _
+    (λ (v : CallerState). v ≡ c.turn.new.self) c.in_err-ended.field-0.0 c.in_err-ended.ensures.stops)))
+
+pub returns-in_err-ended-clause-unnoted : goal.returns-in_err-ended-clause-unnoted
+returns-in_err-ended-clause-unnoted g c =
+    rw (stopped c.from_residual-in_err-ended.result (stop_for c.in_err-ended.field-0.0)
+    c.from_residual-in_err-ended.ensures.1)
+    (λ is. c.in_err-ended.ensures.unnoted (unnoted_for c.in_err-ended.field-0.0 is))
 
 pub returns-in_err-give_due-2-clause-plays : goal.returns-in_err-give_due-2-clause-plays
 returns-in_err-give_due-2-clause-plays g c =

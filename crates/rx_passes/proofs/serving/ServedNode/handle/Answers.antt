@@ -10,7 +10,9 @@ use Rattle.rx_passes.proofs.serving.ServedNode.handle.Goals as goal
 pub returns-in_err-event-clause-handled : goal.returns-in_err-event-clause-handled
 returns-in_err-event-clause-handled g c =
     rw (is_stopped c.from_residual.result OutOfMemory c.from_residual.ensures.1) (handles_wants OutOfMemory (record {
-      wants = refl;
+      stop_is = refl;
+      wants = c.in_err-event.ensures.wants;
+      same = c.in_err-event.ensures.wanting.0;
       server = c.in_err-event.ensures.wanting.1;
       noted = refl;
       sink = refl;
