@@ -40,7 +40,7 @@ static double now(void)
     return at.tv_sec * 1e3 + at.tv_nsec / 1e6;
 }
 
-/* A draw of 0 to 999 (xorshift64*), whose last two digits tell the hundredth. */
+/* A draw of 0 to 999 (xorshift64*); without its last digit it is a draw of 0 to 99. */
 static int draw(void)
 {
     int drawn;

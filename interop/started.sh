@@ -1,6 +1,6 @@
-# What the scripts of interop/ and bench/udp.sh share: processes that are started under a name and ended by their id. To
-# be sourced by a script of bash that has set top, the folder of the repository, and work, a folder of its own; for
-# floods and long runs also here, the folder of this file, and faults, what failed.
+# What the scripts of interop/, bench/udp.sh and bench/loss.sh share: processes that are started under a name and ended
+# by their id. To be sourced by a script of bash that has set top, the folder of the repository, and work, a folder of
+# its own; for floods and long runs also here, the folder of this file, and faults, what failed.
 # shellcheck shell=bash disable=SC2154
 declare -A pid_of
 

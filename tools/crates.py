@@ -15,7 +15,7 @@ PLACES = """
 .             .          .         .         .               rx_top_tests    rx             .
 .             .          .         .         .               rx_tests        rx_top         .
 .             .          .         .         .               rx_passes       rx_world       rx_words
-rx_node_bench rx_pair    rx_nodes  rx_caller .               rx_udp          rx_dispatch    .
+rx_node_bench rx_pair    rx_nodes  rx_caller .               rx_udp          rx_dispatch    rx_rounds
 .             rx_server  rx_client .         .               rx_base         .              rx_plan
 .             rx_books   .         .         .               .               .              .
 .             rx_node    .         rx_token  rx_jumbo        .               rx_jobs        .

@@ -1,4 +1,5 @@
 ghost use Rattle.std.specs.Prelude.{◌≡◌, ◌≤◌, ◌<◌, ◌*◌, ◌/◌, Some, None, length, IfOk, IfSome, Option, drop, option_map};
+ghost use Rattle.rx_due.specs.Cost.{AtMost};
 ghost use Rattle.rx_rules.specs.Looks.{Looks, at_start};
 ghost use Rattle.rx_rules.specs.Setup.{FitsSetup};
 ghost use Rattle.rx_node.specs.Kinds.{kind_of};
@@ -97,7 +98,8 @@ impl<C: Class> Node<C> {
     /// From which moment on, in milliseconds, a poll would do something; none where no call lives that isn't broken,
     /// and nothing is owed.
     pub fn due<L: Ledger>(&self, steps: &mut Steps<L>) -> Option<u64>
-        ensures { (l : Looks) → Mirrors C.class_of self.now l → result ≡ rules_due (setup_of C.class_of self.now) l }
+        ensures value { (l : Looks) → Mirrors C.class_of self.now l → result ≡ rules_due (setup_of C.class_of self.now) l }
+        ensures steps { AtMost 4 steps.old steps.new }
     {
         if self.core.has_stray() {
             return Some(self.core.moment());
@@ -108,9 +110,10 @@ impl<C: Class> Node<C> {
 
     /// The least moment of an item or a death.
     fn least_moment<L: Ledger>(&self, steps: &mut Steps<L>) -> Option<u64>
-        ensures { (l : Looks) → Mirrors C.class_of self.now l → result ≡ lesser_of (λ moment. moment)
+        ensures value { (l : Looks) → Mirrors C.class_of self.now l → result ≡ lesser_of (λ moment. moment)
             (option_map (λ i. i.rank) (least_by (λ i. i.rank) (items (setup_of C.class_of self.now) (unsilenced l))))
             (least_by (λ moment. moment) (deaths l.calls)) }
+        ensures steps { AtMost 2 steps.old steps.new }
     {
         let _kind = self.core.kind();
         let rank = moment_of(self.books.first_due(steps));
@@ -123,6 +126,7 @@ impl<C: Class> Node<C> {
         ensures given { IfSome result (CanGive self.now) }
         ensures least { (l : Looks) → Mirrors C.class_of self.now l → let s = setup_of C.class_of self.now in
             AreDueAs s l result (least_by (λ i. i.rank) (items s (unsilenced l))) }
+        ensures steps { AtMost 2 steps.old steps.new }
     {
         let _kind = self.core.kind();
         let (_rank, key) = self.books.first_due(steps)?;

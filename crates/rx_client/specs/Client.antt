@@ -1,5 +1,5 @@
 -- For which histories a client stands. Public clauses cite this module.
-use Rattle.std.specs.Prelude.{ℕ, List, Ok}
+use Rattle.std.specs.Prelude.{ℕ, List}
 use Rattle.rx_model.specs.declared.answers.End.{End}
 use Rattle.rx_model.specs.declared.answers.End.TheVariants as ends
 use Rattle.rx_model.specs.declared.answers.ReadAns.{ReadAns}

@@ -2,6 +2,7 @@ ghost use Rattle.std.specs.Prelude.{true, ◌≡◌, ◌≤◌, ◌<◌, ◌^◌
 ghost use Rattle.rx_model.specs.declared.event.Event.{Event};
 ghost use Rattle.rx_model.specs.declared.event.Event.TheVariants as events;
 ghost use Rattle.rx_model.specs.declared.wire.TheConstants.{DATAGRAM_BYTES};
+ghost use Rattle.rx_due.specs.Cost.{AtMost};
 ghost use Rattle.rx_rules.specs.After.{looks};
 ghost use Rattle.rx_rules.specs.Items.{due as rules_due};
 ghost use Rattle.rx_rules.specs.Setup as setups;
@@ -123,8 +124,9 @@ impl<C: Class> Client<C> {
 
     /// From which moment on a poll would do something, at least its own; none where nothing is owed and no call lives.
     pub fn due<L: Ledger>(&self, steps: &mut Steps<L>) -> Option<u64>
-        ensures { (h : List Event) → StandsNode C.class_of self.now h →
+        ensures value { (h : List Event) → StandsNode C.class_of self.now h →
             result ≡ rules_due (setup_of C.class_of self.now) (looks (setup_of C.class_of self.now) h) }
+        ensures steps { AtMost 4 steps.old steps.new }
     {
         self.node.due(steps)
     }

@@ -7,9 +7,9 @@ use Rattle.rx_jobs.specs.Jobs.{JobState, waits, want_in}
 use Rattle.rx_jobs.specs.Keeping.{kept_of}
 use Rattle.rx_dispatch.specs.declared.job.Next.{Next}
 use Rattle.rx_dispatch.specs.declared.job.Next.TheVariants as nexts
-use Rattle.rx_dispatch.specs.declared.job.Phase.{Phase}
-use Rattle.rx_dispatch.specs.declared.job.Want.{Want}
-use Rattle.rx_dispatch.specs.declared.job.Want.TheVariants as wants
+use Rattle.rx_jobs.specs.declared.job.Phase.{Phase}
+use Rattle.rx_jobs.specs.declared.job.Want.{Want}
+use Rattle.rx_jobs.specs.declared.job.Want.TheVariants as wants
 use Rattle.rx_dispatch.specs.declared.round.Stage.{Stage}
 use Rattle.rx_dispatch.specs.declared.round.Stage.TheVariants as stages
 

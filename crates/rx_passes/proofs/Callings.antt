@@ -7,7 +7,6 @@ use Rattle.rx_base.specs.Sink.{Gained, HasRisen}
 use Rattle.rx_asks.specs.Asks.{Asking, Cancels, IsAsked, Offers, Reads, Shuts, begun, calling, heard}
 use Rattle.rx_caller.specs.Turn.{CallerStops}
 use Rattle.rx_asks.specs.View.{CallerState}
-use Rattle.rx_caller.specs.declared.caller.TheConstants.{REPLY_BYTES}
 use Rattle.rx_caller.specs.declared.fault.CallerFault.{CallerFault}
 use Rattle.rx_caller.specs.declared.fault.CallerFault.TheVariants as faults
 use Rattle.rx_asks.specs.declared.ask.TheConstants.{REPLY_BYTES}

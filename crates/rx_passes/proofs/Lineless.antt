@@ -9,7 +9,7 @@ use Rattle.rx_udp.specs.Wire.{Came as Arrived, Logged}
 use Rattle.rx_passes.specs.Calls.{calls}
 use Rattle.rx_passes.specs.declared.stop.Stop.TheVariants as stops
 use Rattle.rx_passes.specs.Parts.{Came, Cut, One, Part, Place, Then, To, behind, ends, goes_on, makes, refuses}
-use Rattle.rx_passes.specs.Ports.{clocks, polls, takes, takes_came, takes_parts, takes_until, until_of, waits}
+use Rattle.rx_passes.specs.Ports.{clocks, polls, takes, takes_came, takes_parts, until_of, waits}
 use Rattle.rx_passes.specs.Serves.{pass, plays}
 use Rattle.rx_jumbo.specs.Parts.{parts_of}
 

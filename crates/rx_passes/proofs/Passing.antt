@@ -405,6 +405,11 @@ legal_as s t stands same law h is = subst (λ (u : Setup). Legal u h) same (law 
 
 -- ---- the line that it is ready
 
+-- no note is refused where a line is put
+pub line_noted : (line : List ℕ) (stop : Stop) (s0 s1 : SinkTells) → stop ≡ stops.Unnoted
+    → PutsLine s0 s1 line (Some stop) → ⊥
+line_noted line stop s0 s1 is puts = subst (λ (s : Stop). PutsLine s0 s1 line (Some s)) is puts
+
 -- it wasn't put whole
 pub ready_stopped : (terms : Setup → ℕ → Terms) (setup : Setup) (host : Host) (stop : Stop)
     (noted : Option (List Noted)) (s0 s1 : SinkTells) (wire : WireTells)

@@ -4,7 +4,6 @@ use Rattle.rx_base.specs.Sink.{HasRisen}
 use Rattle.rx_asks.specs.Asks.{begun, calling}
 use Rattle.rx_caller.specs.Turn.{CallerWants}
 use Rattle.rx_asks.specs.View.{CallerState, caller_for}
-use Rattle.rx_caller.specs.declared.caller.TheConstants.{REPLY_BYTES}
 use Rattle.rx_asks.specs.declared.ask.TheConstants.{REPLY_BYTES}
 use Rattle.rx_model.specs.declared.event.Event.{Event}
 use Rattle.rx_model.specs.declared.event.Event.TheVariants as events

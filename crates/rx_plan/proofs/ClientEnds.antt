@@ -40,7 +40,7 @@ use Rattle.rx_plan.proofs.AbortCauses.{named_row}
 -- ---- a call goes on
 
 -- none comes, and none goes
-abbrev Onward : Option CallRecord → Option CallRecord → Type 0
+abbrev pub Onward : Option CallRecord → Option CallRecord → Type 0
 Onward None None = Unit {0}
 Onward None (Some b) = ⊥
 Onward (Some a) None = ⊥
@@ -89,7 +89,7 @@ onward_looks c d change l =
     onward_call c d (λ k. record k { looks = change k.looks }) l (λ k. refl) (λ k. on-refl k.life)
 
 -- an event that starts no call of this name
-onward_after : (s : Setup) (host : Host) (epoch : ℕ) (l : Looks) (c : CallName) (e : Event)
+pub onward_after : (s : Setup) (host : Host) (epoch : ℕ) (l : Looks) (c : CallName) (e : Event)
     → AllowedClient s host epoch l e → StartsNoCall s l c e → Onward (call_at l c) (call_at (after s e l) c)
 onward_after s host epoch l c (events.Wrote d offered got bytes) allowed none = onward_looks c d (after_write bytes) l
 onward_after s host epoch l c (events.Shut d (Ok done)) allowed none = onward_looks c d after_shut l
@@ -142,7 +142,7 @@ module _ (s : Setup) (host : Host) (epoch : ℕ) (kind : s.kind ≡ Client host 
   by_got l d c tooks.NoSlot none = none refl
   by_got l d c _ none = tt
 
-  none_of : (l : Looks) (from : Host) (bytes : List ℕ) (got : Took) (reading : Result Message BadMsg) (c : CallName)
+  pub none_of : (l : Looks) (from : Host) (bytes : List ℕ) (got : Took) (reading : Result Message BadMsg) (c : CallName)
       → got ≡ took_of s l from bytes → reading_of bytes ≡ reading → StartsNoneOf s l from reading got c
   none_of l from bytes got (Err bad) c is reads = tt
   none_of l from bytes got (Ok m) c is reads = λ front.

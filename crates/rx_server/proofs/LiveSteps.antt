@@ -1,5 +1,5 @@
 -- A message for a live call: whether its packet 1 was kept, and the calls that wait.
-use Rattle.std.proofs.Common.{◌≡◌, ◌<◌, ◌&&◌, ◌||◌, ◌==◌, ◌+◌, ◌++◌, ◌/◌, ◌%◌, ℕ, if◌then◌else◌, not, nat_le}
+use Rattle.std.proofs.Common.{◌≡◌, ◌&&◌, ◌||◌, ◌==◌, ◌+◌, ◌++◌, ◌/◌, ◌%◌, ℕ, if◌then◌else◌, not, nat_le}
 use Rattle.std.proofs.Common.{nat_lt, is_some, Bool, true, false, List, [], ◌∷◌}
 use Rattle.std.proofs.Common.{Option, Some, None, option_map, refl, ◌∙◌, ap, sym, subst, arith}
 use Rattle.std.specs.Prelude.{option_and_then, slice_get, unwrap_or}

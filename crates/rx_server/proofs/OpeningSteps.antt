@@ -1,9 +1,8 @@
 -- A server's call starts in place of its channel's earlier one, which ends.
-use Rattle.std.proofs.Common.{◌≡◌, ◌<◌, ◌==◌, ◌/◌, ◌%◌, ℕ, not, nat_lt, if◌then◌else◌, is_some, Bool, true, false, List}
+use Rattle.std.proofs.Common.{◌≡◌, ◌<◌, ◌==◌, ◌%◌, ℕ, not, nat_lt, if◌then◌else◌, is_some, Bool, true, false, List}
 use Rattle.std.proofs.Common.{[], ◌∷◌, filter}
 use Rattle.std.proofs.Common.{Option, Some, None, refl, ◌∙◌, ap, sym, subst, arith}
 use Rattle.std.specs.Prelude.{option_and_then}
-use Rattle.std.proofs.lemmas.Bool.{false≢true}
 use Rattle.std.proofs.lemmas.Bool.Decides.{nat_tests}
 use Rattle.rx_model.specs.declared.names.CallName.{CallName}
 use Rattle.rx_model.specs.Names.{Channel}
@@ -15,7 +14,6 @@ use Rattle.rx_rules.specs.Looks.{Looks, call_named, channel_at, is_call, latest,
 use Rattle.rx_rules.specs.Looks.{on_life}
 use Rattle.rx_rules.specs.Records.{started, started_later}
 use Rattle.rx_rules.specs.Setup.{Setup, nonce_of}
-use Rattle.rx_rules.specs.Slots.{live}
 use Rattle.rx_rules.proofs.EveryLaws.{Every, filter-passes}
 use Rattle.rx_law.proofs.Dims.{dims_life}
 use Rattle.rx_law.proofs.LifeFalls.{later_falls}

@@ -1,5 +1,5 @@
 -- A message for its channel's live call, or that starts one, at a server.
-use Rattle.std.proofs.Common.{◌≡◌, ◌⊎◌, ◌<◌, ◌≤◌, ◌&&◌, ◌==◌, ℕ, if◌then◌else◌, not, nat_lt, Bool, true, false}
+use Rattle.std.proofs.Common.{◌≡◌, ◌<◌, ◌≤◌, ◌&&◌, ℕ, if◌then◌else◌, not, nat_lt, Bool, true, false}
 use Rattle.std.proofs.Common.{List, Option, Some}
 use Rattle.std.proofs.Common.{refl, ◌∙◌, ap, sym, subst, arith}
 use Rattle.std.proofs.lemmas.Bool.Decides.{nat_tests}
@@ -15,7 +15,7 @@ use Rattle.rx_rules.specs.Judging.{Facts, facts_of, live_row, opened, own_row, s
 use Rattle.rx_rules.specs.Life.{after_later, is_active}
 use Rattle.rx_rules.specs.Life as lives
 use Rattle.rx_rules.specs.Looks.{CallRecord, ChannelLooks, Looks, call_at, call_named, channel_at}
-use Rattle.rx_rules.specs.Looks.{fresh_channel, is_call, latest, latest_name, on_life}
+use Rattle.rx_rules.specs.Looks.{fresh_channel, is_call, latest_name, on_life}
 use Rattle.rx_rules.specs.Records.{entered, started_later, used}
 use Rattle.rx_rules.specs.Setup.{FitsLimits, Kind, Setup, Server, Client, IsServer, receiving_window}
 use Rattle.rx_law.proofs.Events.{call-by, calls-prepared}

@@ -1,5 +1,5 @@
 -- The channels of calls whose packet 1 was kept, where a connection is entered.
-use Rattle.std.proofs.Common.{◌≡◌, ◌<◌, ◌&&◌, ◌||◌, ◌/◌, ◌%◌, ℕ, zero, suc, if◌then◌else◌, not, Bool, true, false}
+use Rattle.std.proofs.Common.{◌≡◌, ◌<◌, ◌&&◌, ◌/◌, ◌%◌, ℕ, zero, suc, if◌then◌else◌, not, Bool, true, false}
 use Rattle.std.proofs.Common.{List, [], ◌∷◌, ◌++◌}
 use Rattle.std.proofs.Common.{map, nat_le, Option, Some, None, option_map, refl, ◌∙◌, ap, sym, arith}
 use Rattle.std.specs.Prelude.{◌-◌, option_and_then, slice_get, unwrap_or}

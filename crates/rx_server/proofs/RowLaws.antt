@@ -1,9 +1,7 @@
 -- The rows of a message at a server, and its call where its connection was entered and used first.
-use Rattle.std.proofs.Common.{◌≡◌, ◌⊎◌, ◌<◌, ◌≤◌, ◌&&◌, ◌||◌, ◌==◌, ◌+◌, ℕ, if◌then◌else◌, not}
+use Rattle.std.proofs.Common.{◌≡◌, ◌⊎◌, ◌≤◌, ◌&&◌, ◌+◌, ℕ, if◌then◌else◌, not}
 use Rattle.std.proofs.Common.{is_some, Bool, true, false}
-use Rattle.std.proofs.Common.{List, [], ◌∷◌, refl, ◌∙◌, inl, inr, arith}
-use Rattle.std.specs.Prelude.{◌-◌}
-use Rattle.std.proofs.lemmas.Bool.{false≢true}
+use Rattle.std.proofs.Common.{List, refl, inl, inr, arith}
 use Rattle.std.proofs.lemmas.Bool.Decides.{nat_tests}
 use Rattle.rx_model.specs.declared.answers.Took.{Took}
 use Rattle.rx_model.specs.declared.answers.Took.TheVariants as tooks
@@ -17,7 +15,7 @@ use Rattle.rx_rules.specs.Life.{Life}
 use Rattle.rx_rules.specs.Judging.{Facts, end_row}
 use Rattle.rx_rules.specs.Judging.{server_row}
 use Rattle.rx_rules.specs.Looks.{Looks, conn_at}
-use Rattle.rx_rules.specs.Records.{entered, has_place, used}
+use Rattle.rx_rules.specs.Records.{entered, used}
 use Rattle.rx_rules.specs.Setup.{Setup, is_client, receiving_window}
 use Rattle.rx_rules.specs.Received.{Arrival, Packet, arrival_row}
 use Rattle.rx_model.specs.declared.wire.TheConstants.{LAST_SEQ}

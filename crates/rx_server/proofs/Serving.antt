@@ -24,7 +24,7 @@ use Rattle.rx_law.proofs.Dims.{Dims}
 use Rattle.rx_pool.specs.Pool.{AllBelow, HasNoRepeat, has}
 use Rattle.rx_pool.proofs.Numbers.{few, no_repeat_push}
 use Rattle.rx_model.proofs.NameLaws.{neither}
-use Rattle.rx_table.specs.Records.{ConnRecord, names}
+use Rattle.rx_table.specs.Records.{ConnRecord}
 use Rattle.rx_node.specs.Mirrors.{IsChannel, IsKey, Mirrors}
 use Rattle.rx_node.proofs.EndingSteps.{channel_after}
 use Rattle.rx_node.specs.Node.{KeepsNode, NodeState, setup_of}

@@ -1,8 +1,7 @@
 -- A message for its channel's live call, or that starts one: the row of its call, and the look-ups behind it.
-use Rattle.std.proofs.Common.{◌≡◌, ◌⊎◌, ◌<◌, ◌≤◌, ◌&&◌, ◌||◌, ◌==◌, ◌+◌, ℕ, if◌then◌else◌, not, nat_le, nat_lt}
+use Rattle.std.proofs.Common.{◌≡◌, ◌⊎◌, ◌<◌, ◌≤◌, ◌&&◌, ◌==◌, ℕ, if◌then◌else◌, not, nat_le, nat_lt}
 use Rattle.std.proofs.Common.{is_some, Bool, true, false}
-use Rattle.std.proofs.Common.{[], ◌∷◌, Option, Some, None, refl, ◌∙◌, ap, sym, subst, inl, inr, arith}
-use Rattle.std.proofs.lemmas.Bool.{false≢true}
+use Rattle.std.proofs.Common.{Option, Some, None, refl, ◌∙◌, ap, sym, subst, inl, inr, arith}
 use Rattle.std.proofs.lemmas.Bool.Decides.{nat_tests}
 use Rattle.rx_model.specs.declared.answers.Took.{Took}
 use Rattle.rx_model.specs.declared.answers.Took.TheVariants as tooks

@@ -1,8 +1,7 @@
 -- The rows of a message that its connection or its channel answers.
-use Rattle.std.proofs.Common.{◌≡◌, ◌⊎◌, ◌<◌, ◌&&◌, ◌==◌, ℕ, if◌then◌else◌, not, nat_lt, is_some, Bool, true, false}
+use Rattle.std.proofs.Common.{◌≡◌, ◌⊎◌, ◌&&◌, ◌==◌, ℕ, if◌then◌else◌, not, nat_lt, is_some, Bool, true, false}
 use Rattle.std.proofs.Common.{Option}
 use Rattle.std.proofs.Common.{refl, ◌∙◌, ap, sym, subst, inl, arith}
-use Rattle.std.proofs.lemmas.Bool.{false≢true}
 use Rattle.std.proofs.lemmas.Bool.Decides.{nat_tests}
 use Rattle.rx_model.specs.declared.answers.Took.{Took}
 use Rattle.rx_model.specs.declared.answers.Took.TheVariants as tooks
@@ -15,7 +14,6 @@ use Rattle.rx_model.specs.Strays.{is_stray}
 use Rattle.rx_model.proofs.NameLaws.{both}
 use Rattle.rx_rules.specs.Judging.{Facts, facts_of, is_data, opened, own_row, server_row, side_row, took_named}
 use Rattle.rx_rules.specs.Looks.{ConnLooks, Looks, channel_at, conn_at}
-use Rattle.rx_rules.specs.Records.{has_place}
 use Rattle.rx_rules.specs.Setup.{Kind, Setup, Server, Client, IsServer}
 use Rattle.rx_rules.proofs.ConnsLaws.{channel_number, number_of}
 use Rattle.rx_law.proofs.Places.{is_none}

@@ -1,5 +1,5 @@
 -- A server turns a message away.
-use Rattle.std.proofs.Common.{◌≡◌, ◌==◌, ℕ, ℤ, pos, if◌then◌else◌, nat_lt, Bool, true, false, List, refl}
+use Rattle.std.proofs.Common.{◌≡◌, ◌==◌, ℕ, pos, if◌then◌else◌, nat_lt, Bool, true, false, List, refl}
 use Rattle.std.proofs.Common.{◌∙◌, ap, sym, subst, arith}
 use Rattle.std.proofs.lemmas.Bool.Decides.{nat_tests}
 use Rattle.rx_model.specs.declared.answers.Took.{Took}

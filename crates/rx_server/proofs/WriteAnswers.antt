@@ -1,5 +1,5 @@
 -- What a write answers.
-use Rattle.std.proofs.Common.{◌≡◌, ◌≤◌, ◌<◌, ℕ, ℤ, min, Bool, true, false, List, [], ◌∷◌, length, take}
+use Rattle.std.proofs.Common.{◌≡◌, ◌≤◌, ℕ, ℤ, min, Bool, true, false, List, [], length, take}
 use Rattle.std.proofs.Common.{Option, Some, None, Result, Ok, Err, refl, ◌∙◌, ap, sym, subst, arith}
 use Rattle.std.proofs.lemmas.List.{length-take}
 use Rattle.rx_model.specs.declared.answers.ServeRefused.{ServeRefused}

@@ -71,7 +71,7 @@ window_fits parts = number_or_fits 32 255 32 (value_of parts options.Window) (li
 
 limits_fit : (parts : List Part) → IfSome (limits_of parts) FitsLimits
 limits_fit parts =
-    needs_where _ _ (Within 1 65536) FitsLimits (number_or_fits 1 65536 1024 (value_of parts options.Conns)
+    needs_where _ _ (Within 1 65536) FitsLimits (number_or_fits 1 65536 16384 (value_of parts options.Conns)
     (lit≤ tt, lit≤ tt)) (λ conns few_conns.
     needs_where _ _ (Within 1 4096) FitsLimits (number_or_fits 1 4096 64 (value_of parts options.Calls)
     (lit≤ tt, lit≤ tt)) (λ calls few_calls.

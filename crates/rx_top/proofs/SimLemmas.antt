@@ -22,7 +22,7 @@ use Rattle.rx_plan.specs.Answering.{EndedByLaw, OkAsAnswered}
 use Rattle.rx_plan.specs.Follows.{CutOff, Empty, EndlessIn, RefusedAt, Went, Whole, plan_goes}
 use Rattle.rx_plan.specs.Lines.{IsWell}
 use Rattle.rx_plan.specs.Promises.{AreDistinct, plan_nodes}
-use Rattle.rx_world.specs.Runs.{KeepsPromises}
+use Rattle.rx_world.specs.Runs.{Arrives, KeepsPromises}
 use Rattle.rx_world.specs.Runs.{RunIs, Tells}
 use Rattle.rx_plan.specs.Stages.{Stage}
 use Rattle.rx_world.specs.Tells.{Fails, Gains, Told, Wants, fails_last, fails_one, gains_none, gains_one, wants_last}
@@ -188,15 +188,16 @@ module _ (are_well : (g : Handlers) (text : List ℕ) (ls : List Numbered) → p
   -- the run of a plan that was read keeps its promises, and its invokes are answered
   pub run_plays : (m : Meant) (s : List Answering) (lines : List Numbered) (ran : Outcome) (before after : Told)
       → AreServable (handlers_with m s) → IsRead m lines → RunIs (handlers_with m s) lines ran before after
-      → KeepsPromises (handlers_with m s) lines ran before after
+      → KeepsPromises (handlers_with m s) lines ran before after → Arrives (handlers_with m s) lines ran before after
       → Played (handlers_with m s) lines ran before after
-  run_plays m s lines ran before after servable read run keeps =
+  run_plays m s lines ran before after servable read run keeps arrives =
       let g : Handlers = handlers_with m s in
       let well : All (λ l. IsWell g l.what) lines = are_well g read.0 lines read.1 in
       record {
         run = run;
         promises = (keeps run).0;
         told = (keeps run).1;
+        arrives = arrives run;
         answers = λ t whole driven distinct premise.
             let goes : plan_goes g lines run.events (Whole t) = subst (plan_goes g lines run.events) whole run.goes in
             record {

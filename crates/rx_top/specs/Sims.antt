@@ -12,6 +12,7 @@ use Rattle.rx_script.specs.Saying.{Answering, plan_rows}
 use Rattle.rx_plan.specs.Answering.{AbortedAsServed, AreDriven, EndedAsServed, EndedByLaw, OkAsAnswered}
 use Rattle.rx_plan.specs.Follows.{Went, Whole}
 use Rattle.rx_plan.specs.Promises.{AreDistinct, Promises, plan_nodes}
+use Rattle.rx_rounds.specs.Arriving.{ArrivesBy, WritesRequest}
 use Rattle.rx_world.specs.Runs.{RunIs}
 use Rattle.rx_plan.specs.Stages.{Stage}
 use Rattle.rx_world.specs.Tells.{Told}
@@ -49,12 +50,13 @@ AnswersInvokes g lines es went =
     → Answered g lines es s
 
 -- the lines of a plan were run, and the events of that keep the promises of a plan; each is one that its line tells, so
--- no other events have their text; and its invokes are answered
+-- no other events have their text; its invokes are answered; and a request that it writes before rounds arrives
 pub record Played (g : Handlers) (lines : List Numbered) (ran : Outcome) (before after : Told) : Type 0 where
   pub run : RunIs g lines ran before after
   pub promises : Promises lines run.events
   pub told : All IsToldNoted run.events
   pub answers : AnswersInvokes g lines run.events run.went
+  pub arrives : (offer : List ℕ) (n : ℕ) → WritesRequest lines offer n → ArrivesBy lines offer run.went
 
 -- `sim` ended as the run of the plan of this file did
 abbrev pub EndsAs : SimOutcome → List ℕ → (Outcome → Type 0) → Type 0

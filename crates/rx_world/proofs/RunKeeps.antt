@@ -6,7 +6,8 @@ use Rattle.rx_jobs.specs.Handlers.{Handlers}
 use Rattle.rx_plan.specs.Lines.{IsWell}
 use Rattle.rx_plan.proofs.Promised.{plan_promises}
 use Rattle.rx_plan.proofs.SoundPlan.{lines_in_range}
-use Rattle.rx_world.specs.Runs.{KeepsPromises}
+use Rattle.rx_rounds.proofs.Arrive.{arrive}
+use Rattle.rx_world.specs.Runs.{Arrives, KeepsPromises}
 use Rattle.rx_world.specs.Tells.{Told}
 use Rattle.rx_world.proofs.ToldEvents.{plan_told}
 
@@ -17,3 +18,8 @@ run_keeps g ls outcome old new well r = (
   plan_promises g ls r.events r.went (lines_in_range g ls well) r.goes,
   plan_told g ls outcome old new (lines_in_range g ls well) r,
 )
+
+-- a request that such lines write arrives
+pub run_arrives : (g : Handlers) (ls : List Numbered) (outcome : Outcome) (old new : Told)
+    → All (λ l. IsWell g l.what) ls → Arrives g ls outcome old new
+run_arrives g ls outcome old new well r offer n writes = arrive g ls r.events r.went offer n well writes r.goes

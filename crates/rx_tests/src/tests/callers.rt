@@ -293,7 +293,7 @@ fn calls_come_to_their_ends(rt: HostRuntime) -> Result<(), Fail> {
 /// Turns without a server: the events of each.
 fn alone(rt: &impl Abort, alloc: Global) -> Result<(), CallerFault> {
     let (mut client, call) = calling(rt, alloc)?;
-    let mut caller = Caller::make(alloc, 1, call, vec![in alloc; 1, 2]?);
+    let mut caller = Caller::make(alloc, 1, call, Vec::from_slice(alloc, &[1, 2])?);
     assert!(rt; caller.step(&mut client)?.is_none());
     assert!(rt; !caller.turn(&mut client, &mut Forgetting)?);
     assert_eq!(rt; client.cancel(&call, 7), Ok(()));
@@ -316,7 +316,7 @@ fn silence<L: Ledger>(rt: &impl Abort, alloc: Global, blank: Blank) -> Result<()
 {
     let mut steps = Steps::<L>::new(blank);
     let (mut client, call) = calling(rt, alloc)?;
-    let mut caller = Caller::make(alloc, 1, call, vec![in alloc; 1, 2]?);
+    let mut caller = Caller::make(alloc, 1, call, Vec::from_slice(alloc, &[1, 2])?);
     assert!(rt; !caller.turn(&mut client, &mut Forgetting)?);
     assert!(rt; client.moment() <= 12000);
     client.clock(12000);

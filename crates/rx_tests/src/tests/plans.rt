@@ -1,9 +1,10 @@
 //! Whole plans, from their text to the trace and the answer lines.
 
 use rx_base::MemSink;
+use rx_plan::plans_are_well;
 use rx_script::{Outcome, PlanWhy, read_plan, read_script};
 use rx_wire::MemJournal;
-use rx_world::{plans_are_well, run};
+use rx_world::run;
 use std::alloc::{AllocError, Global};
 use std::process::Abort;
 use std::test::Fail;

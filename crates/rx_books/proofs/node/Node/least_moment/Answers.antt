@@ -3,8 +3,8 @@ use Rattle.rx_node.specs.Due.{lesser_of}
 use Rattle.rx_books.proofs.LeastOf.{ranks_first, silences_first}
 use Rattle.rx_books.proofs.node.Node.least_moment.Goals as goal
 
-pub returns : goal.returns
-returns g c =
+pub returns-clause-value : goal.returns-clause-value
+returns-clause-value g c =
     let class = g.C.Class.class_of in
     let n = c.self.inside.core in
     let b = c.self.inside.books in

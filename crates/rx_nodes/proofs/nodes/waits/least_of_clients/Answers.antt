@@ -13,4 +13,4 @@ loop-at-preserved g c = λ h stand.
     ∙ least_on c.loop-at.least h c.args.clients.now c.loop-at.at-index c.at-item.result low c.at-item.is
     ∙ ap (λ o. lesser o (least_from h c.args.clients.now (c.loop-at.at-index + 1)))
     (sym (c.lesser-least.ensures ∙ ap (lesser c.loop-at.least) (c.wait_of-wait.ensures
-    ∙ wait_is h _ (client_node c.at-item.result) _ _ (c.due.ensures _ stands) (c.moment.ensures.exact _ stands))))
+    ∙ wait_is h _ (client_node c.at-item.result) _ _ (c.due.ensures.value _ stands) (c.moment.ensures.exact _ stands))))

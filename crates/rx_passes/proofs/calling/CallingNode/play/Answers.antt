@@ -11,7 +11,7 @@ use Rattle.rx_passes.proofs.Callings.{call_stopped_at, call_turned, node_kept, u
 use Rattle.rx_passes.proofs.Clocking.{AnyTime}
 use Rattle.rx_passes.proofs.Passing.{play_clock, play_first, play_last, play_turn, polls_at}
 use Rattle.rx_passes.proofs.Polling.{Anyhow}
-use Rattle.rx_passes.proofs.Running.{behind_made, plays_at, stopped}
+use Rattle.rx_passes.proofs.Running.{behind_made, is_stopped, plays_at, stopped}
 use Rattle.rx_passes.proofs.calling.CallingNode.play.Goals as goal
 
 pub give_due-requires-clause-behind : goal.give_due-requires-clause-behind
@@ -66,7 +66,7 @@ returns-in_err-ended-clause-plays g c =
 
 pub returns-in_err-ended-clause-unnoted : goal.returns-in_err-ended-clause-unnoted
 returns-in_err-ended-clause-unnoted g c =
-    rw (stopped c.from_residual-in_err-ended.result (stop_for c.in_err-ended.field-0.0)
+    rw (is_stopped c.from_residual-in_err-ended.result (stop_for c.in_err-ended.field-0.0)
     c.from_residual-in_err-ended.ensures.1)
     (λ is. c.in_err-ended.ensures.unnoted (unnoted_for c.in_err-ended.field-0.0 is))
 

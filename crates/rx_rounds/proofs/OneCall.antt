@@ -1,0 +1,204 @@
+-- Nodes with one connection and one call on it: what they give and take is what that call's end gives and takes.
+use Rattle.std.proofs.Common.{◌≡◌, ℕ, ◌-◌, true, false, cond}
+use Rattle.std.proofs.Common.{List, [], ◌∷◌, map, filter, refl, ap, ◌∙◌, Option, Some, None, option_map, append-nil}
+use Rattle.std.proofs.Common.{nat_le}
+use Rattle.rx_model.specs.declared.names.CallName.{CallName}
+use Rattle.rx_model.specs.declared.names.Host.{Host}
+use Rattle.rx_model.specs.declared.wire.TheConstants.{SILENCE_MS}
+use Rattle.rx_model.specs.Body as bodies
+use Rattle.rx_model.specs.Message.{Message}
+use Rattle.rx_model.specs.Spelling.{made}
+use Rattle.rx_model.proofs.NameLaws.{number_itself}
+use Rattle.rx_rules.specs.CallItems.{CallItem, Sending, call_items}
+use Rattle.rx_rules.specs.CallLooks.{CallLooks}
+use Rattle.rx_rules.specs.Items.{Item, item_of, poll_answer, datagram_for}
+use Rattle.rx_rules.specs.Least.{least_by, lesser_by}
+use Rattle.rx_rules.specs.Life.{Life, is_active, is_live}
+use Rattle.rx_rules.specs.Life as lives
+use Rattle.rx_rules.specs.Looks.{CallRecord, ChannelLooks, ConnLooks, Looks, fresh_channel}
+use Rattle.rx_rules.specs.Setup.{Setup}
+use Rattle.rx_plan.specs.Follows.{client_node, server_node}
+use Rattle.rx_rounds.specs.Bounds.{default_limits}
+use Rattle.rx_rounds.proofs.Pair.{Place, CallEnd, next_of, message_of}
+
+-- ---- the two nodes
+
+-- the addresses of client and server, the client's epoch, the service, the server's first nonce, the first call number
+pub record Ends : Type 0 where
+  pub client : Host
+  pub server : Host
+  pub epoch : ℕ
+  pub service : ℕ
+  pub nonces : ℕ
+  pub first : ℕ
+
+abbrev pub client_setup : Ends → Setup
+client_setup x = (client_node x.client x.epoch default_limits None).setup
+
+abbrev pub server_setup : Ends → Setup
+server_setup x = (server_node x.server x.service default_limits None x.nonces).setup
+
+-- the call, the first on the first channel of the first connection
+abbrev pub the_call : Ends → CallName
+the_call x = record { host = x.client; epoch = x.epoch; cid = 4; chan = 0; number = x.first }
+
+-- the connection, with its peer, the number of its first calls, how many datagrams it gave and when it was used; and
+-- what its first channel owes
+pub record Link : Type 0 where
+  pub peer : Host
+  pub low : ℕ
+  pub given : ℕ
+  pub used : ℕ
+  pub channel : ChannelLooks
+
+abbrev pub the_conn : Ends → Link → ConnLooks
+the_conn x y =
+    record {
+      connection = record { host = x.client; epoch = x.epoch; cid = 4 };
+      peer = y.peer;
+      service = x.service;
+      first = y.low;
+      order = 0;
+      given = y.given;
+      last_use = y.used;
+      proved = false;
+      channels = y.channel ∷ fresh_channel 0 ∷ fresh_channel 0 ∷ fresh_channel 0 ∷ [];
+    }
+
+abbrev pub the_record : Ends → Life → CallLooks → CallRecord
+the_record x life k = record { name = the_call x; life = life; looks = k }
+
+abbrev pub node_of : Ends → Link → List CallName → ℕ → Life → CallLooks → Looks
+node_of x y firsts now life k =
+    record {
+      now = now;
+      conns = the_conn x y ∷ [];
+      entered = 1;
+      forgotten = [];
+      calls = the_record x life k ∷ [];
+      firsts = firsts;
+      strays = [];
+    }
+
+-- the connection at either end, that owes nothing beside its call
+abbrev pub from_client : Ends → ℕ → ℕ → Link
+from_client x given used = record
+    { peer = x.server; low = x.first; given = given; used = used; channel = fresh_channel x.first }
+
+abbrev pub from_server : Ends → ℕ → ℕ → Link
+from_server x given used = record
+    { peer = x.client; low = 1; given = given; used = used; channel = fresh_channel x.first }
+
+-- what the headers of its datagrams have in common
+abbrev pub header_of : Ends → Message
+header_of x =
+    record {
+      epoch = x.epoch;
+      cid = 4;
+      number = x.first;
+      seq = 0;
+      serial = 0;
+      flags = 0;
+      status = 0;
+      index = 0;
+      spare = 0;
+      service = x.service;
+      body = bodies.Busy;
+    }
+
+-- where its ends stand
+abbrev pub client_place : Ends → ℕ → Place
+client_place x now = record { client = true; window = 32; shared = 1984; now = now; header = header_of x }
+
+abbrev pub server_place : Ends → ℕ → Place
+server_place x now = record { client = false; window = 32; shared = 1984; now = now; header = header_of x }
+
+-- ---- the least item
+
+lesser-map : (s : Setup) (k : CallRecord) (i : CallItem) (o : Option CallItem)
+    → lesser_by (λ (j : Item). j.rank) (item_of s k i) (option_map (item_of s k) o) ≡ item_of s k
+    (lesser_by (λ (j : CallItem). j.rank) i o)
+lesser-map s k i None = refl
+lesser-map s k i (Some j) =
+    elim (nat_le i.rank j.rank) as (λ b. cond b (item_of s k i) (item_of s k j) ≡ item_of s k (cond b i j)) [
+      | true ↦ refl
+      | false ↦ refl
+    ]
+
+-- the least of a call's items is that of its end
+pub least-map : (s : Setup) (k : CallRecord) (now : ℕ) (is : List CallItem)
+    → least_by (λ (j : Item). j.rank) (filter (λ (i : Item). nat_le i.rank now) (map (item_of s k) is))
+    ≡ option_map (item_of s k) (least_by (λ (j : CallItem). j.rank) (filter (λ (i : CallItem). nat_le i.rank now) is))
+least-map s k now [] = refl
+least-map s k now (i ∷ is) =
+    elim (nat_le i.rank now) as (λ b. least_by (λ (j : Item). j.rank)
+    (cond b (item_of s k i ∷ filter (λ (j : Item). nat_le j.rank now) (map (item_of s k) is))
+    (filter (λ (j : Item). nat_le j.rank now) (map (item_of s k) is)))
+    ≡ option_map (item_of s k) (least_by (λ (j : CallItem). j.rank)
+    (cond b (i ∷ filter (λ (i : CallItem). nat_le i.rank now) is)
+    (filter (λ (i : CallItem). nat_le i.rank now) is)))) [
+      | true ↦
+          ap (λ (o : Option Item). Some (lesser_by (λ (j : Item). j.rank) (item_of s k i) o)) (least-map s k now is)
+          ∙ ap (λ (j : Item). Some j) (lesser-map s k i
+          (least_by (λ (j : CallItem). j.rank) (filter (λ (i : CallItem). nat_le i.rank now) is)))
+      | false ↦ least-map s k now is
+    ]
+
+-- ---- polls
+
+-- the datagram of what the call gives
+abbrev pub datagram : Place → Host → CallEnd → Option Sending → Option (Host × List ℕ)
+datagram p to e o = option_map (λ (x : Sending). (to, made (message_of p e x))) o
+
+client_gives : (x : Ends) (now used given : ℕ) (k : CallLooks) (o : Option CallItem)
+    → datagram_for (client_setup x) (node_of x (from_client x given used) [] now lives.Calling k)
+    (option_map (item_of (client_setup x) (the_record x lives.Calling k)) o)
+    ≡ datagram (client_place x now) x.server (record { looks = k; given = given }) (option_map (λ i. i.sending) o)
+client_gives x now used given k None = refl
+client_gives x now used given k (Some i) =
+    rw (number_itself x.client.addr, number_itself x.client.port, number_itself x.epoch) refl
+
+server_gives : (x : Ends) (firsts : List CallName) (now used given : ℕ) (life : Life) (k : CallLooks)
+    (o : Option CallItem)
+    → datagram_for (server_setup x) (node_of x (from_server x given used) firsts now life k)
+    (option_map (item_of (server_setup x) (the_record x life k)) o)
+    ≡ datagram (server_place x now) x.client (record { looks = k; given = given }) (option_map (λ i. i.sending) o)
+server_gives x firsts now used given life k None = refl
+server_gives x firsts now used given life k (Some i) =
+    rw (number_itself x.client.addr, number_itself x.client.port, number_itself x.epoch) refl
+
+-- where the call isn't silent, a poll gives what the call's end gives
+pub client_poll : (x : Ends) (now used given : ℕ) (k : CallLooks) → nat_le SILENCE_MS (now - k.heard) ≡ false
+    → poll_answer (client_setup x) (node_of x (from_client x given used) [] now lives.Calling k)
+    ≡ datagram (client_place x now) x.server (record { looks = k; given = given }) (next_of (client_place x now) k)
+client_poll x now used given k awake =
+    let r : CallRecord = the_record x lives.Calling k in
+    rw awake
+    (rw (number_itself x.client.addr, number_itself x.client.port, number_itself x.epoch, number_itself x.first)
+    (rw awake
+    (ap (λ (is : List Item). datagram_for (client_setup x)
+    (node_of x (from_client x given used) [] now lives.Calling k)
+    (least_by (λ (i : Item). i.rank) (filter (λ (i : Item). nat_le i.rank now) is)))
+    (append-nil (map (item_of (client_setup x) r) (call_items true k)))
+    ∙ ap (λ (o : Option Item). datagram_for (client_setup x)
+    (node_of x (from_client x given used) [] now lives.Calling k) o)
+    (least-map (client_setup x) r now (call_items true k))
+    ∙ client_gives x now used given k
+    (least_by (λ (i : CallItem). i.rank) (filter (λ (i : CallItem). nat_le i.rank now) (call_items true k))))))
+
+pub server_poll : (x : Ends) (firsts : List CallName) (now used given : ℕ) (life : Life) (k : CallLooks)
+    → is_active life ≡ true → is_live life ≡ true → nat_le SILENCE_MS (now - k.heard) ≡ false
+    → poll_answer (server_setup x) (node_of x (from_server x given used) firsts now life k)
+    ≡ datagram (server_place x now) x.client (record { looks = k; given = given }) (next_of (server_place x now) k)
+server_poll x firsts now used given life k active living awake =
+    let r : CallRecord = the_record x life k in
+    rw (active, awake)
+    (rw (number_itself x.client.addr, number_itself x.client.port, number_itself x.epoch, number_itself x.first)
+    (rw (active, living, awake)
+    (ap (λ (is : List Item). datagram_for (server_setup x) (node_of x (from_server x given used) firsts now life k)
+    (least_by (λ (i : Item). i.rank) (filter (λ (i : Item). nat_le i.rank now) is)))
+    (append-nil (map (item_of (server_setup x) r) (call_items false k)))
+    ∙ ap (λ (o : Option Item). datagram_for (server_setup x) (node_of x (from_server x given used) firsts now life k) o)
+    (least-map (server_setup x) r now (call_items false k))
+    ∙ server_gives x firsts now used given life k
+    (least_by (λ (i : CallItem). i.rank) (filter (λ (i : CallItem). nat_le i.rank now) (call_items false k))))))

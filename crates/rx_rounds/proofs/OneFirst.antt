@@ -1,0 +1,172 @@
+-- The first round of a request that is said and shut: its call starts at the server, and is accepted in the same round.
+-- So a request arrives within two rounds a piece.
+use Rattle.std.proofs.Common.{◌≡◌, ◌<◌, ◌≤◌, ◌+◌, ◌-◌, ◌*◌, ◌^◌, ◌==◌, ◌⊎◌, ℕ, suc, zero, Bool, false, List, [], ◌∷◌}
+use Rattle.std.proofs.Common.{refl, ap, sym, subst, ◌∙◌, inl, inr, ⊎_elim, Option, None, arith, length}
+use Rattle.std.proofs.lemmas.Bool.{both_ways, cases_lt, ne_eqb}
+use Rattle.rx_model.specs.declared.wire.TheConstants.{ACK_REQUESTED}
+use Rattle.rx_rules.specs.CallLooks.{CallLooks, after_shut, after_write}
+use Rattle.rx_rules.specs.Looks.{Looks}
+use Rattle.rx_rules.specs.Owing.{Owed, at_once}
+use Rattle.rx_rules.specs.Rates.{first_rtt}
+use Rattle.rx_rules.specs.Received.{is_complete, unread_of}
+use Rattle.rx_law.specs.Worlds.{Datagram}
+use Rattle.rx_jobs.specs.Handlers.{Handlers}
+use Rattle.rx_jobs.specs.Jobs.{JobState, begun}
+use Rattle.rx_plan.specs.Network.{delivers}
+use Rattle.rx_plan.specs.Parts.{To, each}
+use Rattle.rx_plan.specs.Rounds.{Polled, polls, rounds}
+use Rattle.rx_plan.specs.Stages.{Stage}
+use Rattle.rx_plan.specs.Turned.{turns_all}
+use Rattle.rx_rounds.proofs.Flow.{IsHard, Speed, asks_end, total, writer_at}
+use Rattle.rx_rounds.proofs.Keeper.{keeper_at, part_read}
+use Rattle.rx_rounds.proofs.OneBurst.{burst, client_with, delivers_first, owes, owes_now, polls_burst}
+use Rattle.rx_rounds.proofs.OneCall.{Ends, header_of, the_call}
+use Rattle.rx_rounds.proofs.Two.{any_two}
+use Rattle.rx_rounds.proofs.OneFields.{FitsEnds, fresh}
+use Rattle.rx_rounds.proofs.OneProgress.{keeping_with, no_calls, round_ack}
+use Rattle.rx_rounds.proofs.OneRequest.{Next, WentFurther, after_ack, arrives, complete_whole, next_pieces}
+use Rattle.rx_rounds.proofs.Two.{two_as}
+use Rattle.rx_rounds.proofs.OneSteps.{empty_at}
+use Rattle.rx_rounds.proofs.OneTurn.{Keeps, TurnMade, goes_further, reads_on, turn_first}
+use Rattle.rx_rounds.proofs.Rounded.{Made, RoundMade, rounds_more, settles_not}
+use Rattle.rx_rounds.proofs.Two.{AreApart, Two, host_server, out_to, polls_to, server_polls_none}
+
+module _ (x : Ends) (g : Handlers) (fits : FitsEnds x) (apart : AreApart x) (bytes : List ℕ) where
+  abbrev soft : ℕ → Bool
+  soft k = false
+
+  abbrev hard : IsHard soft
+  hard k = refl
+
+  abbrev v : Speed
+  v = record { rtt = first_rtt false; window = 2; ssthresh = 32 }
+
+  abbrev some : 0 < v.rtt.rto
+  some = omega arith
+
+  abbrev writing_all : ℕ → ℕ → Looks
+  writing_all given n = client_with x fits apart bytes [] [] given (writer_at bytes v 0 soft n)
+
+  -- what the lines before the rounds leave of the call
+  pub said_all : after_shut (after_write bytes fresh) ≡ writer_at bytes v 0 soft 0
+  said_all = refl
+
+  polls_start : (e : ℕ) (s : Stage) (q : Polled) → e ≤ total bytes → e ≤ 2 → (total bytes ≡ e) ⊎ (2 ≤ e)
+      → Two x (empty_at 0) (writing_all 0 0) [] [] s → Made polls s q
+      → (q.given ≡ burst x fits apart bytes [] [] 0 soft hard v some e 0 0) × Two x (empty_at 0)
+      (writing_all e e) [] [] q.stage
+  polls_start e s q below slow stop two made =
+      let m = polls_to x (empty_at 0) (writing_all 0 0) [] [] s q made.0 two made.1 in
+      let b = polls_burst x fits apart bytes [] [] 0 soft hard v some e 0 0 0 (empty_at 0) s m.0.stage [] m.2 refl
+      (omega arith) (omega arith) (omega arith) (omega arith)
+      (⊎_elim (λ (h : total bytes ≡ e). inl (omega arith)) (λ (h : 2 ≤ e). inr (omega arith)) stop) two m.4 in
+      let e_is : 0 + e ≡ e = omega arith in
+      let two1 : Two x (empty_at 0) (writing_all e e) [] [] m.0.stage =
+      two_as x (empty_at 0) (writing_all (0 + e) (0 + e)) (empty_at 0) (writing_all e e) [] [] m.0.stage m.0.stage
+      refl (ap (λ (i : ℕ). writing_all i i) e_is) refl b.1 in
+      let c = out_to 0 x.server m.0 q m.1 (host_server x (empty_at 0) (writing_all e e) [] [] m.0.stage two1) m.5 in
+      let d = server_polls_none x (empty_at 0) (writing_all e e) [] [] m.0.stage q.stage x.server m.0.given c.0 two1
+      refl c.2 in
+      (c.1 ∙ d.0 ∙ m.3 ∙ b.0, d.1)
+
+  -- from the start on
+  pub begins_arriving : (n : ℕ) (s t : Stage) → total bytes ≤ 32 → 2 * total bytes ≤ n
+      → Two x (empty_at 0) (writing_all 0 0) [] [] s
+      → Made (rounds g n) s t → WentFurther x g bytes t
+  begins_arriving zero s t small enough two made = absurd (omega arith)
+  begins_arriving (suc zero) s t small enough two made = absurd (omega arith)
+  begins_arriving (suc (suc n)) s t small enough two made =
+      let e : Next bytes 2 0 = next_pieces bytes 2 0 (omega arith) (omega arith) in
+      let k : ℕ = e.but_one in
+      let inside : 0 + suc k ≤ total bytes = e.within in
+      let slow : suc k ≤ 2 = e.slow in
+      let stop : (total bytes ≡ suc k) ⊎ (2 ≤ suc k) = ⊎_elim (λ (h : total bytes ≡ 0 + suc k). inl (omega arith))
+      (λ (h : 2 ≤ suc k). inr h) e.stop in
+      let r = rounds_more g (suc n) s t made.0 (any_two x (empty_at 0) (writing_all 0 0) [] [] s two) made.1 in
+      let m : RoundMade g s r.behind = r.first in
+      let q = polls_start (suc k) s m.polled (omega arith) slow stop two m.polls_are in
+      let ds : List Datagram = burst x fits apart bytes [] [] 0 soft hard v some (suc k) 0 0 in
+      let all : Made (each delivers ds) m.polled.stage
+      m.delivered = (
+        m.delivers_are.0,
+        subst
+            (λ (xs : List Datagram). each delivers xs m.polled.stage m.delivers_are.0 (To m.delivered)) q.0
+            m.delivers_are.1,
+      ) in
+      let lc : Looks = writing_all (suc k) (suc k) in
+      let d = delivers_first x fits apart bytes [] [] 0 soft hard v some k 0 lc m.polled.stage m.delivered
+      (omega arith) (omega arith) (omega arith) q.1 all in
+      let w = owes_now x fits apart bytes [] [] 0 soft hard v some k 0 0 [] None
+      (asks_end bytes 0 soft hard (header_of x) v some (0 + k) k (omega arith)
+      (⊎_elim (λ (h : total bytes ≡ suc k). inl (omega arith)) (λ (h : 2 ≤ suc k). inr h) stop)) in
+      let owed : Option Owed = owes x fits apart bytes [] [] 0 soft hard v some [] None (suc k) 0 0 in
+      let good : Keeps x g lc [] bytes 0 d.0 (suc k) owed (keeper_at bytes [] owed d.0 (suc k)) =
+      record { read = []; owed = owed; is = refl; owes = λ o1 is. is; calm = λ c. c } in
+      let turn = turn_first x g lc [] bytes 0 d.0 (suc k) owed (keeper_at bytes [] owed d.0 (suc k)) m.delivered
+      m.served good d.2 m.serves_are in
+      let still : r.behind ≡ m.called = settles_not m.called r.behind (length m.polled.given == 0)
+      (ap (λ (xs : List Datagram). length xs == 0) q.0
+      ∙ ne_eqb (length ds) 0 (λ (e1 : length ds ≡ 0). omega arith)) m.settles_are in
+      behind k n r.behind t m d.0 owed w.0 d.1 w.1 w.2 (omega arith) small enough still turn r.others stop
+    where
+      behind : (k n : ℕ) (u t : Stage) (m : RoundMade g s u) (p : ℕ) (owed : Option Owed) (serial : ℕ) → p < 2 ^ 32
+          → serial < 2 ^ 32
+          → owed ≡ at_once ACK_REQUESTED serial → suc k ≤ total bytes → total bytes ≤ 32
+          → 2 * total bytes ≤ suc (suc n) → u ≡ m.called
+          → TurnMade x g (writing_all (suc k) (suc k)) [] bytes 0 p (suc k) owed [] m.served
+          → Made (rounds g (suc n)) u t
+          → (total bytes ≡ suc k) ⊎ (2 ≤ suc k) → WentFurther x g bytes t
+      behind k n u t m p owed serial low few is inside small enough still (goes_further dd w out far same) others stop =
+          record {
+            client = writing_all (suc k) (suc k);
+            given = 0;
+            previous = p;
+            count = suc k;
+            within = inside;
+            owed = owed;
+            jobs = [];
+            served = m.served;
+            turn = record { view = dd; stage = w; out = out; far = far; then_ = same };
+            called = u;
+            calls = (
+              m.calls_are.0,
+              subst (λ (z : Stage). turns_all m.served m.calls_are.0 (To z))
+                  (sym still) m.calls_are.1,
+            );
+            left = suc n;
+            rest = others;
+          }
+      behind k n u t m p owed serial low few is inside small enough still (reads_on j request good none part two2)
+          others stop =
+          let lc : Looks = writing_all (suc k) (suc k) in
+          let shape : j ≡ keeper_at bytes good.read (at_once ACK_REQUESTED serial) p (suc k) =
+          good.is ∙ ap (λ (w : Option Owed). keeper_at bytes good.read w p (suc k))
+          (good.owes (record { reason = ACK_REQUESTED; serial = serial; rank = 0 }) is) in
+          let ls : Looks = keeping_with x g fits apart bytes request 0 soft hard v some 0
+          (keeper_at bytes good.read (at_once ACK_REQUESTED serial) p (suc k)) in
+          let js : List JobState = record (begun (the_call x)) { request = request } ∷ [] in
+          let same : m.served ≡ u = sym (still
+          ∙ no_calls x (keeping_with x g fits apart bytes request 0 soft hard v some 0 j) lc js m.served m.called
+          two2 m.calls_are) in
+          let two3 : Two x ls lc [] js u = two_as x (keeping_with x g fits apart bytes request 0 soft hard v some 0 j)
+          lc ls lc [] js m.served u (ap (keeping_with x g fits apart bytes request 0 soft hard v some 0) shape)
+          refl same two2 in
+          let nothing : unread_of (part_read bytes good.read p (suc k)) ≡ [] = ap
+          (λ (i : CallLooks). unread_of i.received) (sym shape) ∙ none in
+          let open_ : is_complete (part_read bytes good.read p (suc k)) ≡ false = ap
+          (λ (i : CallLooks). is_complete i.received) (sym shape) ∙ part in
+          let less : suc k < total bytes =
+          elim (cases_lt (suc k) (total bytes)) as (λ c. suc k < total bytes) [
+            | inl below ↦ below
+            | inr all ↦ absurd (both_ways (is_complete (part_read bytes good.read p (suc k))) open_
+                (complete_whole bytes good.read p (suc k) (omega arith) (omega arith)))
+          ] in
+          let r = rounds_more g n u t others.0 (any_two x ls lc [] js u two3) others.1 in
+          let halt : (total bytes ≤ suc k) ⊎ (2 ≤ suc k) = ⊎_elim (λ (h : total bytes ≡ suc k). inl (omega arith))
+          (λ (h : 2 ≤ suc k). inr h) stop in
+          after_ack x g fits apart bytes 0 (suc k) n (suc k) 0 p request soft hard v some r.behind t
+          (omega arith) low inside
+          (arrives x g fits apart bytes (total bytes - suc k) n (suc k) t small (omega arith) (omega arith)
+          (omega arith) less)
+          (round_ack x g fits apart bytes request 0 soft hard v some (suc k) (suc k) (suc k) 0 serial p good.read u
+          r.behind (omega arith) halt less (omega arith) low few nothing two3 r.first) r.others

@@ -1,0 +1,8 @@
+//! What fair rounds of a plan come to.
+//!
+//! `laws.rt` has the laws: a request that a plan writes arrives (`specs/Arriving.antt`).
+#![tactic(auto)]
+
+mod laws;
+
+pub use laws::plans_arrive;
