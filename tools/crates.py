@@ -15,7 +15,7 @@ PLACES = """
 .             .          .         .         .               rx_top_tests    rx             .
 .             .          .         .         .               .               rx_top         .
 .             .          .         .         .               rx_passes       rx_world       rx_words
-rx_node_bench rx_pair    rx_nodes  rx_caller .               rx_udp          rx_dispatch    rx_rounds
+rx_node_bench .          rx_nodes  rx_caller .               rx_udp          rx_dispatch    rx_rounds
 .             rx_server  rx_client .         .               rx_base         .              rx_plan
 .             rx_books   .         .         .               .               .              .
 .             rx_node    .         rx_token  rx_jumbo        .               rx_jobs        .
@@ -32,7 +32,7 @@ WINGS = [("the program", "#fdeee0", 5, 7, 6, 12), ("the protocol", "#e8f0fb", 0,
 FLOORS = ["what is said", "rules, bytes", "laws, rates, slots", "windows, moments", "one end of a call",
           "ends, connections", "what both nodes share", "what is due", "the two nodes", "around the nodes", "runs, passes",
           "the commands", "what runs"]
-ASIDE = {"rx_examples", "rx_pair", "rx_top_tests", "rx_script_tests"}
+ASIDE = {"rx_examples", "rx_top_tests", "rx_script_tests"}
 SAID = "rx_model"
 LEGEND = ["A line leads down to a crate that is used, unless another", "one that is used stands on it.",
           "A dot: it uses rx_model, which stands in another wing.", "A broken box: it shows, tests or measures."]
