@@ -3,6 +3,7 @@ ghost use Rattle.rx_model.specs.Body.{Body};
 ghost use Rattle.rx_model.specs.Message.{has_flag};
 ghost use Rattle.rx_packet.specs.Seen.{message_with_head};
 ghost use Rattle.rx_rules.specs.Owing.{at_once, delayed, owed_for, owed_for_kept, owed_for_ack};
+ghost use Rattle.rx_rules.specs.Owing.{owed_for_done};
 ghost use Rattle.rx_call.specs.Standing.{owed_of};
 
 use rx_model::Took;
@@ -110,6 +111,18 @@ pub fn owe_for(
         Took::Foreign => owed,
         Took::Bad(_) => owed,
     }
+}
+
+/// What is owed behind a read behind which more packets are done with, where `several` stood kept at a prompt node or
+/// didn't.
+pub fn owe_for_done(now: u64, several: bool, owed: Option<OwedAck>) -> Option<OwedAck>
+    requires { now < 2 ^ 62 }
+    ensures { owed_of result ≡ owed_for_done now several (owed_of owed) }
+{
+    if several {
+        return owe_now(ACK_DELAY, 0);
+    }
+    owe_later(now, 0, owed)
 }
 
 /// What is owed behind an ACK with this reason: a ping is answered.

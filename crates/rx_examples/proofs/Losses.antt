@@ -7,8 +7,8 @@ use Rattle.rx_model.specs.Body.{AckBody}
 use Rattle.rx_model.specs.Body as bodies
 use Rattle.rx_model.specs.Message.{Message}
 use Rattle.rx_rules.specs.CallItems.{Sending, Piece, after_sending, next_sending}
-use Rattle.rx_rules.specs.CallLooks.{CallLooks, NodeView, after_ack_given, after_taken, call_row, fresh_call}
-use Rattle.rx_rules.specs.CallLooks.{is_delivered}
+use Rattle.rx_rules.specs.CallLooks.{CallLooks, NodeView, after_ack_given, after_read, after_taken, call_row}
+use Rattle.rx_rules.specs.CallLooks.{fresh_call, is_delivered}
 
 -- ---- one end of a call
 
@@ -260,6 +260,24 @@ hole_filled = refl
 
 hole_filled_unprompted : (filled false).owed_ack ≡ Some (record { reason = ACK_DELAY; serial = 1; rank = 150 })
 hole_filled_unprompted = refl
+
+-- what it told is read, a byte at moment 60
+abbrev read_first : Bool → CallLooks
+read_first prompt = after_read 60 false (97 ∷ []) (after_ack_given 50 (filled prompt))
+
+-- two packets stood kept: a prompt node acknowledges that the first is done with at once, any other 100 ms later
+several_read : (read_first true).owed_ack ≡ Some (record { reason = ACK_DELAY; serial = 0; rank = 0 })
+several_read = refl
+
+several_read_unprompted : (read_first false).owed_ack ≡ Some (record { reason = ACK_DELAY; serial = 0; rank = 160 })
+several_read_unprompted = refl
+
+-- the second stands alone then, and is acknowledged later by both
+abbrev read_second : CallLooks
+read_second = after_read 70 false (97 ∷ []) (after_ack_given 60 (read_first true))
+
+one_read : read_second.owed_ack ≡ Some (record { reason = ACK_DELAY; serial = 0; rank = 170 })
+one_read = refl
 
 -- two pieces are given, and both are marked
 abbrev marked : Bool → CallLooks

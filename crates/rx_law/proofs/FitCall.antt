@@ -14,7 +14,7 @@ use Rattle.rx_rules.specs.CallLooks.{CallLooks, NodeView, after_body, after_chun
 use Rattle.rx_rules.specs.CallLooks.{after_write, fresh_call, packet_of}
 use Rattle.rx_rules.specs.Life.{Life}
 use Rattle.rx_rules.specs.Looks.{CallRecord}
-use Rattle.rx_rules.specs.Received.{front_of, has_hole, used_of}
+use Rattle.rx_rules.specs.Received.{front_of, has_hole, has_several, used_of}
 use Rattle.rx_rules.specs.Received as packets
 use Rattle.rx_law.proofs.Calls.{body-ends, found-ends}
 use Rattle.rx_law.proofs.Ends.{Ends}
@@ -125,7 +125,7 @@ read_fits now end bytes k f =
     record {
       received = reads_fit end bytes k.looks.received f.received;
       owed =
-          read_owed_fits now (used_of k.looks.received)
+          read_owed_fits now (k.looks.cwnd.prompt && has_several k.looks.received) (used_of k.looks.received)
           (used_of (packets.after_read end bytes k.looks.received)) k.looks.owed_ack f.owed;
       said = f.said;
       life = f.life;

@@ -13,7 +13,7 @@ use Rattle.rx_rules.specs.Life.{Life, after_accept, after_acks, after_cancel, af
 use Rattle.rx_rules.specs.Life.{after_gone, after_later}
 use Rattle.rx_rules.specs.Life.{after_silence}
 use Rattle.rx_rules.specs.Life as lives
-use Rattle.rx_rules.specs.Owing.{Owed, at_once, delayed, owed_for, owed_for_ack, owed_for_read}
+use Rattle.rx_rules.specs.Owing.{Owed, at_once, delayed, owed_for, owed_for_ack, owed_for_done, owed_for_read}
 use Rattle.rx_rules.specs.Received.{Packet, Received, after_packet, after_read, greatest, is_no_seq, nothing_received}
 use Rattle.rx_rules.specs.Received.{packet_at, used_of}
 use Rattle.rx_model.proofs.NameLaws.{neither}
@@ -120,9 +120,12 @@ pinged_fits reason serial o low f =
     if-owed (reason == ACK_PING) (at_once 7 serial) o (once-fits 7 serial (omega arith) (omega arith) low) f
 
 -- more was read
-pub read_owed_fits : (now before after : ℕ) (o : Option Owed) → OwedFits o → OwedFits (owed_for_read now before after o)
-read_owed_fits now before after o f =
-    if-owed (nat_lt before after) (delayed now 0 o) o (delayed-fits now 0 o (omega arith) f) f
+pub read_owed_fits : (now : ℕ) (several : Bool) (before after : ℕ) (o : Option Owed) → OwedFits o
+    → OwedFits (owed_for_read now several before after o)
+read_owed_fits now several before after o f =
+    if-owed (nat_lt before after) (owed_for_done now several o) o
+    (if-owed several (at_once 8 0) (delayed now 0 o) (once-fits 8 0 (omega arith) (omega arith) (omega arith))
+    (delayed-fits now 0 o (omega arith) f)) f
 
 -- ---- the code that a life has
 

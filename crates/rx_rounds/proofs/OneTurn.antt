@@ -49,7 +49,7 @@ module _ (x : Ends) (g : Handlers) (lc : Looks) (cs : List InvokedState) (bytes 
       let s = part_read bytes (h.read ++ more) p n in
       record {
         read = h.read ++ more;
-        owed = owed_for_read 0 (used_of r) (used_of s) h.owed;
+        owed = owed_for_read 0 false (used_of r) (used_of s) h.owed;
         is = ap (after_read 0 false more) h.is;
         owes = λ o is. stays (nat_lt (used_of r) (used_of s)) o (h.owes o is);
         calm = λ was. still (nat_lt (used_of r) (used_of s)) h.owed (h.calm was);
