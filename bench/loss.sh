@@ -12,8 +12,9 @@
 # Set in the environment: RX, the program, or else that of the gate or of ./rx; LIMIT, the seconds that a run may take;
 # REPEATED and HELD, how many of a hundred; PAIRS, some of the pairs of ends `oo os co cs`, o being OpenAFS, c `rx call`
 # and s `rx serve`; CALL_WORDS and SERVE_WORDS, more options of these; RUNS_TO, a file that a line of each run is added
-# to: the ends, the direction, the cell, its number and the milliseconds.
-# Wants cc, Debian's libopenafs-dev, the ports 7930 and 7931 of 127.0.0.1, and processors that have nothing else to do.
+# to: the ends, the direction, the cell, its number and the milliseconds; PORT, the first of two ports of 127.0.0.1
+# (7930), so that runs can go side by side.
+# Wants cc, Debian's libopenafs-dev, and processors that have nothing else to do.
 set -u
 top=$(cd "$(dirname "$0")/.." && pwd)
 work=$(mktemp -d)
@@ -24,6 +25,7 @@ trap 'exit 1' INT TERM
 RX=$(program ${RX:+"$RX"})
 BYTES=${1:-16777216} RUNS=${2:-3} LIMIT=${LIMIT:-60} REPEATED=${REPEATED:-1} HELD=${HELD:-1}
 PAIRS=${PAIRS:-oo os co cs} CALL_WORDS=${CALL_WORDS:-} SERVE_WORDS=${SERVE_WORDS:-} RUNS_TO=${RUNS_TO:-$work/all}
+PORT=${PORT:-7930}
 cells=("${@:3}")
 [ "${#cells[@]}" -gt 0 ] || cells=({0,0.1,1,3,10}:{0,2,20})
 client=$work/peers/client xg=$top/interop/peer.xg
@@ -33,8 +35,8 @@ declare -A ends=([oo]='OpenAFS, OpenAFS' [os]='OpenAFS, rx serve' [co]='rx call,
 start_server() {
     # shellcheck disable=SC2086
     case $1 in
-        ?o) start_ready server "$work/peers/server" 7931 ;;
-        ?s) serve server "$xg" "$work/script" 127.0.0.1:7931 60 $SERVE_WORDS ;;
+        ?o) start_ready server "$work/peers/server" "$((PORT + 1))" ;;
+        ?s) serve server "$xg" "$work/script" 127.0.0.1:$((PORT + 1)) 60 $SERVE_WORDS ;;
     esac
 }
 
@@ -42,19 +44,20 @@ start_server() {
 client_words() {
     local work_words
     case $1$2 in
-        o?*) words=("$client" 7930 60 "$2" "$BYTES") && return ;;
+        o?*) words=("$client" "$PORT" 60 "$2" "$BYTES") && return ;;
         c?up) work_words=(Up '[7]' --up "$work/bytes") ;;
         c?down) work_words=(Down "[$BYTES]" --down yes) ;;
     esac
     # shellcheck disable=SC2206
-    words=("$RX" call "$xg" "${work_words[@]:0:2}" --to 127.0.0.1:7930 --service 60 --epoch "$(epoch)"
+    words=("$RX" call "$xg" "${work_words[@]:0:2}" --to "127.0.0.1:$PORT" --service 60 --epoch "$(epoch)"
         --turns 1000000000 "${work_words[@]:2}" $CALL_WORDS)
 }
 
 # run PAIR WAY LOST DELAY SEED: one stream. Sets `took` to its milliseconds, or to more than all where it has none.
 run() {
     local words begin end status=0
-    start_server "$1" && start_ready proxy "$work/peers/proxy" 7930 7931 "$5" "$3" "$REPEATED" "$HELD" "$4" || exit
+    start_server "$1" || exit
+    start_ready proxy "$work/peers/proxy" "$PORT" "$((PORT + 1))" "$5" "$3" "$REPEATED" "$HELD" "$4" || exit
     client_words "$1" "$2"
     begin=$(date +%s%N)
     timeout "$LIMIT" "${words[@]}" >"$work/said" 2>&1 </dev/null || status=$?
