@@ -22,7 +22,7 @@ use Rattle.rx_plan.specs.Answering.{AreDriven, IsDriven, invoked_at, invoked_by}
 use Rattle.rx_plan.specs.Follows.{Goes, Progress, Went, Whole, adds, all, begins, begun, client_node, cut, goes_from}
 use Rattle.rx_plan.specs.Follows.{endless, has_room, made_node, next, next_part, plan_goes, refused, server_node}
 use Rattle.rx_plan.specs.Lines.{IsWell, TakesArguments, bytes_of, line_part}
-use Rattle.rx_plan.specs.Parts.{To, Refused, Cut, Then, ends}
+use Rattle.rx_plan.specs.Parts.{Came, To, Refused, Cut, Then, ends}
 use Rattle.rx_plan.specs.Stages.{Stage}
 use Rattle.rx_plan.proofs.Allowed.{AreAllowed}
 use Rattle.rx_plan.proofs.Driven.{LineAsks, line_leads, seen}
@@ -141,7 +141,7 @@ module _ (g : Handlers) (ls : List Numbered) where
       → Leads (IsNext p) (next_part g line p)
   next_leads (lines.Client host epoch limits key) p driven asks i es q made = of made.1
     where
-      of : (To q ≡ made_node p (adds p.late (client_node host epoch limits key) p.stage)) ⊎ (To q ≡ Cut)
+      of : (To q ≡ made_node p (adds p.late (client_node host epoch limits key) p.stage)) ⊎ (◌≡◌ {A = Came Progress} (To q) Cut)
           → IsNext p q
       of (inl is) = client_next (client_node host epoch limits key) p q i is
       of (inr none) = absurd cc

@@ -27,7 +27,7 @@ Leads {A} P part = (es : List Noted) (a : A) → part es (To a) → P a
 pub ends_lead : {A : Type 0} (P : A → Type 0) (came : Came A) → IfTo P came → Leads P (ends came)
 ends_lead {A} P came so es a made = of made.1
   where
-    of : (To a ≡ came) ⊎ (To a ≡ Cut) → P a
+    of : (◌≡◌ {A = Came A} (To a) came) ⊎ (◌≡◌ {A = Came A} (To a) Cut) → P a
     of (inl same) = subst (IfTo P) (sym same) so
     of (inr cut) = absurd cc
 

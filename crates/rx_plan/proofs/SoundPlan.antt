@@ -219,7 +219,7 @@ module _ (Honest : Type 0) where
   -- one line that makes a client, and those behind it
   client_goes : (n s : Node) (cs behind_it : List Node) (p q : Progress) (es more : List Noted) (went : Went)
       → Fresh s cs p → IsClientAt n.host n.setup.kind → (FitsLimits n.setup.limits → FitsSetup n.setup)
-      → (es ≡ []) × ((To q ≡ made_node p (adds p.late n p.stage)) ⊎ (To q ≡ Cut))
+      → (es ≡ []) × ((To q ≡ made_node p (adds p.late n p.stage)) ⊎ (◌≡◌ {A = Came Progress} (To q) Cut))
       → ((ds : List Node) → Fresh s ds q → Kept (s ∷ (ds ++ behind_it)) more went)
       → Kept (s ∷ (cs ++ n ∷ behind_it)) (es ++ more) went
   client_goes n s cs behind_it p q es more went f at fits (none, inr same) again = absurd cc

@@ -18,6 +18,7 @@ use Rattle.rx_rules.specs.Classes.{Class}
 use Rattle.rx_wire.specs.Turns.{Program}
 use Rattle.rx_world.specs.Done.{KeepsDone, LeavesOut, StaysDone, has_both, is_done_at, is_done_if, leaves, no_more}
 use Rattle.rx_plan.specs.Network.{below}
+use Rattle.rx_script.specs.declared.outcome.PlanWhy.{PlanWhy}
 use Rattle.rx_plan.specs.Parts.{Came, Cut, Endless, Part, Refused, To, by_test, each, ends, goes_on}
 use Rattle.rx_plan.specs.Programs.{Turn, cut_there, goes, is_endless, is_over}
 use Rattle.rx_plan.specs.Stages.{InvokedState, Stage, is_client}
@@ -145,11 +146,11 @@ rests_for node place s is = by (is_of node (slice_get s.callers place))
 -- ---- turns keep those that are done
 
 -- nothing made comes to the same
-ends_same : (s t : Stage) (es : List Noted) → ends (To s) es (To t) → t ≡ s
+ends_same : (s t : Stage) (es : List Noted) → ends {Why = PlanWhy} (To s) es (To t) → t ≡ s
 ends_same s t es (none, inl same) = cc (same)
 ends_same s t es (none, inr same) = absurd cc
 
-rest_keeps : (s t : Stage) (es : List Noted) → ends (To s) es (To t) → KeepsDone s.callers t.callers
+rest_keeps : (s t : Stage) (es : List Noted) → ends {Why = PlanWhy} (To s) es (To t) → KeepsDone s.callers t.callers
 rest_keeps s t es rests p is =
     subst (λ (u : Stage). is_done_at u.callers p ≡ true) (sym (ends_same s t es rests)) is
 

@@ -5,9 +5,9 @@ use Rattle.rx_world.specs.declared.stop.Stop.{Stop}
 use Rattle.rx_plan.specs.Parts.{Came, To, Refused, Cut, Endless, Part, Then, each, ends}
 use Rattle.rx_world.specs.Ran.{Fits, Ran, fits_to}
 use Rattle.rx_plan.specs.Parts.{goes_on}
-use Rattle.rx_world.specs.Tells.{Gains, Told, gains_none}
+use Rattle.rx_world.specs.Tells.{Gains, Told, gains_none, plan_telling}
 use Rattle.rx_world.proofs.Running.{both, ran_stops, ran_then, ran_to}
-use Rattle.rx_world.proofs.Telling.{Split, split}
+use Rattle.rx_run.proofs.Telling.{Split, split}
 
 -- a part alone is one with nothing behind it
 pub ran_last : {A : Type 0} (part : Part A) (shows : A → Type 0) (stop : Option Stop) (a b : Told)
@@ -70,7 +70,7 @@ each_then {A} {X} part xs more s shows after stop a b c r next = of xs s a (whol
         → ((m : A) (at : Told) → Whole (each part ys m) shows at b → Ran (each part (ys ++ more) m) after stop at c)
         → Ran (Then (part y s) (each part (ys ++ more))) after stop a c
     behind y ys s a es (To m) made rest t goes there told onward =
-        (let parts : Split a b es rest = split a b es rest told in
+        (let parts : Split plan_telling a b es rest = split a b es rest told in
         both (part y s) (each part (ys ++ more)) after stop a parts.between c es m made parts.first
         (onward m parts.between (record { events = rest; to = t; made = goes; there = there; told = parts.then_rest })))
     behind y ys s a es (Refused why) made rest t (none, inl same) there told onward = elim (is_to t (Refused why) same) [ ]
@@ -81,7 +81,7 @@ each_then {A} {X} part xs more s shows after stop a b c r next = of xs s a (whol
     behind y ys s a es Endless made rest t (none, inr same) there told onward = elim (is_to t Cut same) [ ]
 
     -- behind none
-    first : (s : A) (a : Told) (es : List Noted) (t : A) → es ≡ [] → (To t ≡ To s) ⊎ (To t ≡ Cut)
+    first : (s : A) (a : Told) (es : List Noted) (t : A) → es ≡ [] → (◌≡◌ {A = Came A} (To t) (To s)) ⊎ (◌≡◌ {A = Came A} (To t) Cut)
         → shows t → Gains a b es → Ran (each part more s) after stop a c
     first s a es t none (inr same) there told = elim (is_to t Cut same) [ ]
     first s a es t none (inl same) there told =

@@ -29,7 +29,6 @@ pub mod RunKeeps
 pub mod Running
 pub mod Serving
 pub mod Stepping
-pub mod Telling
 pub mod ToldEvents
 pub mod Turning
 pub mod TurnsMade

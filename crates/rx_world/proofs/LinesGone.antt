@@ -27,7 +27,7 @@ use Rattle.rx_world.specs.declared.runs.Running.{Running}
 use Rattle.rx_world.specs.declared.stop.Stop.{Stop}
 use Rattle.rx_world.proofs.Each as eachs
 use Rattle.rx_world.proofs.Running.{ran_stops, ran_then, ran_to}
-use Rattle.rx_world.proofs.Telling.{fails_behind, gains_both, wants_behind}
+use Rattle.rx_run.proofs.Telling.{fails_behind, gains_both, wants_behind}
 
 -- lines that were made whole: with what goes behind them they go so, and what they came to is shown
 pub record Behind (g : Handlers) (ls : List Numbered) (p : Progress) (shows : Progress → Type 0) (a b : Told)

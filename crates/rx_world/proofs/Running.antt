@@ -12,7 +12,7 @@ use Rattle.rx_world.specs.Ran.{fits_endless, fits_to, fits_refused, fits_wants, 
 use Rattle.rx_plan.specs.Parts.{makes, not_made}
 use Rattle.rx_world.specs.Tells.{Gains, IsTold, Told, fails_last, gains_none, gains_one}
 use Rattle.rx_world.specs.Tells.{wants_last, wants_more}
-use Rattle.rx_world.proofs.Telling.{fails_behind, gains_both, wants_behind}
+use Rattle.rx_run.proofs.Telling.{fails_behind, gains_both, wants_behind}
 
 -- ---- nothing was made
 

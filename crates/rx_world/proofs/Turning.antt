@@ -12,7 +12,7 @@ use Rattle.rx_world.specs.Ran.{Ran, fits_endless, fits_fails, fits_to, fits_want
 use Rattle.rx_plan.specs.Programs.{Turn, cut_there, goes, is_endless, is_over}
 use Rattle.rx_plan.specs.Stages.{IsAllowedNext, Stage, with_event}
 use Rattle.rx_world.specs.Tells.{Gains, GainsOne, IsTold, Told, fails_last, gains_none, gains_one, wants_last}
-use Rattle.rx_world.proofs.Telling.{fails_behind, gains_both, wants_behind, wants_then}
+use Rattle.rx_run.proofs.Telling.{fails_behind, gains_both, wants_behind, wants_then}
 
 -- events of a turn that goes on: from what was known at one stage to what is known at another
 pub data Onto {View Ask : Type 0} (p : Program View Ask) (node : ℕ)
