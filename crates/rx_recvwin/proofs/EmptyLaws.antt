@@ -1,7 +1,7 @@
 -- A window with nothing in its places.
 use Rattle.std.proofs.Common.{◌≡◌, ◌≤◌, is_some, map, replicate}
 use Rattle.std.proofs.Common.{false, ℕ, suc, zero, List, [], ◌∷◌, length, Option}
-use Rattle.std.proofs.Common.{None, refl, sym, ap, ◌∙◌, arith}
+use Rattle.std.proofs.Common.{None, Some, refl, sym, ap, ◌∙◌, arith}
 use Rattle.std.proofs.lemmas.Bool.{false≢true}
 use Rattle.std.proofs.lemmas.List.{length-replicate}
 use Rattle.rx_model.specs.declared.wire.TheConstants.{MIN_WINDOW, MAX_WINDOW}
@@ -25,6 +25,12 @@ leading_none X (suc n) = refl
 pub count_none : (X : Type 0) (n : ℕ) → count_in {X = X} (replicate n None) ≡ 0
 count_none X zero = refl
 count_none X (suc n) = count_none X n
+
+-- none of which is taken
+pub none_taken : {X : Type 0} (ps : List (Option X)) → count_in ps ≡ 0 → ps ≡ replicate (length ps) None
+none_taken [] none = refl
+none_taken (None ∷ ps) none = ap (λ (qs : List (Option _)). None ∷ qs) (none_taken ps none)
+none_taken (Some p ∷ ps) taken = absurd (omega (arith, taken))
 
 pub slots_none : (n : ℕ) → slots_in (replicate n None) ≡ []
 slots_none zero = refl

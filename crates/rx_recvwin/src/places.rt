@@ -1,7 +1,7 @@
 ghost use Rattle.std.specs.Prelude.{◌≡◌, ◌≤◌, ◌<◌, if◌then◌else◌, length, drop, replicate, [], ◌∷◌, ◌++◌, Some, None};
 ghost use Rattle.std.specs.VecDeque.{deque_len, deque_capacity};
 ghost use Rattle.rx_pool.specs.Held.{Holds, Keeps};
-ghost use Rattle.rx_recvwin.specs.Places.{leading, slots_in};
+ghost use Rattle.rx_recvwin.specs.Places.{count_in, leading, slots_in};
 
 use crate::packet::KeptPacket;
 use rx_pool::Pool;
@@ -36,15 +36,19 @@ pub fn turn(places: &mut VecDeque<Option<KeptPacket>>, pool: &mut Pool)
     }
 }
 
-/// Every place is freed.
-pub fn free_all(places: &mut VecDeque<Option<KeptPacket>>, pool: &mut Pool)
+/// Every place is freed, of which so many are taken.
+pub fn free_all(places: &mut VecDeque<Option<KeptPacket>>, held: u32, pool: &mut Pool)
     requires holds { Holds pool.old (slots_in places.old.items) }
+    requires held { held ≡ count_in places.old.items }
     ensures freed { places.new.items ≡ replicate (deque_len places.old) None }
     ensures len { deque_len places.new ≡ deque_len places.old }
     ensures capacity { deque_capacity places.new ≡ deque_capacity places.old }
     ensures bytes { pool.new.bytes ≡ pool.old.bytes }
     ensures keeps { Keeps pool.old pool.new (slots_in places.old.items) (slots_in places.new.items) }
 {
+    if held == 0 {
+        return;
+    }
     for _ in 0..places.len() {
         turn(places, pool);
     }

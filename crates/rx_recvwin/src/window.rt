@@ -202,7 +202,7 @@ impl RecvWin {
         ensures keeps { Keeps pool.old pool.new (packet_slots self.old) (packet_slots self.new) }
         ensures width { self.new.width ≡ self.old.width }
     {
-        free_all(&mut self.places, pool);
+        free_all(&mut self.places, self.held, pool);
         self.used = 0;
         self.offset = 0;
         self.front = 0;
