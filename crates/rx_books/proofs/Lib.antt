@@ -9,3 +9,4 @@ pub mod PollSteps
 pub mod PollLeaves
 pub mod Polled
 pub mod SilentCalls
+pub mod Costs

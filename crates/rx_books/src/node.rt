@@ -11,6 +11,7 @@ ghost use Rattle.rx_rules.specs.Items.{deaths, due as rules_due, items};
 ghost use Rattle.rx_rules.specs.Least.{least_by};
 ghost use Rattle.rx_node.specs.Due.{AreDueAs, CanGive, lesser_of, unsilenced};
 ghost use Rattle.rx_model.specs.declared.event.Event.TheVariants as events;
+ghost use Rattle.rx_books.specs.Costs.{AtMostForPoll};
 
 use crate::books::Books;
 use crate::silence::end_silent;
@@ -80,6 +81,7 @@ impl<C: Class> Node<C> {
         ensures dimmed { (l : Looks) → Mirrors C.class_of self.old l → Dimmed C.class_of self.new l }
         ensures rest { drop (given_count result) to.new ≡ drop (given_count result) to.old }
         ensures same { KeepsNode self.old self.new }
+        ensures steps { (l : Looks) → Mirrors C.class_of self.old l → AtMostForPoll l steps.old steps.new }
     {
         end_silent(&mut self.core, &mut self.books, steps);
         let _limits = self.core.limits();

@@ -1,7 +1,12 @@
+ghost use Rattle.std.specs.Prelude.{◌+◌, ◌*◌, ◌^◌, ◌<◌, ℕ, length};
+ghost use Rattle.rx_due.specs.Cost.{AtMost};
+ghost use Rattle.rx_rules.specs.Looks.{Looks};
 ghost use Rattle.rx_rules.specs.Records.{silenced};
-ghost use Rattle.rx_node.specs.Mirrors.{StepsNode};
+ghost use Rattle.rx_node.specs.Mirrors.{Mirrors, StepsNode};
 ghost use Rattle.rx_node.specs.Node.{KeepsNode};
 ghost use Rattle.rx_books.specs.Books.{IsBooked};
+ghost use Rattle.rx_books.specs.Costs.{silent_count};
+ghost use Rattle.rx_table.specs.declared.seat.TheConstants.{CHANNELS};
 
 use crate::books::Books;
 use rx_class::Class;
@@ -15,6 +20,9 @@ pub fn end_silent<C: Class, L: Ledger>(core: &mut Core<C>, books: &mut Books, st
     ensures silenced { StepsNode C.class_of core.old core.new silenced }
     ensures booked { IsBooked core.new books.new }
     ensures same { KeepsNode core.old core.new }
+    ensures steps { (l : Looks) (d : ℕ) → Mirrors C.class_of core.old l →
+        2 * (CHANNELS * length l.conns) + 1 < 2 ^ (d + 1) →
+        AtMost (silent_count l * (16 * d + 21) + 1) steps.old steps.new }
 {
     'silent: while let Some(key) = books.silent(core.moment(), steps) {
         core.silence_on(key, steps);

@@ -1,10 +1,11 @@
-use Rattle.std.proofs.Common.{◌≡◌, ◌<◌, ◌*◌, ◌∙◌, ℕ, Option, ap, arith, refl, subst, sym, None, Some}
+use Rattle.std.proofs.Common.{◌≡◌, ◌<◌, ◌*◌, ◌∙◌, ℕ, Option, ap, arith, length, refl, subst, sym, None, Some}
 use Rattle.std.specs.Prelude.{slice_set}
 use Rattle.rx_due.specs.Book.{entries_of}
 use Rattle.rx_model.specs.declared.names.Limits.{Limits}
 use Rattle.rx_node.specs.Moments.{silence_at}
 use Rattle.rx_node.proofs.KeptKeys.{kept_both, kept_key}
 use Rattle.rx_books.proofs.ChannelMoments.{silence_key}
+use Rattle.rx_books.proofs.Costs.{noted_cost}
 use Rattle.rx_books.proofs.Noted.{one_fewer}
 use Rattle.rx_books.proofs.Rebooked.{rebooked}
 use Rattle.rx_books.proofs.SilentCalls.{ending_done, ending_next}
@@ -14,7 +15,7 @@ pub silent-init : goal.silent-init
 silent-init g c =
     record {
       booked = c.requires;
-      ending = λ l m. record { behind = l; mirrors = m; same = refl };
+      ending = λ l m. record { behind = l; mirrors = m; same = refl; paid = λ d power. (omega arith, omega arith) };
       same = record { kind = refl; limits = refl; prompt = refl; secret = refl; moment = refl; names = refl };
     }
 
@@ -41,17 +42,31 @@ refresh-requires-clause-silences g c =
 
 pub silent-preserved : goal.silent-preserved
 silent-preserved g c =
+    let class = g.C.Class.class_of in
+    let n = c.silent.core in
+    let z = c.silence_on.new.self in
     let key = c.in-Some.key in
     let silent = c.in-Some.ensures.silent in
     let was = c.silent.invariant in
-    let its = silence_key c.silent.core key silent.moment (sym (was.booked.each key).silence ∙ silent.there) in
+    let dies : silence_at n key ≡ Some silent.moment = sym (was.booked.each key).silence ∙ silent.there in
+    let booked = rebooked n z c.silent.books was.booked c.silence_on.ensures.same.limits c.refresh.new.self key
+    c.silence_on.ensures.others c.refresh.ensures.noted c.refresh.ensures.keeps in
+    let look = c.in-Some.ensures.steps in
+    let ends = c.silence_on.ensures.steps_taken in
+    let notes = noted_cost n z c.silent.books c.refresh.new.self (length n.table.conns) refl c.silence_on.ensures.same
+    was.booked booked c.silence_on.new.steps c.refresh.new.steps c.refresh.ensures.steps in
     record {
-      booked = rebooked c.silent.core c.silence_on.new.self c.silent.books was.booked
-          c.silence_on.ensures.same.limits c.refresh.new.self key c.silence_on.ensures.others c.refresh.ensures.noted
-          c.refresh.ensures.keeps;
-      ending = λ m mirrors. ending_next g.C.Class.class_of c.silent.core m c.silence_on.new.self key its
-          c.silence_on.ensures.silenced (was.ending m mirrors);
-      same = kept_both c.args.core.now c.silent.core c.silence_on.new.self was.same c.silence_on.ensures.same;
+      booked = booked;
+      ending = λ m mirrors. ending_next class n m z key silent.moment c.args.steps.now c.silent.steps c.refresh.new.steps dies
+          (let now = c.moment.ensures in let low = silent.passed in omega (arith, now, low))
+          c.silence_on.ensures.silenced (was.ending m mirrors)
+          (λ d power. (
+          let all = notes d power in
+          record {
+            grows = omega (arith, look.grows, ends.grows, all.grows);
+            most = omega (arith, look.most, ends.most, all.most);
+          }));
+      same = kept_both c.args.core.now n z was.same c.silence_on.ensures.same;
     }
 
 pub silent-smaller : goal.silent-smaller
@@ -74,4 +89,11 @@ pub returns-clause-silenced : goal.returns-clause-silenced
 returns-clause-silenced g c =
     λ l m. ending_done g.C.Class.class_of c.silent.core l c.silent.books c.silent.invariant.booked
     (λ key moment is. subst (λ (t : ℕ). t < moment) c.moment.ensures (c.in_default.ensures.none refl key moment is))
-    (c.silent.invariant.ending l m)
+    c.args.steps.now c.silent.steps (c.silent.invariant.ending l m)
+
+pub returns-clause-steps : goal.returns-clause-steps
+returns-clause-steps g c =
+    λ l d m power. (
+    let paid = (c.silent.invariant.ending l m).paid d power in
+    let look = c.in_default.ensures.steps in
+    record { grows = omega (arith, paid.0, look.grows); most = omega (arith, paid.1, look.most) })

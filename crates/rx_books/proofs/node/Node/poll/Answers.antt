@@ -1,7 +1,8 @@
-use Rattle.std.proofs.Common.{arith, refl, subst, take}
+use Rattle.std.proofs.Common.{◌≡◌, ◌∙◌, ap, arith, length, refl, subst, sym, take}
 use Rattle.rx_rules.specs.Records.{silenced}
-use Rattle.rx_node.specs.Mirrors.{StepsNode}
+use Rattle.rx_node.specs.Mirrors.{Mirrors, StepsNode}
 use Rattle.rx_node.specs.Node.{KeepsNode, NodeState}
+use Rattle.rx_books.proofs.Costs.{kept_conns, noted_cost, poll_cost}
 use Rattle.rx_books.proofs.Polled.{item_dimmed, item_polled, later_polled, nothing_dimmed, nothing_polled, stray_polled}
 use Rattle.rx_books.proofs.Rebooked.{booked_strays, rebooked}
 use Rattle.rx_books.proofs.node.Node.poll.Goals as goal
@@ -96,3 +97,51 @@ invariant_of-self-3 g c =
     c.end_silent.ensures.booked)
     c.give-given.ensures.same.limits c.refresh.new.self c.in_ok-due.due.key c.give-given.ensures.others
     c.refresh.ensures.noted c.refresh.ensures.keeps
+
+pub returns-in-Some-clause-steps : goal.returns-in-Some-clause-steps
+returns-in-Some-clause-steps g c =
+    let class = g.C.Class.class_of in
+    λ l m. poll_cost l c.args.steps.now c.end_silent.new.steps c.end_silent.new.steps
+    (λ d power. c.end_silent.ensures.steps l d (subst (λ (o : NodeState). Mirrors class o l) (sym c.self.view_is) m) power)
+    (λ d power. record { grows = omega arith; most = omega arith })
+
+pub returns-in_err-due-clause-steps : goal.returns-in_err-due-clause-steps
+returns-in_err-due-clause-steps g c =
+    let class = g.C.Class.class_of in
+    λ l m. poll_cost l c.args.steps.now c.end_silent.new.steps c.least_due.new.steps
+    (λ d power. c.end_silent.ensures.steps l d (subst (λ (o : NodeState). Mirrors class o l) (sym c.self.view_is) m) power)
+    (let least = c.in_err-due.ensures.steps in
+    λ d power. record { grows = omega (arith, least.grows); most = omega (arith, least.most) })
+
+pub returns-then-due-moment-clause-steps : goal.returns-then-due-moment-clause-steps
+returns-then-due-moment-clause-steps g c =
+    let class = g.C.Class.class_of in
+    λ l m. poll_cost l c.args.steps.now c.end_silent.new.steps c.least_due.new.steps
+    (λ d power. c.end_silent.ensures.steps l d (subst (λ (o : NodeState). Mirrors class o l) (sym c.self.view_is) m) power)
+    (let least = c.in_ok-due.ensures.steps in
+    λ d power. record { grows = omega (arith, least.grows); most = omega (arith, least.most) })
+
+pub returns-clause-steps : goal.returns-clause-steps
+returns-clause-steps g c =
+    let class = g.C.Class.class_of in
+    λ l m. poll_cost l c.args.steps.now c.end_silent.new.steps c.refresh.new.steps
+    (λ d power. c.end_silent.ensures.steps l d (subst (λ (o : NodeState). Mirrors class o l) (sym c.self.view_is) m) power)
+    (let n = c.give_stray.new.self in
+    let z = c.give-given.new.self in
+    let books = c.end_silent.new.books in
+    let booked = booked_strays c.end_silent.new.core n _ books c.give_stray.ensures.updates c.end_silent.ensures.booked in
+    let conns : length n.table.conns ≡ length l.conns = ap (λ (o : NodeState). length o.table.conns) c.give_stray.ensures.updates
+    ∙ kept_conns c.self.inside.core c.end_silent.new.core c.end_silent.ensures.same
+    ∙ ap (λ (o : NodeState). length o.table.conns) c.self.view_is ∙ m.conns.conns in
+    let notes = noted_cost n z books c.refresh.new.self (length l.conns) conns c.give-given.ensures.same booked
+    (rebooked n z books booked c.give-given.ensures.same.limits c.refresh.new.self c.in_ok-due.due.key
+    c.give-given.ensures.others c.refresh.ensures.noted c.refresh.ensures.keeps)
+    c.give-given.new.steps c.refresh.new.steps c.refresh.ensures.steps in
+    let least = c.in_ok-due.ensures.steps in
+    let gives = c.give-given.ensures.steps_taken in
+    λ d power. (
+    let all = notes d power in
+    record {
+      grows = omega (arith, least.grows, gives.grows, all.grows);
+      most = omega (arith, least.most, gives.most, all.most);
+    }))
