@@ -1,5 +1,5 @@
 -- What a contract sees of a `UdpWire`. Public clauses cite this module.
-use Rattle.std.specs.Prelude.{ℕ, ◌≤◌, ◌+◌, ◌-◌, ◌*◌, ◌/◌, ⊤, Bool, Option, None}
+use Rattle.std.specs.Prelude.{ℕ, ◌≢◌, ◌≤◌, ◌+◌, ◌-◌, ◌*◌, ◌/◌, ⊤, Bool, Option, None}
 use Rattle.rx_udp.specs.declared.udp_wire.Got.{Got}
 use Rattle.rx_udp.specs.declared.udp_wire.Got.TheVariants as gots
 use Rattle.rx_udp.specs.Wire.{Traffic}
@@ -25,3 +25,9 @@ abbrev pub IsGotWithin : ℕ → Got → Type 0
 IsGotWithin most (gots.Came from count) = count ≤ most
 IsGotWithin most gots.Late = ⊤
 IsGotWithin most gots.Again = ⊤
+
+-- what came, if anything did, can be answered: the port of its host isn't 0
+abbrev pub IsAnswerable : Got → Type 0
+IsAnswerable (gots.Came from count) = from.port ≢ 0
+IsAnswerable gots.Late = ⊤
+IsAnswerable gots.Again = ⊤

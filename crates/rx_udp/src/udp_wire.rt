@@ -8,7 +8,7 @@ ghost use Rattle.std.specs.Time.{instant_nanos};
 ghost use Rattle.rx_base.specs.Count.{one_more};
 ghost use Rattle.rx_base.specs.Sink.{HasRisen};
 ghost use Rattle.rx_udp.specs.Wire.{HasBound, HasLogged, GaveTo, TookUntil, came_in};
-ghost use Rattle.rx_udp.specs.UdpWire.{IsGotWithin, UdpWireState, timeout_for, untold};
+ghost use Rattle.rx_udp.specs.UdpWire.{IsAnswerable, IsGotWithin, UdpWireState, timeout_for, untold};
 
 use crate::refusal::Refusal;
 use crate::wire::Wire;
@@ -140,15 +140,14 @@ impl<'a, R: Net + Clock> UdpWire<'a, R> {
 
     // What the socket receives.
     fn receive(&self, to: &mut [u8]) -> io::Result<Got>
-        ensures { IfOk result (IsGotWithin (length to.new)) }
+        ensures within { IfOk result (IsGotWithin (length to.new)) }
+        ensures answerable { IfOk result IsAnswerable }
     {
         let Some(socket) = &self.socket else {
             return Err(io::Error::from(ErrorKind::NotConnected));
         };
         match socket.recv_from(to) {
-            // Nothing can be given back to port 0.
-            Ok((_, SocketAddr::V4(from))) if from.port() == 0 => Ok(Got::Again),
-            Ok((count, SocketAddr::V4(from))) => Ok(Got::Came(host_of(&from), count)),
+            Ok((count, SocketAddr::V4(from))) => Ok(got_from(host_of(&from), count)),
             Ok((_, SocketAddr::V6(_))) => Ok(Got::Again),
             Err(error) => got_of(error),
         }
@@ -161,6 +160,7 @@ impl<'a, R: Net + Clock> UdpWire<'a, R> {
         ensures same_faults { self.new.faults ≡ self.old.faults }
         ensures no_earlier { self.old.moment ≤ self.new.moment }
         ensures within { IfOk result (IsGotWithin (length to.new)) }
+        ensures answerable { IfOk result IsAnswerable }
         ensures enough { OnOk result (until < self.new.moment + self.new.timeout) }
         ensures no_longer { OnOk result (self.new.timeout ≤ (until - self.old.moment) + 4) }
     {
@@ -181,6 +181,7 @@ impl<'a, R: Net + Clock> UdpWire<'a, R> {
         ensures same_faults { self.new.faults ≡ self.old.faults }
         ensures no_earlier { self.old.moment ≤ self.new.moment }
         ensures within { IfOk result (λ came. IfSome came (λ one. one.1 ≤ length to.new)) }
+        ensures answerable { IfOk result (λ came. IfSome came (λ one. one.0.port ≢ 0)) }
         ensures reached { IfOk result (λ came. IfNone came (until ≤ self.new.moment)) }
         ensures enough { OnOk result (until < self.new.moment + self.new.timeout) }
         ensures no_longer { OnOk result (self.new.timeout ≤ (until - self.old.moment) + 4) }
@@ -255,10 +256,22 @@ fn open<R: Net>(rt: &R, at: Host) -> io::Result<(UdpSocket, Host)>
     Err(io::Error::from(ErrorKind::InvalidData))
 }
 
+// What a datagram from a host with so many bytes is: nothing can be given back to port 0.
+fn got_from(from: Host, count: usize) -> Got
+    ensures within { IsGotWithin count result }
+    ensures answerable { IsAnswerable result }
+{
+    if from.port == 0 {
+        return Got::Again;
+    }
+    Got::Came(from, count)
+}
+
 // What an error of a receive came to: of an earlier datagram, or of a wait that a signal ended, it says nothing of what
 // is to come.
 fn got_of(error: io::Error) -> io::Result<Got>
-    ensures { IfOk result (IsGotWithin 0) }
+    ensures within { IfOk result (IsGotWithin 0) }
+    ensures answerable { IfOk result IsAnswerable }
 {
     match Refusal::of(&error) {
         Refusal::NotNow => Ok(Got::Late),
@@ -351,8 +364,9 @@ impl<'a, R: Net + Clock> Wire for UdpWire<'a, R> {
         ensures counted { OnErr result (HasRisen self.old.faults self.new.faults) }
         ensures no_earlier { self.old.moment ≤ self.new.moment }
 
-        // What this wire adds to the trait's clauses: the socket's reads wait past `until`, by the clock's reading, and
-        // at most 4 ms longer than up to it.
+        // What this wire adds to the trait's clauses: what comes can be answered; and the socket's reads wait past
+        // `until`, by the clock's reading, and at most 4 ms longer than up to it.
+        ensures answerable { IfOk result (λ came. IfSome came (λ one. one.0.port ≢ 0)) }
         ensures enough { OnOk result (until < self.new.moment + self.new.timeout) }
         ensures no_longer { OnOk result (self.new.timeout ≤ (until - self.old.moment) + 4) }
         ensures bound { OnOk result (IsTrue self.old.is_bound) }
