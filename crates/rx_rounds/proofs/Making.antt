@@ -2,6 +2,7 @@
 use Rattle.std.proofs.Common.{◌≡◌, ℕ, List, Option, Some, None, refl, inl, inr, ap, sym, subst, ◌∙◌}
 use Rattle.rx_model.specs.declared.event.Event.{Event}
 use Rattle.rx_model.specs.declared.event.Noted.{Noted}
+use Rattle.rx_script.specs.declared.outcome.PlanWhy.{PlanWhy}
 use Rattle.rx_wire.specs.Turns.{Program}
 use Rattle.rx_plan.specs.Parts.{Came, To, Refused, Cut, Endless, Part, One, Then, ends, goes_on, makes}
 use Rattle.rx_plan.specs.Programs.{Turn, cut_there, goes, is_endless, is_over}
@@ -12,19 +13,19 @@ pub to_is : {A : Type 0} (a b : A) → ◌≡◌ {A = Came A} (To a) (To b) → 
 to_is a b same = cc
 
 -- nothing is made
-pub ends_to : {A : Type 0} (a b : A) (es : List Noted) → ends (To a) es (To b) → b ≡ a
+pub ends_to : {A : Type 0} (a b : A) (es : List Noted) → ends {Why = PlanWhy} (To a) es (To b) → b ≡ a
 ends_to a b es (none, inl same) = sym (to_is a b (sym same))
 ends_to a b es (none, inr cut) = absurd cc
 
-pub ends_cut : {A : Type 0} (b : A) (es : List Noted) → ends Cut es (To b) → ⊥
+pub ends_cut : {A : Type 0} (b : A) (es : List Noted) → ends {Why = PlanWhy} Cut es (To b) → ⊥
 ends_cut b es (none, inl same) = cc
 ends_cut b es (none, inr same) = cc
 
-pub ends_refused : {A : Type 0} (why : _) (b : A) (es : List Noted) → ends (Refused why) es (To b) → ⊥
+pub ends_refused : {A : Type 0} (why : PlanWhy) (b : A) (es : List Noted) → ends (Refused why) es (To b) → ⊥
 ends_refused why b es (none, inl same) = cc
 ends_refused why b es (none, inr same) = cc
 
-pub ends_endless : {A : Type 0} (b : A) (es : List Noted) → ends Endless es (To b) → ⊥
+pub ends_endless : {A : Type 0} (b : A) (es : List Noted) → ends {Why = PlanWhy} Endless es (To b) → ⊥
 ends_endless b es (none, inl same) = cc
 ends_endless b es (none, inr same) = cc
 
