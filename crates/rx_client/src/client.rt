@@ -7,6 +7,7 @@ ghost use Rattle.rx_rules.specs.After.{looks};
 ghost use Rattle.rx_rules.specs.Items.{due as rules_due};
 ghost use Rattle.rx_rules.specs.Setup as setups;
 ghost use Rattle.rx_rules.specs.Slots.{live as rules_live};
+ghost use Rattle.rx_books.specs.Costs.{AtMostForPoll};
 ghost use Rattle.rx_node.specs.Node.{setup_of};
 ghost use Rattle.rx_node.specs.Steps.{AnswersNode, StandsNode, given_count, given_from};
 
@@ -118,6 +119,8 @@ impl<C: Class> Client<C> {
         ensures answered { AnswersNode C.class_of self.old self.new (events.Polled (given_from result to.new)) }
         ensures rest { drop (given_count result) to.new ≡ drop (given_count result) to.old }
         ensures setup { setup_of C.class_of self.new ≡ setup_of C.class_of self.old }
+        ensures steps { (h : List Event) → StandsNode C.class_of self.old h →
+            AtMostForPoll (looks (setup_of C.class_of self.old) h) steps.old steps.new }
     {
         self.node.poll(to, steps)
     }
