@@ -171,7 +171,7 @@ def comment_above(lines, at):
     return " ".join(reversed(words))
 
 
-DEFINES = re.compile(r"( *)(?:(?:abbrev|unfoldable) )*pub (?:(?:record|data) )?([^\s:]+)")
+DEFINES = re.compile(r"( *)(?:(?:abbrev|unfoldable) )*pub (?!use )(?:(?:record|data) )?([^\s:]+)")
 
 
 def definitions_in(crate, path):
