@@ -97,7 +97,7 @@ invoke_at g ls place i at = of (slice_get ls place) refl at
     of (Some l) there is = by_line l.what (ap asked_of there) is
 
 -- what its line says of a reply
-said_invoked : (g : Handlers) (ls : List Numbered) (place : ℕ) (reply : List ℕ) (i : Invoked)
+pub said_invoked : (g : Handlers) (ls : List Numbered) (place : ℕ) (reply : List ℕ) (i : Invoked)
     → invoked_at g ls place ≡ Some i
     → said g.types g.procs reply (asked_at ls place)
     ≡ option_map (reply_line g.types i.proc i.down) (reply_says g.types i.proc i.down reply)
@@ -128,13 +128,13 @@ first_node nodes are = of (slice_get nodes 0) refl are.server
 module _ (g : Handlers) (ls : List Numbered) (nodes : List Node) (h : List Noted) (w : World nodes h)
     (premise : ServerForgotNone nodes h ⊎ Timely nodes h) (t : Turning) (serves : Serves g t (side 0 h)) where
   -- a caller's connection, with the server, and what it tells
-  record Connected (k : InvokedState) (i : IsCaller g ls nodes h k) : Type 0 where
-    server : Node
-    there : slice_get nodes 0 ≡ Some server
-    fed : Fed (ends_in (connection_of k.caller.call) k.node i.node.client server) h
-    tells : Tells (request_for g i.invoke) k.caller (looks i.node.client.setup (side k.node h))
+  pub record Connected (k : InvokedState) (i : IsCaller g ls nodes h k) : Type 0 where
+    pub server : Node
+    pub there : slice_get nodes 0 ≡ Some server
+    pub fed : Fed (ends_in (connection_of k.caller.call) k.node i.node.client server) h
+    pub tells : Tells (request_for g i.invoke) k.caller (looks i.node.client.setup (side k.node h))
 
-  connected : (k : InvokedState) → (i : IsCaller g ls nodes h k) → Connected k i
+  pub connected : (k : InvokedState) → (i : IsCaller g ls nodes h k) → Connected k i
   connected k i =
       let c : CallName = k.caller.call in
       let y : Connection = connection_of c in
@@ -166,7 +166,7 @@ module _ (g : Handlers) (ls : List Numbered) (nodes : List Node) (h : List Noted
       called_some (Some r) called = refl
 
   -- where it ended Ok, what it read is served for its request
-  caller_served : (k : InvokedState) → (i : IsCaller g ls nodes h k) → k.caller.end ≡ Some ends.Ok
+  pub caller_served : (k : InvokedState) → (i : IsCaller g ls nodes h k) → k.caller.end ≡ Some ends.Ok
       → Serving g (request_for g i.invoke) k.caller.reply
   caller_served k i ended =
       let c : CallName = k.caller.call in
@@ -204,7 +204,7 @@ module _ (g : Handlers) (ls : List Numbered) (nodes : List Node) (h : List Noted
           ((law-of x h c n.fed refl).ends end at_end))))
 
   -- its handler ends with what is served for its request
-  caller_ended : (k : InvokedState) → (i : IsCaller g ls nodes h k)
+  pub caller_ended : (k : InvokedState) → (i : IsCaller g ls nodes h k)
       → FinishesAsServed g nodes h k.caller.call (request_for g i.invoke)
   caller_ended k i later before code is =
       let c : CallName = k.caller.call in
@@ -300,8 +300,7 @@ driven_unforged line driven = tt
 
 -- what a driven plan whose lines were all made has come to
 module _ (g : Handlers) (ls : List Numbered) (es : List Noted) (s : Stage) (well : All (λ l. IsWell g l.what) ls)
-    (driven : AreDriven ls) (distinct : AreDistinct (plan_nodes ls)) (goes : plan_goes g ls es (Whole s))
-    (premise : ServerForgotNone (plan_nodes ls) (reverse es) ⊎ Timely (plan_nodes ls) (reverse es)) where
+    (driven : AreDriven ls) (distinct : AreDistinct (plan_nodes ls)) (goes : plan_goes g ls es (Whole s)) where
   in_range : AreInRange ls
   in_range = lines_in_range g ls well
 
@@ -310,10 +309,10 @@ module _ (g : Handlers) (ls : List Numbered) (es : List Noted) (s : Stage) (well
       All-weaker (λ l. IsDriven l.what) (λ l. IsUnforged (line_kind l.what)) (λ l here. driven_unforged l.what here) ls
       driven
 
-  nodes_are : (s.nodes ≡ plan_nodes ls) × Sides (plan_nodes ls) (reverse es)
+  pub nodes_are : (s.nodes ≡ plan_nodes ls) × Sides (plan_nodes ls) (reverse es)
   nodes_are = plans_whole g ls es s in_range goes
 
-  world : World (plan_nodes ls) (reverse es)
+  pub world : World (plan_nodes ls) (reverse es)
   world =
       record {
         sides = nodes_are.1;
@@ -327,17 +326,17 @@ module _ (g : Handlers) (ls : List Numbered) (es : List Noted) (s : Stage) (well
   played : IsPlayed g ls (seen s)
   played = (plan_follows g ls es s well driven goes).played (subst AreNodes (sym nodes_are.0) nodes_are.1.nodes_are)
 
-  serves_all : Serves g (over s.jobs) (side 0 (reverse es))
+  pub serves_all : Serves g (over s.jobs) (side 0 (reverse es))
   serves_all = subst (λ (h : List Noted). Serves g (over s.jobs) (side 0 h)) history_is played.serves
 
-  caller_at : (place : ℕ) (k : InvokedState) → slice_get s.callers place ≡ Some k
+  pub caller_at : (place : ℕ) (k : InvokedState) → slice_get s.callers place ≡ Some k
       → IsCaller g ls (plan_nodes ls) (reverse es) k
   caller_at place k at =
       subst (λ (ns : List Node). IsCaller g ls ns (reverse es) k) nodes_are.0
       (subst (λ (h : List Noted). IsCaller g ls s.nodes h k) history_is (played.callers.each_is place k at))
 
   -- what holds of each caller with its invoke
-  of_each : (P : InvokedState → Invoked → Type 0)
+  pub of_each : (P : InvokedState → Invoked → Type 0)
       → ((k : InvokedState) → (i : IsCaller g ls (plan_nodes ls) (reverse es) k) → P k i.invoke) → (place : ℕ)
       → IfSome (slice_get s.callers place) (λ k. IsSomeAnd (invoked_at g ls k.line) (P k))
   of_each P each_one place = by (slice_get s.callers place) refl
@@ -349,39 +348,40 @@ module _ (g : Handlers) (ls : List Numbered) (es : List Noted) (s : Stage) (well
           (let i = caller_at place k at in
           subst (λ (o : Option Invoked). IsSomeAnd o (P k)) (sym i.at) (each_one k i))
 
-  -- each caller that ended tells how its call did, or gave up with its own code
-  pub plan_causes : EndedByLaw (plan_nodes ls) (reverse es) s
-  plan_causes place = by (slice_get s.callers place) refl
-    where
-      by : (o : Option InvokedState) → slice_get s.callers place ≡ o
-          → IfSome o (λ k. (end : End) → k.caller.end ≡ Some end
-          → (end ≡ ends.Cancelled CC_UNMARSHAL) ⊎ EndsByLaw (plan_nodes ls) (reverse es) k.node k.caller.call end)
-      by None at = tt
-      by (Some k) at =
-          caller_caused g ls (plan_nodes ls) (reverse es) world premise (over s.jobs) serves_all k
-          (caller_at place k at)
+  module _ (premise : ServerForgotNone (plan_nodes ls) (reverse es) ⊎ Timely (plan_nodes ls) (reverse es)) where
+    -- each caller that ended tells how its call did, or gave up with its own code
+    pub plan_causes : EndedByLaw (plan_nodes ls) (reverse es) s
+    plan_causes place = by (slice_get s.callers place) refl
+      where
+        by : (o : Option InvokedState) → slice_get s.callers place ≡ o
+            → IfSome o (λ k. (end : End) → k.caller.end ≡ Some end
+            → (end ≡ ends.Cancelled CC_UNMARSHAL) ⊎ EndsByLaw (plan_nodes ls) (reverse es) k.node k.caller.call end)
+        by None at = tt
+        by (Some k) at =
+            caller_caused g ls (plan_nodes ls) (reverse es) world premise (over s.jobs) serves_all k
+            (caller_at place k at)
 
-  -- each caller that ended Ok has a line that says the answer
-  pub plan_answers : AreServable g → OkAsAnswered g ls s
-  plan_answers servable =
-      of_each (λ k i. AgreesOnStreams g i → k.caller.end ≡ Some ends.Ok → SaysAnswer g ls k i)
-      (caller_says g ls (plan_nodes ls) (reverse es) world premise (over s.jobs) serves_all servable)
+    -- each caller that ended Ok has a line that says the answer
+    pub plan_answers : AreServable g → OkAsAnswered g ls s
+    plan_answers servable =
+        of_each (λ k i. AgreesOnStreams g i → k.caller.end ≡ Some ends.Ok → SaysAnswer g ls k i)
+        (caller_says g ls (plan_nodes ls) (reverse es) world premise (over s.jobs) serves_all servable)
 
-  -- each invoke's call is ended by its handler with what is served for its request
-  pub plan_ends : EndedAsServed g ls (plan_nodes ls) (reverse es) s
-  plan_ends =
-      of_each (λ k i. FinishesAsServed g (plan_nodes ls) (reverse es) k.caller.call (request_for g i))
-      (caller_ended g ls (plan_nodes ls) (reverse es) world premise (over s.jobs) serves_all)
+    -- each invoke's call is ended by its handler with what is served for its request
+    pub plan_ends : EndedAsServed g ls (plan_nodes ls) (reverse es) s
+    plan_ends =
+        of_each (λ k i. FinishesAsServed g (plan_nodes ls) (reverse es) k.caller.call (request_for g i))
+        (caller_ended g ls (plan_nodes ls) (reverse es) world premise (over s.jobs) serves_all)
 
-  -- each invoke's call that ended with a code had it from the server so
-  pub plan_aborts : AbortedAsServed g ls (plan_nodes ls) (reverse es) s
-  plan_aborts =
-      of_each (λ k i. (code : ℤ) → k.caller.end ≡ Some (ends.Abort code)
-      → IsSomeAnd (slice_get (plan_nodes ls) 0)
-      (λ server. SaysAbort g ls server (side 0 (reverse es)) k i code))
-      (caller_aborted g ls (plan_nodes ls) (reverse es) world premise (over s.jobs) serves_all served (classes_are ls))
-    where
-      served : AreServed (plan_nodes ls) (reverse es)
-      served =
-          subst (λ (ns : List Node). AreServed ns (reverse es)) nodes_are.0
-          (subst (AreServed s.nodes) history_is (plan_follows g ls es s well driven goes).links)
+    -- each invoke's call that ended with a code had it from the server so
+    pub plan_aborts : AbortedAsServed g ls (plan_nodes ls) (reverse es) s
+    plan_aborts =
+        of_each (λ k i. (code : ℤ) → k.caller.end ≡ Some (ends.Abort code)
+        → IsSomeAnd (slice_get (plan_nodes ls) 0)
+        (λ server. SaysAbort g ls server (side 0 (reverse es)) k i code))
+        (caller_aborted g ls (plan_nodes ls) (reverse es) world premise (over s.jobs) serves_all served (classes_are ls))
+      where
+        served : AreServed (plan_nodes ls) (reverse es)
+        served =
+            subst (λ (ns : List Node). AreServed ns (reverse es)) nodes_are.0
+            (subst (AreServed s.nodes) history_is (plan_follows g ls es s well driven goes).links)

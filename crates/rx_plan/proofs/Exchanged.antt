@@ -103,7 +103,7 @@ shut_by_finish s l c allowed =
 
 -- ---- at the server
 
-ended_passed : (o : Option CallRecord) → (ends_of o).ended ≡ (passed_of o).ended
+pub ended_passed : (o : Option CallRecord) → (ends_of o).ended ≡ (passed_of o).ended
 ended_passed None = refl
 ended_passed (Some k) = refl
 

@@ -29,7 +29,7 @@ use Rattle.rx_plan.proofs.Handling as handling
 
 -- ---- a dispatcher drives its server's history
 
-count_of : (s : Setup) (l : Looks) (e : Event) → AllowedServer s l e → HasCount e
+pub count_of : (s : Setup) (l : Looks) (e : Event) → AllowedServer s l e → HasCount e
 count_of s l (events.Wrote c offered (writers.Server (Ok n)) came) allowed = allowed.2
 count_of s l _ allowed = tt
 

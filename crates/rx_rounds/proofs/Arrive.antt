@@ -1,12 +1,10 @@
 -- A request that a plan writes arrives, or its handler refuses it.
 use Rattle.std.proofs.Common.{◌≡◌, ◌≢◌, ◌<◌, ◌≤◌, ◌*◌, ◌+◌, ◌^◌, ◌⊎◌, ◌++◌, ◌==◌, ℕ, suc, zero, Bool, true, false, cond}
 use Rattle.std.proofs.Common.{List, []}
-use Rattle.std.proofs.Common.{◌∷◌, refl, ap, sym, subst, ◌∙◌, inl, inr, Option, Some, None, length, map, reverse, arith}
+use Rattle.std.proofs.Common.{◌∷◌, refl, ap, sym, subst, ◌∙◌, inl, inr, Option, Some, None, length, reverse, arith}
 use Rattle.std.proofs.Common.{slice_get, is_some}
 use Rattle.std.proofs.Common.{All, IsSomeAnd}
-use Rattle.std.proofs.lemmas.List.Elements.{All-cons, All-head, All-nil, All-tail}
-use Rattle.rx_model.proofs.NameLaws.{host_is}
-use Rattle.rx_model.specs.Names.{same_host}
+use Rattle.std.proofs.lemmas.List.Elements.{All-head, All-tail}
 use Rattle.rx_model.specs.declared.event.Event.{Event}
 use Rattle.rx_model.specs.declared.event.Event.TheVariants as events
 use Rattle.rx_model.specs.declared.event.Noted.{Noted}
@@ -23,7 +21,6 @@ use Rattle.rx_law.specs.Sides.{Node, side}
 use Rattle.rx_law.specs.Worlds.{World}
 use Rattle.rx_law.proofs.Ends.{ends_of}
 use Rattle.rx_script.specs.declared.plan.Numbered.{Numbered}
-use Rattle.rx_script.specs.declared.plan.PlanLine.{PlanLine}
 use Rattle.rx_script.specs.declared.plan.PlanLine.TheVariants as lines
 use Rattle.rx_jobs.specs.Handlers.{Handlers}
 use Rattle.rx_plan.specs.Follows.{Went, Whole, plan_goes}
@@ -43,11 +40,16 @@ use Rattle.rx_plan.specs.Follows.{client_node, server_node}
 use Rattle.rx_plan.specs.Stages.{InvokedState}
 use Rattle.rx_jobs.specs.Jobs.{JobState}
 use Rattle.rx_rounds.proofs.OneCall.{Ends, from_client, from_server, node_of, the_call, the_record}
+use Rattle.rx_rounds.proofs.KeyFirst.{begins_keyed}
+use Rattle.rx_rounds.proofs.KeySteps.{answers}
 use Rattle.rx_rounds.proofs.OneFirst.{begins_arriving}
+use Rattle.rx_rounds.proofs.OneRequest.{WentFurther}
 use Rattle.rx_rounds.proofs.OneFields.{FitsEnds, fresh}
 use Rattle.rx_rounds.proofs.OneRefused.{Arrived, arrived, was_kept, was_refused}
 use Rattle.rx_rounds.proofs.OneSteps.{call_is, empty_at}
-use Rattle.rx_rounds.proofs.OneWrite.{LinkNumbers, behind_shut, lines_go, the_ends, the_lines, two_shut}
+use Rattle.rx_rounds.proofs.LinesLink.{LinkNumbers}
+use Rattle.rx_rounds.proofs.OneWrite.{behind_shut, lines_go, the_ends, the_lines, two_shut}
+use Rattle.rx_rounds.proofs.PlanLines.{all_of, first_is, none_is, unlike}
 use Rattle.rx_rounds.proofs.OtherCalls.{CallsOnly}
 use Rattle.rx_rounds.proofs.Rounded.{Made}
 use Rattle.rx_rounds.proofs.Two.{AreApart, Two}
@@ -68,38 +70,28 @@ quiet_side c k (e ∷ es) quiet = of (e.node == k) (quiet_side c k es quiet.1)
     of true rest = (none_other c e.event quiet.0, rest)
     of false rest = rest
 
-all_of : {X : Type 0} (P : X → Type 0) (xs : List X) → Every P xs → All P xs
-all_of P [] every = All-nil P
-all_of P (x ∷ xs) every = All-cons P x xs every.0 (all_of P xs every.1)
-
-unlike : (a b : Host) → a ≢ b → same_host a b ≡ false
-unlike a b differ = of (same_host a b) refl
-  where
-    of : (t : Bool) → same_host a b ≡ t → same_host a b ≡ false
-    of true is = absurd (differ (host_is a b is))
-    of false is = is
-
-module _ (g : Handlers) (at : Host) (service nonce : ℕ) (from : Host) (epoch first : ℕ) (offer : List ℕ) (n : ℕ)
+module _ (g : Handlers) (at : Host) (service nonce : ℕ) (from : Host) (epoch first : ℕ)
+    (key : Option (List ℕ)) (offer : List ℕ) (n : ℕ)
     (a1 a2 a3 a4 a5 a6 a7 : ℕ) (short : length offer ≤ 45184) (differ : at ≢ from) (long : 2 * pieces offer + 4 ≤ n)
   where
     abbrev x : Ends
-    x = the_ends g at service nonce from epoch first offer n a1 a2 a3 a4 a5 a6 a7 short
+    x = the_ends g at service nonce from epoch first key offer n a1 a2 a3 a4 a5 a6 a7 short
 
     abbrev c : CallName
     c = the_call x
 
     abbrev ls : List Numbered
-    ls = the_lines g at service nonce from epoch first offer n a1 a2 a3 a4 a5 a6 a7 short
+    ls = the_lines g at service nonce from epoch first key offer n a1 a2 a3 a4 a5 a6 a7 short
 
     abbrev shut_stage : Stage
-    shut_stage = behind_shut g at service nonce from epoch first offer n a1 a2 a3 a4 a5 a6 a7 short
+    shut_stage = behind_shut g at service nonce from epoch first key offer n a1 a2 a3 a4 a5 a6 a7 short
 
     abbrev nodes : List Node
     nodes = plan_nodes ls
 
     two : Two x (empty_at 0) (node_of x (from_client x 0 0) [] 0 lives.Calling (after_shut (after_write offer fresh)))
         [] [] shut_stage
-    two = two_shut g at service nonce from epoch first offer n a1 a2 a3 a4 a5 a6 a7 short
+    two = two_shut g at service nonce from epoch first key offer n a1 a2 a3 a4 a5 a6 a7 short
 
     apart : AreApart x
     apart = (unlike from at (λ same. differ (sym same)), unlike at from differ)
@@ -124,10 +116,10 @@ module _ (g : Handlers) (at : Host) (service nonce : ℕ) (from : Host) (epoch f
         (tt, (tt, (refl, (tt, tt))))))
 
     abbrev client : Node
-    client = client_node from epoch default_limits None
+    client = client_node from epoch default_limits key
 
     abbrev server : Node
-    server = server_node at service default_limits None nonce
+    server = server_node at service default_limits key nonce
 
     abbrev said_it : CallLooks
     said_it = after_shut (after_write offer fresh)
@@ -171,7 +163,8 @@ module _ (g : Handlers) (at : Host) (service nonce : ℕ) (from : Host) (epoch f
     kept_or : (s : Stage) → Grew shut_stage s → World nodes s.history → Arrived x offer s
         → KeepsAll server s.history c offer ⊎ HasRefused (side 0 s.history) c
     kept_or s grew w (was_refused refused) = inr refused
-    kept_or s grew w (was_kept u k given lc cs js two_ has since) = inl (keeps u s k given lc cs js w grew since two_ has)
+    kept_or s grew w (was_kept u k given lc cs js two_ has since) = inl
+        (keeps u s k given lc cs js w grew since two_ has)
 
     few_epochs : All (λ l. IsWell g l.what) ls → epoch < 2 ^ 32
     few_epochs well =
@@ -179,10 +172,10 @@ module _ (g : Handlers) (at : Host) (service nonce : ℕ) (from : Host) (epoch f
         (All-tail (λ (l : Numbered). IsWell g l.what) l_server (l_client ∷ l_rest) well)
       where
         l_server : Numbered
-        l_server = record { line = a1; what = lines.Server at service default_limits None nonce }
+        l_server = record { line = a1; what = lines.Server at service default_limits key nonce }
 
         l_client : Numbered
-        l_client = record { line = a2; what = lines.Client from epoch default_limits None }
+        l_client = record { line = a2; what = lines.Client from epoch default_limits key }
 
         l_rest : List Numbered
         l_rest =
@@ -207,40 +200,22 @@ module _ (g : Handlers) (at : Host) (service nonce : ℕ) (from : Host) (epoch f
         subst (λ (ks : List ClientCall). IsSomeAnd (slice_get ks 0)
         (λ (k : ClientCall). KeepsAll server s.history k.name offer ⊎ HasRefused (side 0 s.history) k.name))
         (sym grew.calls)
-        (kept_or s grew w (arrived x g offer s
-        (begins_arriving x g fits apart offer n shut_stage s (omega arith) (omega arith) two made)))
+        (kept_or s grew w (arrived x g offer s (goes_further fits key refl)))
+      where
+        goes_further : FitsEnds x → (o : Option (List ℕ)) → key ≡ o → WentFurther x g offer s
+        goes_further fits None is =
+            begins_arriving x g fits apart offer n shut_stage s is (omega arith) (omega arith) two made
+        goes_further fits (Some own) is =
+            (let a = answers x own is in
+            begins_keyed x g fits apart offer a.0 a.1 (ap (λ (o : Option (List ℕ)). is_some o) is) n shut_stage s
+            (omega arith) (omega arith) two made)
 
     pub arrive_lines : (es : List Noted) (went : Went) → All (λ l. IsWell g l.what) ls → plan_goes g ls es went
         → ArrivesBy ls offer went
     arrive_lines es went well goes =
-        lines_go g at service nonce from epoch first offer n a1 a2 a3 a4 a5 a6 a7 short es went
+        lines_go g at service nonce from epoch first key offer n a1 a2 a3 a4 a5 a6 a7 short es went
         (λ (w : Went). plan_goes g ls es w → ArrivesBy ls offer w) (λ off. tt) (λ off. tt) goes
         (λ s link made all. whole es s well all link made) goes
-
--- ---- whichever numbers the lines have
-
-record FirstIs (ls : List Numbered) (w : PlanLine) (ws : List PlanLine) : Type 0 where
-  number : ℕ
-  rest : List Numbered
-  is : ls ≡ record { line = number; what = w } ∷ rest
-  more : map (λ (l : Numbered). l.what) rest ≡ ws
-
-first_is : (ls : List Numbered) (w : PlanLine) (ws : List PlanLine) → map (λ (l : Numbered). l.what) ls ≡ w ∷ ws
-    → FirstIs ls w ws
-first_is [] w ws same = absurd cc
-first_is (l ∷ ls) w ws same =
-    let head : l.what ≡ w = cc (same) in
-    let tail : map (λ (k : Numbered). k.what) ls ≡ ws = cc (same) in
-    record {
-      number = l.line;
-      rest = ls;
-      is = ap (λ (v : PlanLine). record { line = l.line; what = v } ∷ ls) head;
-      more = tail;
-    }
-
-none_is : (ls : List Numbered) → map (λ (l : Numbered). l.what) ls ≡ [] → ls ≡ []
-none_is [] same = refl
-none_is (l ∷ ls) same = absurd cc
 
 pub arrive : PlansArrive
 arrive g ls es went offer n well w goes =
@@ -251,12 +226,12 @@ arrive g ls es went offer n well w goes =
     let f5 = first_is f4.rest _ _ f4.more in
     let f6 = first_is f5.rest _ _ f5.more in
     let f7 = first_is f6.rest _ _ f6.more in
-    let is : ls ≡ the_lines g w.at w.service w.nonce w.from w.epoch w.first offer n f1.number f2.number f3.number
+    let is : ls ≡ the_lines g w.at w.service w.nonce w.from w.epoch w.first w.key offer n f1.number f2.number f3.number
     f4.number f5.number f6.number f7.number w.short =
     f1.is ∙ ap (λ (r : List Numbered). record
-    { line = f1.number; what = lines.Server w.at w.service default_limits None w.nonce } ∷ r)
+    { line = f1.number; what = lines.Server w.at w.service default_limits w.key w.nonce } ∷ r)
     (f2.is ∙ ap (λ (r : List Numbered). record
-    { line = f2.number; what = lines.Client w.from w.epoch default_limits None } ∷ r)
+    { line = f2.number; what = lines.Client w.from w.epoch default_limits w.key } ∷ r)
     (f3.is ∙ ap (λ (r : List Numbered). record { line = f3.number; what = lines.Connect 1 w.first } ∷ r)
     (f4.is ∙ ap (λ (r : List Numbered). record { line = f4.number; what = lines.Call 1 4 } ∷ r)
     (f5.is ∙ ap (λ (r : List Numbered). record { line = f5.number; what = lines.Write 1 offer } ∷ r)
@@ -264,7 +239,7 @@ arrive g ls es went offer n well w goes =
     (f7.is ∙ ap (λ (r : List Numbered). record { line = f7.number; what = lines.Rounds n } ∷ r)
     (none_is f7.rest f7.more))))))) in
     subst (λ (ks : List Numbered). ArrivesBy ks offer went) (sym is)
-    (arrive_lines g w.at w.service w.nonce w.from w.epoch w.first offer n f1.number f2.number f3.number f4.number
+    (arrive_lines g w.at w.service w.nonce w.from w.epoch w.first w.key offer n f1.number f2.number f3.number f4.number
     f5.number f6.number f7.number w.short w.apart w.long
     es went (subst (λ (ks : List Numbered). All (λ l. IsWell g l.what) ks) is well)
     (subst (λ (ks : List Numbered). plan_goes g ks es went) is goes))

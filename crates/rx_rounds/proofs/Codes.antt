@@ -10,13 +10,16 @@ use Rattle.stub_table.specs.Streams.{parts_with}
 use Rattle.stub_table.specs.declared.stream.Stream.TheVariants as streams
 use Rattle.rx_script.specs.Answers.{block_named}
 use Rattle.rx_script.specs.ScriptRows.{is_up}
-use Rattle.rx_script.specs.Served.{block_has}
+use Rattle.rx_script.specs.ScriptRows.{is_down}
+use Rattle.rx_script.specs.Served.{block_has, refusal, served_by, served_from, served_with, upload_of}
+use Rattle.rx_plan.specs.Answering.{AreServable}
+use Rattle.rx_plan.proofs.Replying.{served_nonzero}
 use Rattle.rx_script.specs.declared.limits.TheConstants.{MAX_BYTES}
 use Rattle.xdr_value.specs.Data.{Data, Procedure, Procs, Types}
 use Rattle.stub_table.specs.declared.codes.TheConstants.{DECODE, MAX_STREAM_BYTES, OPCODE, SS_UNMARSHAL}
 use Rattle.stub_table.specs.Requests.{RequestAnswer, args_answer, found_answer, found_from, is_open, opcode_answer}
 use Rattle.stub_table.specs.Requests.{opcode_at, or_wait, refused, more_wanted, whole, request_answer}
-use Rattle.rx_jobs.specs.Handlers.{Handlers, answer_to, behind_code, early_code, early_from, upload_code}
+use Rattle.rx_jobs.specs.Handlers.{Handlers, answer_to, behind_code, early_code, early_from, served_for, upload_code}
 
 -- an answer without the code 0
 abbrev pub HasNoZero : RequestAnswer → Type 0
@@ -88,3 +91,36 @@ early_no_zero g request ended c is = of (answer_to g request ended) (answer_no_z
     of (refused code) some_is same = λ zero_. some_is (some_code code c same ∙ zero_)
     of more_wanted some same = λ zero_. cc
     of (whole index args used) some same = behind (drop used request) (slice_get g.procs index) same
+
+code_is : (a b : ℤ) → refusal a ≡ refusal b → a ≡ b
+code_is a b same = cc
+
+-- nor is one that is served
+pub served_no_zero : (g : Handlers) (request : List ℕ) → AreServable g → served_for g request ≡ refusal (pos 0) → ⊥
+unfolding served_for
+served_no_zero g request servable is =
+    of (request_answer g.types g.procs request true) (request_no_zero g.types g.procs request true) is
+  where
+    unmarshal : refusal SS_UNMARSHAL ≡ refusal (pos 0) → ⊥
+    unmarshal same = (let zero_ : SS_UNMARSHAL ≡ pos 0 = code_is SS_UNMARSHAL (pos 0) same in cc)
+
+    with_upload : (p : Procedure) (args : Data) (o : Option (List ℕ))
+        → served_with g.types g.script p args o ≡ refusal (pos 0) → ⊥
+    with_upload p args None same = unmarshal same
+    with_upload p args (Some upload) same =
+        served_nonzero g (record {
+          proc = p;
+          args = args;
+          up = Some upload;
+          down = block_has is_down (block_named p.name g.script);
+        }) servable same
+
+    by_procedure : (args : Data) (rest : List ℕ) (o : Option Procedure)
+        → served_by g.types g.script args rest o ≡ refusal (pos 0) → ⊥
+    by_procedure args rest None same = (let zero_ : OPCODE ≡ pos 0 = code_is OPCODE (pos 0) same in cc)
+    by_procedure args rest (Some p) same = with_upload p args (upload_of g.script p rest) same
+
+    of : (a : RequestAnswer) → HasNoZero a → served_from g.types g.procs g.script request a ≡ refusal (pos 0) → ⊥
+    of (refused code) some same = some (code_is code (pos 0) same)
+    of more_wanted some same = unmarshal same
+    of (whole index args used) some same = by_procedure args (drop used request) (slice_get g.procs index) same

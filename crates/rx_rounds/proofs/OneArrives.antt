@@ -25,10 +25,11 @@ use Rattle.rx_plan.specs.Parts.{each}
 use Rattle.rx_plan.specs.Rounds.{Polled, polls}
 use Rattle.rx_plan.specs.Stages.{InvokedState, Stage}
 use Rattle.rx_rounds.proofs.Pair.{message_of, next_of, view_of}
-use Rattle.rx_rounds.proofs.Flow.{IsHard, Speed, hears_told, next_none, quicker, row_told, told, total, writer_at}
+use Rattle.rx_rounds.proofs.Flow.{Marked, Speed, hears_told, next_none, quicker, row_told, told, total, writer_at}
 use Rattle.rx_rounds.proofs.Keeper.{drained, keeper_at, marks_none, part_read}
 use Rattle.rx_rounds.proofs.Making.{ends_to, then_to}
 use Rattle.rx_rounds.proofs.OneBurst.{burst, client_with, polls_burst, serving_with}
+use Rattle.rx_rounds.proofs.KeyClass.{index_small}
 use Rattle.rx_rounds.proofs.OneCall.{Ends, client_place, client_poll, client_setup, datagram, header_of, server_place}
 use Rattle.rx_rounds.proofs.OneCall.{server_poll, server_setup, the_call}
 use Rattle.rx_rounds.proofs.OneFields.{FitsEnds}
@@ -40,9 +41,9 @@ use Rattle.rx_rounds.proofs.Two.{sent, server_polls_none, server_polls_some}
 
 module _ (x : Ends) (fits : FitsEnds x) (apart : AreApart x) (bytes : List ℕ) (cs : List InvokedState)
     (js : List JobState)
-    (a : ℕ) (soft : ℕ → Bool) (hard : IsHard soft) (v : Speed) (some : 0 < v.rtt.rto) where
+    (a : ℕ) (soft : ℕ → Bool) (hard : Marked a soft) (v : Speed) (some : 0 < v.rtt.rto) where
   abbrev writing : ℕ → ℕ → Looks
-  writing given n = client_with x fits apart bytes cs js given (writer_at bytes v a soft n)
+  writing given n = client_with x fits apart bytes cs js given (writer_at bytes v hard.h soft n)
 
   abbrev keeping_with : ℕ → List ℕ → Option Owed → ℕ → ℕ → Looks
   keeping_with given read o p n = serving_with x fits apart bytes cs js a soft hard v some given lives.Accepted
@@ -67,7 +68,7 @@ module _ (x : Ends) (fits : FitsEnds x) (apart : AreApart x) (bytes : List ℕ) 
 
   pub polls_pieces : (e given gs : ℕ) (read : List ℕ) (o : Option Owed) (p : ℕ) (s : Stage) (q : Polled)
       → (o ≡ None) ⊎ ((w : Owed) × (o ≡ Some w) × (w.rank ≡ 100))
-      → a + e ≤ total bytes → e ≤ v.window → e ≤ 32 → suc (a + e) < 2 ^ 32 → (total bytes ≡ a + e) ⊎ (v.window ≤ e)
+      → a + e ≤ total bytes → e ≤ v.window → a + e ≤ hard.h + 32 → suc (a + e) < 2 ^ 32 → (total bytes ≡ a + e) ⊎ (v.window ≤ e)
       → Two x (keeping_with gs read o p a) (writing given a) cs js s → Made polls s q
       → (q.given ≡ burst x fits apart bytes cs js a soft hard v some e a given) × Two x (keeping_with gs read o p a)
       (writing (given + e) (a + e)) cs js q.stage
@@ -103,7 +104,7 @@ module _ (x : Ends) (fits : FitsEnds x) (apart : AreApart x) (bytes : List ℕ) 
         serial = omega arith;
         flags = omega arith;
         status = refl;
-        index = omega arith;
+        index = index_small x.key;
         spare = refl;
         service = fits.service;
         body = record {
@@ -141,12 +142,12 @@ module _ (x : Ends) (fits : FitsEnds x) (apart : AreApart x) (bytes : List ℕ) 
       let is : m ≡ ack_of x (suc gs % 2 ^ 32) (told_of n p serial) = ack_is gs p n serial read below none in
       let r = polls_to x ls lc cs js s q made_.0 two made_.1 in
       let silent : poll_answer (client_setup x) lc ≡ None =
-      client_poll x 0 0 given (writer_at bytes v a soft n) refl
-      ∙ ap (datagram (client_place x 0) x.server (record { looks = writer_at bytes v a soft n; given = given }))
+      client_poll x 0 0 given (writer_at bytes v hard.h soft n) refl
+      ∙ ap (datagram (client_place x 0) x.server (record { looks = writer_at bytes v hard.h soft n; given = given }))
       (next_none bytes a soft hard (header_of x) v some n d whole stop) in
       let c = client_polls_none x ls lc cs js s r.0.stage x.client [] r.2 two silent r.4 in
       let two1 : Two x ls lc cs js r.0.stage = two_as x ls (after (client_setup x) (events.Polled None) lc) ls lc cs
-      js r.0.stage r.0.stage refl (client_none x 0 0 given (writer_at bytes v a soft n) refl) refl c.1 in
+      js r.0.stage r.0.stage refl (client_none x 0 0 given (writer_at bytes v hard.h soft n) refl) refl c.1 in
       let o = out_to 0 x.server r.0 q r.1 (host_server x ls lc cs js r.0.stage two1) r.5 in
       let gives : poll_answer (server_setup x) ls ≡ Some (x.client, made m) = server_poll x
       (the_call x ∷ []) 0 0 gs lives.Accepted k refl refl refl in
@@ -178,7 +179,7 @@ module _ (x : Ends) (fits : FitsEnds x) (apart : AreApart x) (bytes : List ℕ) 
   hears_ack n given gs p serial ls s t within small low few two made_ =
       let m : Message = ack_of x (suc gs % 2 ^ 32) (told_of n p serial) in
       let lc : Looks = writing given n in
-      let k : CallLooks = writer_at bytes v a soft n in
+      let k : CallLooks = writer_at bytes v hard.h soft n in
       let b = then_to (delivers (sent x.server x.client (made m)) s) (each delivers []) made_.0 t made_.1 in
       let d = delivered_client x ls lc cs js s b.between x.server (made m) b.front apart two b.made in
       let plain : IsPlain m = plain_ack gs n p serial small low few in

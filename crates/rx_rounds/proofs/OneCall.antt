@@ -1,6 +1,6 @@
 -- Nodes with one connection and one call on it: what they give and take is what that call's end gives and takes.
-use Rattle.std.proofs.Common.{◌≡◌, ℕ, ◌-◌, true, false, cond}
-use Rattle.std.proofs.Common.{List, [], ◌∷◌, map, filter, refl, ap, ◌∙◌, Option, Some, None, option_map, append-nil}
+use Rattle.std.proofs.Common.{◌≡◌, ℕ, ◌-◌, Bool, true, false, cond, is_some}
+use Rattle.std.proofs.Common.{List, [], ◌∷◌, map, filter, refl, ap, sym, ◌∙◌, Option, Some, None, option_map, append-nil}
 use Rattle.std.proofs.Common.{nat_le}
 use Rattle.rx_model.specs.declared.names.CallName.{CallName}
 use Rattle.rx_model.specs.declared.names.Host.{Host}
@@ -17,13 +17,14 @@ use Rattle.rx_rules.specs.Life.{Life, is_active, is_live}
 use Rattle.rx_rules.specs.Life as lives
 use Rattle.rx_rules.specs.Looks.{CallRecord, ChannelLooks, ConnLooks, Looks, fresh_channel}
 use Rattle.rx_rules.specs.Setup.{Setup}
-use Rattle.rx_plan.specs.Follows.{client_node, server_node}
+use Rattle.rx_plan.specs.Follows.{class_of, client_node, server_node}
 use Rattle.rx_rounds.specs.Bounds.{default_limits}
 use Rattle.rx_rounds.proofs.Pair.{Place, CallEnd, next_of, message_of}
 
 -- ---- the two nodes
 
--- the addresses of client and server, the client's epoch, the service, the server's first nonce, the first call number
+-- the addresses of client and server, the client's epoch, the service, the server's first nonce, the first call number,
+-- and the key that both have, or none
 pub record Ends : Type 0 where
   pub client : Host
   pub server : Host
@@ -31,24 +32,26 @@ pub record Ends : Type 0 where
   pub service : ℕ
   pub nonces : ℕ
   pub first : ℕ
+  pub key : Option (List ℕ)
 
 abbrev pub client_setup : Ends → Setup
-client_setup x = (client_node x.client x.epoch default_limits None).setup
+client_setup x = (client_node x.client x.epoch default_limits x.key).setup
 
 abbrev pub server_setup : Ends → Setup
-server_setup x = (server_node x.server x.service default_limits None x.nonces).setup
+server_setup x = (server_node x.server x.service default_limits x.key x.nonces).setup
 
 -- the call, the first on the first channel of the first connection
 abbrev pub the_call : Ends → CallName
 the_call x = record { host = x.client; epoch = x.epoch; cid = 4; chan = 0; number = x.first }
 
--- the connection, with its peer, the number of its first calls, how many datagrams it gave and when it was used; and
--- what its first channel owes
+-- the connection, with its peer, the number of its first calls, how many datagrams it gave, when it was used and whether
+-- its client is proved; and what its first channel owes
 pub record Link : Type 0 where
   pub peer : Host
   pub low : ℕ
   pub given : ℕ
   pub used : ℕ
+  pub proved : Bool
   pub channel : ChannelLooks
 
 abbrev pub the_conn : Ends → Link → ConnLooks
@@ -61,7 +64,7 @@ the_conn x y =
       order = 0;
       given = y.given;
       last_use = y.used;
-      proved = false;
+      proved = y.proved;
       channels = y.channel ∷ fresh_channel 0 ∷ fresh_channel 0 ∷ fresh_channel 0 ∷ [];
     }
 
@@ -80,14 +83,44 @@ node_of x y firsts now life k =
       strays = [];
     }
 
--- the connection at either end, that owes nothing beside its call
-abbrev pub from_client : Ends → ℕ → ℕ → Link
-from_client x given used = record
-    { peer = x.server; low = x.first; given = given; used = used; channel = fresh_channel x.first }
+-- the connection at the client, whether it owes a RESPONSE
+abbrev pub answering_link : Ends → Option (List ℕ) → ℕ → ℕ → Link
+answering_link x o given used =
+    record {
+      peer = x.server;
+      low = x.first;
+      given = given;
+      used = used;
+      proved = false;
+      channel = record (fresh_channel x.first) { owed_response = o };
+    }
 
+-- where it owes nothing beside its call
+abbrev pub from_client : Ends → ℕ → ℕ → Link
+from_client x given used = answering_link x None given used
+
+-- the server's, whether its client showed the key, and whether a CHALLENGE is owed
+abbrev pub served_link : Ends → Bool → Bool → ℕ → ℕ → Link
+served_link x proved challenged given used =
+    record {
+      peer = x.client;
+      low = 1;
+      given = given;
+      used = used;
+      proved = proved;
+      channel = record (fresh_channel x.first) { owed_challenge = challenged };
+    }
+
+-- once the client showed the key, where there is one
 abbrev pub from_server : Ends → ℕ → ℕ → Link
-from_server x given used = record
-    { peer = x.client; low = 1; given = given; used = used; channel = fresh_channel x.first }
+from_server x given used = served_link x (is_some x.key) false given used
+
+-- where there is none, it has shown it from the start on
+pub open_link : (x : Ends) (given used : ℕ) → x.key ≡ None
+    → served_link x false (is_some x.key) given used ≡ from_server x given used
+open_link x given used none =
+    ap (λ (b : Bool). served_link x false b given used) (ap (λ (o : Option (List ℕ)). is_some o) none)
+    ∙ ap (λ (b : Bool). served_link x b false given used) (sym (ap (λ (o : Option (List ℕ)). is_some o) none))
 
 -- what the headers of its datagrams have in common
 abbrev pub header_of : Ends → Message
@@ -100,7 +133,7 @@ header_of x =
       serial = 0;
       flags = 0;
       status = 0;
-      index = 0;
+      index = (class_of x.key).index;
       spare = 0;
       service = x.service;
       body = bodies.Busy;
@@ -158,13 +191,13 @@ client_gives x now used given k None = refl
 client_gives x now used given k (Some i) =
     rw (number_itself x.client.addr, number_itself x.client.port, number_itself x.epoch) refl
 
-server_gives : (x : Ends) (firsts : List CallName) (now used given : ℕ) (life : Life) (k : CallLooks)
+link_gives : (x : Ends) (proved : Bool) (firsts : List CallName) (now used given : ℕ) (life : Life) (k : CallLooks)
     (o : Option CallItem)
-    → datagram_for (server_setup x) (node_of x (from_server x given used) firsts now life k)
+    → datagram_for (server_setup x) (node_of x (served_link x proved false given used) firsts now life k)
     (option_map (item_of (server_setup x) (the_record x life k)) o)
     ≡ datagram (server_place x now) x.client (record { looks = k; given = given }) (option_map (λ i. i.sending) o)
-server_gives x firsts now used given life k None = refl
-server_gives x firsts now used given life k (Some i) =
+link_gives x proved firsts now used given life k None = refl
+link_gives x proved firsts now used given life k (Some i) =
     rw (number_itself x.client.addr, number_itself x.client.port, number_itself x.epoch) refl
 
 -- where the call isn't silent, a poll gives what the call's end gives
@@ -186,19 +219,25 @@ client_poll x now used given k awake =
     ∙ client_gives x now used given k
     (least_by (λ (i : CallItem). i.rank) (filter (λ (i : CallItem). nat_le i.rank now) (call_items true k))))))
 
-pub server_poll : (x : Ends) (firsts : List CallName) (now used given : ℕ) (life : Life) (k : CallLooks)
+pub link_poll : (x : Ends) (proved : Bool) (firsts : List CallName) (now used given : ℕ) (life : Life) (k : CallLooks)
     → is_active life ≡ true → is_live life ≡ true → nat_le SILENCE_MS (now - k.heard) ≡ false
-    → poll_answer (server_setup x) (node_of x (from_server x given used) firsts now life k)
+    → poll_answer (server_setup x) (node_of x (served_link x proved false given used) firsts now life k)
     ≡ datagram (server_place x now) x.client (record { looks = k; given = given }) (next_of (server_place x now) k)
-server_poll x firsts now used given life k active living awake =
+link_poll x proved firsts now used given life k active living awake =
     let r : CallRecord = the_record x life k in
     rw (active, awake)
     (rw (number_itself x.client.addr, number_itself x.client.port, number_itself x.epoch, number_itself x.first)
     (rw (active, living, awake)
-    (ap (λ (is : List Item). datagram_for (server_setup x) (node_of x (from_server x given used) firsts now life k)
+    (ap (λ (is : List Item). datagram_for (server_setup x) (node_of x (served_link x proved false given used) firsts now life k)
     (least_by (λ (i : Item). i.rank) (filter (λ (i : Item). nat_le i.rank now) is)))
     (append-nil (map (item_of (server_setup x) r) (call_items false k)))
-    ∙ ap (λ (o : Option Item). datagram_for (server_setup x) (node_of x (from_server x given used) firsts now life k) o)
+    ∙ ap (λ (o : Option Item). datagram_for (server_setup x) (node_of x (served_link x proved false given used) firsts now life k) o)
     (least-map (server_setup x) r now (call_items false k))
-    ∙ server_gives x firsts now used given life k
+    ∙ link_gives x proved firsts now used given life k
     (least_by (λ (i : CallItem). i.rank) (filter (λ (i : CallItem). nat_le i.rank now) (call_items false k))))))
+
+pub server_poll : (x : Ends) (firsts : List CallName) (now used given : ℕ) (life : Life) (k : CallLooks)
+    → is_active life ≡ true → is_live life ≡ true → nat_le SILENCE_MS (now - k.heard) ≡ false
+    → poll_answer (server_setup x) (node_of x (from_server x given used) firsts now life k)
+    ≡ datagram (server_place x now) x.client (record { looks = k; given = given }) (next_of (server_place x now) k)
+server_poll x = link_poll x (is_some x.key)

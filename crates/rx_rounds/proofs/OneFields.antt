@@ -2,6 +2,7 @@
 use Rattle.std.proofs.Common.{◌<◌, ◌≤◌, ◌^◌, ℕ, false, List, refl, length, arith}
 use Rattle.rx_model.specs.Spelling.{IsPlain}
 use Rattle.rx_rules.specs.CallLooks.{CallLooks, fresh_call}
+use Rattle.rx_rounds.proofs.KeyClass.{index_small}
 use Rattle.rx_rounds.proofs.OneCall.{Ends}
 use Rattle.rx_rounds.proofs.OneSteps.{data_of}
 
@@ -29,7 +30,7 @@ plain_data x seq serial flags said fits short low small few =
       serial = small;
       flags = few;
       status = refl;
-      index = omega arith;
+      index = index_small x.key;
       spare = refl;
       service = fits.service;
       body = omega arith;

@@ -18,7 +18,7 @@ use Rattle.rx_plan.specs.Network.{below, delivers}
 use Rattle.rx_plan.specs.Parts.{To, each}
 use Rattle.rx_plan.specs.Stages.{InvokedState, Stage}
 use Rattle.rx_plan.specs.Turned.{turns_all, turns_at}
-use Rattle.rx_rounds.proofs.Flow.{IsHard, Speed, asks_end, quicker, total, writer_at}
+use Rattle.rx_rounds.proofs.Flow.{Marked, Speed, asks_end, quicker, total, writer_at}
 use Rattle.rx_rounds.proofs.Keeper.{keeper_at, part_read}
 use Rattle.rx_rounds.proofs.Making.{ends_to}
 use Rattle.rx_rounds.proofs.OneArrives.{hears_ack, polls_ack, polls_pieces}
@@ -38,12 +38,12 @@ no_calls x ls lc js s t two made =
     (ap (λ (cs : List InvokedState). below (length cs)) two.callers) made.1)
 
 module _ (x : Ends) (g : Handlers) (fits : FitsEnds x) (apart : AreApart x) (bytes : List ℕ) (request : List ℕ)
-    (a : ℕ) (soft : ℕ → Bool) (hard : IsHard soft) (v : Speed) (some : 0 < v.rtt.rto) where
+    (a : ℕ) (soft : ℕ → Bool) (hard : Marked a soft) (v : Speed) (some : 0 < v.rtt.rto) where
   abbrev js : List JobState
   js = record (begun (the_call x)) { request = request } ∷ []
 
   abbrev pub writing : ℕ → ℕ → Looks
-  writing given n = client_with x fits apart bytes [] js given (writer_at bytes v a soft n)
+  writing given n = client_with x fits apart bytes [] js given (writer_at bytes v hard.h soft n)
 
   abbrev pub keeping_with : ℕ → CallLooks → Looks
   keeping_with gs k = serving_with x fits apart bytes [] js a soft hard v some gs lives.Accepted k

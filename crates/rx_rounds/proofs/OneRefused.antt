@@ -24,7 +24,7 @@ use Rattle.rx_rounds.specs.Arriving.{HasRefused}
 use Rattle.rx_rounds.proofs.Codes.{early_no_zero}
 use Rattle.rx_rounds.proofs.Growing.{Grew, grew_calls, grew_none, grew_on, grew_rounds, grew_turn, job_quiet, side_grew}
 use Rattle.rx_rounds.proofs.OneRequest.{WentFurther, keeps_whole}
-use Rattle.rx_rounds.proofs.OneTurn.{IsFurther, Keeps, keeps_read}
+use Rattle.rx_rounds.proofs.OneTurn.{IsFurther, Keeps, keeps_on, keeps_still}
 use Rattle.rx_rounds.proofs.ReadsOut.{ReadOut, decides, reads_the_end, waits_for_more}
 use Rattle.rx_rounds.proofs.Flow.{total}
 use Rattle.rx_rounds.proofs.Keeper.{piece}
@@ -113,14 +113,15 @@ arrived x g bytes t w = of w.turn.view w.turn.stage w.turn.out w.turn.far behind
         (grew_on w.served w.called t (grew_calls w.served w.called w.calls) (grew_rounds g w.left w.called t w.rest))
 
     of : (d : Turning) (u : Stage) (out : ReadOut x g w.client [] w.jobs 0 w.given 0
-        (Keeps x g w.client [] bytes w.given w.previous w.count w.owed)
-        (keeps_read x g w.client [] bytes w.given w.previous w.count w.owed) d u)
+        (λ k request. Keeps x g w.client [] bytes w.given w.previous w.count w.owed k)
+        (keeps_on x g w.client [] bytes w.given w.previous w.count w.owed)
+        (keeps_still x g w.client [] bytes w.given w.previous w.count w.owed) d u)
         → IsFurther x g w.client [] bytes w.given w.previous w.count w.owed w.jobs d u out → Grew u t
         → Arrived x bytes t
     of d u (decides k request code s good is two goes_on) far grew =
         was_refused (refused_later u t (the_call x) grew
         (refused_then x g w.client [] w.jobs 0 w.given 0 k request code s u d is two goes_on))
-    of d u (reads_the_end k request s good whole two goes_on) far grew =
+    of d u (reads_the_end k request s good none whole two goes_on) far grew =
         was_kept s (after_read 0 true [] k) w.given w.client [] w.jobs two
         (keeps_whole x g bytes w.client w.given w.previous w.count w.owed k w.within good whole)
         (grew_on s u t (grew_turn (dispatching g) 0 _ d s u goes_on.0 job_quiet goes_on.1) grew)

@@ -13,7 +13,7 @@ use Rattle.rx_jobs.specs.Jobs.{JobState, begun}
 use Rattle.rx_plan.specs.Rounds.{rounds}
 use Rattle.rx_plan.specs.Stages.{Stage}
 use Rattle.rx_plan.specs.Turned.{turns_all}
-use Rattle.rx_rounds.proofs.Flow.{IsHard, Speed, hard_told, newly, total, waits}
+use Rattle.rx_rounds.proofs.Flow.{Marked, Speed, hard_told, newly, total, waits}
 use Rattle.rx_rounds.proofs.Keeper.{front_kept, keeper_at, kept_to, last_kept, packet_kept, part_read, piece}
 use Rattle.rx_rounds.proofs.OneCall.{Ends, header_of, the_call}
 use Rattle.rx_rounds.proofs.Two.{any_two}
@@ -81,7 +81,7 @@ module _ (x : Ends) (g : Handlers) (fits : FitsEnds x) (apart : AreApart x) (byt
   -- from a rest at so many pieces, in so many rounds
   abbrev pub FromRest : ℕ → ℕ → Stage → Type 0
   FromRest a n t =
-      (request : List ℕ) (soft : ℕ → Bool) (hard : IsHard soft) (v : Speed) (some : 0 < v.rtt.rto)
+      (request : List ℕ) (soft : ℕ → Bool) (hard : Marked a soft) (v : Speed) (some : 0 < v.rtt.rto)
       (given gs : ℕ) (read : List ℕ) (o : Option Owed) (p : ℕ) (s : Stage)
       → 0 < v.window → p < 2 ^ 32 → IsLater o
       → Two x (keeping_with x g fits apart bytes request a soft hard v some gs (keeper_at bytes read o p a))
@@ -89,7 +89,7 @@ module _ (x : Ends) (g : Handlers) (fits : FitsEnds x) (apart : AreApart x) (byt
       → Made (rounds g n) s t → WentFurther x g bytes t
 
   -- behind the ACK
-  pub after_ack : (a d n given gs p : ℕ) (request : List ℕ) (soft : ℕ → Bool) (hard : IsHard soft) (v : Speed)
+  pub after_ack : (a d n given gs p : ℕ) (request : List ℕ) (soft : ℕ → Bool) (hard : Marked a soft) (v : Speed)
       (some : 0 < v.rtt.rto) (u t : Stage)
       → 0 < v.window → p < 2 ^ 32 → d ≤ total bytes → FromRest d n t
       → AckPassed x g fits apart bytes request a soft hard v some given d gs p u
@@ -118,7 +118,7 @@ module _ (x : Ends) (g : Handlers) (fits : FitsEnds x) (apart : AreApart x) (byt
       }
 
   -- behind the pieces
-  after_pieces : (a e n given gs : ℕ) (request : List ℕ) (soft : ℕ → Bool) (hard : IsHard soft) (v : Speed)
+  after_pieces : (a e n given gs : ℕ) (request : List ℕ) (soft : ℕ → Bool) (hard : Marked a soft) (v : Speed)
       (some : 0 < v.rtt.rto) (u t : Stage)
       → 0 < v.window → 1 ≤ a → a + suc e ≤ total bytes → total bytes ≤ 32
       → (total bytes ≡ a + suc e) ⊎ (v.window ≤ suc e)

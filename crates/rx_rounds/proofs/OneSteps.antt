@@ -1,6 +1,6 @@
 -- What events make of a node with one connection and one call on it.
-use Rattle.std.proofs.Common.{◌≡◌, ◌<◌, ◌+◌, ℕ, pos, suc, ◌-◌, ◌&&◌, true, false, cond}
-use Rattle.std.proofs.Common.{List, [], ◌∷◌, refl, Some, None, Ok, add-zero}
+use Rattle.std.proofs.Common.{◌≡◌, ◌<◌, ◌+◌, ℕ, pos, suc, ◌-◌, ◌&&◌, Bool, true, false, cond, is_some}
+use Rattle.std.proofs.Common.{List, [], ◌∷◌, refl, Option, Some, None, Ok, add-zero}
 use Rattle.std.proofs.Common.{nat_le, nat_lt, ◌==◌, arith}
 use Rattle.std.proofs.lemmas.Bool.{lt-ltb, le-ltb, ne_eqb}
 use Rattle.rx_model.specs.declared.answers.ReadGot.TheVariants as readers
@@ -29,9 +29,11 @@ use Rattle.rx_rules.specs.Life as lives
 use Rattle.rx_rules.specs.Looks.{Looks, at_start, call_at}
 use Rattle.rx_rules.specs.Rules.{accept_answer, own_call}
 use Rattle.rx_rules.specs.Setup.{Setup}
+use Rattle.rx_plan.specs.Follows.{class_of}
+use Rattle.rx_rounds.proofs.KeyClass.{challenges_is, enters_proved}
 use Rattle.rx_rounds.proofs.Pair.{message_of, view_of, row_of}
 use Rattle.rx_rounds.proofs.OneCall.{Ends, Link, client_setup, server_setup, the_call, the_record, node_of}
-use Rattle.rx_rounds.proofs.OneCall.{from_client, from_server, header_of, client_place, server_place}
+use Rattle.rx_rounds.proofs.OneCall.{answering_link, from_client, from_server, header_of, client_place, served_link, server_place}
 
 -- ---- behind a poll
 
@@ -56,20 +58,42 @@ client_gave x now used given k (Ack reason serial) awake plain =
     (rw awake
     (rw (number_itself x.client.addr, number_itself x.client.port, number_itself x.epoch, number_itself x.first) refl))
 
+pub link_none : (x : Ends) (proved : Bool) (firsts : List CallName) (now used given : ℕ) (life : Life) (k : CallLooks)
+    → nat_le SILENCE_MS (now - k.heard) ≡ false
+    → after (server_setup x) (events.Polled None) (node_of x (served_link x proved false given used) firsts now life k)
+    ≡ node_of x (served_link x proved false given used) firsts now life k
+link_none x proved firsts now used given life k awake =
+    (elim (is_active life) as (λ b. ◌≡◌ {A = Looks}
+    (record (node_of x (served_link x proved false given used) firsts now life k) {
+      calls = cond (b && nat_le SILENCE_MS (now - k.heard))
+          (record (the_record x life k) { life = after_silence (now - k.heard) life }) (the_record x life k) ∷ [];
+    })
+    (node_of x (served_link x proved false given used) firsts now life k)) [
+      | true ↦ rw awake refl
+      | false ↦ refl
+    ])
+
+pub link_gave : (x : Ends) (proved : Bool) (firsts : List CallName) (now used given : ℕ) (life : Life) (k : CallLooks) (i : Sending)
+    → is_active life ≡ true → nat_le SILENCE_MS (now - k.heard) ≡ false
+    → IsPlain (message_of (server_place x now) (record { looks = k; given = given }) i)
+    → after (server_setup x) (events.Polled
+    (Some (x.client, made (message_of (server_place x now) (record { looks = k; given = given }) i))))
+    (node_of x (served_link x proved false given used) firsts now life k)
+    ≡ node_of x (served_link x proved false (suc given) now) firsts now life (after_sending now i k)
+link_gave x proved firsts now used given life k (Piece seq again) active awake plain =
+    rw (reads_back (message_of (server_place x now) (record { looks = k; given = given }) (Piece seq again)) plain)
+    (rw (active, awake)
+    (rw (number_itself x.client.addr, number_itself x.client.port, number_itself x.epoch, number_itself x.first) refl))
+link_gave x proved firsts now used given life k (Ack reason serial) active awake plain =
+    rw (reads_back (message_of (server_place x now) (record { looks = k; given = given }) (Ack reason serial)) plain)
+    (rw (active, awake)
+    (rw (number_itself x.client.addr, number_itself x.client.port, number_itself x.epoch, number_itself x.first) refl))
+
 pub server_none : (x : Ends) (firsts : List CallName) (now used given : ℕ) (life : Life) (k : CallLooks)
     → nat_le SILENCE_MS (now - k.heard) ≡ false
     → after (server_setup x) (events.Polled None) (node_of x (from_server x given used) firsts now life k)
     ≡ node_of x (from_server x given used) firsts now life k
-server_none x firsts now used given life k awake =
-    (elim (is_active life) as (λ b. ◌≡◌ {A = Looks}
-    (record (node_of x (from_server x given used) firsts now life k) {
-      calls = cond (b && nat_le SILENCE_MS (now - k.heard))
-          (record (the_record x life k) { life = after_silence (now - k.heard) life }) (the_record x life k) ∷ [];
-    })
-    (node_of x (from_server x given used) firsts now life k)) [
-      | true ↦ rw awake refl
-      | false ↦ refl
-    ])
+server_none x = link_none x (is_some x.key)
 
 pub server_gave : (x : Ends) (firsts : List CallName) (now used given : ℕ) (life : Life) (k : CallLooks) (i : Sending)
     → is_active life ≡ true → nat_le SILENCE_MS (now - k.heard) ≡ false
@@ -78,14 +102,7 @@ pub server_gave : (x : Ends) (firsts : List CallName) (now used given : ℕ) (li
     (Some (x.client, made (message_of (server_place x now) (record { looks = k; given = given }) i))))
     (node_of x (from_server x given used) firsts now life k)
     ≡ node_of x (from_server x (suc given) now) firsts now life (after_sending now i k)
-server_gave x firsts now used given life k (Piece seq again) active awake plain =
-    rw (reads_back (message_of (server_place x now) (record { looks = k; given = given }) (Piece seq again)) plain)
-    (rw (active, awake)
-    (rw (number_itself x.client.addr, number_itself x.client.port, number_itself x.epoch, number_itself x.first) refl))
-server_gave x firsts now used given life k (Ack reason serial) active awake plain =
-    rw (reads_back (message_of (server_place x now) (record { looks = k; given = given }) (Ack reason serial)) plain)
-    (rw (active, awake)
-    (rw (number_itself x.client.addr, number_itself x.client.port, number_itself x.epoch, number_itself x.first) refl))
+server_gave x = link_gave x (is_some x.key)
 
 -- ---- a server that knows nothing takes the first piece
 
@@ -117,28 +134,56 @@ server_begins x now serial flags payload some plain ours =
           x.client.port,
       number_itself x.epoch,
       number_itself x.first,
+      number_itself (class_of x.key).index,
       add-zero,
     ) refl)
 
+-- where there is a key, it owes a CHALLENGE
 pub server_began : (x : Ends) (now serial flags : ℕ) (payload : List ℕ) → 1 < x.first + 1
     → IsPlain (data_of x 1 serial flags payload) → has_flag CLIENT_INITIATED flags ≡ true
     → after (server_setup x) (events.Taken x.client (made (data_of x 1 serial flags payload)) tooks.Kept) (empty_at now)
-    ≡ node_of x (from_server x 0 now) (the_call x ∷ []) now lives.Waiting
+    ≡ node_of x (served_link x false (is_some x.key) 0 now) (the_call x ∷ []) now lives.Waiting
     (after_taken (view_of (server_place x now) (fresh_call DEFAULT_WINDOW false now)) tooks.Kept
     (data_of x 1 serial flags payload) (fresh_call DEFAULT_WINDOW false now))
-server_began x now serial flags payload some plain ours =
-    let above : nat_lt 0 x.first ≡ true = lt-ltb 0 x.first (omega arith) in
-    rw (reads_back (data_of x 1 serial flags payload) plain)
-    (simp (
-      ours,
-      above,
-      number_itself x.service,
-      number_itself x.client.addr,
-      number_itself x.client.port,
-      number_itself x.epoch,
-      number_itself x.first,
-      add-zero,
-    ) refl)
+server_began x now serial flags payload some plain ours = of (is_some x.key) (challenges_is x.key)
+  where
+    above : nat_lt 0 x.first ≡ true
+    above = lt-ltb 0 x.first (omega arith)
+
+    of : (b : Bool) → (class_of x.key).challenges ≡ b
+        → after (server_setup x) (events.Taken x.client (made (data_of x 1 serial flags payload)) tooks.Kept)
+        (empty_at now)
+        ≡ node_of x (served_link x false b 0 now) (the_call x ∷ []) now lives.Waiting
+        (after_taken (view_of (server_place x now) (fresh_call DEFAULT_WINDOW false now)) tooks.Kept
+        (data_of x 1 serial flags payload) (fresh_call DEFAULT_WINDOW false now))
+    of true is =
+        rw (reads_back (data_of x 1 serial flags payload) plain)
+        (simp (
+          is,
+          ours,
+          above,
+          number_itself x.service,
+          number_itself (class_of x.key).index,
+          number_itself x.client.addr,
+          number_itself x.client.port,
+          number_itself x.epoch,
+          number_itself x.first,
+          add-zero,
+        ) refl)
+    of false is =
+        rw (reads_back (data_of x 1 serial flags payload) plain)
+        (simp (
+          is,
+          ours,
+          above,
+          number_itself x.service,
+          number_itself (class_of x.key).index,
+          number_itself x.client.addr,
+          number_itself x.client.port,
+          number_itself x.epoch,
+          number_itself x.first,
+          add-zero,
+        ) refl)
 
 -- ---- a client takes what the server gave
 
@@ -163,6 +208,7 @@ client_took_data x now used given k seq serial flags payload some plain theirs =
       number_itself x.server.port,
       number_itself x.epoch,
       number_itself x.first,
+      number_itself (class_of x.key).index,
       add-zero,
     ) refl)
 
@@ -184,6 +230,7 @@ client_kept x now used given k seq serial flags payload plain theirs =
       number_itself x.server.port,
       number_itself x.epoch,
       number_itself x.first,
+      number_itself (class_of x.key).index,
       add-zero,
     ) refl)
 
@@ -191,13 +238,13 @@ client_kept x now used given k seq serial flags payload plain theirs =
 abbrev pub ack_of : Ends → ℕ → AckBody → Message
 ack_of x serial a = record (header_of x) { serial = serial; body = bodies.Ack a }
 
-pub client_took_ack : (x : Ends) (firsts : List CallName) (now used given : ℕ) (k : CallLooks) (serial : ℕ)
+pub answering_took_ack : (x : Ends) (o : Option (List ℕ)) (firsts : List CallName) (now used given : ℕ) (k : CallLooks) (serial : ℕ)
     (a : AckBody) → 1 < x.first + 1
     → IsPlain (ack_of x serial a)
-    → took_of (client_setup x) (node_of x (from_client x given used) firsts now lives.Calling k) x.server
+    → took_of (client_setup x) (node_of x (answering_link x o given used) firsts now lives.Calling k) x.server
     (made (ack_of x serial a))
     ≡ row_of (client_place x now) (ack_of x serial a) k
-client_took_ack x firsts now used given k serial a some plain =
+answering_took_ack x o firsts now used given k serial a some plain =
     let numbered : (x.first == 0) ≡ false = ne_eqb x.first 0 (λ (e : x.first ≡ 0). omega arith) in
     let below : nat_lt x.first x.first ≡ false = le-ltb x.first x.first (omega arith) in
     rw (reads_back (ack_of x serial a) plain)
@@ -210,8 +257,37 @@ client_took_ack x firsts now used given k serial a some plain =
       number_itself x.server.port,
       number_itself x.epoch,
       number_itself x.first,
+      number_itself (class_of x.key).index,
       add-zero,
     ) refl)
+
+pub answering_heard_ack : (x : Ends) (o : Option (List ℕ)) (firsts : List CallName) (now used given : ℕ) (k : CallLooks) (serial : ℕ)
+    (a : AckBody)
+    → IsPlain (ack_of x serial a)
+    → after (client_setup x) (events.Taken x.server (made (ack_of x serial a)) tooks.Heard)
+    (node_of x (answering_link x o given used) firsts now lives.Calling k)
+    ≡ node_of x (answering_link x o given now) firsts now lives.Calling
+    (after_taken (view_of (client_place x now) k) tooks.Heard (ack_of x serial a) k)
+answering_heard_ack x o firsts now used given k serial a plain =
+    rw (reads_back (ack_of x serial a) plain)
+    (simp (
+      number_itself x.client.addr,
+      number_itself x.client.port,
+      number_itself x.server.addr,
+      number_itself
+          x.server.port,
+      number_itself (class_of x.key).index,
+      number_itself x.epoch,
+      number_itself x.first,
+    ) refl)
+
+pub client_took_ack : (x : Ends) (firsts : List CallName) (now used given : ℕ) (k : CallLooks) (serial : ℕ)
+    (a : AckBody) → 1 < x.first + 1
+    → IsPlain (ack_of x serial a)
+    → took_of (client_setup x) (node_of x (from_client x given used) firsts now lives.Calling k) x.server
+    (made (ack_of x serial a))
+    ≡ row_of (client_place x now) (ack_of x serial a) k
+client_took_ack x = answering_took_ack x None
 
 pub client_heard_ack : (x : Ends) (firsts : List CallName) (now used given : ℕ) (k : CallLooks) (serial : ℕ)
     (a : AckBody)
@@ -220,17 +296,7 @@ pub client_heard_ack : (x : Ends) (firsts : List CallName) (now used given : ℕ
     (node_of x (from_client x given used) firsts now lives.Calling k)
     ≡ node_of x (from_client x given now) firsts now lives.Calling
     (after_taken (view_of (client_place x now) k) tooks.Heard (ack_of x serial a) k)
-client_heard_ack x firsts now used given k serial a plain =
-    rw (reads_back (ack_of x serial a) plain)
-    (simp (
-      number_itself x.client.addr,
-      number_itself x.client.port,
-      number_itself x.server.addr,
-      number_itself
-          x.server.port,
-      number_itself x.epoch,
-      number_itself x.first,
-    ) refl)
+client_heard_ack x = answering_heard_ack x None
 
 -- ---- the server's handler
 
@@ -238,7 +304,13 @@ pub server_accepts : (x : Ends) (now used given : ℕ) (k : CallLooks)
     → accept_answer (server_setup x) (node_of x (from_server x given used) (the_call x ∷ []) now lives.Waiting k)
     ≡ Some (the_call x)
 server_accepts x now used given k =
-    simp (number_itself x.client.addr, number_itself x.client.port, number_itself x.epoch, number_itself x.first) refl
+    simp (
+      enters_proved x.key,
+      number_itself x.client.addr,
+      number_itself x.client.port,
+      number_itself x.epoch,
+      number_itself x.first,
+    ) refl
 
 pub server_accepted : (x : Ends) (now used given : ℕ) (k : CallLooks)
     → after (server_setup x) (events.Accepted (Some (the_call x)))

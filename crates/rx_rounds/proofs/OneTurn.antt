@@ -64,18 +64,26 @@ module _ (x : Ends) (g : Handlers) (lc : Looks) (cs : List InvokedState) (bytes 
       still true (Some o) was = was
       still false o was = was
 
+  pub keeps_on : (k : CallLooks) (request came : List ℕ)
+      → came ++ unread_of (after_read 0 false came k).received ≡ unread_of k.received → Keeps k
+      → Keeps (after_read 0 false came k)
+  keeps_on k request came rest h = keeps_read k came h
+
+  pub keeps_still : (k : CallLooks) (request : List ℕ) → Keeps k → Keeps (after_read 0 false [] k)
+  keeps_still k request h = keeps_read k [] h
+
   -- a job that has read so much of the request
   abbrev pub job_of : List ℕ → JobState
   job_of request = record (begun (the_call x)) { request = request }
 
   abbrev pub Reading : List JobState → Turning → Stage → Type 0
-  Reading js d u = ReadOut x g lc cs js 0 given 0 Keeps keeps_read d u
+  Reading js d u = ReadOut x g lc cs js 0 given 0 (λ k request. Keeps k) keeps_on keeps_still d u
 
   -- the job doesn't wait
   abbrev pub IsFurther : (js : List JobState) (d : Turning) (u : Stage) → Reading js d u → Type 0
   IsFurther js d u (waits_for_more k request good none part two is) = ⊥
   IsFurther js d u (decides k request code s good is two onward) = Unit {0}
-  IsFurther js d u (reads_the_end k request s good whole two onward) = Unit {0}
+  IsFurther js d u (reads_the_end k request s good none whole two onward) = Unit {0}
 
   -- a turn that went on from a job that decided a code, or has the whole request
   pub record Further (js : List JobState) (t : Stage) : Type 0 where
@@ -102,8 +110,8 @@ module _ (x : Ends) (g : Handlers) (lc : Looks) (cs : List InvokedState) (bytes 
       (same ∙ ap (λ (v : Turning). record u { jobs = jobs_left v }) is) two)
   by_reading js d u t (decides k request code s good is two onward) same = goes_further d u
       (decides k request code s good is two onward) tt same
-  by_reading js d u t (reads_the_end k request s good whole two onward) same = goes_further d u
-      (reads_the_end k request s good whole two onward) tt same
+  by_reading js d u t (reads_the_end k request s good none whole two onward) same = goes_further d u
+      (reads_the_end k request s good none whole two onward) tt same
 
   -- the first: the call is accepted
   pub turn_first : (k : CallLooks) (s t : Stage) → Keeps k → Two x (serving lives.Waiting k) lc cs [] s
@@ -123,7 +131,7 @@ module _ (x : Ends) (g : Handlers) (lc : Looks) (cs : List InvokedState) (bytes 
       (events.Accepted got) d.view d.stage) (server_accepts_none x 0 0 given lives.Accepted k refl)
       (serves_accept x g (serving lives.Accepted k) lc cs [] v1 d.view a.stage d.stage two1 refl a.goes) in
       by_reading [] d.view d.stage t
-      (reads_out x g lc cs [] 0 given 0 Keeps keeps_read (length (unread_of k.received)) k [] e.stage d.stage d.view
+      (reads_out x g lc cs [] 0 given 0 (λ k request. Keeps k) keeps_on keeps_still (length (unread_of k.received)) k [] e.stage d.stage d.view
       (omega arith) (good, e.two, e.goes)) d.then_
 
   -- a later one
@@ -139,5 +147,5 @@ module _ (x : Ends) (g : Handlers) (lc : Looks) (cs : List InvokedState) (bytes 
       (events.Accepted got) d.view d.stage) (server_accepts_none x 0 0 given lives.Accepted k refl)
       (serves_accept x g (serving lives.Accepted k) lc cs js (accepts js) d.view s d.stage two refl from) in
       by_reading js d.view d.stage t
-      (reads_out x g lc cs js 0 given 0 Keeps keeps_read (length (unread_of k.received)) k request e.stage d.stage
+      (reads_out x g lc cs js 0 given 0 (λ k request. Keeps k) keeps_on keeps_still (length (unread_of k.received)) k request e.stage d.stage
       d.view (omega arith) (good, e.two, e.goes)) d.then_

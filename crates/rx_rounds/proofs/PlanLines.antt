@@ -1,5 +1,10 @@
 -- How the lines of a plan went, line by line, where none is refused.
-use Rattle.std.proofs.Common.{◌≡◌, ℕ, suc, true, List, [], ◌∷◌, refl, ap, sym, subst, ◌∙◌}
+use Rattle.std.proofs.Common.{◌≡◌, ◌≢◌, ℕ, suc, Bool, true, false, List, [], ◌∷◌, refl, ap, sym, subst, ◌∙◌, map, All}
+use Rattle.std.proofs.lemmas.List.Elements.{All-cons, All-nil}
+use Rattle.rx_model.proofs.NameLaws.{host_is}
+use Rattle.rx_model.specs.Names.{same_host}
+use Rattle.rx_model.specs.declared.names.Host.{Host}
+use Rattle.rx_rules.proofs.EveryLaws.{Every}
 use Rattle.rx_model.specs.declared.event.Noted.{Noted}
 use Rattle.rx_script.specs.declared.plan.Numbered.{Numbered}
 use Rattle.rx_script.specs.declared.plan.PlanLine.{PlanLine}
@@ -75,3 +80,41 @@ line_to g place line p q es is made =
             (sym is) b.made;
       },
     )
+
+-- ---- lines of whatever numbers
+
+pub record FirstIs (ls : List Numbered) (w : PlanLine) (ws : List PlanLine) : Type 0 where
+  pub number : ℕ
+  pub rest : List Numbered
+  pub is : ls ≡ record { line = number; what = w } ∷ rest
+  pub more : map (λ (l : Numbered). l.what) rest ≡ ws
+
+pub first_is : (ls : List Numbered) (w : PlanLine) (ws : List PlanLine) → map (λ (l : Numbered). l.what) ls ≡ w ∷ ws
+    → FirstIs ls w ws
+first_is [] w ws same = absurd cc
+first_is (l ∷ ls) w ws same =
+    let head : l.what ≡ w = cc (same) in
+    let tail : map (λ (k : Numbered). k.what) ls ≡ ws = cc (same) in
+    record {
+      number = l.line;
+      rest = ls;
+      is = ap (λ (v : PlanLine). record { line = l.line; what = v } ∷ ls) head;
+      more = tail;
+    }
+
+pub none_is : (ls : List Numbered) → map (λ (l : Numbered). l.what) ls ≡ [] → ls ≡ []
+none_is [] same = refl
+none_is (l ∷ ls) same = absurd cc
+
+-- ---- what holds of lines
+
+pub all_of : {X : Type 0} (P : X → Type 0) (xs : List X) → Every P xs → All P xs
+all_of P [] every = All-nil P
+all_of P (x ∷ xs) every = All-cons P x xs every.0 (all_of P xs every.1)
+
+pub unlike : (a b : Host) → a ≢ b → same_host a b ≡ false
+unlike a b differ = of (same_host a b) refl
+  where
+    of : (t : Bool) → same_host a b ≡ t → same_host a b ≡ false
+    of true is = absurd (differ (host_is a b is))
+    of false is = is

@@ -3,7 +3,7 @@
 use Rattle.std.proofs.Common.{◌≡◌, ◌≤◌, ◌-◌, ◌++◌, ℕ, ℤ, suc, zero, min, Bool, true, false, List, [], ◌∷◌, refl, ap}
 use Rattle.std.proofs.Common.{sym, subst, ◌∙◌, Option, Some, None, length, take, drop, arith, append-nil, length-take}
 use Rattle.std.proofs.Common.{cond, length-drop, nat_lt}
-use Rattle.std.proofs.lemmas.List.{drop_min, drop-drop, length-append}
+use Rattle.std.proofs.lemmas.List.{drop_min, drop-drop, length-append, take-append-drop}
 use Rattle.rx_model.specs.declared.answers.CallRead.{CallRead}
 use Rattle.rx_model.specs.declared.answers.CallRead.TheVariants as reads
 use Rattle.rx_model.specs.declared.answers.ReadGot.TheVariants as readers
@@ -40,9 +40,13 @@ unread_behind now max k =
     ∙ sym (drop-drop (length (take max (unread_of k.received))) (length k.received.read) (heard_of k.received.kept))
     ∙ drop_take max (unread_of k.received)
 
--- what holds of the call's end and stays so as it is read
+-- what holds of the call's end and of what its job has of the request, and stays so as it is read
 module _ (x : Ends) (g : Handlers) (lc : Looks) (cs : List InvokedState) (js : List JobState) (now given used : ℕ)
-    (P : CallLooks → Type 0) (closed : (k : CallLooks) (bytes : List ℕ) → P k → P (after_read now false bytes k)) where
+    (P : CallLooks → List ℕ → Type 0)
+    (closed : (k : CallLooks) (request came : List ℕ)
+    → came ++ unread_of (after_read now false came k).received ≡ unread_of k.received
+    → P k request → P (after_read now false came k) (kept_of g (request ++ came)))
+    (still : (k : CallLooks) (request : List ℕ) → P k request → P (after_read now false [] k) request) where
   abbrev c : CallName
   c = the_call x
 
@@ -62,17 +66,18 @@ module _ (x : Ends) (g : Handlers) (lc : Looks) (cs : List InvokedState) (js : L
 
   -- how a turn of a job that reads goes on: it waits for more; it decided a code; or it read the end
   pub data ReadOut (w : Turning) (t : Stage) : Type 0 where
-    waits_for_more : (k : CallLooks) (request : List ℕ) → P k → unread_of k.received ≡ []
+    waits_for_more : (k : CallLooks) (request : List ℕ) → P k request → unread_of k.received ≡ []
         → is_complete k.received ≡ false
         → Two x (served_with k) lc cs js t → w ≡ over (reading_job request ∷ []) → ReadOut w t
-    decides : (k : CallLooks) (request : List ℕ) (code : ℤ) (s : Stage) → P k → early_code g request false ≡ Some code
+    decides : (k : CallLooks) (request : List ℕ) (code : ℤ) (s : Stage) → P k request → early_code g request false ≡ Some code
         → Two x (served_with k) lc cs js s → Serves g (onward (coded code (reading_job request))) s w t → ReadOut w t
-    reads_the_end : (k : CallLooks) (request : List ℕ) (s : Stage) → P k → is_complete k.received ≡ true
+    reads_the_end : (k : CallLooks) (request : List ℕ) (s : Stage) → P k request → unread_of k.received ≡ []
+        → is_complete k.received ≡ true
         → Two x (served_with (after_read now true [] k)) lc cs js s
         → Serves g (onward (settled g 0 (record (reading_job request) { ended = true }))) s w t → ReadOut w t
 
   abbrev Goes : CallLooks → List ℕ → Stage → Turning → Stage → Type 0
-  Goes k request s w t = P k × Two x (served_with k) lc cs js s × Serves g (moving_with (reading_job request)) s w t
+  Goes k request s w t = P k request × Two x (served_with k) lc cs js s × Serves g (moving_with (reading_job request)) s w t
 
   -- one read
   read_once : (k : CallLooks) (request : List ℕ) (s t : Stage) (w : Turning) (got : CallRead) (came : List ℕ)
@@ -102,7 +107,7 @@ module _ (x : Ends) (g : Handlers) (lc : Looks) (cs : List InvokedState) (js : L
       (ap (λ (u : List ℕ). read_from 4096 u (is_complete k.received)) none ∙ ap (read_from 4096 []) is) go in
       let k2 : CallLooks = after_read now true [] k in
       let e : Event = events.HasRead c 4096 (readers.Server served.End) [] in
-      reads_the_end k request n.stage go.0 is
+      reads_the_end k request n.stage go.0 none is
       (two_as x (after (server_setup x) e (served_with k)) lc (served_with k2) lc cs js n.stage n.stage
       (server_read x (c ∷ []) now used given 4096 k served.End []) refl refl n.two)
       n.goes
@@ -112,7 +117,7 @@ module _ (x : Ends) (g : Handlers) (lc : Looks) (cs : List InvokedState) (js : L
       let k2 : CallLooks = after_read now false [] k in
       let e : Event = events.HasRead c 4096 (readers.Server served.NotYet) [] in
       let o = serves_over g (over (reading_job request ∷ [])) w n.stage t refl n.goes in
-      waits_for_more k2 request (closed k [] go.0) (unread_same k none) is
+      waits_for_more k2 request (still k request go.0) (unread_same k none) is
       (two_as x (after (server_setup x) e (served_with k)) lc (served_with k2) lc cs js n.stage t
       (server_read x (c ∷ []) now used given 4096 k served.NotYet []) refl (sym o.1) n.two) o.0
     where
@@ -176,9 +181,11 @@ module _ (x : Ends) (g : Handlers) (lc : Looks) (cs : List InvokedState) (js : L
           let rest : length (unread_of k2.received) ≡ length (b ∷ bs) - 4096 = ap (λ (u : List ℕ). length u) left
           ∙ length-drop 4096 (b ∷ bs) in
           let h = heard_more request came count n.stage t w n.goes in
-          on k2 (kept_of g (request ++ came)) n.stage (closed k came go.0) two2 h.code h.is h.goes (omega arith)
+          let rest_ : came ++ unread_of k2.received ≡ unread_of k.received = ap (λ (u : List ℕ). came ++ u) left
+          ∙ take-append-drop 4096 (b ∷ bs) ∙ sym is in
+          on k2 (kept_of g (request ++ came)) n.stage (closed k request came rest_ go.0) two2 h.code h.is h.goes (omega arith)
         where
-          on : (k2 : CallLooks) (r2 : List ℕ) (s2 : Stage) → P k2 → Two x (served_with k2) lc cs js s2 → (o : Option ℤ)
+          on : (k2 : CallLooks) (r2 : List ℕ) (s2 : Stage) → P k2 r2 → Two x (served_with k2) lc cs js s2 → (o : Option ℤ)
               → ((found : ℤ) → o ≡ Some found → early_code g r2 false ≡ Some found)
               → Serves g (onward (maybe_coded o (reading_job r2))) s2 w t → length (unread_of k2.received) ≤ fuel
               → ReadOut w t

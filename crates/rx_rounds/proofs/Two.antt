@@ -34,8 +34,8 @@ use Rattle.rx_events.specs.Waits.{any_lives, lives_at, over_nodes}
 
 -- its two nodes
 abbrev pub the_nodes : Ends → List Node
-the_nodes x = server_node x.server x.service default_limits None x.nonces ∷ client_node x.client x.epoch
-    default_limits None ∷ []
+the_nodes x = server_node x.server x.service default_limits x.key x.nonces ∷ client_node x.client x.epoch
+    default_limits x.key ∷ []
 
 -- it has these nodes, what their sides say, these callers and these jobs
 pub record Two (x : Ends) (ls lc : Looks) (cs : List InvokedState) (js : List JobState) (s : Stage) : Type 0 where

@@ -1,5 +1,5 @@
 -- A request that a plan writes arrives at its server. Public clauses cite this module.
-use Rattle.std.specs.Prelude.{◌≡◌, ◌≢◌, ◌≤◌, ◌*◌, ◌+◌, ◌⊎◌, ℕ, ℤ, pos, List, [], ◌∷◌, ◌++◌, length, map, Some, None}
+use Rattle.std.specs.Prelude.{◌≡◌, ◌≢◌, ◌≤◌, ◌*◌, ◌+◌, ◌⊎◌, ℕ, ℤ, pos, List, [], ◌∷◌, ◌++◌, length, map, Option, Some}
 use Rattle.std.specs.Prelude.{IsSomeAnd, slice_get, Ok}
 use Rattle.rx_model.specs.declared.event.Event.{Event}
 use Rattle.rx_model.specs.declared.event.Event.TheVariants as events
@@ -23,7 +23,7 @@ use Rattle.rx_plan.specs.Stages.{Stage}
 use Rattle.rx_rounds.specs.Bounds.{default_limits, pieces}
 
 -- what a plan says whose client writes a request of at most 32 pieces by hand and shuts it, before rounds: both nodes
--- have the default limits and no key
+-- have the default limits, and one key or none
 pub record WritesRequest (ls : List Numbered) (offer : List ℕ) (n : ℕ) : Type 0 where
   pub at : Host
   pub service : ℕ
@@ -31,9 +31,10 @@ pub record WritesRequest (ls : List Numbered) (offer : List ℕ) (n : ℕ) : Typ
   pub epoch : ℕ
   pub nonce : ℕ
   pub first : ℕ
+  pub key : Option (List ℕ)
   pub says :
       map (λ l. l.what) ls
-      ≡ lines.Server at service default_limits None nonce ∷ lines.Client from epoch default_limits None
+      ≡ lines.Server at service default_limits key nonce ∷ lines.Client from epoch default_limits key
       ∷ lines.Connect 1 first ∷ lines.Call 1 4 ∷ lines.Write 1 offer ∷ lines.Shut 1 ∷ lines.Rounds n ∷ []
   pub apart : at ≢ from
   pub short : length offer ≤ 45184

@@ -1,2 +1,3 @@
-pub mod Bounds
 pub mod Arriving
+pub mod Bounds
+pub mod Completing

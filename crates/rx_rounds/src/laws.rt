@@ -1,11 +1,21 @@
 //! Laws of the rounds of plans.
 ghost use Rattle.rx_rounds.specs.Arriving.{PlansArrive};
+ghost use Rattle.rx_rounds.specs.Completing.{PlansComplete};
 
-/// Where a plan has a server and a client with the default limits and no key, on two hosts, and its client connects, calls,
-/// writes at most 45,184 bytes, shuts the request, and then so many rounds are made: two for each piece of the request,
-/// and four more. Then the server keeps each piece of the request as it was said, or its handler finished the call with a
-/// code other than 0. No line of the plan is refused; only want of memory, a fault of the sink, or a polling or a turn
-/// of 2^64 - 1 events stands in the way.
+/// Where a plan has a server and a client with the default limits and one key or none, on two hosts, and its client
+/// connects, calls, writes at most 45,184 bytes, shuts the request, and then so many rounds are made: two for each piece
+/// of the request, and four more. Then the server keeps each piece of the request as it was said, or its handler finished
+/// the call with a code other than 0. No line of the plan is refused; only want of memory, a fault of the sink, or a
+/// polling or a turn of 2^64 - 1 events stands in the way.
 pub fn plans_arrive()
     ensures { PlansArrive }
+{}
+
+/// Where a plan has a server and a client with the default limits and no key, on two hosts, and its client connects and
+/// makes an invoke, and then so many rounds are made: four for each piece of the request and of the reply that is served
+/// for it, one for each turn that its handler waits, and sixteen. Then the line of its caller says what is served: ok with
+/// what the reply says, or abort with the code. So the call ends. No line of the plan is refused; only want of memory, a
+/// fault of the sink, or a polling or a turn of 2^64 - 1 events stands in the way.
+pub fn plans_complete()
+    ensures { PlansComplete }
 {}

@@ -1,0 +1,464 @@
+-- What the turns behind pieces of a request come to: its handler reads on, waits, replies or refuses; and its caller says as
+-- much more as there is room for.
+use Rattle.std.proofs.Common.{◌&&◌, ◌≡◌, ◌≢◌, ◌<◌, ◌≤◌, ◌⊎◌, inl, inr, ⊎_elim, ◌+◌, ◌^◌, ◌++◌, ℕ, ℤ, pos}
+use Rattle.std.proofs.Common.{Bool, true, false, cond, List, [], ◌∷◌, refl, ap, sym, subst, ◌∙◌, Option, Some, None, length}
+use Rattle.std.proofs.Common.{arith, append-nil, nat_lt}
+use Rattle.std.proofs.lemmas.Bool.{both_ways, cases_Bool}
+use Rattle.std.proofs.lemmas.List.{length-append}
+use Rattle.std.specs.Prelude.{IfSome, IsSomeAnd}
+use Rattle.rx_model.specs.Spelling.{IsCode}
+use Rattle.rx_rules.specs.CallLooks.{CallLooks, after_read}
+use Rattle.rx_rules.specs.Life as lives
+use Rattle.rx_rules.specs.Looks.{Looks}
+use Rattle.rx_rules.specs.Owing.{Owed, delayed, owed_for_read}
+use Rattle.rx_rules.specs.Received.{Received, has_several, heard_of, is_complete, marks_of, nothing_received, unread_of, used_of}
+use Rattle.rx_rules.specs.Sent.{Sent, counting_by, given_of, held_pieces, nothing_sent}
+use Rattle.rx_script.specs.Served.{bytes, refusal}
+use Rattle.rx_asks.specs.declared.ask.Phase.{Phase}
+use Rattle.rx_asks.specs.declared.ask.Phase.TheVariants as phases
+use Rattle.rx_jobs.specs.Handlers.{Handlers, served_for, wait_of}
+use Rattle.rx_jobs.specs.Jobs.{JobState, begun}
+use Rattle.rx_jobs.specs.Keeping.{kept_of}
+use Rattle.rx_plan.specs.Stages.{InvokedState, Stage}
+use Rattle.rx_plan.specs.Turned.{turns_all}
+use Rattle.rx_rounds.proofs.ArrivingRound.{reads_out_of}
+use Rattle.rx_rounds.proofs.Between.{Answering_, Arriving, HasAll, InTouch, Refusing, Replying, Waiting, answers}
+use Rattle.rx_rounds.proofs.Between.{caller_with, client_at, finished, server_at, writes}
+use Rattle.rx_rounds.proofs.CallsOut.{waits_turn}
+use Rattle.rx_rounds.proofs.Flow.{total}
+use Rattle.rx_rounds.proofs.Keeper.{kept_to}
+use Rattle.rx_rounds.proofs.OneCall.{Ends, the_call}
+use Rattle.rx_rounds.proofs.OneRequest.{whole_is}
+use Rattle.rx_rounds.proofs.OneWay.{IsOwedBy, IsPlainOwed, IsSteady, Reads, Sends}
+use Rattle.rx_rounds.proofs.ReadOn.{IsRead, read_out}
+use Rattle.rx_rounds.proofs.ReadWhole.{marks_all, used_all}
+use Rattle.rx_rounds.proofs.ReplyStream.{heard_kept, heard_whole}
+use Rattle.rx_rounds.proofs.Rounded.{Made, caller_at}
+use Rattle.rx_rounds.proofs.SaidMore.{counts_more, said_more, sends_said}
+use Rattle.rx_rounds.proofs.SaysOn.{arriving_at, says_on}
+use Rattle.rx_rounds.proofs.ServeDecides.{refused_at}
+use Rattle.rx_rounds.proofs.ServeTurns.{ReadsJob, ServedOn, WroteOn, has_read_all, refused, refused_early, replies_now}
+use Rattle.rx_rounds.proofs.ServeTurns.{waits_for_pieces, waits_longer}
+use Rattle.rx_rounds.proofs.Sizes.{reply_short}
+use Rattle.rx_rounds.proofs.Two.{Two}
+
+-- an end that said nothing says any stream
+pub says_any : (whole : List ℕ) (since : ℕ) (k : CallLooks) → k.sent ≡ nothing_sent → IsSteady k → Sends whole since 0 0 k
+says_any whole since k none steady =
+    record {
+      acked = ap (λ (s : Sent). s.acked) none;
+      given = ap given_of none;
+      hard = λ j. ap (λ (s : Sent). s.soft j) none;
+      peer = ap (λ (s : Sent). s.peer_window) none;
+      known = omega arith;
+      near = omega arith;
+      counted = omega arith;
+      rest = whole;
+      said = ap (λ (s : Sent). s.said ++ whole) (sym none);
+      shut = λ closed. absurd (both_ways k.sent.shut (ap (λ (s : Sent). s.shut) none) closed);
+      held = subst (λ (s : Sent). held_pieces s ≤ 32) (sym none) (omega arith);
+      rates = steady;
+      recent = λ j low high. absurd (omega arith);
+    }
+
+-- a stream of which all pieces were given is shut
+pub given_all : (whole : List ℕ) (since a n : ℕ) (k : CallLooks) → Sends whole since a n k → n ≡ total whole
+    → k.sent.shut ≡ true
+given_all whole since a n k h all =
+    elim (cases_Bool k.sent.shut) as (λ c. k.sent.shut ≡ true) [
+      | inl closed ↦ closed
+      | inr going ↦ absurd (
+          let counts : n ≤ counting_by (length k.sent.said) false =
+          subst (λ (b : Bool). n ≤ counting_by (length k.sent.said) b) going h.counted in
+          let long : length whole ≡ length k.sent.said + length h.rest = ap (λ (xs : List ℕ). length xs) h.said
+          ∙ length-append k.sent.said h.rest in omega arith)
+    ]
+
+-- ---- what the turns come to
+
+pub data TurnsNext (x : Ends) (g : Handlers) (request : List ℕ) (call line now a n : ℕ) (t : Stage) : Type 0 where
+  reads_more : Arriving x g request call line now a n 1 t → TurnsNext x g request call line now a n t
+  waits_next : Waiting x g request call line now (wait_of g request) t → TurnsNext x g request call line now a n t
+  replies_next : (reply : List ℕ) → Replying x g request reply call line now 0 0 1 t
+      → TurnsNext x g request call line now a n t
+  refuses_next : (code : ℤ) → Refusing x g request call line now code t → TurnsNext x g request call line now a n t
+
+-- a handler that answers behind its request, at a client that was given nothing yet
+module _ (x : Ends) (g : Handlers) (request : List ℕ) (call line now : ℕ) where
+  -- what is known of both ends then
+  pub record Begins (kc ks : CallLooks) : Type 0 where
+    pub has : HasAll request kc ks
+    pub new : ks.sent ≡ nothing_sent
+    pub steady : IsSteady ks
+    pub quiet : kc.received ≡ nothing_received
+    pub none : kc.owed_ack ≡ None
+    pub touch : InTouch 4000 now kc ks
+    pub spoken : kc.spoke ≤ now
+    pub acks : (has.a ≡ total request) ⊎ (now ≤ has.since + 100)
+    pub passes : (ks.owed_ack ≡ None) ⊎ IsOwedBy now ks
+
+  ends_of : (said rest : List ℕ) (shut : Bool) (life : _) (jobs : List JobState)
+      → Answering_ x g request said shut rest life jobs → shut ≡ true → rest ≡ []
+  ends_of said rest shut life jobs (writes steps going some) closed = absurd (both_ways shut going closed)
+  ends_of said rest shut life jobs (finished closed none) same = none
+
+  pub replying_at : (reply : List ℕ) (kc ks : CallLooks) (given_client used_client given_server used_server : ℕ)
+      (lc : Looks) (cs : List InvokedState) (phase : Phase) (s t : Stage)
+      → Begins kc ks → served_for g request ≡ bytes reply
+      → WroteOn x g request (client_at x given_client used_client [] now kc)
+      (caller_at call line (caller_with x [] true [] phase) ∷ []) now given_server used_server 0 ks reply s
+      → Made turns_all s t → Replying x g request reply call line now 0 0 1 t
+  replying_at reply kc ks given_client used_client given_server used_server lc cs phase s t b served w made =
+      let going : ks.sent.shut ≡ false = ap (λ (z : Sent). z.shut) b.new in
+      let said_none : ks.sent.said ≡ [] = ap (λ (z : Sent). z.said) b.new in
+      let base : Sends reply now 0 0 ks = says_any reply now ks b.new b.steady in
+      let split : reply ≡ (ks.sent.said ++ w.more) ++ w.rest = w.split
+      ∙ ap (λ (ys : List ℕ). (ys ++ w.more) ++ w.rest) (sym said_none) in
+      let ends : w.shut ≡ true → w.rest ≡ [] = ends_of (ks.sent.said ++ w.more) w.rest w.shut w.life w.jobs w.job in
+      let ls : Looks = server_at x given_server used_server now w.life (said_more w.more w.shut ks) in
+      let two1 = waits_turn x ls w.jobs now given_client used_client call line kc phase s t b.quiet w.two made in
+      let read_none : kc.received.read ≡ [] = ap (λ (r : Received). r.read) b.quiet in
+      record {
+        kc = kc;
+        ks = said_more w.more w.shut ks;
+        given_client = given_client;
+        used_client = used_client;
+        given_server = given_server;
+        used_server = used_server;
+        firsts = [];
+        phase = phases.Resting;
+        life = w.life;
+        jobs = w.jobs;
+        rest = w.rest;
+        two = subst (λ (ys : List ℕ). Two x ls (client_at x given_client used_client [] now kc)
+            (caller_at call line (caller_with x [] true ys phases.Resting) ∷ []) w.jobs t) (sym read_none) two1;
+        served = served;
+        has = record {
+          tells = record {
+            used = b.has.tells.used;
+            marks = b.has.tells.marks;
+            previous = b.has.tells.previous;
+            plain = b.has.tells.plain;
+          };
+          ended = b.has.ended;
+          a = b.has.a;
+          since = b.has.since;
+          all = b.has.all;
+          shut = b.has.shut;
+        };
+        job = w.job;
+        since = now;
+        down = sends_said reply now 0 0 ks base going w.more w.rest w.shut split ends w.within;
+        writes = split;
+        out = w.full;
+        more = counts_more reply now 0 0 ks base going w.more w.rest w.shut split ends w.within (omega arith) w.full;
+        reads = record {
+          read = [];
+          previous = 0;
+          kept = b.quiet;
+          low = omega arith;
+          short = omega arith;
+          exact = refl;
+          out = ap (λ (r : Received). unread_of r) b.quiet;
+          plain = subst (λ (o : Option Owed). IfSome o IsPlainOwed) (sym b.none) tt;
+        };
+        fits = reply_short g request reply served;
+        time = record {
+          touch = record { client = b.touch.client; server = b.touch.server; spoke = b.touch.spoke };
+          past = omega arith;
+          soon = omega arith;
+          rests = λ same. refl;
+          owes = λ less. absurd (omega arith);
+          came = λ less. absurd (omega arith);
+        };
+        spoken = b.spoken;
+        late = subst (λ (o : Option Owed). IfSome o (λ z. z.rank ≤ now + 100)) (sym b.none) tt;
+        due = λ is. absurd (omega arith);
+        ready = omega arith;
+        acks = ⊎_elim (λ (z : b.has.a ≡ total request). inl z) (λ (z : now ≤ b.has.since + 100). inr (refl, z)) b.acks;
+        passes = ⊎_elim (λ (z : ks.owed_ack ≡ None). inl z) (λ (z : IsOwedBy now ks). inr (refl, z)) b.passes;
+      }
+
+-- ---- the turns
+
+-- what is known of both ends before them: pieces came up to the last one
+pub record Came (x : Ends) (request : List ℕ) (now a n since : ℕ) (kc first : CallLooks) (offering : List ℕ) (shut : Bool)
+    : Type 0 where
+  pub known : 1 ≤ n
+  pub within : n ≤ total request
+  pub less : a < n
+  pub up : Sends request since a n kc
+  pub quiet : kc.received ≡ nothing_received
+  pub none : kc.owed_ack ≡ None
+  pub offers : request ≡ kc.sent.said ++ offering
+  pub closed : kc.sent.shut ≡ shut
+  pub done : shut ≡ true → offering ≡ []
+  pub new : first.sent ≡ nothing_sent
+  pub steady : IsSteady first
+  pub owed : Owed
+  pub owes : first.owed_ack ≡ Some owed
+  pub plain : IsPlainOwed owed
+  pub late : owed.rank ≤ now + 100
+  pub soon_owed : owed.rank ≤ since + 100
+  pub at_end : n ≡ total request → owed.rank ≡ 0
+  pub heard : first.heard ≡ now
+  pub past : since ≤ now
+  pub soon : now ≤ since + 100
+  pub spoke : kc.spoke ≡ now
+  pub touch : since ≤ kc.heard + 3000
+
+module _ (x : Ends) (g : Handlers) (request : List ℕ) (call line : ℕ) (small : total request ≤ 1000000)
+    (now a n since gc uc gs us : ℕ) (kc first : CallLooks) (offering : List ℕ) (shut : Bool) (phase : Phase)
+    (b : Came x request now a n since kc first offering shut) (s t : Stage) (calls : Made turns_all s t) where
+  abbrev lc : Looks
+  lc = client_at x gc uc [] now kc
+
+  abbrev cs : List InvokedState
+  cs = caller_at call line (caller_with x offering shut [] phase) ∷ []
+
+  -- the end as it was read on
+  module _ (k : CallLooks) (read : List ℕ) (h : IsRead request now n n first read k) where
+    owed_still : k.owed_ack ≡ Some b.owed
+    owed_still = ap (λ (i : CallLooks). i.owed_ack) h.is ∙ h.stays b.owed b.owes
+
+    new_still : k.sent ≡ nothing_sent
+    new_still = ap (λ (i : CallLooks). i.sent) h.is ∙ b.new
+
+    heard_still : k.heard ≡ now
+    heard_still = ap (λ (i : CallLooks). i.heard) h.is ∙ b.heard
+
+    steady_still : IsSteady k
+    steady_still = subst IsSteady (sym h.is) (record {
+      wide = b.steady.wide;
+      most = b.steady.most;
+      steady = b.steady.steady;
+      even = b.steady.even;
+      slow = b.steady.slow;
+    })
+
+    owes_by : (r : ℕ) → b.owed.rank ≤ r → IsOwedBy r k
+    owes_by r low = subst (λ (o : Option Owed). IsSomeAnd o (λ z. z.rank ≤ r)) (sym owed_still) low
+
+    -- it waits for more
+    on_reading : unread_of k.received ≡ [] → is_complete k.received ≡ false
+        → Two x (server_at x gs us now lives.Accepted k) lc cs
+        (record (begun (the_call x)) { request = kept_of g read } ∷ []) s
+        → TurnsNext x g request call line now a n t
+    on_reading none part two =
+        let plain : IfSome first.owed_ack IsPlainOwed = subst (λ (o : Option Owed). IfSome o IsPlainOwed) (sym b.owes)
+        b.plain in
+        let reads : Reads request n k = reads_out_of request now n n first k read b.known (omega (arith, b.within)) plain h
+        none part b.within in
+        let read_is : k.received.read ≡ read = ap (λ (i : CallLooks). i.received.read) h.is in
+        reads_more (arriving_at x request call line g now since a n gc uc gs us kc k offering shut phase s t b.known b.up
+        b.quiet b.none b.offers b.closed b.done reads new_still steady_still
+        (record {
+          touch = record {
+            client = b.touch;
+            server = omega (arith, b.past, heard_still);
+            spoke = omega (arith, b.past, b.spoke);
+          };
+          past = b.past;
+          soon = b.soon;
+          rests = λ same. absurd (omega (arith, b.less));
+          owes = λ less. owes_by (since + 100) b.soon_owed;
+          came = λ less. omega (arith, b.past, heard_still);
+        }) (λ less. omega (arith, b.past, b.spoke)) (omega (arith, b.spoke))
+        (subst (λ (o : Option Owed). IfSome o (λ z. z.rank ≤ now + 100)) (sym owed_still) b.late)
+        (omega (arith, b.less, b.within))
+        (subst (λ (ys : List ℕ). Two x (server_at x gs us now lives.Accepted k) lc cs
+        (record (begun (the_call x)) { request = kept_of g ys } ∷ []) s) (sym read_is) two) calls)
+
+    -- it finished with a code while it read
+    on_code : (code : ℤ) → served_for g request ≡ refusal code → code ≢ pos 0 → IsCode code
+        → Two x (refused_at x code gs us now k) lc cs [] s
+        → TurnsNext x g request call line now a n t
+    on_code code served some fits two =
+        let o = says_on x request call line shut now gc uc since a n (refused_at x code gs us now k) [] kc offering phase s
+        t b.up b.quiet b.offers b.closed b.done (omega (arith, b.less, b.within)) two calls in
+        refuses_next code (record {
+          kc = said_more o.more o.shut kc;
+          ks = k;
+          given_client = gc;
+          used_client = uc;
+          given_server = gs;
+          used_server = us;
+          offering = o.offering;
+          shut = o.shut;
+          phase = phases.Resting;
+          two = o.two;
+          served = served;
+          some = some;
+          fits = fits;
+          awake = omega (arith, b.touch, b.soon);
+          quiet = b.quiet;
+          owes_none = b.none;
+          a = a;
+          n = n;
+          since = since;
+          up = o.up;
+          soon = λ less. b.soon;
+        })
+
+    -- it read the end
+    module _ (none : unread_of k.received ≡ []) (whole : is_complete k.received ≡ true) where
+      abbrev ended : CallLooks
+      ended = after_read now true [] k
+
+      all : n ≡ total request
+      all = whole_is request read n n b.within (ap (λ (i : CallLooks). is_complete i.received) (sym h.is) ∙ whole)
+
+      stood : read ≡ request
+      stood = read_out request now n n first read k h none ∙ sym (heard_kept request n) ∙ heard_whole request n all
+
+      long : length (heard_of (kept_to request n)) ≤ length (read ++ [])
+      long =
+          let stands : heard_of (kept_to request n) ≡ read = heard_whole request n all ∙ sym stood in
+          omega (arith, ap (λ (ys : List ℕ). length ys) stands, ap (λ (ys : List ℕ). length ys) (append-nil read))
+
+      owed_ended : ended.owed_ack ≡ Some b.owed
+      owed_ended =
+          ap (λ (t : Bool). owed_for_read now (t && has_several k.received) (used_of k.received) (used_of ended.received)
+          k.owed_ack) (ap (λ (i : CallLooks). i.cwnd.prompt) h.is ∙ h.unprompted)
+          ∙ ap (λ (o : Option Owed). owed_for_read now false (used_of k.received) (used_of ended.received) o) owed_still
+          ∙ of (nat_lt (used_of k.received) (used_of ended.received))
+        where
+          of : (z : Bool) → cond z (delayed now 0 (Some b.owed)) (Some b.owed) ≡ Some b.owed
+          of true = refl
+          of false = refl
+
+      owes_now : IsOwedBy now ended
+      owes_now = subst (λ (o : Option Owed). IsSomeAnd o (λ z. z.rank ≤ now)) (sym owed_ended) (omega (arith, b.at_end all))
+
+      shut_is : kc.sent.shut ≡ true
+      shut_is = given_all request since a n kc b.up all
+
+      abbrev has_all : HasAll request kc ended
+      has_all =
+          record {
+            tells = record {
+              used = ap (λ (i : CallLooks). used_of (after_read now true [] i).received) h.is
+                  ∙ used_all request (read ++ []) n n long ∙ all;
+              marks = ap (λ (i : CallLooks). marks_of (after_read now true [] i).received) h.is
+                  ∙ marks_all request (read ++ []) n n long;
+              previous = subst (λ (i : CallLooks). i.received.previous < 2 ^ 32) (sym h.is) (omega (arith, b.within));
+              plain = subst (λ (o : Option Owed). IfSome o IsPlainOwed) (sym owed_ended) b.plain;
+            };
+            ended = refl;
+            a = a;
+            since = since;
+            all = subst (λ (i : ℕ). Sends request since a i kc) all b.up;
+            shut = shut_is;
+          }
+
+      closed : shut ≡ true
+      closed = sym b.closed ∙ shut_is
+
+      none_left : offering ≡ []
+      none_left = b.done closed
+
+      caller_is : cs ≡ caller_at call line (caller_with x [] true [] phase) ∷ []
+      caller_is = ap (λ (ys : List ℕ). caller_at call line (caller_with x ys shut [] phase) ∷ []) none_left
+          ∙ ap (λ (z : Bool). caller_at call line (caller_with x [] z [] phase) ∷ []) closed
+
+      begins : Begins x g request call line now kc ended
+      begins =
+          record {
+            has = has_all;
+            new = new_still;
+            steady = record {
+              wide = steady_still.wide;
+              most = steady_still.most;
+              steady = steady_still.steady;
+              even = steady_still.even;
+              slow = steady_still.slow;
+            };
+            quiet = b.quiet;
+            none = b.none;
+            touch = record {
+              client = omega (arith, b.touch, b.soon);
+              server = omega (arith, heard_still);
+              spoke = omega (arith, b.spoke);
+            };
+            spoken = omega (arith, b.spoke);
+            acks = inr b.soon;
+            passes = inr owes_now;
+          }
+
+      on_end : ServedOn x g request lc cs now gs us 0 ended s → TurnsNext x g request call line now a n t
+      on_end (waits_longer less uncoded two) =
+          let two1 : Two x (server_at x gs us now lives.Accepted ended) lc
+          (caller_at call line (caller_with x [] true [] phase) ∷ [])
+          (record (begun (the_call x)) { request = kept_of g request; ended = true; steps = 0 } ∷ []) s =
+          subst (λ (ds : List InvokedState). Two x (server_at x gs us now lives.Accepted ended) lc ds
+          (record (begun (the_call x)) { request = kept_of g request; ended = true; steps = 0 } ∷ []) s) caller_is two in
+          waits_next (record {
+            kc = kc;
+            ks = ended;
+            given_client = gc;
+            used_client = uc;
+            given_server = gs;
+            used_server = us;
+            phase = phases.Resting;
+            steps = 0;
+            two = waits_turn x (server_at x gs us now lives.Accepted ended)
+                (record (begun (the_call x)) { request = kept_of g request; ended = true; steps = 0 } ∷ []) now gc uc call
+                line kc phase s t b.quiet two1 calls;
+            turns = omega arith;
+            some = omega arith;
+            uncoded = uncoded;
+            has = has_all;
+            acks = inr (owes_now, b.soon);
+            past = b.past;
+            quiet = b.quiet;
+            owes_none = b.none;
+            says_none = new_still;
+            fresh = record {
+              wide = steady_still.wide;
+              most = steady_still.most;
+              steady = steady_still.steady;
+              even = steady_still.even;
+              slow = steady_still.slow;
+            };
+            spoken = omega (arith, b.spoke);
+            waits = answers owes_now (record {
+              client = omega (arith, b.touch, b.soon);
+              server = omega (arith, heard_still);
+              spoke = omega (arith, b.spoke);
+            });
+          })
+      on_end (replies_now reply served w) =
+          replies_next reply (replying_at x g request call line now reply kc ended gc uc gs us lc cs phase s t begins served
+          (subst (λ (ds : List InvokedState). WroteOn x g request lc ds now gs us 0 ended reply s) caller_is w) calls)
+      on_end (refused code served some fits two) =
+          let two1 : Two x (refused_at x code gs us now ended) lc
+          (caller_at call line (caller_with x [] true [] phase) ∷ []) [] s =
+          subst (λ (ds : List InvokedState). Two x (refused_at x code gs us now ended) lc ds [] s) caller_is two in
+          refuses_next code (record {
+            kc = kc;
+            ks = ended;
+            given_client = gc;
+            used_client = uc;
+            given_server = gs;
+            used_server = us;
+            offering = [];
+            shut = true;
+            phase = phases.Resting;
+            two = waits_turn x (refused_at x code gs us now ended) [] now gc uc call line kc phase s t b.quiet two1 calls;
+            served = served;
+            some = some;
+            fits = fits;
+            awake = omega (arith, b.touch, b.soon);
+            quiet = b.quiet;
+            owes_none = b.none;
+            a = a;
+            n = n;
+            since = since;
+            up = b.up;
+            soon = λ less. b.soon;
+          })
+
+  pub turns_next : ReadsJob x g request lc cs now gs us n n first s → TurnsNext x g request call line now a n t
+  turns_next (waits_for_pieces k read h none part two) = on_reading k read h none part two
+  turns_next (has_read_all k read h none whole served) = on_end k read h none whole served
+  turns_next (refused_early k read code h served some fits two) = on_code k read h code served some fits two

@@ -1,0 +1,699 @@
+-- A round of an invoke whose handler waits: it waits a turn less, or replies or refuses; the client pings and is answered.
+use Rattle.std.proofs.Common.{◌≡◌, ◌≢◌, ◌<◌, ◌≤◌, ◌⊎◌, inl, inr, ⊎_elim, ◌+◌, ◌-◌, ◌^◌, ◌++◌, ◌==◌, ℕ, ℤ, pos, suc}
+use Rattle.std.proofs.Common.{max, min, Bool, true, false, List, [], ◌∷◌, refl, ap, sym, subst, ◌∙◌, Option, Some, None, length}
+use Rattle.std.proofs.Common.{map, arith, append-nil, nat_le, nat_lt}
+use Rattle.std.proofs.lemmas.Bool.{and_left, and_right, le-ltb, lt-leb, ne_eqb, eq-eqb}
+use Rattle.std.proofs.lemmas.List.{length-append}
+use Rattle.std.specs.Prelude.{IfSome, IsSomeAnd, if◌then◌else◌}
+use Rattle.rx_model.specs.declared.names.Host.{Host}
+use Rattle.rx_model.specs.declared.wire.TheConstants.{PING_MS, SILENCE_MS}
+use Rattle.rx_model.specs.Message.{Message}
+use Rattle.rx_model.proofs.NameLaws.{number_itself}
+use Rattle.rx_rules.specs.CallItems.{CallItem, Piece, ack_items, again_items, can_give, fresh_items, item_at, lost_items, piece_items, ping_items}
+use Rattle.rx_rules.specs.CallLooks.{CallLooks}
+use Rattle.rx_rules.specs.Items.{moments}
+use Rattle.rx_rules.specs.Life as lives
+use Rattle.rx_rules.specs.Looks.{Looks}
+use Rattle.rx_rules.specs.Life.{is_active, is_live}
+use Rattle.rx_rules.specs.Lost.{first_lost, late_of, lost_of, overtaken_of, under_way}
+use Rattle.rx_rules.specs.Owing.{Owed}
+use Rattle.rx_rules.specs.Received.{Received, marks_of, nothing_received, used_of}
+use Rattle.rx_rules.specs.Sent.{LastGiving, Sent, counting_of, given_of, is_marked, last_giving, lowest_of, nothing_sent}
+use Rattle.rx_law.specs.Worlds.{Datagram}
+use Rattle.rx_script.specs.Served.{refusal}
+use Rattle.rx_asks.specs.declared.ask.Phase.TheVariants as phases
+use Rattle.rx_jobs.specs.Handlers.{Handlers, served_for, wait_of}
+use Rattle.rx_jobs.specs.Jobs.{JobState, begun}
+use Rattle.rx_jobs.specs.Keeping.{kept_of}
+use Rattle.rx_plan.specs.Stages.{InvokedState, Stage}
+use Rattle.rx_rounds.proofs.ArrivingRound.{ClientBehind, Exchanged, client_behind, exchanged, nothing_gives, nothing_sends}
+use Rattle.rx_rounds.proofs.ArrivingRound.{pieces_none, tells_none}
+use Rattle.rx_rounds.proofs.Between.{HasAll, InTouch, Refusing, Replying, Waiting, Waits, answers, caller_with, client_at, pings}
+use Rattle.rx_rounds.proofs.Between.{rests, server_at}
+use Rattle.rx_rounds.proofs.CallsOut.{waits_turn}
+use Rattle.rx_rounds.proofs.EachItem.{In, in_behind, in_front}
+use Rattle.rx_rounds.proofs.Exchange.{PolledOut, counts_within, lowest, must_go, never_given, polled_out, sends_sooner}
+use Rattle.rx_rounds.proofs.Flow.{total}
+use Rattle.rx_rounds.proofs.OneCall.{Ends, client_place, header_of, server_place, server_setup, the_call}
+use Rattle.rx_rounds.proofs.OneFields.{FitsEnds}
+use Rattle.rx_rounds.proofs.OneNode.{datagrams}
+use Rattle.rx_rounds.proofs.OneWay.{IsOwedBy, IsPlainOwed, IsSteady, Sends}
+use Rattle.rx_rounds.proofs.Pair.{CallEnd}
+use Rattle.rx_rounds.proofs.ReadsNext.{replying_at}
+use Rattle.rx_rounds.proofs.ReplyParts.{answering_lives}
+use Rattle.rx_rounds.proofs.Rounded.{RoundMade, caller_at, settles_not}
+use Rattle.rx_rounds.proofs.ServeDecides.{refused_at}
+use Rattle.rx_rounds.proofs.ServeTurns.{ServedOn, refused, replies_now, turn_waits, waits_longer}
+use Rattle.rx_rounds.proofs.Settle.{InEither, Settled, client_moments, end_moments, in_end, in_ping, server_moments, settles_two}
+use Rattle.rx_rounds.proofs.Settle.{stays_still}
+use Rattle.rx_rounds.proofs.Taking.{TookPing, Takes, heard_ack, no_ping_came, ping_came, sends_heard, takes_none, takes_ping}
+use Rattle.rx_rounds.proofs.Two.{AreApart, Two}
+
+-- what a round comes to
+pub data WaitingNext (x : Ends) (g : Handlers) (request : List ℕ) (call line now left : ℕ) (t : Stage) : Type 0 where
+  waits_less : (now2 left2 : ℕ) → now ≤ now2 → now2 ≤ now + 2000 → left2 + 1 ≤ left
+      → Waiting x g request call line now2 left2 t → WaitingNext x g request call line now left t
+  then_replies : (reply : List ℕ) → Replying x g request reply call line now 0 0 1 t
+      → WaitingNext x g request call line now left t
+  then_refuses : (code : ℤ) → Refusing x g request call line now code t
+      → WaitingNext x g request call line now left t
+
+-- a server that owes an ABORT has it due
+pub refused_moments : (x : Ends) (code : ℤ) (given used now : ℕ) (k : CallLooks)
+    → moments (server_setup x) (refused_at x code given used now k) ≡ 0 ∷ []
+refused_moments x code given used now k =
+    rw (number_itself x.client.addr, number_itself x.client.port, number_itself x.epoch, number_itself x.first) refl
+
+module _ (x : Ends) (g : Handlers) (fits : FitsEnds x) (apart : AreApart x) (request : List ℕ) (call line : ℕ)
+    (small : total request ≤ 1000000)
+    (coded : (code : ℤ) → served_for g request ≡ refusal code → code ≢ pos 0) where
+  module _ (now left : ℕ) (s t : Stage) (h : Waiting x g request call line now left s) (m : RoundMade g s t)
+      (early : now + 2000 < 2 ^ 62) where
+    abbrev n : ℕ
+    n = total request
+
+    abbrev e : CallEnd
+    e = record { looks = h.kc; given = h.given_client }
+
+    abbrev d : CallEnd
+    d = record { looks = h.ks; given = h.given_server }
+
+    abbrev cs : List InvokedState
+    cs = caller_at call line (caller_with x [] true [] h.phase) ∷ []
+
+    abbrev js : List JobState
+    js = record (begun (the_call x)) { request = kept_of g request; ended = true; steps = h.steps } ∷ []
+
+    near_since : h.has.a < n → now ≤ h.has.since + 100
+    near_since less = ⊎_elim (λ (w : h.has.a ≡ n). absurd (omega arith))
+        (λ (w : IsOwedBy now h.ks × (now ≤ h.has.since + 100)). w.1) h.acks
+
+    abbrev p : PolledOut (client_place x now) request h.has.since h.has.a n 0 e
+    p = polled_out (client_place x now) request h.has.since h.has.a n 0 e refl near_since h.has.all
+        (tells_none h.kc h.quiet h.owes_none)
+
+    abbrev o : PolledOut (server_place x now) [] now 0 0 n d
+    o = polled_out (server_place x now) [] now 0 0 n d refl (λ less. absurd (omega arith))
+        (nothing_sends now h.ks h.says_none h.fresh) h.has.tells
+
+    -- no piece is left
+    none_left : can_give h.kc.cwnd h.kc.sent ≡ false
+    none_left =
+        let counts = counts_within request h.has.since h.has.a n h.kc h.has.all in
+        and_left (nat_lt (given_of h.kc.sent) (counting_of h.kc.sent)) _
+        (le-ltb (given_of h.kc.sent) (counting_of h.kc.sent) (omega (arith, h.has.all.given)))
+
+    no_pieces : (p.pieces.last ≡ n) × (p.pieces.messages ≡ []) × (p.pieces.givings ≡ h.kc.sent.givings)
+        × (p.pieces.spoke ≡ h.kc.spoke)
+    no_pieces = p.pieces.none none_left
+
+    nothing : (o.pieces.last ≡ 0) × (o.pieces.messages ≡ []) × (o.pieces.givings ≡ h.ks.sent.givings)
+        × (o.pieces.spoke ≡ h.ks.spoke)
+    nothing = o.pieces.none (nothing_gives h.ks h.says_none)
+
+    -- both were heard not long ago
+    record Heard : Type 0 where
+      client : now ≤ h.kc.heard + 6000
+      server : now ≤ h.ks.heard + 3200
+
+    heard : Heard
+    heard = by h.waits
+      where
+        by : Waits now h.kc h.ks → Heard
+        by (rests none touch) = record { client = omega (arith, touch.client); server = omega (arith, touch.server) }
+        by (answers owes touch) = record { client = touch.client; server = omega (arith, touch.server) }
+        by (pings none late near near2) = record { client = omega arith; server = near2 }
+
+    awake : nat_le SILENCE_MS (now - h.kc.heard) ≡ false
+    awake = lt-leb SILENCE_MS (now - h.kc.heard) (omega (arith, heard.client))
+
+    awake2 : nat_le SILENCE_MS (now - h.ks.heard) ≡ false
+    awake2 = lt-leb SILENCE_MS (now - h.ks.heard) (omega (arith, heard.server))
+
+    abbrev pass : Exchanged x g fits apart request now h.has.since h.has.a n e d p o cs js m.polled.given m.delivered
+    pass = exchanged x g fits apart request now h.has.since h.has.a n e d p o (omega (arith, no_pieces.0)) (omega arith)
+        (omega arith) h.says_none awake awake2 cs js h.used_client h.used_server s t m h.two
+
+    -- what was given when doesn't count where all is acknowledged
+    abbrev since1 : ℕ
+    since1 = min h.has.since now
+
+    up1 : Sends request since1 h.has.a n h.kc
+    up1 = sends_sooner request h.has.since h.has.a n h.kc h.has.all since1 (λ less. omega arith)
+
+    -- ---- the server behind the polls
+
+    abbrev ks1 : CallLooks
+    ks1 = o.behind.looks
+
+    new1 : ks1.sent ≡ nothing_sent
+    new1 = ap (λ (k : CallLooks). k.sent) o.is ∙ ap (λ gs. record h.ks.sent { givings = gs }) nothing.2 ∙ h.says_none
+
+    owed1 : ks1.owed_ack ≡ o.owed
+    owed1 = ap (λ (k : CallLooks). k.owed_ack) o.is
+
+    heard1 : ks1.heard ≡ h.ks.heard
+    heard1 = ap (λ (k : CallLooks). k.heard) o.is
+
+    received1 : ks1.received ≡ h.ks.received
+    received1 = ap (λ (k : CallLooks). k.received) o.is
+
+    steady1 : IsSteady ks1
+    steady1 = subst IsSteady (sym o.is) (record {
+      wide = h.fresh.wide;
+      most = h.fresh.most;
+      steady = h.fresh.steady;
+      even = h.fresh.even;
+      slow = h.fresh.slow;
+    })
+
+    -- how many were given
+    given_long : length m.polled.given ≡ (length p.pieces.messages + length p.acks)
+        + (length o.pieces.messages + length o.acks)
+    given_long =
+        ap (λ (ds : List Datagram). length ds) pass.given_is
+        ∙ length-append (datagrams x.client x.server (p.pieces.messages ++ p.acks))
+        (datagrams x.server x.client (o.pieces.messages ++ o.acks))
+        ∙ sums (length (datagrams x.client x.server (p.pieces.messages ++ p.acks)))
+        (length p.pieces.messages + length p.acks)
+        (length (datagrams x.server x.client (o.pieces.messages ++ o.acks)))
+        (length o.pieces.messages + length o.acks)
+        (length_map x.client x.server (p.pieces.messages ++ p.acks) ∙ length-append p.pieces.messages p.acks)
+        (length_map x.server x.client (o.pieces.messages ++ o.acks) ∙ length-append o.pieces.messages o.acks)
+      where
+        length_map : (from to : Host) (ms : List Message) → length (datagrams from to ms) ≡ length ms
+        length_map from to [] = refl
+        length_map from to (y ∷ ys) = ap (λ (i : ℕ). suc i) (length_map from to ys)
+
+        sums : (u v w z : ℕ) → u ≡ v → w ≡ z → u + w ≡ v + z
+        sums u v w z one two_ = omega arith
+
+    loud : 1 ≤ length p.acks + length o.acks → t ≡ m.called
+    loud some =
+        settles_not m.called t (length m.polled.given == 0)
+        (ne_eqb (length m.polled.given) 0 (λ (z : length m.polled.given ≡ 0).
+        (let all : length m.polled.given ≡ (length p.pieces.messages + length p.acks)
+        + (length o.pieces.messages + length o.acks) = given_long in omega arith))) m.settles_are
+
+    -- ---- the turns
+
+    -- how both ends stand before them
+    record Stand (kc ks : CallLooks) (gc uc gs us : ℕ) : Type 0 where
+      two : Two x (server_at x gs us now lives.Accepted ks) (client_at x gc uc [] now kc) cs js m.delivered
+      a : ℕ
+      since : ℕ
+      up : Sends request since a n kc
+      shut : kc.sent.shut ≡ true
+      quiet : kc.received ≡ nothing_received
+      none : kc.owed_ack ≡ None
+      received : ks.received ≡ h.ks.received
+      plain : IfSome ks.owed_ack IsPlainOwed
+      new : ks.sent ≡ nothing_sent
+      steady : IsSteady ks
+      spoken : kc.spoke ≤ now
+      touch : InTouch 4000 now kc ks
+      acks : a ≡ n
+      past : since ≤ now
+      passes : (ks.owed_ack ≡ None) ⊎ IsOwedBy now ks
+
+    module _ (kc ks : CallLooks) (gc uc gs us : ℕ) (b : Stand kc ks gc uc gs us) where
+      abbrev has : HasAll request kc ks
+      has =
+          record {
+            tells = record {
+              used = ap used_of b.received ∙ h.has.tells.used;
+              marks = ap marks_of b.received ∙ h.has.tells.marks;
+              previous = subst (λ (r : Received). r.previous < 2 ^ 32) (sym b.received) h.has.tells.previous;
+              plain = b.plain;
+            };
+            ended = ap (λ (r : Received). r.ended) b.received ∙ h.has.ended;
+            a = b.a;
+            since = b.since;
+            all = b.up;
+            shut = b.shut;
+          }
+
+      -- what they come to
+      data Turned_ : Type 0 where
+        still_waits : h.steps + 1 < wait_of g request
+            → Two x (server_at x gs us now lives.Accepted ks) (client_at x gc uc [] now kc)
+            (caller_at call line (caller_with x [] true [] phases.Resting) ∷ [])
+            (record (begun (the_call x)) { request = kept_of g request; ended = true; steps = h.steps + 1 } ∷ []) m.called
+            → Turned_
+        then_writes : (reply : List ℕ) → Replying x g request reply call line now 0 0 1 m.called → Turned_
+        then_codes : (code : ℤ) → (r : Refusing x g request call line now code m.called) → r.kc.spoke ≤ now → Turned_
+
+      turned : Turned_
+      turned = by (turn_waits x g request (client_at x gc uc [] now kc) cs now gs us h.steps ks m.delivered m.served coded
+          has.ended b.new has.tells.marks b.two m.serves_are)
+        where
+          by : ServedOn x g request (client_at x gc uc [] now kc) cs now gs us (h.steps + 1) ks m.served → Turned_
+          by (waits_longer less uncoded two) =
+              still_waits less (waits_turn x (server_at x gs us now lives.Accepted ks)
+              (record (begun (the_call x)) { request = kept_of g request; ended = true; steps = h.steps + 1 } ∷ []) now gc uc
+              call line kc h.phase m.served m.called b.quiet two m.calls_are)
+          by (replies_now reply served w) =
+              then_writes reply (replying_at x g request call line now reply kc ks gc uc gs us
+              (client_at x gc uc [] now kc) cs h.phase m.served m.called
+              (record {
+                has = has;
+                new = b.new;
+                steady = b.steady;
+                quiet = b.quiet;
+                none = b.none;
+                touch = b.touch;
+                spoken = b.spoken;
+                acks = inl b.acks;
+                passes = b.passes;
+              }) served w m.calls_are)
+          by (refused code served some fits_ two) =
+              then_codes code (record {
+                kc = kc;
+                ks = ks;
+                given_client = gc;
+                used_client = uc;
+                given_server = gs;
+                used_server = us;
+                offering = [];
+                shut = true;
+                phase = phases.Resting;
+                two = waits_turn x (refused_at x code gs us now ks) [] now gc uc call line kc h.phase m.served m.called
+                    b.quiet two m.calls_are;
+                served = served;
+                some = some;
+                fits = fits_;
+                awake = omega (arith, b.touch.client);
+                quiet = b.quiet;
+                owes_none = b.none;
+                a = b.a;
+                n = n;
+                since = b.since;
+                up = b.up;
+                soon = λ less. absurd (omega (arith, b.acks));
+              }) b.spoken
+
+      -- the stage of one that waits on
+      waiting_at : (now2 : ℕ) → now ≤ now2 → now2 ≤ now + 2000 → h.steps + 1 < wait_of g request → Waits now2 kc ks
+          → Two x (server_at x gs us now2 lives.Accepted ks) (client_at x gc uc [] now2 kc)
+          (caller_at call line (caller_with x [] true [] phases.Resting) ∷ [])
+          (record (begun (the_call x)) { request = kept_of g request; ended = true; steps = h.steps + 1 } ∷ []) t
+          → WaitingNext x g request call line now left t
+      waiting_at now2 from far less waits two =
+          waits_less now2 (wait_of g request - (h.steps + 1)) from far (omega (arith, h.turns))
+          (record {
+            kc = kc;
+            ks = ks;
+            given_client = gc;
+            used_client = uc;
+            given_server = gs;
+            used_server = us;
+            phase = phases.Resting;
+            steps = h.steps + 1;
+            two = two;
+            turns = omega arith;
+            some = omega arith;
+            uncoded = h.uncoded;
+            has = has;
+            acks = inl b.acks;
+            past = omega (arith, b.past);
+            quiet = b.quiet;
+            owes_none = b.none;
+            says_none = b.new;
+            fresh = b.steady;
+            spoken = omega (arith, b.spoken);
+            waits = waits;
+          })
+
+      -- where something was given
+      loud_next : t ≡ m.called → Waits now kc ks → WaitingNext x g request call line now left t
+      loud_next same waits = by turned
+        where
+          by : Turned_ → WaitingNext x g request call line now left t
+          by (still_waits less two) = waiting_at now (omega arith) (omega arith) less waits
+              (subst (λ (u : Stage). Two x (server_at x gs us now lives.Accepted ks) (client_at x gc uc [] now kc)
+              (caller_at call line (caller_with x [] true [] phases.Resting) ∷ [])
+              (record (begun (the_call x)) { request = kept_of g request; ended = true; steps = h.steps + 1 } ∷ []) u)
+              (sym same) two)
+          by (then_writes reply next) = then_replies reply
+              (subst (Replying x g request reply call line now 0 0 1) (sym same) next)
+          by (then_codes code next spoken) = then_refuses code (subst (Refusing x g request call line now code) (sym same) next)
+
+    -- ---- the client behind polls and deliveries
+
+    abbrev c : ClientBehind x g fits apart request now h.has.since h.has.a n e d p o
+    c = client_behind x g fits apart request now h.has.since h.has.a n e d p o h.past (omega arith)
+        (omega (arith, no_pieces.0)) h.says_none h.has.all
+
+    owed_none : p.owed ≡ None
+    owed_none = ⊎_elim
+        (λ (w : (p.owed ≡ None) × (p.spoke ≡ now) × (1 ≤ length p.acks)). w.0)
+        (λ (w : (p.acks ≡ []) × (p.owed ≡ h.kc.owed_ack) × (p.spoke ≡ p.pieces.spoke)
+        × ((z : Owed) → p.owed ≡ Some z → now < z.rank) × (true ≡ true → now < p.spoke + 2000)).
+        w.1 ∙ h.owes_none) p.told
+
+    spoke_of : (p.spoke ≡ now) ⊎ (p.spoke ≡ h.kc.spoke)
+    spoke_of = ⊎_elim
+        (λ (w : (p.owed ≡ None) × (p.spoke ≡ now) × (1 ≤ length p.acks)). inl w.1)
+        (λ (w : (p.acks ≡ []) × (p.owed ≡ h.kc.owed_ack) × (p.spoke ≡ p.pieces.spoke)
+        × ((z : Owed) → p.owed ≡ Some z → now < z.rank) × (true ≡ true → now < p.spoke + 2000)).
+        inr (w.2 ∙ no_pieces.3)) p.told
+
+    spoken2 : c.kc2.spoke ≤ now
+    spoken2 = (let old : h.kc.spoke ≤ now = h.spoken in
+        let is : c.kc2.spoke ≡ p.spoke = c.spoke in
+        ⊎_elim (λ (w : p.spoke ≡ now). omega arith) (λ (w : p.spoke ≡ h.kc.spoke). omega arith) spoke_of)
+
+    spoke_near : now ≤ h.kc.spoke + 1000 → now ≤ c.kc2.spoke + 1000
+    spoke_near near = (let is : c.kc2.spoke ≡ p.spoke = c.spoke in
+        ⊎_elim (λ (w : p.spoke ≡ now). omega arith) (λ (w : p.spoke ≡ h.kc.spoke). omega arith) spoke_of)
+
+    -- both stand so, where the server has these looks then
+    stand : (ks : CallLooks) (takes : Takes (server_place x now) ks1 (p.pieces.messages ++ p.acks) ks)
+        → ks.received ≡ ks1.received → IfSome ks.owed_ack IsPlainOwed → ks.sent ≡ nothing_sent → IsSteady ks
+        → InTouch 4000 now c.kc2 ks → c.a2 ≡ n → c.since2 ≤ now → (ks.owed_ack ≡ None) ⊎ IsOwedBy now ks
+        → Stand c.kc2 ks p.behind.given (pass.two ks c.kc2 takes c.takes).1.0 o.behind.given
+        (pass.two ks c.kc2 takes c.takes).0
+    stand ks takes same plain new steady touch acks past passes =
+        record {
+          two = (pass.two ks c.kc2 takes c.takes).1.1;
+          a = c.a2;
+          since = c.since2;
+          up = subst (λ (i : ℕ). Sends request c.since2 c.a2 i c.kc2) no_pieces.0 c.up;
+          shut = c.shut ∙ h.has.shut;
+          quiet = c.quiet ∙ h.quiet;
+          none = c.owed ∙ owed_none;
+          received = same ∙ received1;
+          plain = plain;
+          new = new;
+          steady = steady;
+          spoken = spoken2;
+          touch = touch;
+          acks = acks;
+          past = past;
+          passes = passes;
+        }
+
+    -- it takes no ping
+    takes_nothing : p.acks ≡ [] → Takes (server_place x now) ks1 (p.pieces.messages ++ p.acks) ks1
+    takes_nothing none = subst (λ (ms : List Message). Takes (server_place x now) ks1 ms ks1)
+        (sym (ap (λ (ms : List Message). ms ++ p.acks) no_pieces.1 ∙ none)) (takes_none ks1)
+
+    plain_none : (ks : CallLooks) → ks.owed_ack ≡ None → IfSome ks.owed_ack IsPlainOwed
+    plain_none ks none = subst (λ (w : Option Owed). IfSome w IsPlainOwed) (sym none) tt
+
+    -- the server owes an ACK: it gives it
+    answers_next : IsOwedBy now h.ks → InTouch 6000 now h.kc h.ks → WaitingNext x g request call line now left t
+    answers_next owes touch =
+        ⊎_elim
+        (λ (w : (o.owed ≡ None) × (o.spoke ≡ now) × (1 ≤ length o.acks)). ⊎_elim
+        (λ (z : (o.acks ≡ []) × (c.a2 ≡ h.has.a) × (c.kc2 ≡ p.behind.looks) × (h.has.a < n → c.since2 ≡ h.has.since)
+        × (n ≤ h.has.a → c.since2 ≡ now)).
+        absurd (let none : length o.acks ≡ 0 = ap (λ (xs : List Message). length xs) z.0 in
+        let some : 1 ≤ length o.acks = w.2 in omega arith))
+        (λ (z : (1 ≤ length o.acks) × (c.a2 ≡ n) × (c.kc2.heard ≡ now) × (c.since2 ≡ now)).
+        (let none : ks1.owed_ack ≡ None = owed1 ∙ w.0 in
+        let quiet : p.acks ≡ [] = p.quiet h.owes_none (λ is. (let near : now ≤ h.kc.spoke + 1000 = touch.spoke in
+        omega arith)) in
+        let heard_now : c.kc2.heard ≡ now = z.2 in
+        let since_now : c.since2 ≡ now = z.3 in
+        let near : InTouch 4000 now c.kc2 ks1 = record {
+          client = omega arith;
+          server = omega (arith, touch.server, heard1);
+          spoke = spoke_near touch.spoke;
+        } in
+        let b = stand ks1 (takes_nothing quiet) refl (plain_none ks1 none) new1 steady1 near z.1 (omega arith) (inl none) in
+        loud_next c.kc2 ks1 p.behind.given (pass.two ks1 c.kc2 (takes_nothing quiet) c.takes).1.0 o.behind.given
+        (pass.two ks1 c.kc2 (takes_nothing quiet) c.takes).0 b (loud (omega (arith, z.0)))
+        (rests none (record {
+          client = omega arith;
+          server = omega (arith, touch.server, heard1);
+          spoke = spoke_near touch.spoke;
+        })))) c.told)
+        (λ (w : (o.acks ≡ []) × (o.owed ≡ h.ks.owed_ack) × (o.spoke ≡ o.pieces.spoke)
+        × ((z : Owed) → o.owed ≡ Some z → now < z.rank) × (false ≡ true → now < o.spoke + 2000)).
+        absurd (later h.ks.owed_ack owes (λ z is. w.3 z (w.1 ∙ is)))) o.told
+      where
+        later : (w : Option Owed) → IsSomeAnd w (λ z. z.rank ≤ now) → ((z : Owed) → w ≡ Some z → now < z.rank) → ⊥
+        later None some high = absurd some
+        later (Some z) some high = (let above : now < z.rank = high z refl in absurd (omega arith))
+
+    -- all is acknowledged where nothing is owed
+    all_known : h.ks.owed_ack ≡ None → h.has.a ≡ n
+    all_known none = ⊎_elim (λ (w : h.has.a ≡ n). w)
+        (λ (w : IsOwedBy now h.ks × (now ≤ h.has.since + 100)).
+        absurd (subst (λ (z : Option Owed). IsSomeAnd z (λ v. v.rank ≤ now)) none w.0)) h.acks
+
+    server_quiet : h.ks.owed_ack ≡ None → o.acks ≡ []
+    server_quiet none = o.quiet none (λ is. absurd cc)
+
+    -- then the client wasn't told, and stands as behind its polls
+    untold : h.ks.owed_ack ≡ None → (c.a2 ≡ n) × (c.kc2 ≡ p.behind.looks) × (c.since2 ≡ now)
+    untold none = ⊎_elim
+        (λ (z : (o.acks ≡ []) × (c.a2 ≡ h.has.a) × (c.kc2 ≡ p.behind.looks) × (h.has.a < n → c.since2 ≡ h.has.since)
+        × (n ≤ h.has.a → c.since2 ≡ now)).
+        (z.1 ∙ all_known none, z.2, z.4 (omega (arith, all_known none))))
+        (λ (z : (1 ≤ length o.acks) × (c.a2 ≡ n) × (c.kc2.heard ≡ now) × (c.since2 ≡ now)).
+        absurd (let empty : length o.acks ≡ 0 = ap (λ (xs : List Message). length xs) (server_quiet none) in
+        let some : 1 ≤ length o.acks = z.0 in omega arith)) c.told
+
+    -- a ping is due: the client gives it
+    pings_next : h.ks.owed_ack ≡ None → h.kc.spoke + 2000 ≤ now → now ≤ h.kc.heard + 3200 → now ≤ h.ks.heard + 3200
+        → WaitingNext x g request call line now left t
+    pings_next none late near near2 =
+        ⊎_elim
+        (λ (w : (p.owed ≡ None) × (p.spoke ≡ now) × (1 ≤ length p.acks)). by w.1 w.2
+        (takes_ping [] now 0 0 ks1 (nothing_sends now ks1 new1 steady1) 0 (omega arith) (omega arith) false now
+        (header_of x) p.acks (omega arith) p.tells (p.pings h.owes_none)))
+        (λ (w : (p.acks ≡ []) × (p.owed ≡ h.kc.owed_ack) × (p.spoke ≡ p.pieces.spoke)
+        × ((z : Owed) → p.owed ≡ Some z → now < z.rank) × (true ≡ true → now < p.spoke + 2000)).
+        absurd (let soon : now < p.spoke + 2000 = w.4 refl in let same : p.spoke ≡ h.kc.spoke = w.2 ∙ no_pieces.3 in
+        omega arith)) p.told
+      where
+        by : p.spoke ≡ now → 1 ≤ length p.acks → TookPing false now (header_of x) 0 ks1 p.acks
+            → WaitingNext x g request call line now left t
+        by spoke_now some (no_ping_came empty) =
+            absurd (let zero_ : length p.acks ≡ 0 = ap (λ (xs : List Message). length xs) empty in omega arith)
+        by spoke_now some (ping_came serial fits_ takes) =
+            let ks2 : CallLooks = heard_ack now 0 6 serial ks1 in
+            let u = untold none in
+            let takes2 : Takes (server_place x now) ks1 (p.pieces.messages ++ p.acks) ks2 =
+            subst (λ (ms : List Message). Takes (server_place x now) ks1 ms ks2)
+            (append-nil p.acks ∙ ap (λ (ms : List Message). ms ++ p.acks) (sym no_pieces.1))
+            (takes [] ks2 (takes_none ks2)) in
+            let new2 : ks2.sent ≡ nothing_sent =
+            ap (λ (z : Sent). record z { acked = 0; soft = is_marked 1 []; peer_window = 32 }) new1
+            ∙ ap (λ (f : ℕ → Bool). record nothing_sent { soft = f }) (λ i k. and_right (nat_le 1 k) false refl i) in
+            let steady2 : IsSteady ks2 = (sends_heard [] now 0 0 ks1 (nothing_sends now ks1 new1 steady1) 0 (omega arith)
+            (omega arith) now now 6 serial (λ j low high. absurd (omega arith))).rates in
+            let heard_is : c.kc2.heard ≡ h.kc.heard = ap (λ (k : CallLooks). k.heard) u.1
+            ∙ ap (λ (k : CallLooks). k.heard) p.is in
+            let touch : InTouch 4000 now c.kc2 ks2 = record {
+              client = omega arith;
+              server = omega arith;
+              spoke = omega (arith, c.spoke);
+            } in
+            let is_since : c.since2 ≡ now = u.2 in
+            let b = stand ks2 takes2 refl
+            (record { reason_low = omega arith; reason_high = omega arith; serial = fits_; no_ping = refl }) new2 steady2
+            touch u.0 (omega arith) (inr (omega arith)) in
+            loud_next c.kc2 ks2 p.behind.given (pass.two ks2 c.kc2 takes2 c.takes).1.0 o.behind.given
+            (pass.two ks2 c.kc2 takes2 c.takes).0 b (loud (omega arith))
+            (answers (omega arith) (record {
+              client = omega arith;
+              server = omega arith;
+              spoke = omega (arith, c.spoke);
+            }))
+
+    -- ---- nothing is given
+
+    module _ (none : h.ks.owed_ack ≡ None) (touch : InTouch 1000 now h.kc h.ks) where
+      owed_still : ks1.owed_ack ≡ None
+      owed_still = owed1 ∙ ⊎_elim
+          (λ (w : (o.owed ≡ None) × (o.spoke ≡ now) × (1 ≤ length o.acks)). w.0)
+          (λ (w : (o.acks ≡ []) × (o.owed ≡ h.ks.owed_ack) × (o.spoke ≡ o.pieces.spoke)
+          × ((z : Owed) → o.owed ≡ Some z → now < z.rank) × (false ≡ true → now < o.spoke + 2000)).
+          w.1 ∙ none) o.told
+
+      no_ping : p.acks ≡ []
+      no_ping = p.quiet h.owes_none (λ is. (let near : now ≤ h.kc.spoke + 1000 = touch.spoke in omega arith))
+
+      abbrev quiet_takes : Takes (server_place x now) ks1 (p.pieces.messages ++ p.acks) ks1
+      quiet_takes = takes_nothing no_ping
+
+      abbrev gc : ℕ
+      gc = (pass.two ks1 c.kc2 quiet_takes c.takes).1.0
+
+      abbrev gs : ℕ
+      gs = (pass.two ks1 c.kc2 quiet_takes c.takes).0
+
+      heard_is : c.kc2.heard ≡ h.kc.heard
+      heard_is = ap (λ (k : CallLooks). k.heard) (untold none).1 ∙ ap (λ (k : CallLooks). k.heard) p.is
+
+      stands : Stand c.kc2 ks1 p.behind.given gc o.behind.given gs
+      stands = stand ks1 quiet_takes refl (plain_none ks1 owed_still) new1 steady1
+          (record {
+            client = omega (arith, touch.client, heard_is);
+            server = omega (arith, touch.server, heard1);
+            spoke = spoke_near touch.spoke;
+          }) (untold none).0 (omega (arith, (untold none).2)) (inl owed_still)
+
+      is_quiet : (length m.polled.given == 0) ≡ true
+      is_quiet = eq-eqb (length m.polled.given) 0
+          (let one : length p.pieces.messages ≡ 0 = ap (λ (ms : List Message). length ms) no_pieces.1 in
+          let two_ : length p.acks ≡ 0 = ap (λ (ms : List Message). length ms) no_ping in
+          let three : length o.pieces.messages ≡ 0 = ap (λ (ms : List Message). length ms) nothing.1 in
+          let four : length o.acks ≡ 0 = ap (λ (ms : List Message). length ms) (server_quiet none) in
+          let sum : length m.polled.given ≡ (length p.pieces.messages + length p.acks)
+          + (length o.pieces.messages + length o.acks) = given_long in omega arith)
+
+      awake3 : nat_le SILENCE_MS (now - c.kc2.heard) ≡ false
+      awake3 = ap (λ (i : ℕ). nat_le SILENCE_MS (now - i)) heard_is ∙ awake
+
+      awake4 : nat_le SILENCE_MS (now - ks1.heard) ≡ false
+      awake4 = ap (λ (i : ℕ). nat_le SILENCE_MS (now - i)) heard1 ∙ awake2
+
+      abbrev lc2 : Looks
+      lc2 = client_at x p.behind.given gc [] now c.kc2
+
+      ping_soon : c.kc2.spoke + PING_MS ≤ now + 2000
+      ping_soon = omega (arith, spoken2)
+
+      -- it waits on: both clocks move until a ping is due
+      still : h.steps + 1 < wait_of g request
+          → Two x (server_at x o.behind.given gs now lives.Accepted ks1) lc2
+          (caller_at call line (caller_with x [] true [] phases.Resting) ∷ [])
+          (record (begun (the_call x)) { request = kept_of g request; ended = true; steps = h.steps + 1 } ∷ []) m.called
+          → WaitingNext x g request call line now left t
+      still less two =
+          let js2 : List JobState = record (begun (the_call x))
+          { request = kept_of g request; ended = true; steps = h.steps + 1 } ∷ [] in
+          let cs2 : List InvokedState = caller_at call line (caller_with x [] true [] phases.Resting) ∷ [] in
+          let ls2 : Looks = server_at x o.behind.given gs now lives.Accepted ks1 in
+          let z : Settled x ls2 lc2 cs2 js2 now (end_moments false ks1) (end_moments true c.kc2)
+          (length m.polled.given == 0) t =
+          settles_two x ls2 lc2 cs2 js2 now (end_moments false ks1) (end_moments true c.kc2) refl refl
+          (server_moments x (the_call x ∷ []) now gs o.behind.given lives.Accepted ks1 refl refl awake4)
+          (client_moments x [] now gc p.behind.given c.kc2 awake3) (c.kc2.spoke + PING_MS) (in_ping c.kc2)
+          ping_soon early (length m.polled.given == 0) m.called t two m.settles_are in
+          let from : now ≤ z.then_now = z.from in
+          let near : z.then_now ≤ max now (c.kc2.spoke + 2000) = z.near (c.kc2.spoke + PING_MS) (inr (in_ping c.kc2)) in
+          let far : z.then_now ≤ now + 2000 = omega (arith, spoken2) in
+          let r = z.reached is_quiet in
+          waiting_at c.kc2 ks1 p.behind.given gc o.behind.given gs stands z.then_now from far less
+          (pings owed_still (by z.then_now far r.0 r.1 r.2) (omega (arith, touch.client, heard_is))
+          (omega (arith, touch.server, heard1))) z.two
+        where
+          server_ends : end_moments false ks1 ≡ (ks1.heard + SILENCE_MS) ∷ []
+          server_ends =
+              ap (λ (is : List CallItem). map (λ (i : CallItem). i.rank) (is ++ (ack_items ks1.owed_ack ++ []))
+              ++ (ks1.heard + SILENCE_MS) ∷ []) (pieces_none ks1 new1 steady1)
+              ∙ ap (λ (v : Option Owed). map (λ (i : CallItem). i.rank) (ack_items v ++ [])
+              ++ (ks1.heard + SILENCE_MS) ∷ []) owed_still
+
+          up3 : Sends request c.since2 n n c.kc2
+          up3 = subst (λ (i : ℕ). Sends request c.since2 i n c.kc2) (untold none).0
+              (subst (λ (i : ℕ). Sends request c.since2 c.a2 i c.kc2) no_pieces.0 c.up)
+
+          can_none : can_give c.kc2.cwnd c.kc2.sent ≡ false
+          can_none = ap (λ (k : CallLooks). can_give k.cwnd k.sent) (untold none).1
+              ∙ ap (λ (k : CallLooks). can_give k.cwnd k.sent) p.is
+              ∙ sym (ap (λ (k : CallLooks). can_give k.cwnd k.sent) p.pieces.is) ∙ p.pieces.over
+
+          client_ends : end_moments true c.kc2 ≡ (c.kc2.spoke + PING_MS) ∷ (c.kc2.heard + SILENCE_MS) ∷ []
+          client_ends =
+              ap (λ (b : Bool). map (λ (i : CallItem). i.rank)
+              ((lost_items (if b then first_lost (overtaken_of c.kc2.sent)
+              (if nat_lt (under_way c.kc2.sent) c.kc2.cwnd.window then late_of c.kc2.sent else None) else None)
+              ++ (fresh_items c.kc2.cwnd c.kc2.sent ++ again_items c.kc2.rtt.rto (lowest_of c.kc2.sent)
+              (last_giving c.kc2.sent.givings (lowest_of c.kc2.sent)))) ++ (ack_items c.kc2.owed_ack
+              ++ ping_items true c.kc2.spoke)) ++ (c.kc2.heard + SILENCE_MS) ∷ []) up3.rates.steady
+              ∙ ap (λ (b : Bool). map (λ (i : CallItem). i.rank)
+              (((if b then item_at 0 (Piece (suc (given_of c.kc2.sent)) false) else [])
+              ++ again_items c.kc2.rtt.rto (lowest_of c.kc2.sent)
+              (last_giving c.kc2.sent.givings (lowest_of c.kc2.sent))) ++ (ack_items c.kc2.owed_ack
+              ++ ping_items true c.kc2.spoke)) ++ (c.kc2.heard + SILENCE_MS) ∷ []) can_none
+              ∙ ap (λ (j : ℕ). map (λ (i : CallItem). i.rank) (again_items c.kc2.rtt.rto j
+              (last_giving c.kc2.sent.givings j) ++ (ack_items c.kc2.owed_ack
+              ++ ping_items true c.kc2.spoke)) ++ (c.kc2.heard + SILENCE_MS) ∷ [])
+              (lowest request c.since2 n n c.kc2 up3)
+              ∙ ap (λ (v : Option LastGiving). map (λ (i : CallItem). i.rank) (again_items c.kc2.rtt.rto (suc n) v
+              ++ (ack_items c.kc2.owed_ack ++ ping_items true c.kc2.spoke)) ++ (c.kc2.heard + SILENCE_MS) ∷ [])
+              (never_given c.kc2.sent.givings (suc n) (omega (arith, up3.given)))
+              ∙ ap (λ (v : Option Owed). map (λ (i : CallItem). i.rank) (ack_items v
+              ++ ping_items true c.kc2.spoke) ++ (c.kc2.heard + SILENCE_MS) ∷ []) (c.owed ∙ owed_none)
+
+          by : (then_now : ℕ) → then_now ≤ now + 2000 → (mm : ℕ)
+              → InEither mm (end_moments false ks1) (end_moments true c.kc2) → mm ≤ then_now
+              → c.kc2.spoke + 2000 ≤ then_now
+          by then_now far mm (inl first) within =
+              of (subst (λ (ms : List ℕ). In mm ms) server_ends first)
+            where
+              of : In mm ((ks1.heard + SILENCE_MS) ∷ []) → c.kc2.spoke + 2000 ≤ then_now
+              of (inl same) = absurd (omega (arith, touch.server, heard1))
+              of (inr never) = absurd never
+          by then_now far mm (inr second) within =
+              of (subst (λ (ms : List ℕ). In mm ms) client_ends second)
+            where
+              of : In mm ((c.kc2.spoke + PING_MS) ∷ (c.kc2.heard + SILENCE_MS) ∷ []) → c.kc2.spoke + 2000 ≤ then_now
+              of (inl same) = omega arith
+              of (inr (inl same)) = absurd (omega (arith, touch.client, heard_is))
+              of (inr (inr never)) = absurd never
+
+      -- it replies or refuses: something is due at once, and no clock moves
+      rests_next : WaitingNext x g request call line now left t
+      rests_next = by (turned c.kc2 ks1 p.behind.given gc o.behind.given gs stands)
+        where
+          by : Turned_ c.kc2 ks1 p.behind.given gc o.behind.given gs stands → WaitingNext x g request call line now left t
+          by (still_waits less two) = still less two
+          by (then_writes reply r) =
+              then_replies reply (subst (Replying x g request reply call line now 0 0 1)
+              (sym (stays_still x (server_at x r.given_server r.used_server now r.life r.ks)
+              (client_at x r.given_client r.used_client r.firsts now r.kc)
+              (caller_at call line (caller_with x [] true r.kc.received.read r.phase) ∷ []) r.jobs now
+              (end_moments false r.ks) (end_moments true r.kc) refl refl
+              (server_moments x (the_call x ∷ []) now r.used_server r.given_server r.life r.ks lives_.0 lives_.1 awake_s)
+              (client_moments x r.firsts now r.used_client r.given_client r.kc awake_c) (r.kc.spoke + PING_MS)
+              (in_ping r.kc) (omega (arith, r.spoken)) early (length m.polled.given == 0) m.called t r.two 0
+              (inl (in_end false r.ks (record { rank = 0; sending = Piece (suc (given_of r.ks.sent)) false })
+              (in_front _ (piece_items r.ks.rtt.rto r.ks.cwnd r.ks.sent) (ack_items r.ks.owed_ack ++ [])
+              (in_behind _ (lost_items (lost_of r.ks.cwnd r.ks.sent)) (fresh_items r.ks.cwnd r.ks.sent
+              ++ again_items r.ks.rtt.rto (lowest_of r.ks.sent) (last_giving r.ks.sent.givings (lowest_of r.ks.sent)))
+              (in_front _ (fresh_items r.ks.cwnd r.ks.sent) (again_items r.ks.rtt.rto (lowest_of r.ks.sent)
+              (last_giving r.ks.sent.givings (lowest_of r.ks.sent)))
+              (subst (λ (b : Bool). In (record { rank = 0; sending = Piece (suc (given_of r.ks.sent)) false })
+              (if b then item_at 0 (Piece (suc (given_of r.ks.sent)) false) else []))
+              (sym (must_go reply r.since 0 0 r.ks r.down refl (r.more refl))) (inl refl))))))) (omega arith)
+              m.settles_are)) r)
+            where
+              lives_ : (is_active r.life ≡ true) × (is_live r.life ≡ true)
+              lives_ = answering_lives x g request r.ks.sent.said r.ks.sent.shut r.rest r.life r.jobs r.job
+
+              is_now : r.since ≡ now
+              is_now = r.time.rests refl
+
+              awake_c : nat_le SILENCE_MS (now - r.kc.heard) ≡ false
+              awake_c = (let near : r.since ≤ r.kc.heard + 4000 = r.time.touch.client in
+                  lt-leb SILENCE_MS (now - r.kc.heard) (omega (arith, is_now)))
+
+              awake_s : nat_le SILENCE_MS (now - r.ks.heard) ≡ false
+              awake_s = (let near : r.since ≤ r.ks.heard + 1000 = r.time.touch.server in
+                  lt-leb SILENCE_MS (now - r.ks.heard) (omega (arith, is_now)))
+          by (then_codes code r spoken) =
+              then_refuses code (subst (Refusing x g request call line now code)
+              (sym (stays_still x (refused_at x code r.given_server r.used_server now r.ks)
+              (client_at x r.given_client r.used_client [] now r.kc)
+              (caller_at call line (caller_with x r.offering r.shut [] r.phase) ∷ []) [] now
+              (0 ∷ []) (end_moments true r.kc) refl refl
+              (refused_moments x code r.given_server r.used_server now r.ks)
+              (client_moments x [] now r.used_client r.given_client r.kc
+              (lt-leb SILENCE_MS (now - r.kc.heard) (omega (arith, r.awake)))) (r.kc.spoke + PING_MS)
+              (in_ping r.kc) (omega arith) early (length m.polled.given == 0) m.called t r.two 0
+              (inl (inl refl)) (omega arith) m.settles_are)) r)
+
+    pub waiting_next : WaitingNext x g request call line now left t
+    waiting_next = by h.waits
+      where
+        by : Waits now h.kc h.ks → WaitingNext x g request call line now left t
+        by (rests none touch) = rests_next none touch
+        by (answers owes touch) = answers_next owes touch
+        by (pings none late near near2) = pings_next none late near near2

@@ -1,0 +1,5 @@
+use Rattle.rx_rounds.proofs.Complete.{complete}
+use Rattle.rx_rounds.proofs.laws.plans_complete.Goals as goal
+
+pub returns : goal.returns
+returns c = complete
