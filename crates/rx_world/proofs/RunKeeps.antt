@@ -7,7 +7,8 @@ use Rattle.rx_plan.specs.Lines.{IsWell}
 use Rattle.rx_plan.proofs.Promised.{plan_promises}
 use Rattle.rx_plan.proofs.SoundPlan.{lines_in_range}
 use Rattle.rx_rounds.proofs.Arrive.{arrive}
-use Rattle.rx_world.specs.Runs.{Arrives, KeepsPromises}
+use Rattle.rx_rounds.proofs.Complete.{complete}
+use Rattle.rx_world.specs.Runs.{Arrives, Completes, KeepsPromises}
 use Rattle.rx_world.specs.Tells.{Told}
 use Rattle.rx_world.proofs.ToldEvents.{plan_told}
 
@@ -23,3 +24,9 @@ run_keeps g ls outcome old new well r = (
 pub run_arrives : (g : Handlers) (ls : List Numbered) (outcome : Outcome) (old new : Told)
     → All (λ l. IsWell g l.what) ls → Arrives g ls outcome old new
 run_arrives g ls outcome old new well r offer n writes = arrive g ls r.events r.went offer n well writes r.goes
+
+-- and an invoke that they make comes to its end
+pub run_completes : (g : Handlers) (ls : List Numbered) (outcome : Outcome) (old new : Told)
+    → All (λ l. IsWell g l.what) ls → Completes g ls outcome old new
+run_completes g ls outcome old new well r n servable short invokes =
+    complete g ls r.events r.went n servable short well invokes r.goes

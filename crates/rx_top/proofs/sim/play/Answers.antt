@@ -15,7 +15,7 @@ returns-in-Ran-clause-played g c =
     let law = c.plans_answer_as_served.ensures in
     run_plays c.plans_are_well.ensures law.ok law.ended law.caused law.aborted (interface_of c.args.iface.now)
     (blocks_of c.args.script.blocks.items) _ _ _ _ c.requires.servable c.requires.read c.in-Ran.ensures.run
-    c.in-Ran.ensures.headline c.in-Ran.ensures.arrives
+    c.in-Ran.ensures.headline c.in-Ran.ensures.arrives c.in-Ran.ensures.completes
 
 pub returns-in-Ran-clause-no_sink_fault : goal.returns-in-Ran-clause-no_sink_fault
 returns-in-Ran-clause-no_sink_fault g c is = run_faults _ _ _ _ _ c.in-Ran.ensures.run
@@ -26,7 +26,7 @@ returns-in-Refused-clause-played g c =
       refl,
       run_plays c.plans_are_well.ensures law.ok law.ended law.caused law.aborted (interface_of c.args.iface.now)
           (blocks_of c.args.script.blocks.items) _ _ _ _ c.requires.servable c.requires.read c.in-Refused.ensures.run
-          c.in-Refused.ensures.headline c.in-Refused.ensures.arrives,
+          c.in-Refused.ensures.headline c.in-Refused.ensures.arrives c.in-Refused.ensures.completes,
     )
 
 pub returns-in-Refused-clause-no_sink_fault : goal.returns-in-Refused-clause-no_sink_fault
@@ -37,7 +37,7 @@ returns-in-SinkFault-clause-played g c =
     let law = c.plans_answer_as_served.ensures in
     run_plays c.plans_are_well.ensures law.ok law.ended law.caused law.aborted (interface_of c.args.iface.now)
     (blocks_of c.args.script.blocks.items) _ _ _ _ c.requires.servable c.requires.read c.in-SinkFault.ensures.run
-    c.in-SinkFault.ensures.headline c.in-SinkFault.ensures.arrives
+    c.in-SinkFault.ensures.headline c.in-SinkFault.ensures.arrives c.in-SinkFault.ensures.completes
 
 pub returns-in-SinkFault-clause-sink_fault : goal.returns-in-SinkFault-clause-sink_fault
 returns-in-SinkFault-clause-sink_fault g c is = run_faults _ _ _ _ _ c.in-SinkFault.ensures.run
@@ -47,7 +47,7 @@ returns-in-OutOfMemory-clause-played g c =
     let law = c.plans_answer_as_served.ensures in
     run_plays c.plans_are_well.ensures law.ok law.ended law.caused law.aborted (interface_of c.args.iface.now)
     (blocks_of c.args.script.blocks.items) _ _ _ _ c.requires.servable c.requires.read c.in-OutOfMemory.ensures.run
-    c.in-OutOfMemory.ensures.headline c.in-OutOfMemory.ensures.arrives
+    c.in-OutOfMemory.ensures.headline c.in-OutOfMemory.ensures.arrives c.in-OutOfMemory.ensures.completes
 
 pub returns-in-OutOfMemory-clause-no_sink_fault : goal.returns-in-OutOfMemory-clause-no_sink_fault
 returns-in-OutOfMemory-clause-no_sink_fault g c is = run_faults _ _ _ _ _ c.in-OutOfMemory.ensures.run
