@@ -331,12 +331,10 @@ def main():
         ran = run_all(runs, given)
         good = [one for one in ran if not one.fault]
         worst = list(worst_of(good, given.seed))
-        for one in worst:
-            runs.look_again(one)
-    failed = [one for one in ran if one.fault] + [one for one in worst if one.fault]
-    for line in table(good):
-        print(line)
-    print("\n".join(one.text() for one in worst))
+        print("\n".join([*table(good), *(one.text() for one in worst)]), flush=True)
+        with concurrent.futures.ThreadPoolExecutor(given.jobs) as pool:
+            list(pool.map(runs.look_again, worst))
+    failed = [one for one in [*ran, *worst] if one.fault]
     if given.keep:
         folder = pathlib.Path(given.keep)
         folder.mkdir(parents=True, exist_ok=True)
