@@ -2,7 +2,7 @@
 use Rattle.std.specs.Prelude.{◌≡◌, ◌==◌, ◌*◌, ℕ, Bool, true, false, List, [], ◌∷◌, map, refl, replicate}
 use Rattle.std.specs.Prelude.{Option, Some, None}
 use Rattle.rx_model.specs.declared.answers.Took.TheVariants as tooks
-use Rattle.rx_model.specs.declared.wire.TheConstants.{ACK_DELAY}
+use Rattle.rx_model.specs.declared.wire.TheConstants.{ACK_DELAY, ACK_REQUESTED, REQUEST_ACK}
 use Rattle.rx_model.specs.Body.{AckBody}
 use Rattle.rx_model.specs.Body as bodies
 use Rattle.rx_model.specs.Message.{Message}
@@ -191,7 +191,7 @@ reordered_by_two = refl
 
 -- ---- nothing overtakes
 
--- the last piece is lost: it goes again as its time is up, three round trips behind its giving
+-- the last piece is lost: it goes again as its time is up, three round trips and 100 ms behind its giving
 abbrev last_lost_rows : List (Step × Option Sending × ℕ)
 last_lost_rows =
     (Poll 0, first_time 1, 4)
@@ -199,11 +199,11 @@ last_lost_rows =
     ∷ (Poll 0, first_time 3, 4)
     ∷ (Poll 0, None, 4)
     ∷ (Heard 100 3 [], None, 6)
-    ∷ (Poll 299, None, 6)
-    ∷ (Poll 300, once_more 3, 1)
-    ∷ (Poll 300, None, 1)
-    ∷ (Heard 400 4 [], None, 2)
-    ∷ (Poll 400, None, 2)
+    ∷ (Poll 399, None, 6)
+    ∷ (Poll 400, once_more 3, 1)
+    ∷ (Poll 400, None, 1)
+    ∷ (Heard 500 4 [], None, 2)
+    ∷ (Poll 500, None, 2)
     ∷ []
 
 last_lost : Shows (saying true 3 4) last_lost_rows
@@ -213,6 +213,34 @@ last_lost = refl
 last_lost_rto : (behind_all (steps_of last_lost_rows) (saying true 3 4)).rtt.rto ≡ 600
 last_lost_rto = refl
 
+-- it is lost once more: a piece that is given again asks, so that its time is one RTO alone
+abbrev lost_twice_rows : List (Step × Option Sending × ℕ)
+lost_twice_rows =
+    (Poll 0, first_time 1, 4)
+    ∷ (Poll 1099, None, 4)
+    ∷ (Poll 1100, once_more 1, 1)
+    ∷ (Poll 3099, None, 1)
+    ∷ (Poll 3100, once_more 1, 1)
+    ∷ (Poll 7099, None, 1)
+    ∷ (Poll 7100, once_more 1, 1)
+    ∷ []
+
+lost_twice : Shows (saying true 1 4) lost_twice_rows
+lost_twice = refl
+
+-- a node that isn't prompt waits one RTO each time
+abbrev lost_twice_unprompted_rows : List (Step × Option Sending × ℕ)
+lost_twice_unprompted_rows =
+    (Poll 0, first_time 1, 4)
+    ∷ (Poll 999, None, 4)
+    ∷ (Poll 1000, once_more 1, 1)
+    ∷ (Poll 2999, None, 1)
+    ∷ (Poll 3000, once_more 1, 1)
+    ∷ []
+
+lost_twice_unprompted : Shows (saying false 1 4) lost_twice_unprompted_rows
+lost_twice_unprompted = refl
+
 -- all four are lost: the first goes again as its time is up, and the others, which were given before that, as the
 -- window opens, with no time of their own
 abbrev all_four_lost_rows : List (Step × Option Sending × ℕ)
@@ -221,18 +249,18 @@ all_four_lost_rows =
     ∷ (Poll 0, first_time 2, 4)
     ∷ (Poll 0, first_time 3, 4)
     ∷ (Poll 0, first_time 4, 4)
-    ∷ (Poll 999, None, 4)
-    ∷ (Poll 1000, once_more 1, 1)
-    ∷ (Poll 1000, None, 1)
-    ∷ (Heard 1100 2 [], None, 2)
-    ∷ (Poll 1100, once_more 2, 2)
-    ∷ (Poll 1100, once_more 3, 2)
-    ∷ (Poll 1100, None, 2)
-    ∷ (Heard 1200 3 [], None, 3)
-    ∷ (Poll 1200, once_more 4, 3)
-    ∷ (Poll 1200, None, 3)
-    ∷ (Heard 1300 5 [], None, 4)
-    ∷ (Poll 1300, None, 4)
+    ∷ (Poll 1099, None, 4)
+    ∷ (Poll 1100, once_more 1, 1)
+    ∷ (Poll 1100, None, 1)
+    ∷ (Heard 1200 2 [], None, 2)
+    ∷ (Poll 1200, once_more 2, 2)
+    ∷ (Poll 1200, once_more 3, 2)
+    ∷ (Poll 1200, None, 2)
+    ∷ (Heard 1300 3 [], None, 3)
+    ∷ (Poll 1300, once_more 4, 3)
+    ∷ (Poll 1300, None, 3)
+    ∷ (Heard 1400 5 [], None, 4)
+    ∷ (Poll 1400, None, 4)
     ∷ []
 
 all_four_lost : Shows (saying true 4 4) all_four_lost_rows
@@ -249,35 +277,54 @@ abbrev data_of : ℕ → Message
 data_of seq = record (ack 1 []) { seq = seq; serial = seq; body = bodies.Chunk (97 ∷ []) }
 
 -- packet 2 comes and is acknowledged, and then packet 1 at moment 50
-abbrev filled : Bool → CallLooks
+abbrev pub filled : Bool → CallLooks
 filled prompt =
     after_taken (view 50) tooks.Kept (data_of 1)
     (after_ack_given 10 (after_taken (view 0) tooks.Kept (data_of 2) (fresh_call 32 prompt 0)))
 
--- a prompt node acknowledges it at once, any other 100 ms later
-hole_filled : (filled true).owed_ack ≡ Some (record { reason = ACK_DELAY; serial = 1; rank = 0 })
+-- a prompt node acknowledges it a millisecond later, any other 100
+hole_filled : (filled true).owed_ack ≡ Some (record { reason = ACK_DELAY; serial = 1; rank = 51 })
 hole_filled = refl
 
 hole_filled_unprompted : (filled false).owed_ack ≡ Some (record { reason = ACK_DELAY; serial = 1; rank = 150 })
 hole_filled_unprompted = refl
 
--- what it told is read, a byte at moment 60
+-- a byte of it is read at that moment: a prompt node acknowledges it at once then
 abbrev read_first : Bool → CallLooks
-read_first prompt = after_read 60 false (97 ∷ []) (after_ack_given 50 (filled prompt))
+read_first prompt = after_read 50 false (97 ∷ []) (filled prompt)
 
--- two packets stood kept: a prompt node acknowledges that the first is done with at once, any other 100 ms later
-several_read : (read_first true).owed_ack ≡ Some (record { reason = ACK_DELAY; serial = 0; rank = 0 })
-several_read = refl
+behind_the_read : (read_first true).owed_ack ≡ Some (record { reason = ACK_DELAY; serial = 1; rank = 0 })
+behind_the_read = refl
 
-several_read_unprompted : (read_first false).owed_ack ≡ Some (record { reason = ACK_DELAY; serial = 0; rank = 160 })
-several_read_unprompted = refl
+behind_the_read_unprompted : (read_first false).owed_ack ≡ Some (record { reason = ACK_DELAY; serial = 1; rank = 150 })
+behind_the_read_unprompted = refl
 
--- the second stands alone then, and is acknowledged later by both
-abbrev read_second : CallLooks
-read_second = after_read 70 false (97 ∷ []) (after_ack_given 60 (read_first true))
+-- the second is read at moment 70, behind that acknowledgement: nothing was left for it, and both acknowledge it later
+abbrev read_second : Bool → CallLooks
+read_second prompt = after_read 70 false (97 ∷ []) (after_ack_given 50 (read_first prompt))
 
-one_read : read_second.owed_ack ≡ Some (record { reason = ACK_DELAY; serial = 0; rank = 170 })
+one_read : (read_second true).owed_ack ≡ Some (record { reason = ACK_DELAY; serial = 0; rank = 170 })
 one_read = refl
+
+one_read_unprompted : (read_second false).owed_ack ≡ Some (record { reason = ACK_DELAY; serial = 0; rank = 170 })
+one_read_unprompted = refl
+
+-- packet 1 comes at moment 50 and asks for an acknowledgement
+abbrev asked : Bool → CallLooks
+asked prompt =
+    after_taken (view 50) tooks.Kept (record (data_of 1) { flags = REQUEST_ACK }) (fresh_call 32 prompt 0)
+
+-- a prompt node leaves it for a millisecond, and any other gives it at once; it goes before what came was read then
+asked_ack : (asked true).owed_ack ≡ Some (record { reason = ACK_REQUESTED; serial = 1; rank = 51 })
+asked_ack = refl
+
+asked_ack_unprompted : (asked false).owed_ack ≡ Some (record { reason = ACK_REQUESTED; serial = 1; rank = 0 })
+asked_ack_unprompted = refl
+
+-- behind the read it is one acknowledgement that tells of the window too
+asked_read : (after_read 50 false (97 ∷ []) (asked true)).owed_ack
+    ≡ Some (record { reason = ACK_REQUESTED; serial = 1; rank = 0 })
+asked_read = refl
 
 -- two pieces are given, and both are marked
 abbrev marked : Bool → CallLooks

@@ -15,7 +15,7 @@ use Rattle.rx_model.specs.declared.wire.TheConstants.{ACK_PING, CLIENT_INITIATED
 use Rattle.rx_model.specs.Body.{Body}
 use Rattle.rx_model.specs.Body as bodies
 use Rattle.rx_rules.specs.CallItems.{CallItem, Sending, ack_items, again_items, asks, call_items, can_give, flags_of}
-use Rattle.rx_rules.specs.CallItems.{fresh_items, item_at, lost_items}
+use Rattle.rx_rules.specs.CallItems.{fresh_items, item_at, lost_items, wait_of}
 use Rattle.rx_rules.specs.CallItems.{piece_items, ping_items, sending_body, sending_flags, sending_seq}
 use Rattle.rx_rules.specs.CallItems as sendings
 use Rattle.rx_rules.specs.CallLooks.{packet_of}
@@ -311,12 +311,12 @@ module _ (s : Setup) (l : Looks) (good : (c : CallName) → GoodCall s l c) wher
         | false ↦ λ non. tt
       ]) refl
 
-  again-sound : (k : CallRecord) (rto below : ℕ) (o : Option LastGiving)
+  again-sound : (k : CallRecord) (wait below : ℕ) (o : Option LastGiving)
       → given_of k.looks.sent ≤ counting_of k.looks.sent
       → last_giving k.looks.sent.givings (suc below) ≡ o → Every (λ i. Sound k i.sending)
-      (again_items rto (suc below) o)
-  again-sound k rto below None counts is = tt
-  again-sound k rto below (Some g) counts is =
+      (again_items wait (suc below) o)
+  again-sound k wait below None counts is = tt
+  again-sound k wait below (Some g) counts is =
       let high : suc below ≤ given_of k.looks.sent = given-within k.looks.sent.givings (suc below) g is in
       ((below, refl, omega arith), tt)
 
@@ -330,14 +330,14 @@ module _ (s : Setup) (l : Looks) (good : (c : CallName) → GoodCall s l c) wher
   pieces-sound : (k : CallRecord) → SendsOf (ends_of (Some k))
       → Every (λ i. Sound k i.sending) (piece_items k.looks.rtt.rto k.looks.cwnd k.looks.sent)
   pieces-sound k sends =
-      let again : List CallItem = again_items k.looks.rtt.rto (lowest_of k.looks.sent)
-      (last_giving k.looks.sent.givings (lowest_of k.looks.sent)) in
+      let given : Option LastGiving = last_giving k.looks.sent.givings (lowest_of k.looks.sent) in
+      let wait : ℕ = wait_of k.looks.rtt.rto k.looks.cwnd.prompt given in
+      let again : List CallItem = again_items wait (lowest_of k.looks.sent) given in
       every-append (λ i. Sound k i.sending) (lost_items (lost_of k.looks.cwnd k.looks.sent))
       (fresh_items k.looks.cwnd k.looks.sent ++ again)
       (lost-sound k (lost_of k.looks.cwnd k.looks.sent) sends.counts refl)
       (every-append (λ i. Sound k i.sending) (fresh_items k.looks.cwnd k.looks.sent) again (fresh-sound k)
-      (again-sound k k.looks.rtt.rto (reach (is_acked k.looks.sent) (given_of k.looks.sent))
-      (last_giving k.looks.sent.givings (lowest_of k.looks.sent)) sends.counts refl))
+      (again-sound k wait (reach (is_acked k.looks.sent) (given_of k.looks.sent)) given sends.counts refl))
 
   acks-sound : (k : CallRecord) (o : Option Owed) → Every (λ i. Sound k i.sending) (ack_items o)
   acks-sound k None = tt

@@ -1,5 +1,5 @@
 -- Each number of a call fits its field: what its steps leave.
-use Rattle.std.proofs.Common.{◌≡◌, ◌≤◌, ◌<◌, ◌&&◌, ◌^◌, ℕ, zero, suc, Bool, List, [], ◌∷◌, ◌++◌}
+use Rattle.std.proofs.Common.{◌≡◌, ◌≤◌, ◌<◌, ◌^◌, ℕ, zero, suc, Bool, List, [], ◌∷◌, ◌++◌}
 use Rattle.std.proofs.Common.{Option, Some, None, ap, sym, subst, arith}
 use Rattle.std.specs.List.{find}
 use Rattle.rx_model.specs.declared.answers.Took.{Took}
@@ -14,7 +14,7 @@ use Rattle.rx_rules.specs.CallLooks.{CallLooks, NodeView, after_body, after_chun
 use Rattle.rx_rules.specs.CallLooks.{after_write, fresh_call, packet_of}
 use Rattle.rx_rules.specs.Life.{Life}
 use Rattle.rx_rules.specs.Looks.{CallRecord}
-use Rattle.rx_rules.specs.Received.{front_of, has_hole, has_several, used_of}
+use Rattle.rx_rules.specs.Received.{front_of, has_hole, used_of}
 use Rattle.rx_rules.specs.Received as packets
 use Rattle.rx_law.proofs.Calls.{body-ends, found-ends}
 use Rattle.rx_law.proofs.Ends.{Ends}
@@ -63,7 +63,7 @@ chunk-fits v got m (bodies.Chunk payload) window k head narrow lies f =
     record {
       received = judged_fits got (packet_of m payload) window k.looks.received narrow head.seq lies f.received;
       owed =
-          owed_fits got v.now (k.looks.cwnd.prompt && has_hole k.looks.received) m (front_of k.looks.received.kept)
+          owed_fits got v.now k.looks.cwnd.prompt (has_hole k.looks.received) m (front_of k.looks.received.kept)
           k.looks.owed_ack head.serial f.owed;
       said = subst IsBytes (sym (ap (λ (x : Ends). x.said) (found-ends v.client k.looks))) f.said;
       life = f.life;
@@ -125,7 +125,7 @@ read_fits now end bytes k f =
     record {
       received = reads_fit end bytes k.looks.received f.received;
       owed =
-          read_owed_fits now (k.looks.cwnd.prompt && has_several k.looks.received) (used_of k.looks.received)
+          read_owed_fits now k.looks.cwnd.prompt (used_of k.looks.received)
           (used_of (packets.after_read end bytes k.looks.received)) k.looks.owed_ack f.owed;
       said = f.said;
       life = f.life;

@@ -1,7 +1,7 @@
 -- Each number that one end of a call keeps fits its field: what the steps of its parts leave.
 use Rattle.std.proofs.Common.{◌≡◌, ◌≤◌, ◌<◌, ◌==◌, ◌+◌, ◌^◌, ℕ, ℤ, suc, if◌then◌else◌, not, nat_lt, is_some, Bool}
 use Rattle.std.proofs.Common.{true, false, List}
-use Rattle.std.proofs.Common.{Option, Some, None, refl, arith}
+use Rattle.std.proofs.Common.{◌&&◌, Option, Some, None, option_map, refl, arith}
 use Rattle.std.proofs.lemmas.Bool.Decides.{nat_tests}
 use Rattle.rx_model.specs.declared.answers.End.TheVariants as ends
 use Rattle.rx_model.specs.declared.answers.Took.{Took}
@@ -13,7 +13,8 @@ use Rattle.rx_rules.specs.Life.{Life, after_accept, after_acks, after_cancel, af
 use Rattle.rx_rules.specs.Life.{after_gone, after_later}
 use Rattle.rx_rules.specs.Life.{after_silence}
 use Rattle.rx_rules.specs.Life as lives
-use Rattle.rx_rules.specs.Owing.{Owed, at_once, delayed, owed_for, owed_for_ack, owed_for_done, owed_for_read}
+use Rattle.rx_rules.specs.Owing.{Owed, at_once, behind_read, delayed, hastened, owed_for, owed_for_ack, owed_for_done}
+use Rattle.rx_rules.specs.Owing.{owed_for_read}
 use Rattle.rx_rules.specs.Received.{Packet, Received, after_packet, after_read, greatest, is_no_seq, nothing_received}
 use Rattle.rx_rules.specs.Received.{packet_at, used_of}
 use Rattle.rx_model.proofs.NameLaws.{neither}
@@ -95,23 +96,28 @@ if-owed : (b : Bool) (x y : Option Owed) → OwedFits x → OwedFits y → OwedF
 if-owed true x y here there = here
 if-owed false x y here there = there
 
+behind-fits : (now : ℕ) (prompt : Bool) (reason serial : ℕ) → 1 ≤ reason → reason ≤ 8 → serial < 2 ^ 32
+    → OwedFits (behind_read now prompt reason serial)
+behind-fits now prompt reason serial low high fits = record { low = low; high = high; serial = fits }
+
 -- a data packet was judged
-pub owed_fits : (got : Took) (now : ℕ) (fills : Bool) (m : Message) (front : ℕ) (o : Option Owed) → m.serial < 2 ^ 32
-    → OwedFits o → OwedFits (owed_for got now fills m front o)
-owed_fits tooks.Kept now fills m front o low f =
+pub owed_fits : (got : Took) (now : ℕ) (prompt hole : Bool) (m : Message) (front : ℕ) (o : Option Owed)
+    → m.serial < 2 ^ 32 → OwedFits o → OwedFits (owed_for got now prompt hole m front o)
+owed_fits tooks.Kept now prompt hole m front o low f =
     let own : Option Owed = delayed now m.serial o in
-    let filled : Option Owed = if fills then at_once 8 m.serial else own in
-    if-owed (not (m.seq == suc front)) (at_once 3 m.serial)
-    (if has_flag REQUEST_ACK m.flags then at_once 1 m.serial else filled)
+    let filling : Option Owed = behind_read now prompt 8 m.serial in
+    let filled : Option Owed = if prompt && hole then filling else own in
+    let asked : Option Owed = behind_read now prompt 1 m.serial in
+    if-owed (not (m.seq == suc front)) (at_once 3 m.serial) (if has_flag REQUEST_ACK m.flags then asked else filled)
     (once-fits 3 m.serial (omega arith) (omega arith) low)
-    (if-owed (has_flag REQUEST_ACK m.flags) (at_once 1 m.serial) filled
-    (once-fits 1 m.serial (omega arith) (omega arith) low)
-    (if-owed fills (at_once 8 m.serial) own (once-fits 8 m.serial (omega arith) (omega arith) low)
+    (if-owed (has_flag REQUEST_ACK m.flags) asked filled
+    (behind-fits now prompt 1 m.serial (omega arith) (omega arith) low)
+    (if-owed (prompt && hole) filling own (behind-fits now prompt 8 m.serial (omega arith) (omega arith) low)
     (delayed-fits now m.serial o low f)))
-owed_fits tooks.Repeat now fills m front o low f = once-fits 2 m.serial (omega arith) (omega arith) low
-owed_fits tooks.Beyond now fills m front o low f = once-fits 4 m.serial (omega arith) (omega arith) low
-owed_fits tooks.NoSlot now fills m front o low f = once-fits 5 m.serial (omega arith) (omega arith) low
-owed_fits _ now fills m front o low f = f
+owed_fits tooks.Repeat now prompt hole m front o low f = once-fits 2 m.serial (omega arith) (omega arith) low
+owed_fits tooks.Beyond now prompt hole m front o low f = once-fits 4 m.serial (omega arith) (omega arith) low
+owed_fits tooks.NoSlot now prompt hole m front o low f = once-fits 5 m.serial (omega arith) (omega arith) low
+owed_fits _ now prompt hole m front o low f = f
 
 -- an ACK was heard
 pub pinged_fits : (reason serial : ℕ) (o : Option Owed) → serial < 2 ^ 32 → OwedFits o
@@ -119,13 +125,18 @@ pub pinged_fits : (reason serial : ℕ) (o : Option Owed) → serial < 2 ^ 32 �
 pinged_fits reason serial o low f =
     if-owed (reason == ACK_PING) (at_once 7 serial) o (once-fits 7 serial (omega arith) (omega arith) low) f
 
+hastened-fits : (now : ℕ) (o : Option Owed) → OwedFits o → OwedFits (option_map (hastened now) o)
+hastened-fits now None f = f
+hastened-fits now (Some owed) f = record { low = f.low; high = f.high; serial = f.serial }
+
 -- more was read
-pub read_owed_fits : (now : ℕ) (several : Bool) (before after : ℕ) (o : Option Owed) → OwedFits o
-    → OwedFits (owed_for_read now several before after o)
-read_owed_fits now several before after o f =
-    if-owed (nat_lt before after) (owed_for_done now several o) o
-    (if-owed several (at_once 8 0) (delayed now 0 o) (once-fits 8 0 (omega arith) (omega arith) (omega arith))
-    (delayed-fits now 0 o (omega arith) f)) f
+pub read_owed_fits : (now : ℕ) (prompt : Bool) (before after : ℕ) (o : Option Owed) → OwedFits o
+    → OwedFits (owed_for_read now prompt before after o)
+read_owed_fits now prompt before after o f =
+    let later : OwedFits (delayed now 0 o) = delayed-fits now 0 o (omega arith) f in
+    if-owed (nat_lt before after) (owed_for_done now prompt o) o
+    (if-owed prompt (option_map (hastened now) (delayed now 0 o)) (delayed now 0 o)
+    (hastened-fits now (delayed now 0 o) later) later) f
 
 -- ---- the code that a life has
 

@@ -8,7 +8,7 @@ use Rattle.rx_model.specs.Body as bodies
 use Rattle.rx_model.specs.Spelling.{IsCode, IsPlainAck, IsPlainBody}
 use Rattle.rx_rules.specs.CallItems.{CallItem, Sending, ack_body, ack_items, again_items, asks, call_items, can_give}
 use Rattle.rx_rules.specs.CallItems.{fresh_items, item_at, lost_items}
-use Rattle.rx_rules.specs.CallItems.{piece_items, ping_items}
+use Rattle.rx_rules.specs.CallItems.{piece_items, ping_items, wait_of}
 use Rattle.rx_rules.specs.CallItems as sendings
 use Rattle.rx_rules.specs.Classes.{FitsAnswer}
 use Rattle.rx_rules.specs.Items.{where_owed}
@@ -139,9 +139,9 @@ lost-fit : (o : Option ℕ) → AcksFit (lost_items o)
 lost-fit None = tt
 lost-fit (Some k) = (tt, tt)
 
-again-fit : (rto k : ℕ) (o : Option LastGiving) → AcksFit (again_items rto k o)
-again-fit rto k None = tt
-again-fit rto k (Some g) = (tt, tt)
+again-fit : (wait k : ℕ) (o : Option LastGiving) → AcksFit (again_items wait k o)
+again-fit wait k None = tt
+again-fit wait k (Some g) = (tt, tt)
 
 fresh-fit : (b : Bool) (seq : ℕ) → AcksFit (if b then item_at 0 (sendings.Piece seq false) else [])
 fresh-fit true seq = (tt, tt)
@@ -161,12 +161,14 @@ acks_fit client k f =
     let P : CallItem → Type 0 = λ i. AckFits i.sending in
     let rto : ℕ = k.looks.rtt.rto in
     let low : ℕ = lowest_of k.looks.sent in
+    let given : Option LastGiving = last_giving k.looks.sent.givings low in
+    let wait : ℕ = wait_of rto k.looks.cwnd.prompt given in
     every-append P (piece_items rto k.looks.cwnd k.looks.sent)
     (ack_items k.looks.owed_ack ++ ping_items client k.looks.spoke)
     (every-append P (lost_items (lost_of k.looks.cwnd k.looks.sent))
-    (fresh_items k.looks.cwnd k.looks.sent ++ again_items rto low (last_giving k.looks.sent.givings low))
+    (fresh_items k.looks.cwnd k.looks.sent ++ again_items wait low given)
     (lost-fit (lost_of k.looks.cwnd k.looks.sent))
-    (every-append P (fresh_items k.looks.cwnd k.looks.sent) (again_items rto low (last_giving k.looks.sent.givings low))
-    (fresh-fit (can_give k.looks.cwnd k.looks.sent) _) (again-fit rto low (last_giving k.looks.sent.givings low))))
+    (every-append P (fresh_items k.looks.cwnd k.looks.sent) (again_items wait low given)
+    (fresh-fit (can_give k.looks.cwnd k.looks.sent) _) (again-fit wait low given)))
     (every-append P (ack_items k.looks.owed_ack) (ping_items client k.looks.spoke) (ack-fit k.looks.owed_ack f.owed)
     (ping-fit client k.looks.spoke))

@@ -1,12 +1,12 @@
 -- What one end of a call owes. Public clauses cite this module.
 use Rattle.std.specs.Prelude.{◌==◌, ◌&&◌, ◌||◌, ◌+◌, ◌-◌, ◌/◌, ◌%◌, if◌then◌else◌, nat_lt, nat_le, ℕ, suc, Bool, true, false}
 use Rattle.std.specs.Prelude.{List, [], ◌∷◌, ◌++◌, filter, Option, Some, None, option_map}
-use Rattle.rx_model.specs.declared.wire.TheConstants.{REQUEST_ACK, LAST_PACKET, ACK_PING, PING_MS}
+use Rattle.rx_model.specs.declared.wire.TheConstants.{ACK_DELAY_MS, REQUEST_ACK, LAST_PACKET, ACK_PING, PING_MS}
 use Rattle.rx_model.specs.Body.{Body, AckBody}
 use Rattle.rx_model.specs.Body as bodies
 use Rattle.rx_rules.specs.CallLooks.{CallLooks, NodeView, after_ack_given, after_piece}
 use Rattle.rx_rules.specs.Least.{least_by}
-use Rattle.rx_rules.specs.Lost.{lost_of}
+use Rattle.rx_rules.specs.Lost.{is_once, lost_of}
 use Rattle.rx_rules.specs.Owing.{Owed}
 use Rattle.rx_rules.specs.Rates.{Cwnd}
 use Rattle.rx_rules.specs.Received.{Received, used_of, marks_of}
@@ -42,10 +42,15 @@ abbrev pub lost_items : Option ℕ → List CallItem
 lost_items None = []
 lost_items (Some k) = item_at 0 (Piece k true)
 
--- a piece that was given is given again one RTO behind its last giving
+-- how long a piece waits for its acknowledgement behind its last giving: one RTO; where it was given once, a prompt node
+-- waits longer by what a peer may delay one that wasn't asked for (RFC 9002, section 6.2.1)
+abbrev pub wait_of : ℕ → Bool → Option LastGiving → ℕ
+wait_of rto prompt g = if prompt && is_once g then rto + ACK_DELAY_MS else rto
+
+-- then it is given again
 abbrev pub again_items : ℕ → ℕ → Option LastGiving → List CallItem
-again_items rto k None = []
-again_items rto k (Some g) = item_at (g.moment + rto) (Piece k true)
+again_items wait k None = []
+again_items wait k (Some g) = item_at (g.moment + wait) (Piece k true)
 
 -- the acknowledgement that is owed
 abbrev pub ack_items : Option Owed → List CallItem
@@ -61,7 +66,9 @@ ping_items client spoke = if client then item_at (spoke + PING_MS) (Ack ACK_PING
 abbrev pub piece_items : ℕ → Cwnd → Sent → List CallItem
 piece_items rto c s =
     lost_items (lost_of c s)
-    ++ (fresh_items c s ++ again_items rto (lowest_of s) (last_giving s.givings (lowest_of s)))
+    ++ (fresh_items c s
+    ++ again_items (wait_of rto c.prompt (last_giving s.givings (lowest_of s))) (lowest_of s)
+    (last_giving s.givings (lowest_of s)))
 
 -- in the order in which ties are broken
 abbrev pub call_items : Bool → CallLooks → List CallItem

@@ -12,7 +12,7 @@ use Rattle.rx_rules.specs.Rates.{Rtt, Cwnd, first_rtt, first_cwnd, after_sample,
 use Rattle.rx_rules.specs.Lost.{is_lost, halves}
 use Rattle.rx_rules.specs.Rates.{after_timeout, after_loss}
 use Rattle.rx_rules.specs.Received.{Received, Packet, Arrival, nothing_received, after_packet, arrival_of, arrival_row}
-use Rattle.rx_rules.specs.Received.{has_slot, has_hole, has_several, front_of, is_no_seq, used_of}
+use Rattle.rx_rules.specs.Received.{has_slot, has_hole, front_of, is_no_seq, used_of}
 use Rattle.rx_rules.specs.Received.{count_above}
 use Rattle.rx_rules.specs.Received as packets
 use Rattle.rx_rules.specs.Sent.{Sent, Newly, nothing_sent, held_pieces, given_of, is_all_given, is_strange_ack}
@@ -110,8 +110,7 @@ abbrev pub after_data : Took → ℕ → Message → List ℕ → CallLooks → 
 after_data got now m payload k =
     record k {
       received = after_packet got (packet_of m payload) k.received;
-      owed_ack =
-          owed_for got now (k.cwnd.prompt && has_hole k.received) m (front_of k.received.kept) k.owed_ack;
+      owed_ack = owed_for got now k.cwnd.prompt (has_hole k.received) m (front_of k.received.kept) k.owed_ack;
       heard = now;
     }
 
@@ -163,15 +162,14 @@ after_write bytes k = record k { sent = streams.after_write bytes k.sent }
 abbrev pub after_shut : CallLooks → CallLooks
 after_shut k = record k { sent = streams.after_shut k.sent }
 
--- a read that gave these bytes, or the end; where more packets are done with, it is acknowledged later, and at once at a
--- prompt node where several stood kept: what they held back of the other end's window is open then
+-- a read that gave these bytes, or the end; where more packets are done with, it is acknowledged, later or at once
 abbrev pub after_read : ℕ → Bool → List ℕ → CallLooks → CallLooks
 after_read now end bytes k =
     record k {
       received = packets.after_read end bytes k.received;
       owed_ack =
-          owed_for_read now (k.cwnd.prompt && has_several k.received) (used_of k.received)
-          (used_of (packets.after_read end bytes k.received)) k.owed_ack;
+          owed_for_read now k.cwnd.prompt (used_of k.received) (used_of (packets.after_read end bytes k.received))
+          k.owed_ack;
     }
 
 -- ---- givings

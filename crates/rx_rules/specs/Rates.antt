@@ -34,11 +34,11 @@ estimate_with ms (Some e) =
       variance = (e.variance - e.variance / 4) + apart ms (e.smoothed / 8);
     }
 
--- the least and the greatest RTO hold it in between; at a prompt node the least variance takes the place of the least
--- RTO: a peer may delay an acknowledgement by 100 ms, whatever the round trip
+-- the least and the greatest RTO hold it in between; at a prompt node a least variance takes the place of the least RTO
+-- (RFC 6298, section 2)
 abbrev pub rto_of : Bool → Estimate → ℕ
 rto_of prompt e =
-    if prompt then min MAX_RTO_MS (e.smoothed / 8 + max 120 e.variance)
+    if prompt then min MAX_RTO_MS (e.smoothed / 8 + max 50 e.variance)
     else max MIN_RTO_MS (min MAX_RTO_MS (e.smoothed / 8 + e.variance))
 
 -- a round trip as it counts: a longer one is cut

@@ -98,10 +98,6 @@ abbrev pub count_above : ℕ → List Packet → ℕ
 count_above used [] = 0
 count_above used (p ∷ ps) = if nat_lt used p.seq then suc (count_above used ps) else count_above used ps
 
--- several packets are kept and not done with
-abbrev pub has_several : Received → Bool
-has_several r = nat_lt 1 (count_above (used_of r) r.kept)
-
 -- whether the kept packets above a seq are there, from the next one on, up to the greatest: the marks of an ACK
 abbrev pub marks_from : List Packet → ℕ → ℕ → List Bool
 marks_from kept used zero = []
