@@ -20,7 +20,7 @@ rx_node_bench rx_server_tests rx_nodes  rx_caller .               rx_udp        
 .             rx_books        .         .         .               .               .              rx_run
 .             rx_node         .         rx_token  rx_jumbo        .               rx_jobs        .
 rx_call_bench rx_ends         rx_table  rx_class  rx_asks         .               .              .
-.             rx_call         .         rx_events rx_wire         rx_script_tests rx_reply       .
+.             rx_call         rx_queue  rx_events rx_wire         rx_script_tests rx_reply       .
 rx_recvwin    rx_sendwin      rx_due    rx_law    rx_examples     .               rx_script      xg_compile
 rx_pool       rx_rtt          .         .         rx_packet_bench stub_table      xdr_code_bench xg_check
 .             .               rx_packet rx_rules  .               xdr_code        xdr_json       xg_parse
