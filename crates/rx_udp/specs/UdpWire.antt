@@ -4,13 +4,15 @@ use Rattle.rx_udp.specs.declared.udp_wire.Got.{Got}
 use Rattle.rx_udp.specs.declared.udp_wire.Got.TheVariants as gots
 use Rattle.rx_udp.specs.Wire.{Traffic}
 
--- a wire over a socket: whether it has one, the moment, how many calls failed, and how long the socket's reads wait, in
--- milliseconds, or 0 where that isn't set yet
+-- a wire over a socket: whether it has one, the moment, how many calls failed, how long the socket's reads wait, in
+-- milliseconds, or 0 where that isn't set yet, and whether a datagram came, or was taken by the system, since it was
+-- bound
 pub record UdpWireState : Type 0 where
   pub is_bound : Bool
   pub moment : ℕ
   pub faults : ℕ
   pub timeout : ℕ
+  pub passed : Bool
 
 -- what a wire tells that tells nothing of what it carries
 abbrev pub untold : Option Traffic

@@ -85,6 +85,8 @@ pub enum Refusal {
 impl Refusal {
     /// What this error says. One without a number is of no call on a socket that is open.
     pub fn of(error: &io::Error) -> Refusal {
+        // No clause says it, since one would be these numbers again: the test `each_error_has_its_meaning` has the table,
+        // by errno(3), with what a send and a receive make of each.
         let Some(number) = error.raw_os_error() else {
             return Refusal::Socket;
         };

@@ -1,6 +1,7 @@
 //! A wire over a UDP socket of the system.
-//! No clause can say what a socket carries: tests over loopback look at it.
-ghost use Rattle.std.specs.Prelude.{◌≡◌, ◌≢◌, ◌⊎◌, ◌+◌, ◌-◌, ◌/◌, ◌<◌, ◌≤◌, ◌^◌, length, min};
+//! No clause can say what a socket carries or what the clock reads, since neither tells a contract of it: tests over
+//! loopback, with a clock of their own, look at both.
+ghost use Rattle.std.specs.Prelude.{◌≡◌, ◌≢◌, ◌⊎◌, ◌+◌, ◌-◌, ◌/◌, ◌<◌, ◌≤◌, ◌^◌, ◌||◌, length, min};
 ghost use Rattle.std.specs.Prelude.{IfOk, IfSome, IfNone, OnOk, OnErr, IsTrue, is_some, true, false};
 ghost use Rattle.std.specs.Net.Addr.{IsIpv4OfBits, ipv4_bits};
 ghost use Rattle.std.specs.Net.Socket.{v4_ip, v4_port};
@@ -78,6 +79,7 @@ impl<'a, R: Net + Clock> Model for UdpWire<'a, R> {
       moment = s.moment;
       faults = s.faults;
       timeout = s.timeout_ms;
+      passed = s.has_passed;
     } };
 
     ghost invariant = { λ s. s.moment < 2 ^ 62 };
@@ -87,7 +89,8 @@ impl<'a, R: Net + Clock> UdpWire<'a, R> {
     /// A wire over the runtime's network and clock, at moment 0 and with no socket yet. Where the clock can't be read,
     /// takes fail.
     pub fn make(rt: &'a R) -> UdpWire<'a, R>
-        ensures empty { result ≡ record { is_bound = false; moment = 0; faults = 0; timeout = 0 } }
+        ensures empty { result
+            ≡ record { is_bound = false; moment = 0; faults = 0; timeout = 0; passed = false } }
     {
         UdpWire {
             rt,
@@ -158,6 +161,7 @@ impl<'a, R: Net + Clock> UdpWire<'a, R> {
         requires { until < 2 ^ 62 }
         ensures same_bound { self.new.is_bound ≡ self.old.is_bound }
         ensures same_faults { self.new.faults ≡ self.old.faults }
+        ensures same_passed { self.new.passed ≡ self.old.passed }
         ensures no_earlier { self.old.moment ≤ self.new.moment }
         ensures within { IfOk result (IsGotWithin (length to.new)) }
         ensures answerable { IfOk result IsAnswerable }
@@ -179,6 +183,7 @@ impl<'a, R: Net + Clock> UdpWire<'a, R> {
         requires { until < 2 ^ 62 }
         ensures same_bound { self.new.is_bound ≡ self.old.is_bound }
         ensures same_faults { self.new.faults ≡ self.old.faults }
+        ensures same_passed { self.new.passed ≡ self.old.passed }
         ensures no_earlier { self.old.moment ≤ self.new.moment }
         ensures within { IfOk result (λ came. IfSome came (λ one. one.1 ≤ length to.new)) }
         ensures answerable { IfOk result (λ came. IfSome came (λ one. one.0.port ≢ 0)) }
@@ -280,8 +285,10 @@ fn got_of(error: io::Error) -> io::Result<Got>
     }
 }
 
-// Hands a datagram to the system, again where a signal came first.
-fn send(socket: &UdpSocket, to: Host, bytes: &[u8]) -> Sent {
+// Hands a datagram to the system, again where a signal came first. To port 0 none can go.
+fn send(socket: &UdpSocket, to: Host, bytes: &[u8]) -> Sent
+    ensures { to.port ≡ 0 → result ≡ Sent.Lost }
+{
     if to.port == 0 {
         return Sent::Lost;
     }
@@ -295,6 +302,8 @@ fn send(socket: &UdpSocket, to: Host, bytes: &[u8]) -> Sent {
     Sent::Lost
 }
 
+// One send. What it and an error of it come to is in no clause, as the system's answers are in none: the tests
+// `what_the_system_refuses_is_lost` and `each_error_has_its_meaning` look at it.
 fn send_once(socket: &UdpSocket, to: Host, bytes: &[u8]) -> Sent {
     match socket.send_to(bytes, v4_of(to)) {
         Ok(count) if count == bytes.len() => Sent::Given,
@@ -332,7 +341,8 @@ impl<'a, R: Net + Clock> Wire for UdpWire<'a, R> {
         ensures addr { IfOk result (λ host. host.addr ≡ at.addr) }
         ensures port { IfOk result (λ host. (at.port ≡ 0) ⊎ (host.port ≡ at.port)) }
         ensures some_port { IfOk result (λ host. host.port ≢ 0) }
-        ensures bound { OnOk result (self.new ≡ record self.old { is_bound = true; timeout = 0 }) }
+        ensures bound { OnOk result
+            (self.new ≡ record self.old { is_bound = true; timeout = 0; passed = false }) }
         ensures failed { OnErr result (self.new ≡ record self.old { faults = one_more self.old.faults }) }
     {
         match open(self.rt, at) {
@@ -371,6 +381,8 @@ impl<'a, R: Net + Clock> Wire for UdpWire<'a, R> {
         ensures no_longer { OnOk result (self.new.timeout ≤ (until - self.old.moment) + 4) }
         ensures bound { OnOk result (IsTrue self.old.is_bound) }
         ensures same_bound { self.new.is_bound ≡ self.old.is_bound }
+        ensures passed { IfOk result (λ came. self.new.passed ≡ (self.old.passed || is_some came)) }
+        ensures same_passed { OnErr result (self.new.passed ≡ self.old.passed) }
         ensures failed { OnErr result (self.new.faults ≡ one_more self.old.faults) }
     {
         if self.socket.is_none() {
@@ -393,9 +405,12 @@ impl<'a, R: Net + Clock> Wire for UdpWire<'a, R> {
         ensures counted { OnErr result (HasRisen self.old.faults self.new.faults) }
         ensures same_moment { self.new.moment ≡ self.old.moment }
 
-        // What this wire adds to the trait's clauses.
+        // What this wire adds to the trait's clauses. Which gives fail for another port no clause can say, since none has
+        // the system's answers: tests look at it.
         ensures bound { OnOk result (IsTrue self.old.is_bound) }
-        ensures given { OnOk result (self.new ≡ self.old) }
+        ensures given { OnOk result (self.new ≡ record self.old { passed = self.new.passed }) }
+        ensures passed { OnOk result (self.old.passed ≡ true → self.new.passed ≡ true) }
+        ensures no_port { OnErr result (IsTrue self.old.is_bound → to.port ≢ 0) }
         ensures failed { OnErr result (self.new ≡ record self.old { faults = one_more self.old.faults }) }
     {
         let Some(socket) = &self.socket else {
