@@ -37,7 +37,7 @@ sys.path[:0] = [str(top / "tools"), str(top / "bench")]
 import rxtrace  # noqa: E402
 from rounds import program  # noqa: E402
 
-LIMITS = {"compile": 10, "sim": 20, "words": 30, "serve": 30, "call": 40}
+LIMITS = {"compile": 10, "sim": 20, "words": 30, "serve": 60, "call": 40}
 # How many of a hundred runs are of each kind.
 SHARES = {"compile": 35, "sim": 45, "words": 16, "serve": 2, "call": 2}
 PLACE = r"(proc|kind|notjson|mismatch \$.*|-450|number)"
@@ -96,7 +96,7 @@ def draws(kind, draw):
     key = ["--key", "a.key"] if draw.random() < 0.3 else []
     files = {"a.xg": b"Echo(IN afs_uint32 A, OUT afs_uint32 B) = 1;\n", "a.script": b"on Echo\ncopy B A\n", "a.key": bytes(32)}
     if kind == "serve":
-        return Run(kind, ["serve", "a.xg", "a.script", "--at", "127.0.0.1:0", "--for", "8000", *key], files, sent)
+        return Run(kind, ["serve", "a.xg", "a.script", "--at", "127.0.0.1:0", "--for", "20000", *key], files, sent)
     return Run(kind, ["call", "a.xg", "Echo", "[7]", "--epoch", "1", *key], files, sent)
 
 
@@ -145,7 +145,8 @@ def printed(run, room, draw):
 
 
 def served(run, room, draw):
-    """Sends the datagrams from a few hosts of loopback, and then makes an honest call."""
+    """Sends the datagrams from a few hosts of loopback, and then makes an honest call, which may have to wait until the
+    calls that they began have ended in silence."""
     with subprocess.Popen([rx, *run.words], cwd=room, stdout=subprocess.PIPE, stderr=subprocess.PIPE) as server:
         end = threading.Timer(LIMITS["serve"], server.kill)
         end.start()
