@@ -5,9 +5,8 @@ ghost use Rattle.rx_rtt.specs.Estimates.{IsBounded, IsBoundedWithin, estimate_of
 use rx_model::wire::{FIRST_RTO_MS, MAX_ROUND_TRIP_MS, MAX_RTO_MS, MIN_RTO_MS};
 use std::marker::Model;
 
-/// The least variance of a prompt node, in milliseconds: a peer may delay an acknowledgement by 100, whatever the round
-/// trip.
-const LEAST_VARIANCE_MS: u32 = 120;
+/// The least variance of a prompt node, in milliseconds (RFC 6298, section 2).
+const LEAST_VARIANCE_MS: u32 = 50;
 
 /// A smoothed round trip, in eighths of a millisecond, and its variance, in quarters.
 #[derive(Clone, Copy, Debug)]
@@ -97,7 +96,7 @@ fn with_trip(ms: u32, estimate: Option<Estimate>) -> Estimate
     }
 }
 
-/// The time to wait that an estimate gives: 350 to 4,000 milliseconds, at a prompt node 120 to 4,000.
+/// The time to wait that an estimate gives: 350 to 4,000 milliseconds, at a prompt node 50 to 4,000.
 fn rto_by(prompt: bool, estimate: Estimate) -> u32
     requires { IsBounded estimate }
     ensures value { result ≡ rto_of prompt (estimate_of estimate) }

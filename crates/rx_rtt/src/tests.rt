@@ -34,9 +34,9 @@ fn a_first_round_trip_counts_three_times(rt: HostRuntime) -> Result<(), Fail> {
 #[test]
 fn a_prompt_node_waits_less_for_a_short_round_trip(rt: HostRuntime) -> Result<(), Fail> {
     for (ms, rto) in [
-        (0, 120),
-        (60, 180),
-        (61, 183),
+        (0, 50),
+        (25, 75),
+        (26, 78),
         (117, 351),
         (1334, 4000),
         (u64::MAX, 4000),

@@ -6,7 +6,7 @@ use Rattle.std.proofs.Common.{Option, Some, None, arith, refl, ◌||◌, is_some
 use Rattle.std.proofs.lemmas.Bool.{false≢true}
 use Rattle.std.specs.Prelude.{filter, option_map, option_and_then}
 use Rattle.std.proofs.lemmas.Bool.Decides.{nat_tests}
-use Rattle.rx_rules.specs.CallItems.{CallItem, Sending, can_give, lost_items, again_items, asks}
+use Rattle.rx_rules.specs.CallItems.{CallItem, Sending, can_give, lost_items, again_items, asks, wait_of}
 use Rattle.rx_rules.specs.CallItems as items
 use Rattle.rx_rules.specs.Least.{least_by, lesser_by}
 use Rattle.rx_rules.specs.Lost.{lost_of, is_lost, is_piece, halves}
@@ -22,7 +22,7 @@ fresh_item s = record { rank = 0; sending = items.Piece (suc (given_of s)) false
 
 -- that of the lowest piece that isn't acknowledged
 abbrev pub again_item : ℕ → Sent → LastGiving → CallItem
-again_item rto s g = record { rank = g.moment + rto; sending = items.Piece (lowest_of s) true }
+again_item wait s g = record { rank = g.moment + wait; sending = items.Piece (lowest_of s) true }
 
 -- an item of rank 0 is the least
 first_least : (x : CallItem) (o : Option CallItem) → x.rank ≡ 0 → lesser_by (λ (i : CallItem). i.rank) x o ≡ x
@@ -45,9 +45,9 @@ abbrev pub rank_by : List CallItem → Option ℕ
 rank_by is = option_map (λ (i : CallItem). i.rank) (least_by (λ (i : CallItem). i.rank) is)
 
 -- the items where a piece is lost, and where a new one is due
-abbrev pub items_by : Option ℕ → Bool → ℕ → Sent → Option LastGiving → List CallItem
-items_by lost fresh rto s g =
-    lost_items lost ++ (cond fresh (fresh_item s ∷ []) [] ++ again_items rto (lowest_of s) g)
+abbrev pub items_by : Option ℕ → Bool → ℕ → Cwnd → Sent → Option LastGiving → List CallItem
+items_by lost fresh rto c s g =
+    lost_items lost ++ (cond fresh (fresh_item s ∷ []) [] ++ again_items (wait_of rto c.prompt g) (lowest_of s) g)
 
 at_once : (now : ℕ) (c : Cwnd) (s : Sent) (x : CallItem) (rest : List CallItem) → x.rank ≡ 0 →
     piece_by now c s (x ∷ rest) ≡ piece_of c s x.sending
@@ -73,8 +73,8 @@ next_lost now rto c s seq half is closes =
     let own : (seq == seq) ≡ true = grind (arith, nat_tests) in
     let lost : not (is_lost c s seq) ≡ false = ap (λ o. not (is_piece o seq)) is ∙ ap not own in
     (λ i. Some (record { seq = seq; again = true; asks = sym asked i; up = sym lost i; half = closes i }))
-    ∙ sym (ap (λ o. piece_by now c s (items_by o (can_give c s) rto s (again_of s))) is
-    ∙ at_once now c s (lost_item seq) (items_by None (can_give c s) rto s (again_of s)) refl)
+    ∙ sym (ap (λ o. piece_by now c s (items_by o (can_give c s) rto c s (again_of s))) is
+    ∙ at_once now c s (lost_item seq) (items_by None (can_give c s) rto c s (again_of s)) refl)
 
 -- none is lost, and a new one is due
 pub next_fresh : (now rto : ℕ) (c : Cwnd) (s : Sent) (seq : ℕ) (asking : Bool) → lost_of c s ≡ None →
@@ -90,21 +90,21 @@ next_fresh now rto c s seq asking none fresh is asked =
       up = false;
       half = sym (halves_none c s (suc (given_of s)) none) i;
     }))
-    ∙ sym ((λ i. piece_by now c s (items_by (none i) (fresh i) rto s (again_of s)))
-    ∙ at_once now c s (fresh_item s) (again_items rto (lowest_of s) (again_of s)) refl)
+    ∙ sym ((λ i. piece_by now c s (items_by (none i) (fresh i) rto c s (again_of s)))
+    ∙ at_once now c s (fresh_item s) (again_items (wait_of rto c.prompt (again_of s)) (lowest_of s) (again_of s)) refl)
 
 -- where neither is so, the lowest one that isn't acknowledged decides
 later : (now rto : ℕ) (c : Cwnd) (s : Sent) (g : Option LastGiving) → lost_of c s ≡ None → can_give c s ≡ false →
-    again_of s ≡ g → next_piece now rto c s ≡ piece_by now c s (again_items rto (lowest_of s) g)
-later now rto c s g none fresh given = λ i. piece_by now c s (items_by (none i) (fresh i) rto s (given i))
+    again_of s ≡ g → next_piece now rto c s ≡ piece_by now c s (again_items (wait_of rto c.prompt g) (lowest_of s) g)
+later now rto c s g none fresh given = λ i. piece_by now c s (items_by (none i) (fresh i) rto c s (given i))
 
 pub next_due : (now rto : ℕ) (c : Cwnd) (s : Sent) (seq : ℕ) (g : LastGiving) → lost_of c s ≡ None →
-    can_give c s ≡ false → seq ≡ lowest_of s → again_of s ≡ Some g → g.moment + rto ≤ now →
+    can_give c s ≡ false → seq ≡ lowest_of s → again_of s ≡ Some g → g.moment + wait_of rto c.prompt (Some g) ≤ now →
     ◌≡◌ {A = Option NextPiece} (Some (record { seq = seq; again = true; asks = true; up = true; half = false }))
     (next_piece now rto c s)
 next_due now rto c s seq g none fresh is given le =
-    let test : nat_le (g.moment + rto) now ≡ true = grind (arith, nat_tests, le) in
-    let item : List CallItem = again_item rto s g ∷ [] in
+    let test : nat_le (g.moment + wait_of rto c.prompt (Some g)) now ≡ true = grind (arith, nat_tests, le) in
+    let item : List CallItem = again_item (wait_of rto c.prompt (Some g)) s g ∷ [] in
     let asked : asks c s (lowest_of s) true ≡ true = or_true (piece_at s (lowest_of s)).last in
     let lost : not (is_lost c s (lowest_of s)) ≡ true = ap (λ o. not (is_piece o (lowest_of s))) none in
     (λ i. Some (record {
@@ -119,10 +119,10 @@ next_due now rto c s seq g none fresh is given le =
     (least_by (λ (i : CallItem). i.rank) (cond b item []))) test)
 
 pub next_waits : (now rto : ℕ) (c : Cwnd) (s : Sent) (g : LastGiving) → lost_of c s ≡ None → can_give c s ≡ false →
-    again_of s ≡ Some g → now < g.moment + rto → ◌≡◌ {A = Option NextPiece} None (next_piece now rto c s)
+    again_of s ≡ Some g → now < g.moment + wait_of rto c.prompt (Some g) → ◌≡◌ {A = Option NextPiece} None (next_piece now rto c s)
 next_waits now rto c s g none fresh given lt =
-    let test : nat_le (g.moment + rto) now ≡ false = grind (arith, nat_tests, lt) in
-    let item : List CallItem = again_item rto s g ∷ [] in
+    let test : nat_le (g.moment + wait_of rto c.prompt (Some g)) now ≡ false = grind (arith, nat_tests, lt) in
+    let item : List CallItem = again_item (wait_of rto c.prompt (Some g)) s g ∷ [] in
     sym (later now rto c s (Some g) none fresh given
     ∙ ap (λ b. option_and_then (λ (i : CallItem). piece_of c s i.sending)
     (least_by (λ (i : CallItem). i.rank) (cond b item []))) test)
@@ -144,8 +144,8 @@ unless_some (Some k) nothing = absurd (nothing k refl)
 lost_rank : (rto : ℕ) (c : Cwnd) (s : Sent) (seq : ℕ) → lost_of c s ≡ Some seq →
     ◌≡◌ {A = Option ℕ} (Some 0) (least_rank rto c s)
 lost_rank rto c s seq is =
-    let least = least_by (λ (i : CallItem). i.rank) (items_by None (can_give c s) rto s (again_of s)) in
-    sym (ap (λ o. rank_by (items_by o (can_give c s) rto s (again_of s))) is
+    let least = least_by (λ (i : CallItem). i.rank) (items_by None (can_give c s) rto c s (again_of s)) in
+    sym (ap (λ o. rank_by (items_by o (can_give c s) rto c s (again_of s))) is
     ∙ ap (λ (x : CallItem). Some x.rank) (first_least (lost_item seq) least refl))
 
 pub rank_lost : (rto : ℕ) (c : Cwnd) (s : Sent) → is_some (lost_of c s) ≡ true →
@@ -160,11 +160,11 @@ rank_lost rto c s some =
 pub rank_fresh : (rto : ℕ) (c : Cwnd) (s : Sent) → lost_of c s ≡ None → can_give c s ≡ true →
     ◌≡◌ {A = Option ℕ} (Some 0) (least_rank rto c s)
 rank_fresh rto c s none fresh =
-    let rest = again_items rto (lowest_of s) (again_of s) in
+    let rest = again_items (wait_of rto c.prompt (again_of s)) (lowest_of s) (again_of s) in
     let least = least_by (λ (i : CallItem). i.rank) rest in
-    sym ((λ i. rank_by (items_by (none i) (fresh i) rto s (again_of s)))
+    sym ((λ i. rank_by (items_by (none i) (fresh i) rto c s (again_of s)))
     ∙ ap (λ (x : CallItem). Some x.rank) (first_least (fresh_item s) least refl))
 
 pub rank_later : (rto : ℕ) (c : Cwnd) (s : Sent) (g : Option LastGiving) → lost_of c s ≡ None → can_give c s ≡ false →
-    again_of s ≡ g → least_rank rto c s ≡ rank_by (again_items rto (lowest_of s) g)
-rank_later rto c s g none fresh given = λ i. rank_by (items_by (none i) (fresh i) rto s (given i))
+    again_of s ≡ g → least_rank rto c s ≡ rank_by (again_items (wait_of rto c.prompt g) (lowest_of s) g)
+rank_later rto c s g none fresh given = λ i. rank_by (items_by (none i) (fresh i) rto c s (given i))

@@ -167,7 +167,7 @@ fn pieces_that_two_others_passed_are_waited_for(rt: HostRuntime) -> Result<(), F
     assert_eq!(rt; send(&mut win, 101, &cw), None);
     assert_eq!(rt; ack(&mut win, &mut pool, 102, 4, &[]), 1);
     assert_eq!(rt; send(&mut win, 102, &cw), None);
-    assert_eq!(rt; win.due(1000, &cw), Some(1000));
+    assert_eq!(rt; win.due(1000, &cw), Some(1100));
     Ok(())
 }
 
@@ -178,10 +178,12 @@ fn the_last_piece_goes_again_as_its_time_is_up(rt: HostRuntime) -> Result<(), Fa
     let mut win = SendWin::make(rt.alloc(), 32)?;
     assert_eq!(rt; filled(&mut win, &mut pool, &[7; 7060], &cw), 5);
     assert_eq!(rt; ack(&mut win, &mut pool, 100, 5, &[]), 4);
-    assert_eq!(rt; win.due(1000, &cw), Some(1000));
-    assert_eq!(rt; send(&mut win, 999, &cw), None);
-    assert_eq!(rt; send(&mut win, 1000, &cw), Some((5, Why::Up)));
-    assert_eq!(rt; send(&mut win, 1000, &cw), None);
+    assert_eq!(rt; win.due(1000, &cw), Some(1100));
+    assert_eq!(rt; win.due(1000, &Cwnd::new(32, false)), Some(1000));
+    assert_eq!(rt; send(&mut win, 1099, &cw), None);
+    assert_eq!(rt; send(&mut win, 1100, &cw), Some((5, Why::Up)));
+    assert_eq!(rt; send(&mut win, 1100, &cw), None);
+    assert_eq!(rt; win.due(1000, &cw), Some(2100));
     Ok(())
 }
 
@@ -191,20 +193,20 @@ fn behind_a_time_out_all_go_again_as_the_window_opens(rt: HostRuntime) -> Result
     let mut pool = Pool::make(rt.alloc(), 7)?;
     let mut win = SendWin::make(rt.alloc(), 32)?;
     assert_eq!(rt; filled(&mut win, &mut pool, &[7; 8472], &cw), 6);
-    assert_eq!(rt; send(&mut win, 1000, &cw), Some((1, Why::Up)));
+    assert_eq!(rt; send(&mut win, 1100, &cw), Some((1, Why::Up)));
     cw.timed_out();
-    assert_eq!(rt; send(&mut win, 1000, &cw), None);
-    assert_eq!(rt; win.due(1000, &cw), Some(2000));
-    assert_eq!(rt; ack(&mut win, &mut pool, 1100, 2, &[]), 1);
+    assert_eq!(rt; send(&mut win, 1100, &cw), None);
+    assert_eq!(rt; win.due(1000, &cw), Some(2100));
+    assert_eq!(rt; ack(&mut win, &mut pool, 1200, 2, &[]), 1);
     cw.acked(1);
     assert_eq!(rt;
-        send_four(&mut win, 1100, &cw),
+        send_four(&mut win, 1200, &cw),
         [Some((2, Why::Lost)), Some((3, Why::Lost)), None, None]
     );
-    assert_eq!(rt; ack(&mut win, &mut pool, 1200, 4, &[]), 2);
+    assert_eq!(rt; ack(&mut win, &mut pool, 1300, 4, &[]), 2);
     cw.acked(2);
     assert_eq!(rt;
-        send_four(&mut win, 1200, &cw),
+        send_four(&mut win, 1300, &cw),
         [
             Some((4, Why::Lost)),
             Some((5, Why::Lost)),

@@ -1,6 +1,6 @@
 ghost use Rattle.std.specs.Prelude.{◌≡◌, ◌≤◌, ◌<◌, ◌+◌, ◌-◌, ◌^◌, ◌==◌, ℕ, length, suc, Option, Some, None, true};
 ghost use Rattle.std.specs.Prelude.{false, IfSome};
-ghost use Rattle.rx_rules.specs.CallItems.{can_give, asks};
+ghost use Rattle.rx_rules.specs.CallItems.{can_give, asks, wait_of};
 ghost use Rattle.rx_rules.specs.Lost.{lost_of, halves, is_once};
 ghost use Rattle.rx_rules.specs.Sent.{Sent, piece_at, given_of, lowest_of, last_giving, after_giving, after_time};
 ghost use Rattle.rx_pool.specs.Pool.{Slots};
@@ -14,6 +14,7 @@ use crate::marks::{asks, goes};
 use crate::next::NextPiece;
 use crate::piece::LastGiving;
 use crate::window::SendWin;
+use rx_model::wire::ACK_DELAY_MS;
 use rx_pool::Pool;
 use rx_rtt::Cwnd;
 
@@ -176,7 +177,7 @@ impl SendWin {
         }
     }
 
-    /// The piece that is due at this moment, where a piece is sent again after `rto` milliseconds; none where none is.
+    /// The piece that is due at this moment, where RTO is so many milliseconds; none where none is.
     pub fn next(&self, now: u64, rto: u32, cw: &Cwnd) -> Option<NextPiece>
         ensures piece { IfSome result (λ p. CanBeSent self.now p.seq) }
         ensures answered { (pool : Slots) (s : Sent) → StandsSent pool self.now s →
@@ -202,7 +203,7 @@ impl SendWin {
         }
         match self.lowest() {
             Some((seq, giving)) => {
-                if giving.moment + rto as u64 <= now {
+                if giving.moment + wait_of(rto, giving, cw) <= now {
                     return Some(NextPiece {
                         seq,
                         again: true,
@@ -229,8 +230,20 @@ impl SendWin {
             return Some(0);
         }
         match self.lowest() {
-            Some((_seq, giving)) => Some(giving.moment + rto as u64),
+            Some((_seq, giving)) => Some(giving.moment + wait_of(rto, giving, cw)),
             None => None,
         }
     }
+}
+
+/// How long a piece waits for its acknowledgement behind its last giving, in milliseconds: one RTO; where it was given
+/// once, a prompt node waits longer by what a peer may delay one that wasn't asked for (RFC 9002, section 6.2.1).
+fn wait_of(rto: u32, giving: LastGiving, cw: &Cwnd) -> u64
+    ensures value { result ≡ wait_of rto cw.now.prompt (as_giving (Some giving)) }
+    ensures most { result ≤ rto + 100 }
+{
+    if cw.recovers() && !giving.again {
+        return rto as u64 + ACK_DELAY_MS;
+    }
+    rto as u64
 }

@@ -1,4 +1,4 @@
-use Rattle.std.proofs.Common.{◌∙◌, sym, ap, refl, is_some}
+use Rattle.std.proofs.Common.{◌+◌, ◌∙◌, ℕ, Some, sym, ap, refl, is_some}
 use Rattle.rx_sendwin.proofs.Nexts.{rank_lost, rank_fresh, rank_later, not_some}
 use Rattle.rx_sendwin.proofs.window.SendWin.due.Goals as goal
 
@@ -18,7 +18,8 @@ returns-then-can_give c = record {
 
 pub returns-in-Some : goal.returns-in-Some
 returns-in-Some c = record {
-  answered = λ pool s st. sym (rank_later c.args.rto c.args.cw.now s _
+  answered = λ pool s st. ap (λ (wait : ℕ). Some (c.in-Some.giving.moment + wait)) c.wait_of.ensures.value
+      ∙ sym (rank_later c.args.rto c.args.cw.now s _
       (sym (c.lost_piece.ensures.answered pool s st)
       ∙ not_some c.lost_piece.result (sym c.is_some.ensures ∙ c.if-is_some.false))
       (sym (c.can_give.ensures.answered pool s st) ∙ c.if-can_give.false) (c.in-Some.ensures.some pool s st));

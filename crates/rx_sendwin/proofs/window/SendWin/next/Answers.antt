@@ -1,4 +1,4 @@
-use Rattle.std.proofs.Common.{◌+◌, ◌∙◌, ap, sym, refl}
+use Rattle.std.proofs.Common.{◌+◌, ◌<◌, ◌≤◌, ◌∙◌, ℕ, ap, sym, subst, refl}
 use Rattle.rx_sendwin.specs.Window.{SendWindow}
 use Rattle.rx_sendwin.proofs.Nexts.{next_lost, next_fresh, next_due, next_waits, next_none, unless_some}
 use Rattle.rx_sendwin.proofs.window.SendWin.next.Goals as goal
@@ -18,19 +18,22 @@ returns-then-can_give-clause-answered c =
     (sym (c.can_give.ensures.answered pool s st) ∙ c.if-can_give.true) (seq ∙ ap (λ n. n + 1) st.given)
     (c.asks.ensures pool s st)
 
-pub returns-then-giving-rto-clause-answered : goal.returns-then-giving-rto-clause-answered
-returns-then-giving-rto-clause-answered c =
+pub returns-then-giving-wait_of-clause-answered : goal.returns-then-giving-wait_of-clause-answered
+returns-then-giving-wait_of-clause-answered c =
     λ pool s st. next_due c.args.now c.args.rto c.args.cw.now s c.in-Some-lowest.seq _
     (sym (c.lost_piece.ensures.answered pool s st) ∙ unless_some c.lost_piece.result c.in_default.not-Some)
     (sym (c.can_give.ensures.answered pool s st) ∙ c.if-can_give.false) (c.in-Some-lowest.ensures.seq pool s st)
-    (c.in-Some-lowest.ensures.some pool s st) c.if-giving-rto.true
+    (c.in-Some-lowest.ensures.some pool s st)
+    (subst (λ (wait : ℕ). c.in-Some-lowest.giving.moment + wait ≤ c.args.now) c.wait_of.ensures.value
+    c.if-giving-wait_of.true)
 
-pub returns-else-giving-rto-clause-answered : goal.returns-else-giving-rto-clause-answered
-returns-else-giving-rto-clause-answered c =
+pub returns-else-giving-wait_of-clause-answered : goal.returns-else-giving-wait_of-clause-answered
+returns-else-giving-wait_of-clause-answered c =
     λ pool s st. next_waits c.args.now c.args.rto c.args.cw.now s _
     (sym (c.lost_piece.ensures.answered pool s st) ∙ unless_some c.lost_piece.result c.in_default.not-Some)
     (sym (c.can_give.ensures.answered pool s st) ∙ c.if-can_give.false) (c.in-Some-lowest.ensures.some pool s st)
-    c.if-giving-rto.false
+    (subst (λ (wait : ℕ). c.args.now < c.in-Some-lowest.giving.moment + wait) c.wait_of.ensures.value
+    c.if-giving-wait_of.false)
 
 pub returns-in-None-clause-answered : goal.returns-in-None-clause-answered
 returns-in-None-clause-answered c =
