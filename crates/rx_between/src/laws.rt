@@ -1,0 +1,34 @@
+//! Laws of what the two ends of a call know of each other.
+ghost use Rattle.rx_between.specs.Acknowledged.{TrueHeld, TrueInWorld, TrueOnce};
+ghost use Rattle.rx_between.specs.Told.{AckAllsTell, AcksTell, DataTells};
+
+/// Each ACK that a node gave tells truly what its call had received when it was made: how many packets were done with,
+/// which of those above are kept, and the node's window. What was received only grew since, so that it holds however late
+/// the ACK comes. Of any legal history of a client, and of a server that starts the call once.
+pub fn acks_tell()
+    ensures { AcksTell }
+{}
+
+/// Where a client gave an ACKALL of a call, the call's reply was read to its end. A server gives none. Of any legal
+/// history.
+pub fn ackalls_tell()
+    ensures { AckAllsTell }
+{}
+
+/// Where a server gave data of a call, the call's request was read to its end. Of any legal history of a server that
+/// starts the call once.
+pub fn data_tells()
+    ensures { DataTells }
+{}
+
+/// What each end of a call takes for acknowledged, by ACKs, by an ACKALL or by reply data, the other end has, at every
+/// moment, whatever was lost, repeated and reordered: it is done with at least as many packets as are taken for hard
+/// acknowledged, and keeps each that is taken for soft acknowledged. Between two legal ends of a connection, with a
+/// network that invents nothing on it and a server that starts none of its calls while it has a record (`once`); where
+/// the server forgot no record of it, or where nothing that comes is old (`held`); and of each connection of each client
+/// of a world (`world`).
+pub fn acknowledged_arrived()
+    ensures once { TrueOnce }
+    ensures held { TrueHeld }
+    ensures world { TrueInWorld }
+{}
