@@ -7,6 +7,7 @@ pub mod Beginning
 pub mod Clocking
 pub mod Taking
 pub mod Giving
+pub mod Unjoinable
 pub mod Polling
 pub mod Single
 pub mod Turning

@@ -19,18 +19,18 @@ use Rattle.rx_jumbo.specs.Parts.{is_jumbo}
 use Rattle.rx_model.specs.declared.wire.TheConstants.{DATAGRAM_BYTES}
 use Rattle.rx_rules.specs.Rules.{Legal}
 use Rattle.rx_rules.specs.Setup.{FitsSetup}
-use Rattle.std.specs.Prelude.{IfOk}
+use Rattle.std.specs.Prelude.{IfOk, map}
 use Rattle.rx_passes.specs.declared.stop.Stop.{Stop}
 use Rattle.rx_passes.specs.declared.stop.Stop.TheVariants as stops
 use Rattle.rx_passes.specs.Nodes.{Answers}
 use Rattle.rx_passes.specs.Parts.{Came, Cut, Part, Place, To, behind, moment_after}
-use Rattle.rx_passes.specs.Ports.{AreOfFew, Behind, CutsOne, CutsPolls, Empties, EndsAPoll, Gave, NotesOne, Passes}
-use Rattle.rx_passes.specs.Ports.{PassesOn, PollsCut}
-use Rattle.rx_passes.specs.Ports.{PollsOne, PollsOut, PortsState, gave_all, held, parts_all, polled_all, polls}
-use Rattle.rx_passes.specs.Ports.{polls_once}
+use Rattle.rx_passes.specs.Ports.{AreUnjoinable, AreOfFew, CutsOne, CutsPolls, Empties, EndsAPoll, Gave, NotesOne}
+use Rattle.rx_passes.specs.Ports.{Passes, PassesOn, PollsCut, PollsOne, PollsOut, PortsState, as_one, gave_all}
+use Rattle.rx_passes.specs.Ports.{held, parts_all, polled_all, polls, polls_once, split}
 use Rattle.rx_passes.specs.Runs.{Fits, IsAt, IsBehind, Plays, Ran, change, stop_of}
 use Rattle.rx_passes.specs.Tells.{SinkTells, Told, WireTells, told}
-use Rattle.rx_passes.proofs.Giving.{gave_all_both, parts_all_both, some_last}
+use Rattle.rx_passes.proofs.Unjoinable.{unjoinable_front, unjoinable_last, unjoinable_offered, some_offered}
+use Rattle.rx_passes.proofs.Giving.{gave_all_both, joined_last, joined_more, parts_all_both, some_last}
 use Rattle.rx_passes.proofs.Noting.{note_refused, noted_gains, one_noted, one_refused}
 use Rattle.rx_passes.proofs.Single.{single_polled}
 use Rattle.rx_passes.proofs.Running.{plays_as, plays_at, plays_cut, plays_join, stops_any}
@@ -111,7 +111,7 @@ module _ (n : ℕ) (s : Setup) (s0 s1 : List Event → Type 0) (book after : Opt
         }
 
     -- it gave this datagram, which was passed on
-    pub one_passed : HasNoted book after (noted n e) → Passes (held j ++ d ∷ []) j k first last None
+    pub one_passed : HasNoted book after (noted n e) → Passes d j k first last None
         → Plays (change n s s0 s1 (told book sink first) (told after sink last)) (polls_once j k) (λ b. b ≡ true) None
     one_passed one passes p at =
         record {
@@ -123,26 +123,11 @@ module _ (n : ℕ) (s : Setup) (s0 s1 : List Event → Type 0) (book after : Opt
             given = passes.given;
             events = refl;
             log = refl;
-            joined = passes.rest;
+            rest = passes.rest;
             few = passes.few;
           };
           standing = (answers p.history at.standing).1;
           fits = (refl, gains_given passes.given one passes.gave, at_given passes.given p passes.gave at);
-        }
-
-    cuts : (given missing : List (Host × List ℕ)) → parts_all given ++ missing ≡ held j ++ d ∷ [] → AreOfFew j.most
-        given → missing ≢ []
-        → CutsOne j (e ∷ []) (gave_all given)
-    cuts given missing joined few lost =
-        record {
-          datagram = d;
-          given = given;
-          missing = missing;
-          events = refl;
-          log = refl;
-          joined = joined;
-          few = few;
-          lost = lost;
         }
 
     -- its note was refused
@@ -154,7 +139,7 @@ module _ (n : ℕ) (s : Setup) (s0 s1 : List Event → Type 0) (book after : Opt
           events = e ∷ [];
           log = [];
           came = Cut stops.Unnoted;
-          made = inr (inl refl, cuts [] (held j ++ d ∷ []) refl tt (some_last (held j) d));
+          made = inr (inl refl, (d, refl, refl));
           standing = (answers p.history at.standing).1;
           fits = (
             refl,
@@ -165,23 +150,18 @@ module _ (n : ℕ) (s : Setup) (s0 s1 : List Event → Type 0) (book after : Opt
 
     -- the wire failed
     pub one_failed : (shows : Bool → Type 0) → HasNoted book after (noted n e)
-        → Passes (held j ++ d ∷ []) j k first last (Some stops.WireFault)
+        → Passes d j k first last (Some stops.WireFault)
         → Plays (change n s s0 s1 (told book sink first) (told after sink last)) (polls_once j k) shows
         (Some stops.WireFault)
-    one_failed shows one passes p at = of passes.rest
-      where
-        of : Behind (held j ++ d ∷ []) passes.given k (Some stops.WireFault)
-            → Ran (change n s s0 s1 (told book sink first) (told after sink last))
-            (polls_once j k) shows (Some stops.WireFault) p
-        of (missing, some, whole) =
-            record {
-              events = e ∷ [];
-              log = gave_all passes.given;
-              came = Cut stops.WireFault;
-              made = inr (inr refl, cuts passes.given missing whole passes.few some);
-              standing = (answers p.history at.standing).1;
-              fits = (refl, breaks_given passes.given one passes.gave);
-            }
+    one_failed shows one passes p at =
+        record {
+          events = e ∷ [];
+          log = gave_all passes.given;
+          came = Cut stops.WireFault;
+          made = inr (inr refl, (d, refl, ap gave_all passes.rest));
+          standing = (answers p.history at.standing).1;
+          fits = (refl, breaks_given passes.given one passes.gave);
+        }
 
 -- ---- polls so far
 
@@ -194,6 +174,8 @@ pub record PollsSo (most : ℕ) (j : JoinerState) (count : ℕ) (es : List Event
   pub log : ls ≡ gave_all given
   pub joined : parts_all given ++ held j ≡ polled
   pub few : AreOfFew most given
+  pub greedy : AreUnjoinable most (map split given ++ as_one j.host j.datagrams)
+  pub first : j.datagrams ≡ [] → given ≡ []
 
 abbrev pub polls_so : ℕ → JoinerState → ℕ → Part (Unit {0})
 polls_so most j count p es ls (To done) = PollsSo most j count es ls
@@ -222,6 +204,8 @@ polls_none n s stands t j none p at =
         log = refl;
         joined = rw none refl;
         few = tt;
+        greedy = rw none tt;
+        first = λ empty. refl;
       };
       standing = at.standing;
       fits = (tt, Rattle.rx_passes.proofs.Telling.gains_none n t, at);
@@ -233,6 +217,12 @@ cuts_of : (why : Stop) (missing : List (Host × List ℕ)) (es : List Event) →
 cuts_of why missing es (inl refused) some = subst (λ (k : Stop). CutsPolls k missing es) (sym refused) tt
 cuts_of why missing es (inr failed) some = subst (λ (k : Stop). CutsPolls k missing es) (sym failed) some
 
+-- polls that gave these, and one more that gave one
+polled_more : (es fs : List Event) (ds : List (Host × List ℕ)) (d : Host × List ℕ) → es ≡ polled_all ds
+    → fs ≡ events.Polled (Some d) ∷ [] → es ++ fs ≡ polled_all (ds ++ d ∷ [])
+polled_more es fs ds d first last =
+    rw first (rw last (sym (map-append (λ (d : Host × List ℕ). events.Polled (Some d)) ds (d ∷ []))))
+
 module _ (most : ℕ) (j k : JoinerState) (count : ℕ) (es fs : List Event) (ls ms : List Logged) where
   -- one more, which gave a datagram
   so_more : PollsSo most j count es ls → j.most ≡ most → PollsOne j k fs ms
@@ -242,37 +232,36 @@ module _ (most : ℕ) (j k : JoinerState) (count : ℕ) (es fs : List Event) (ls
         polled = x.polled ++ y.datagram ∷ [];
         counted = length-append x.polled (y.datagram ∷ []) ∙ ap (λ (m : ℕ). m + 1) x.counted;
         given = x.given ++ y.given;
-        events = rw x.events (rw y.events (sym (map-append (λ (d : Host × List ℕ). events.Polled (Some d)) x.polled
-            (y.datagram ∷ []))));
+        events = polled_more es fs x.polled y.datagram x.events y.events;
         log = rw x.log (rw y.log (sym (gave_all_both x.given y.given)));
         joined =
             ap (λ (zs : List (Host × List ℕ)). zs ++ held k) (parts_all_both x.given y.given)
             ∙ append_assoc (parts_all x.given) (parts_all y.given) (held k)
-            ∙ ap (λ (zs : List (Host × List ℕ)). parts_all x.given ++ zs) y.joined
+            ∙ ap (λ (zs : List (Host × List ℕ)). parts_all x.given ++ zs)
+            (joined_more j k y.datagram y.given y.rest)
             ∙ sym (append_assoc (parts_all x.given) (held j) (y.datagram ∷ []))
             ∙ ap (λ (zs : List (Host × List ℕ)). zs ++ y.datagram ∷ []) x.joined;
         few = few_both most x.given y.given x.few (subst (λ (m : ℕ). AreOfFew m y.given) is y.few);
+        greedy = unjoinable_offered most j k y.datagram x.given y.given is y.rest x.first x.greedy;
+        first = λ empty. absurd (some_offered j k y.datagram y.given y.rest empty);
       }
 
   -- one that was cut off
-  so_cut : (why : Stop) → PollsSo most j count es ls → j.most ≡ most → EndsAPoll why → CutsOne j fs ms
+  so_cut : (why : Stop) → PollsSo most j count es ls → EndsAPoll why → CutsOne fs ms
       → PollsCut most why (es ++ fs) (ls ++ ms)
-  so_cut why x is reason y =
+  so_cut why x reason (d, last, none) =
       record {
-        polled = x.polled ++ y.datagram ∷ [];
-        given = x.given ++ y.given;
-        missing = y.missing;
-        events = inl (rw x.events (rw y.events (sym (map-append (λ (d : Host × List ℕ). events.Polled (Some d)) x.polled
-            (y.datagram ∷ [])))));
-        log = rw x.log (rw y.log (sym (gave_all_both x.given y.given)));
+        polled = x.polled ++ d ∷ [];
+        given = x.given;
+        missing = held j ++ d ∷ [];
+        events = inl (polled_more es fs x.polled d x.events last);
+        log = rw none (append-nil ls ∙ x.log);
         joined =
-            ap (λ (zs : List (Host × List ℕ)). zs ++ y.missing) (parts_all_both x.given y.given)
-            ∙ append_assoc (parts_all x.given) (parts_all y.given) y.missing
-            ∙ ap (λ (zs : List (Host × List ℕ)). parts_all x.given ++ zs) y.joined
-            ∙ sym (append_assoc (parts_all x.given) (held j) (y.datagram ∷ []))
-            ∙ ap (λ (zs : List (Host × List ℕ)). zs ++ y.datagram ∷ []) x.joined;
-        few = few_both most x.given y.given x.few (subst (λ (m : ℕ). AreOfFew m y.given) is y.few);
-        reason = cuts_of why y.missing (es ++ fs) reason y.lost;
+            sym (append_assoc (parts_all x.given) (held j) (d ∷ []))
+            ∙ ap (λ (zs : List (Host × List ℕ)). zs ++ d ∷ []) x.joined;
+        few = x.few;
+        greedy = unjoinable_front most (map split x.given) (as_one j.host j.datagrams) x.greedy;
+        reason = cuts_of why (held j ++ d ∷ []) (es ++ fs) reason (some_last (held j) d);
       }
 
   -- the last one
@@ -287,6 +276,7 @@ module _ (most : ℕ) (j k : JoinerState) (count : ℕ) (es fs : List Event) (ls
         log = rw none (append-nil ls ∙ x.log);
         joined = x.joined;
         few = x.few;
+        greedy = unjoinable_front most (map split x.given) (as_one j.host j.datagrams) x.greedy;
         reason = subst (λ (i : Stop). CutsPolls i (held j) (es ++ fs)) (sym refused) tt;
       }
 
@@ -317,11 +307,11 @@ module _ (n : ℕ) (s : Setup) (s0 s1 s2 : List Event → Type 0) (a b c : Told)
     where
       cut : (es fs : List Event) (ls ms : List Logged) (why : Stop) → PollsSo most j count es ls
           → ((why ≡ stops.Unnoted) × (fs ≡ events.Polled None ∷ []) × (ms ≡ []))
-          ⊎ (EndsAPoll why × CutsOne j fs ms)
+          ⊎ (EndsAPoll why × CutsOne fs ms)
           → PollsCut most why (es ++ fs) (ls ++ ms)
       cut es fs ls ms why made (inl none) =
           so_none most j k count es fs ls ms why made none.0 none.1 none.2
-      cut es fs ls ms why made (inr one) = so_cut most j k count es fs ls ms why made is one.0 one.1
+      cut es fs ls ms why made (inr one) = so_cut most j k count es fs ls ms why made one.0 one.1
 
 -- ---- the end of a polling
 
@@ -333,24 +323,23 @@ pub record PollsLast (most : ℕ) (j : JoinerState) (es : List Event) (ls : List
   pub log : ls ≡ gave_all given
   pub joined : parts_all given ++ held j ≡ polled
   pub few : AreOfFew most given
+  pub greedy : AreUnjoinable most (map split given ++ as_one j.host j.datagrams)
 
 abbrev pub polls_last : ℕ → JoinerState → Part (Unit {0})
 polls_last most j p es ls (To done) = PollsLast most j es ls
 polls_last most j p es ls (Cut stop) = Unit {0}
 
 -- what is held back is given
-pub record Flushed (most : ℕ) (j : JoinerState) (missing : List (Host × List ℕ)) (es : List Event) (ls : List Logged)
-    : Type 0 where
+pub record Flushed (most : ℕ) (j : JoinerState) (es : List Event) (ls : List Logged) : Type 0 where
   pub given : List (Host × List ℕ)
   pub events : es ≡ []
   pub log : ls ≡ gave_all given
-  pub joined : parts_all given ++ missing ≡ held j
+  pub whole : map split given ≡ as_one j.host j.datagrams
   pub few : AreOfFew most given
 
 abbrev pub flushes : ℕ → JoinerState → Part (Unit {0})
-flushes most j p es ls (To done) = Flushed most j [] es ls
-flushes most j p es ls (Cut stop) =
-    (stop ≡ stops.WireFault) × ((missing : List (Host × List ℕ)) × (missing ≢ []) × Flushed most j missing es ls)
+flushes most j p es ls (To done) = Flushed most j es ls
+flushes most j p es ls (Cut stop) = (stop ≡ stops.WireFault) × (held j ≢ []) × (es ≡ []) × (ls ≡ [])
 
 module _ (n : ℕ) (s : Setup) (stands : List Event → Type 0) (book : Option (List Noted)) (sink : SinkTells)
     (first last : WireTells) (j k : JoinerState) where
@@ -367,66 +356,47 @@ module _ (n : ℕ) (s : Setup) (stands : List Event → Type 0) (book : Option (
   pub flush_plays : (stop : Option Stop) → Empties j k first last stop
       → Plays (change n s stands stands (told book sink first) (told book sink last)) (flushes j.most j) Anyhow stop
   flush_plays None e p at =
-      (let none : held k ≡ [] = ap (Rattle.rx_passes.specs.Ports.all_for k.host) (e.empty refl) in
       record {
         events = [];
-        log = gave_all e.passes.given;
+        log = gave_all e.given;
         came = To tt;
-        made = record {
-          given = e.passes.given;
-          events = refl;
-          log = refl;
-          joined = ap (λ (xs : List (Host × List ℕ)). parts_all e.passes.given ++ xs) (sym none) ∙ e.passes.rest;
-          few = e.passes.few;
-        };
+        made = record { given = e.given; events = refl; log = refl; whole = e.rest.0; few = e.few };
         standing = at.standing;
         fits = (
           tt,
           record {
             noted = HasNotedAll-none book n;
             put = gained_none sink.put;
-            log = e.passes.gave.0;
+            log = e.gave.0;
             puts = refl;
-            calls = e.passes.gave.1;
+            calls = e.gave.1;
           },
-          flush_at e.passes.given p e.passes.gave.2 at,
+          flush_at e.given p e.gave.2 at,
         );
-      })
-  flush_plays (Some stops.WireFault) e p at = of e.passes.rest
-    where
-      of : Behind (held j) e.passes.given k (Some stops.WireFault)
-          → Ran (change n s stands stands (told book sink first) (told book sink last))
-          (flushes j.most j) Anyhow (Some stops.WireFault) p
-      of (missing, some, whole) =
+      }
+  flush_plays (Some stops.WireFault) e p at =
+      record {
+        events = [];
+        log = gave_all e.given;
+        came = Cut stops.WireFault;
+        made = (refl, e.rest.1, refl, ap gave_all e.rest.0);
+        standing = at.standing;
+        fits = (
+          refl,
           record {
-            events = [];
-            log = gave_all e.passes.given;
-            came = Cut stops.WireFault;
-            made = (
-              refl,
-              (
-                missing,
-                some,
-                record { given = e.passes.given; events = refl; log = refl; joined = whole; few = e.passes.few },
-              ),
-            );
-            standing = at.standing;
-            fits = (
-              refl,
-              record {
-                noted = HasNotedAll-none book n;
-                put = gained_none sink.put;
-                log = e.passes.gave.0;
-                puts = refl;
-                calls = e.passes.gave.1;
-              },
-            );
-          }
-  flush_plays (Some stops.OutOfMemory) e p at = absurd e.passes.gave
-  flush_plays (Some stops.SinkFault) e p at = absurd e.passes.gave
-  flush_plays (Some stops.Unnoted) e p at = absurd e.passes.gave
-  flush_plays (Some stops.Endless) e p at = absurd e.passes.gave
-  flush_plays (Some stops.Unformatted) e p at = absurd e.passes.gave
+            noted = HasNotedAll-none book n;
+            put = gained_none sink.put;
+            log = e.gave.0;
+            puts = refl;
+            calls = e.gave.1;
+          },
+        );
+      }
+  flush_plays (Some stops.OutOfMemory) e p at = absurd e.gave
+  flush_plays (Some stops.SinkFault) e p at = absurd e.gave
+  flush_plays (Some stops.Unnoted) e p at = absurd e.gave
+  flush_plays (Some stops.Endless) e p at = absurd e.gave
+  flush_plays (Some stops.Unformatted) e p at = absurd e.gave
 
 module _ (n : ℕ) (s : Setup) (s0 s1 s2 : List Event → Type 0) (a b c : Told) (most : ℕ) (j k : JoinerState)
     (count : ℕ) (is : j.most ≡ most) where
@@ -451,6 +421,8 @@ module _ (n : ℕ) (s : Setup) (s0 s1 s2 : List Event → Type 0) (a b c : Told)
             log = rw none.1 (append-nil ls ∙ x.log);
             joined = subst (λ (i : JoinerState). parts_all x.given ++ held i ≡ x.polled) (sym none.2) x.joined;
             few = x.few;
+            greedy = subst (λ (i : JoinerState). AreUnjoinable most (map split x.given ++ as_one i.host i.datagrams))
+                (sym none.2) x.greedy;
           }
 
   -- what is held back was given, or the wire failed
@@ -461,17 +433,10 @@ module _ (n : ℕ) (s : Setup) (s0 s1 s2 : List Event → Type 0) (a b c : Told)
       plays_join n s s0 s1 s2 a b c (polls_last most j) (λ u. flushes j.most j) (polls most) (λ u. tt) Anyhow Anyhow
       Anyhow stop
       (λ p es fs ls ms u v i y made one. whole es fs ls ms made one)
-      (λ p es fs ls ms u why i made one. cut es fs ls ms why made one.0 one.1.0 one.1.1 one.1.2) (λ u y. tt) first
+      (λ p es fs ls ms u why i made one. cut es fs ls ms why made one) (λ u y. tt) first
       (λ u i. second)
     where
-      joins : (x : List (Host × List ℕ)) (y missing polled : List (Host × List ℕ)) → parts_all y ++ missing ≡ held j
-          → parts_all x ++ held j ≡ polled → parts_all (x ++ y) ++ missing ≡ polled
-      joins x y missing polled later early =
-          ap (λ (zs : List (Host × List ℕ)). zs ++ missing) (parts_all_both x y)
-          ∙ append_assoc (parts_all x) (parts_all y) missing
-          ∙ ap (λ (zs : List (Host × List ℕ)). parts_all x ++ zs) later ∙ early
-
-      whole : (es fs : List Event) (ls ms : List Logged) → PollsLast most j es ls → Flushed j.most j [] fs ms
+      whole : (es fs : List Event) (ls ms : List Logged) → PollsLast most j es ls → Flushed j.most j fs ms
           → PollsOut most (es ++ fs) (ls ++ ms)
       whole es fs ls ms x y =
           record {
@@ -479,24 +444,24 @@ module _ (n : ℕ) (s : Setup) (s0 s1 s2 : List Event → Type 0) (a b c : Told)
             given = x.given ++ y.given;
             events = rw y.events (append-nil es ∙ x.events);
             log = rw x.log (rw y.log (sym (gave_all_both x.given y.given)));
-            joined = sym (append-nil (parts_all (x.given ++ y.given))) ∙ joins x.given y.given [] x.polled y.joined
-                x.joined;
+            joined = joined_last j x.given y.given x.polled y.whole x.joined;
             few = few_both most x.given y.given x.few (subst (λ (m : ℕ). AreOfFew m y.given) is y.few);
+            greedy = unjoinable_last most j x.given y.given y.whole x.greedy;
           }
 
-      cut : (es fs : List Event) (ls ms : List Logged) (why : Stop) → PollsLast most j es ls → why ≡ stops.WireFault
-          → (missing : List (Host × List ℕ)) → missing ≢ [] → Flushed j.most j missing fs ms
-          → PollsCut most why (es ++ fs) (ls ++ ms)
-      cut es fs ls ms why x failed missing some y =
+      cut : (es fs : List Event) (ls ms : List Logged) (why : Stop) → PollsLast most j es ls
+          → (why ≡ stops.WireFault) × (held j ≢ []) × (fs ≡ []) × (ms ≡ []) → PollsCut most why (es ++ fs) (ls ++ ms)
+      cut es fs ls ms why x (failed, some, no_events, none) =
           record {
             polled = x.polled;
-            given = x.given ++ y.given;
-            missing = missing;
-            events = inr (rw y.events (append-nil es ∙ x.events));
-            log = rw x.log (rw y.log (sym (gave_all_both x.given y.given)));
-            joined = joins x.given y.given missing x.polled y.joined x.joined;
-            few = few_both most x.given y.given x.few (subst (λ (m : ℕ). AreOfFew m y.given) is y.few);
-            reason = cuts_of why missing (es ++ fs) (inr failed) some;
+            given = x.given;
+            missing = held j;
+            events = inr (rw no_events (append-nil es ∙ x.events));
+            log = rw none (append-nil ls ∙ x.log);
+            joined = x.joined;
+            few = x.few;
+            greedy = unjoinable_front most (map split x.given) (as_one j.host j.datagrams) x.greedy;
+            reason = cuts_of why (held j) (es ++ fs) (inr failed) some;
           }
 
 -- ---- polls that come to no end
@@ -508,35 +473,38 @@ polls_gone most p es ls (Cut stop) = PollsCut most stop es ls
 
 module _ (n : ℕ) (s : Setup) (s0 s1 s2 : List Event → Type 0) (a b c : Told) (most : ℕ) (j : JoinerState)
     (count : ℕ) (is : j.most ≡ most) (many : 2 ^ 64 - 1 ≤ count) where
-  joins_all : (x y missing polled : List (Host × List ℕ)) → parts_all y ++ missing ≡ held j
-      → parts_all x ++ held j ≡ polled → parts_all (x ++ y) ++ missing ≡ polled
-  joins_all x y missing polled later early =
-      ap (λ (zs : List (Host × List ℕ)). zs ++ missing) (parts_all_both x y)
-      ∙ append_assoc (parts_all x) (parts_all y) missing
-      ∙ ap (λ (zs : List (Host × List ℕ)). parts_all x ++ zs) later ∙ early
-
-  cut_by : (es fs : List Event) (ls ms : List Logged) (why : Stop) (missing : List (Host × List ℕ))
-      → PollsSo most j count es ls → Flushed j.most j missing fs ms → CutsPolls why missing (es ++ fs)
-      → PollsCut most why (es ++ fs) (ls ++ ms)
-  cut_by es fs ls ms why missing x y reason =
-      record {
-        polled = x.polled;
-        given = x.given ++ y.given;
-        missing = missing;
-        events = inl (rw y.events (append-nil es ∙ x.events));
-        log = rw x.log (rw y.log (sym (gave_all_both x.given y.given)));
-        joined = joins_all x.given y.given missing x.polled y.joined x.joined;
-        few = few_both most x.given y.given x.few (subst (λ (m : ℕ). AreOfFew m y.given) is y.few);
-        reason = reason;
-      }
-
-  many_made : (es fs : List Event) (ls ms : List Logged) → PollsSo most j count es ls → Flushed j.most j [] fs ms
-      → 2 ^ 64 - 1 ≤ length (es ++ fs)
-  many_made es fs ls ms x y =
+  made_all : (es fs : List Event) (ls ms : List Logged) → PollsSo most j count es ls → Flushed j.most j fs ms
+      → PollsCut most stops.Endless (es ++ fs) (ls ++ ms)
+  made_all es fs ls ms x y =
       (let whole : es ++ fs ≡ polled_all x.polled = rw y.events (append-nil es ∙ x.events) in
       let long : length (es ++ fs) ≡ count =
       ap (λ (gs : List Event). length gs) whole ∙ length-map x.polled (λ d. events.Polled (Some d)) ∙ x.counted in
-      subst (λ (k : ℕ). 2 ^ 64 - 1 ≤ k) (sym long) many)
+      record {
+        polled = x.polled;
+        given = x.given ++ y.given;
+        missing = [];
+        events = inl whole;
+        log = rw x.log (rw y.log (sym (gave_all_both x.given y.given)));
+        joined = append-nil (parts_all (x.given ++ y.given)) ∙ joined_last j x.given y.given x.polled y.whole x.joined;
+        few = few_both most x.given y.given x.few (subst (λ (m : ℕ). AreOfFew m y.given) is y.few);
+        greedy = unjoinable_last most j x.given y.given y.whole x.greedy;
+        reason = (refl, subst (λ (k : ℕ). 2 ^ 64 - 1 ≤ k) (sym long) many);
+      })
+
+  failed_all : (es fs : List Event) (ls ms : List Logged) (why : Stop) → PollsSo most j count es ls
+      → (why ≡ stops.WireFault) × (held j ≢ []) × (fs ≡ []) × (ms ≡ []) → PollsCut most why (es ++ fs) (ls ++ ms)
+  failed_all es fs ls ms why x (failed, some, no_events, none) =
+      record {
+        polled = x.polled;
+        given = x.given;
+        missing = held j;
+        events = inl (rw no_events (append-nil es ∙ x.events));
+        log = rw none (append-nil ls ∙ x.log);
+        joined = x.joined;
+        few = x.few;
+        greedy = unjoinable_front most (map split x.given) (as_one j.host j.datagrams) x.greedy;
+        reason = cuts_of why (held j) (es ++ fs) (inr failed) some;
+      }
 
   gone : (stop : Option Stop) → Plays (change n s s0 s1 a b) (polls_so most j count) Anyhow None
       → Plays (change n s s1 s2 b c) (flushes j.most j) Anyhow stop
@@ -544,10 +512,8 @@ module _ (n : ℕ) (s : Setup) (s0 s1 s2 : List Event → Type 0) (a b c : Told)
   gone stop first second =
       plays_join n s s0 s1 s2 a b c (polls_so most j count) (λ u. flushes j.most j) (polls_gone most) (λ u. tt) Anyhow
       Anyhow Anyhow stop
-      (λ p es fs ls ms u v i y made one. cut_by es fs ls ms stops.Endless [] made one
-      (refl, many_made es fs ls ms made one))
-      (λ p es fs ls ms u why i made one. cut_by es fs ls ms why one.1.0 made one.1.2
-      (cuts_of why one.1.0 (es ++ fs) (inr one.0) one.1.1))
+      (λ p es fs ls ms u v i y made one. made_all es fs ls ms made one)
+      (λ p es fs ls ms u why i made one. failed_all es fs ls ms why made one)
       (λ u y. tt) first (λ u i. second)
 
   -- what is held back was given

@@ -2,7 +2,7 @@
 use Rattle.std.specs.Prelude.{◌≡◌, ◌≢◌, ◌⊎◌, ◌+◌, ◌-◌, ◌^◌, ◌≤◌, ℕ, min, Bool, true, false, List, [], ◌∷◌, ◌++◌, map}
 use Rattle.std.specs.Prelude.{length, Option, Some, None, IfNone}
 use Rattle.rx_base.specs.Sink.{HasRisen}
-use Rattle.rx_jumbo.specs.JoinerState.{JoinerState}
+use Rattle.rx_jumbo.specs.JoinerState.{JoinerState, joins, takes as takes_on}
 use Rattle.rx_jumbo.specs.Parts.{parts_of}
 use Rattle.rx_model.specs.declared.answers.Took.{Took}
 use Rattle.rx_model.specs.declared.event.Event.{Event}
@@ -55,7 +55,31 @@ abbrev pub AreOfFew : ℕ → List (Host × List ℕ) → Type 0
 AreOfFew most [] = Unit {0}
 AreOfFew most (d ∷ ds) = (length (parts_of d.1) ≤ most) × AreOfFew most ds
 
--- polls until one gave nothing: what they gave was given on the wire, joined
+-- the host of a datagram, and its parts
+abbrev pub split : Host × List ℕ → Host × List (List ℕ)
+split d = (d.0, parts_of d.1)
+
+-- the first of these, or no bytes where there is none
+abbrev pub first_part : List (List ℕ) → List ℕ
+first_part [] = []
+first_part (b ∷ bs) = b
+
+-- the first part of one can't be joined behind the parts of another, of which at most so many are given as one
+abbrev pub IsUnjoinable : ℕ → Host × List (List ℕ) → Host × List (List ℕ) → Type 0
+IsUnjoinable most before d =
+    joins (record { most = most; host = before.0; datagrams = before.1 }) d.0 (first_part d.1) ≡ false
+
+-- the same of the first of these, if there is one
+abbrev pub IsUnjoinableNext : ℕ → Host × List (List ℕ) → List (Host × List (List ℕ)) → Type 0
+IsUnjoinableNext most before [] = Unit {0}
+IsUnjoinableNext most before (d ∷ ds) = IsUnjoinable most before d
+
+-- none of these can be joined behind the one before it
+abbrev pub AreUnjoinable : ℕ → List (Host × List (List ℕ)) → Type 0
+AreUnjoinable most [] = Unit {0}
+AreUnjoinable most (d ∷ ds) = IsUnjoinableNext most d ds × AreUnjoinable most ds
+
+-- polls until one gave nothing: what they gave was given on the wire, as many as can be joined as one
 pub record PollsOut (most : ℕ) (es : List Event) (ls : List Logged) : Type 0 where
   pub polled : List (Host × List ℕ)
   pub given : List (Host × List ℕ)
@@ -63,6 +87,7 @@ pub record PollsOut (most : ℕ) (es : List Event) (ls : List Logged) : Type 0 w
   pub log : ls ≡ gave_all given
   pub joined : parts_all given ≡ polled
   pub few : AreOfFew most given
+  pub greedy : AreUnjoinable most (map split given)
 
 -- why polls end passes, by what is missing of them on the wire: the note of one was refused; or the wire failed, and
 -- some is missing; or there were 2^64 - 1 of them or more, and nothing is missing
@@ -83,6 +108,7 @@ pub record PollsCut (most : ℕ) (stop : Stop) (es : List Event) (ls : List Logg
   pub log : ls ≡ gave_all given
   pub joined : parts_all given ++ missing ≡ polled
   pub few : AreOfFew most given
+  pub greedy : AreUnjoinable most (map split given)
   pub reason : CutsPolls stop missing es
 
 -- one polling, of which at most so many datagrams are given as one; passes end in it as a note is refused, as the wire
@@ -183,44 +209,53 @@ Gave before after given (Some stops.Unnoted) = ⊥
 Gave before after given (Some stops.Endless) = ⊥
 Gave before after given (Some stops.Unformatted) = ⊥
 
--- what is held back behind these datagrams given: nothing is missing where the wire didn't fail, and some where it did
-abbrev pub Behind : List (Host × List ℕ) → List (Host × List ℕ) → JoinerState → Option Stop → Type 0
-Behind all given new None = parts_all given ++ held new ≡ all
-Behind all given new (Some stop) =
-    (missing : List (Host × List ℕ)) × (missing ≢ []) × (parts_all given ++ missing ≡ all)
+-- datagrams for a host as one, if there are any
+abbrev pub as_one : Host → List (List ℕ) → List (Host × List (List ℕ))
+as_one to [] = []
+as_one to (b ∷ bs) = (to, b ∷ bs) ∷ []
 
--- datagrams were given of these, in order, and the rest of them is held back
-pub record Passes (all : List (Host × List ℕ)) (old new : JoinerState) (before after : WireTells) (stop : Option Stop)
+-- what is held back was given as one, and nothing is held back then; where the wire failed it gave nothing of it
+abbrev pub Emptied : JoinerState → JoinerState → List (Host × List ℕ) → Option Stop → Type 0
+Emptied old new given None = (map split given ≡ as_one old.host old.datagrams) × (new.datagrams ≡ [])
+Emptied old new given (Some stop) = (given ≡ []) × (held old ≢ [])
+
+-- what is held back was given, unless the wire failed
+pub record Empties (old new : JoinerState) (before after : WireTells) (stop : Option Stop) : Type 0 where
+  pub given : List (Host × List ℕ)
+  pub gave : Gave before after given stop
+  pub rest : Emptied old new given stop
+  pub few : AreOfFew old.most given
+
+-- A datagram was joined behind what is held back; or it can't be, what is held back was given as one, and it is held
+-- back alone. Where the wire failed it gave nothing.
+abbrev pub Offered : JoinerState → JoinerState → Host × List ℕ → List (Host × List ℕ) → Option Stop → Type 0
+Offered old new d given None =
+    ((takes_on old d.0 d.1 ≡ true) × (given ≡ [])
+    × (new ≡ record old { host = d.0; datagrams = old.datagrams ++ d.1 ∷ [] }))
+    ⊎ ((takes_on old d.0 d.1 ≡ false) × (map split given ≡ as_one old.host old.datagrams)
+    × (new ≡ record old { host = d.0; datagrams = d.1 ∷ [] }))
+Offered old new d given (Some stop) = given ≡ []
+
+-- a datagram was passed on: it is held back behind what was given for it, unless the wire failed
+pub record Passes (d : Host × List ℕ) (old new : JoinerState) (before after : WireTells) (stop : Option Stop)
     : Type 0 where
   pub given : List (Host × List ℕ)
   pub gave : Gave before after given stop
-  pub rest : Behind all given new stop
+  pub rest : Offered old new d given stop
   pub few : AreOfFew old.most given
 
--- what is held back was given, and nothing is then
-pub record Empties (old new : JoinerState) (before after : WireTells) (stop : Option Stop) : Type 0 where
-  pub passes : Passes (held old) old new before after stop
-  pub empty : stop ≡ None → new.datagrams ≡ []
-
--- a poll gave a datagram, which was passed on; or it gave none
+-- a poll gave a datagram, which was passed on
 pub record PollsOne (old new : JoinerState) (es : List Event) (ls : List Logged) : Type 0 where
   pub datagram : Host × List ℕ
   pub given : List (Host × List ℕ)
   pub events : es ≡ events.Polled (Some datagram) ∷ []
   pub log : ls ≡ gave_all given
-  pub joined : parts_all given ++ held new ≡ held old ++ datagram ∷ []
+  pub rest : Offered old new datagram given None
   pub few : AreOfFew old.most given
 
--- passes ended in a poll that gave a datagram
-pub record CutsOne (old : JoinerState) (es : List Event) (ls : List Logged) : Type 0 where
-  pub datagram : Host × List ℕ
-  pub given : List (Host × List ℕ)
-  pub missing : List (Host × List ℕ)
-  pub events : es ≡ events.Polled (Some datagram) ∷ []
-  pub log : ls ≡ gave_all given
-  pub joined : parts_all given ++ missing ≡ held old ++ datagram ∷ []
-  pub few : AreOfFew old.most given
-  pub lost : missing ≢ []
+-- passes ended in a poll that gave a datagram, before anything was given
+abbrev pub CutsOne : List Event → List Logged → Type 0
+CutsOne es ls = (d : Host × List ℕ) × (es ≡ events.Polled (Some d) ∷ []) × (ls ≡ [])
 
 -- the note of a poll was refused, or the wire failed
 abbrev pub EndsAPoll : Stop → Type 0
@@ -232,7 +267,7 @@ polls_once old new p es ls (To true) = PollsOne old new es ls
 polls_once old new p es ls (To false) = (es ≡ events.Polled None ∷ []) × (ls ≡ []) × (new ≡ old)
 polls_once old new p es ls (Cut stop) =
     ((stop ≡ stops.Unnoted) × (es ≡ events.Polled None ∷ []) × (ls ≡ []))
-    ⊎ (EndsAPoll stop × CutsOne old es ls)
+    ⊎ (EndsAPoll stop × CutsOne es ls)
 
 -- an event was noted, or its note was refused
 abbrev pub NotesOne : ℕ → Option (List Noted) → Option (List Noted) → Event → Option Stop → Type 0
@@ -261,7 +296,7 @@ GivesOne before after d (Some stops.Unformatted) = ⊥
 abbrev pub PassesOn : ℕ → JoinerState → JoinerState → Option (List Noted) → Option (List Noted) → Host × List ℕ
     → WireTells → WireTells → Option Stop → Type 0
 PassesOn node old new before after d first last None =
-    HasNoted before after (noted node (events.Polled (Some d))) × Passes (held old ++ d ∷ []) old new first last None
+    HasNoted before after (noted node (events.Polled (Some d))) × Passes d old new first last None
 PassesOn node old new before after d first last (Some stops.Unnoted) = (after ≡ before) × (last ≡ first)
 PassesOn node old new before after d first last (Some stops.OutOfMemory) = ⊥
 PassesOn node old new before after d first last (Some stops.SinkFault) = ⊥
@@ -269,7 +304,7 @@ PassesOn node old new before after d first last (Some stops.Endless) = ⊥
 PassesOn node old new before after d first last (Some stops.Unformatted) = ⊥
 PassesOn node old new before after d first last (Some stops.WireFault) =
     HasNoted before after (noted node (events.Polled (Some d)))
-    × Passes (held old ++ d ∷ []) old new first last (Some stops.WireFault)
+    × Passes d old new first last (Some stops.WireFault)
 
 -- the ports of a node with this number that join so many datagrams at most, with none held back
 pub record AreReady (node most : ℕ) (ports : PortsState) : Type 0 where

@@ -27,6 +27,7 @@ pub struct Lines {
 impl Lines {
     /// No line yet.
     pub fn make(alloc: Global) -> Lines {
+        // No clause says what the text holds, since each line that is written takes its place.
         Lines {
             line: String::new(alloc),
         }

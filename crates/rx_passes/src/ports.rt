@@ -4,11 +4,12 @@ ghost use Rattle.std.specs.Prelude.{◌≡◌, ◌≤◌, ◌<◌, ◌∷◌, �
 ghost use Rattle.std.specs.Prelude.{take};
 ghost use Rattle.std.specs.Prelude.{IfErr, IfOk, OnErr, OnOk};
 ghost use Rattle.rx_jumbo.specs.declared.sizes.TheConstants.{JUMBO_BYTES, JUMBO_PARTS};
+ghost use Rattle.rx_jumbo.specs.JoinerState.{takes};
 ghost use Rattle.rx_jumbo.specs.Parts.{is_jumbo, parts_of};
 ghost use Rattle.rx_model.specs.declared.event.Event.{Event as OneEvent};
 ghost use Rattle.rx_model.specs.declared.wire.TheConstants.{DATAGRAM_BYTES};
 ghost use Rattle.rx_rules.specs.Setup.{FitsSetup};
-ghost use Rattle.rx_passes.specs.Ports.{Empties, GivesOne, IsWithin, Keeps, NotesOne, Passes, PassesOn, clocks, held};
+ghost use Rattle.rx_passes.specs.Ports.{Empties, GivesOne, IsWithin, Keeps, NotesOne, Passes, PassesOn, clocks};
 ghost use Rattle.rx_passes.specs.Ports.{lesser};
 ghost use Rattle.rx_passes.specs.Ports.{polls, polls_once, takes_came, takes_parts, takes_until, until_of};
 ghost use Rattle.rx_passes.specs.Runs.{IsBehind, Plays, change, stop_of};
@@ -95,7 +96,7 @@ impl Ports {
         clock(self.node, node, wire, book)
     }
 
-    /// Polls the node until nothing is due, and gives what it gave.
+    /// Polls the node until nothing is due, and gives what it gave, as many datagrams as can be joined as one.
     pub fn give_due<N: Endpoint, W: Wire, J: Journal>(
         &mut self,
         node: &mut N,
@@ -338,7 +339,7 @@ fn offer<W: Wire>(
     requires within { IsWithin joiner.old }
     requires size { length datagram.now ≤ DATAGRAM_BYTES }
     requires single { is_jumbo datagram.now ≡ false }
-    ensures passes { Passes (held joiner.old ++ (to, datagram.now) ∷ []) joiner.old joiner.new
+    ensures passes { Passes (to, datagram.now) joiner.old joiner.new
         (wire_tells (W.told wire.old) (W.faults wire.old) (W.moment wire.old))
         (wire_tells (W.told wire.new) (W.faults wire.new) (W.moment wire.new)) (stop_of result) }
     ensures failed { IfErr result (λ stop. stop ≡ Stop.WireFault) }
@@ -362,7 +363,8 @@ fn give_before<W: Wire>(
     requires within { IsWithin joiner.old }
     requires size { length datagram.now ≤ DATAGRAM_BYTES }
     requires single { is_jumbo datagram.now ≡ false }
-    ensures passes { Passes (held joiner.old ++ (to, datagram.now) ∷ []) joiner.old joiner.new
+    requires apart { takes joiner.old to datagram.now ≡ false }
+    ensures passes { Passes (to, datagram.now) joiner.old joiner.new
         (wire_tells (W.told wire.old) (W.faults wire.old) (W.moment wire.old))
         (wire_tells (W.told wire.new) (W.faults wire.new) (W.moment wire.new)) (stop_of result) }
     ensures failed { IfErr result (λ stop. stop ≡ Stop.WireFault) }

@@ -1,4 +1,4 @@
-use Rattle.std.proofs.Common.{◌∙◌, refl}
+use Rattle.std.proofs.Common.{◌∙◌}
 use Rattle.rx_passes.proofs.Giving.{keeps_behind, passes_behind, passes_failed, takes_first}
 use Rattle.rx_passes.proofs.Running.{stopped}
 use Rattle.rx_passes.proofs.ports.give_before.Goals as goal
@@ -15,12 +15,13 @@ returns-in_err-give_held-clause-kept g c = c.in_err-give_held.ensures.kept
 pub returns-clause-passes : goal.returns-clause-passes
 returns-clause-passes g c =
     passes_behind c.args.joiner.now c.give_held.new.joiner c.push.new.self c.args.to c.args.datagram.now _ _
-    c.in_ok-give_held.ensures.empties (c.push.ensures.taken (c.push.ensures.takes ∙ takes_first c.give_held.new.joiner
-    c.args.to c.args.datagram.now (c.in_ok-give_held.ensures.empties.empty refl)))
+    c.requires.apart c.in_ok-give_held.ensures.empties c.in_ok-give_held.ensures.kept
+    (c.push.ensures.taken (c.push.ensures.takes ∙ takes_first c.give_held.new.joiner c.args.to c.args.datagram.now
+    c.in_ok-give_held.ensures.empties.rest.1))
 
 pub returns-clause-kept : goal.returns-clause-kept
 returns-clause-kept g c =
     keeps_behind c.args.joiner.now c.give_held.new.joiner c.push.new.self c.args.to c.args.datagram.now
-    c.in_ok-give_held.ensures.kept (c.in_ok-give_held.ensures.empties.empty refl)
+    c.in_ok-give_held.ensures.kept c.in_ok-give_held.ensures.empties.rest.1
     (c.push.ensures.taken (c.push.ensures.takes ∙ takes_first c.give_held.new.joiner c.args.to c.args.datagram.now
-    (c.in_ok-give_held.ensures.empties.empty refl)))
+    c.in_ok-give_held.ensures.empties.rest.1))
