@@ -1,6 +1,7 @@
 -- Polls of a node, whose datagrams are passed on.
 use Rattle.std.proofs.Common.{◌≡◌, ◌≢◌, ◌⊎◌, ◌∙◌, ◌≤◌, ◌+◌, ◌-◌, ◌^◌, ℕ, Bool, true, false, List, [], ◌∷◌, ◌++◌, append_assoc}
-use Rattle.std.proofs.Common.{Option, Some, None, Result, Ok, Err, refl, sym, ap, subst, inl, inr, drop, length, take}
+use Rattle.std.proofs.Common.{Option, Some, None, Result, Ok, Err, refl, sym, ap, subst, arith, inl, inr, drop, length}
+use Rattle.std.proofs.Common.{take}
 use Rattle.std.proofs.lemmas.List.{append-nil, length-append, length-map, map-append}
 use Rattle.std.proofs.Math.Seq.{take-append_seam}
 use Rattle.rx_jumbo.specs.JoinerState.{JoinerState}
@@ -24,8 +25,8 @@ use Rattle.rx_passes.specs.declared.stop.Stop.{Stop}
 use Rattle.rx_passes.specs.declared.stop.Stop.TheVariants as stops
 use Rattle.rx_passes.specs.Nodes.{Answers}
 use Rattle.rx_passes.specs.Parts.{Came, Cut, Part, Place, To, behind, moment_after}
-use Rattle.rx_passes.specs.Ports.{AreUnjoinable, AreOfFew, CutsOne, CutsPolls, Empties, EndsAPoll, Gave, NotesOne}
-use Rattle.rx_passes.specs.Ports.{Passes, PassesOn, PollsCut, PollsOne, PollsOut, PortsState, as_one, gave_all}
+use Rattle.rx_passes.specs.Ports.{AreUnjoinable, AreOfFew, CutsOne, CutsPolls, Empties, EndsAPoll, Gave, IsWithin}
+use Rattle.rx_passes.specs.Ports.{NotesOne, Passes, PassesOn, PollsCut, PollsOne, PollsOut, PortsState, as_one, gave_all}
 use Rattle.rx_passes.specs.Ports.{held, parts_all, polled_all, polls, polls_once, split}
 use Rattle.rx_passes.specs.Runs.{Fits, IsAt, IsBehind, Plays, Ran, change, stop_of}
 use Rattle.rx_passes.specs.Tells.{SinkTells, Told, WireTells, told}
@@ -165,6 +166,21 @@ module _ (n : ℕ) (s : Setup) (s0 s1 : List Event → Type 0) (book after : Opt
 
 -- ---- polls so far
 
+-- those held back are as many as their bytes
+held_count : (j : JoinerState) → length (held j) ≡ length j.datagrams
+held_count j = length-map j.datagrams (λ b. (j.host, b))
+
+-- what is missing is at most what is held back, and one more
+late_held : (most : ℕ) (j : JoinerState) → length j.datagrams ≤ most → length (held j) ≤ most + 1
+late_held most j few = (let count = held_count j in omega (arith, count, few))
+
+late_more : (most : ℕ) (j : JoinerState) (d : Host × List ℕ) → length j.datagrams ≤ most
+    → length (held j ++ d ∷ []) ≤ most + 1
+late_more most j d few =
+    (let count = held_count j in
+    let more : length (held j ++ d ∷ []) ≡ length (held j) + 1 = length-append (held j) (d ∷ []) in
+    omega (arith, count, more, few))
+
 -- so many datagrams were polled, and given but for those that are held back
 pub record PollsSo (most : ℕ) (j : JoinerState) (count : ℕ) (es : List Event) (ls : List Logged) : Type 0 where
   pub polled : List (Host × List ℕ)
@@ -176,6 +192,7 @@ pub record PollsSo (most : ℕ) (j : JoinerState) (count : ℕ) (es : List Event
   pub few : AreOfFew most given
   pub greedy : AreUnjoinable most (map split given ++ as_one j.host j.datagrams)
   pub first : j.datagrams ≡ [] → given ≡ []
+  pub within : length j.datagrams ≤ most
 
 abbrev pub polls_so : ℕ → JoinerState → ℕ → Part (Unit {0})
 polls_so most j count p es ls (To done) = PollsSo most j count es ls
@@ -187,6 +204,10 @@ Anyhow u = Unit {0}
 few_both : (most : ℕ) (xs ys : List (Host × List ℕ)) → AreOfFew most xs → AreOfFew most ys → AreOfFew most (xs ++ ys)
 few_both most [] ys first second = second
 few_both most (x ∷ xs) ys first second = (first.0, few_both most xs ys first.1 second)
+
+none_within : (j : JoinerState) → j.datagrams ≡ [] → length j.datagrams ≤ j.most
+none_within j none =
+    (let count : length j.datagrams ≡ 0 = ap (λ (ds : List (List ℕ)). length ds) none in omega (arith, count))
 
 -- none yet
 pub polls_none : (n : ℕ) (s : Setup) (stands : List Event → Type 0) (t : Told) (j : JoinerState) → j.datagrams ≡ []
@@ -206,6 +227,7 @@ polls_none n s stands t j none p at =
         few = tt;
         greedy = rw none tt;
         first = λ empty. refl;
+        within = none_within j none;
       };
       standing = at.standing;
       fits = (tt, Rattle.rx_passes.proofs.Telling.gains_none n t, at);
@@ -225,9 +247,9 @@ polled_more es fs ds d first last =
 
 module _ (most : ℕ) (j k : JoinerState) (count : ℕ) (es fs : List Event) (ls ms : List Logged) where
   -- one more, which gave a datagram
-  so_more : PollsSo most j count es ls → j.most ≡ most → PollsOne j k fs ms
+  so_more : PollsSo most j count es ls → j.most ≡ most → length k.datagrams ≤ most → PollsOne j k fs ms
       → PollsSo most k (count + 1) (es ++ fs) (ls ++ ms)
-  so_more x is y =
+  so_more x is within y =
       record {
         polled = x.polled ++ y.datagram ∷ [];
         counted = length-append x.polled (y.datagram ∷ []) ∙ ap (λ (m : ℕ). m + 1) x.counted;
@@ -244,6 +266,7 @@ module _ (most : ℕ) (j k : JoinerState) (count : ℕ) (es fs : List Event) (ls
         few = few_both most x.given y.given x.few (subst (λ (m : ℕ). AreOfFew m y.given) is y.few);
         greedy = unjoinable_offered most j k y.datagram x.given y.given is y.rest x.first x.greedy;
         first = λ empty. absurd (some_offered j k y.datagram y.given y.rest empty);
+        within = within;
       }
 
   -- one that was cut off
@@ -259,6 +282,7 @@ module _ (most : ℕ) (j k : JoinerState) (count : ℕ) (es fs : List Event) (ls
         joined =
             sym (append_assoc (parts_all x.given) (held j) (d ∷ []))
             ∙ ap (λ (zs : List (Host × List ℕ)). zs ++ d ∷ []) x.joined;
+        late = late_more most j d x.within;
         few = x.few;
         greedy = unjoinable_front most (map split x.given) (as_one j.host j.datagrams) x.greedy;
         reason = cuts_of why (held j ++ d ∷ []) (es ++ fs) reason (some_last (held j) d);
@@ -275,6 +299,7 @@ module _ (most : ℕ) (j k : JoinerState) (count : ℕ) (es fs : List Event) (ls
         events = inr (rw x.events (rw last refl));
         log = rw none (append-nil ls ∙ x.log);
         joined = x.joined;
+        late = late_held most j x.within;
         few = x.few;
         greedy = unjoinable_front most (map split x.given) (as_one j.host j.datagrams) x.greedy;
         reason = subst (λ (i : Stop). CutsPolls i (held j) (es ++ fs)) (sym refused) tt;
@@ -285,13 +310,13 @@ module _ (most : ℕ) (j k : JoinerState) (count : ℕ) (es fs : List Event) (ls
 module _ (n : ℕ) (s : Setup) (s0 s1 s2 : List Event → Type 0) (a b c : Told) (most : ℕ) (j k : JoinerState)
     (count : ℕ) (is : j.most ≡ most) where
   -- a poll gave a datagram
-  pub polls_more : Plays (change n s s0 s1 a b) (polls_so most j count) Anyhow None
+  pub polls_more : length k.datagrams ≤ most → Plays (change n s s0 s1 a b) (polls_so most j count) Anyhow None
       → Plays (change n s s1 s2 b c) (polls_once j k) (λ r. r ≡ true) None
       → Plays (change n s s0 s2 a c) (polls_so most k (count + 1)) Anyhow None
-  polls_more first second =
+  polls_more within first second =
       plays_join n s s0 s1 s2 a b c (polls_so most j count) (λ u. polls_once j k) (polls_so most k (count + 1)) (λ r. tt)
       Anyhow (λ r. r ≡ true) Anyhow None
-      (λ p es fs ls ms u r i holds made one. so_more most j k count es fs ls ms made is
+      (λ p es fs ls ms u r i holds made one. so_more most j k count es fs ls ms made is within
       (subst (λ (r' : Bool). polls_once j k (behind es ls p) fs ms (To r')) holds one))
       (λ p es fs ls ms u why i made one. tt) (λ r holds. tt) first (λ u i. second)
 
@@ -324,6 +349,7 @@ pub record PollsLast (most : ℕ) (j : JoinerState) (es : List Event) (ls : List
   pub joined : parts_all given ++ held j ≡ polled
   pub few : AreOfFew most given
   pub greedy : AreUnjoinable most (map split given ++ as_one j.host j.datagrams)
+  pub within : length j.datagrams ≤ most
 
 abbrev pub polls_last : ℕ → JoinerState → Part (Unit {0})
 polls_last most j p es ls (To done) = PollsLast most j es ls
@@ -423,6 +449,7 @@ module _ (n : ℕ) (s : Setup) (s0 s1 s2 : List Event → Type 0) (a b c : Told)
             few = x.few;
             greedy = subst (λ (i : JoinerState). AreUnjoinable most (map split x.given ++ as_one i.host i.datagrams))
                 (sym none.2) x.greedy;
+            within = subst (λ (i : JoinerState). length i.datagrams ≤ most) (sym none.2) x.within;
           }
 
   -- what is held back was given, or the wire failed
@@ -459,6 +486,7 @@ module _ (n : ℕ) (s : Setup) (s0 s1 s2 : List Event → Type 0) (a b c : Told)
             events = inr (rw no_events (append-nil es ∙ x.events));
             log = rw none (append-nil ls ∙ x.log);
             joined = x.joined;
+            late = late_held most j x.within;
             few = x.few;
             greedy = unjoinable_front most (map split x.given) (as_one j.host j.datagrams) x.greedy;
             reason = cuts_of why (held j) (es ++ fs) (inr failed) some;
@@ -486,6 +514,7 @@ module _ (n : ℕ) (s : Setup) (s0 s1 s2 : List Event → Type 0) (a b c : Told)
         events = inl whole;
         log = rw x.log (rw y.log (sym (gave_all_both x.given y.given)));
         joined = append-nil (parts_all (x.given ++ y.given)) ∙ joined_last j x.given y.given x.polled y.whole x.joined;
+        late = omega (arith);
         few = few_both most x.given y.given x.few (subst (λ (m : ℕ). AreOfFew m y.given) is y.few);
         greedy = unjoinable_last most j x.given y.given y.whole x.greedy;
         reason = (refl, subst (λ (k : ℕ). 2 ^ 64 - 1 ≤ k) (sym long) many);
@@ -501,6 +530,7 @@ module _ (n : ℕ) (s : Setup) (s0 s1 s2 : List Event → Type 0) (a b c : Told)
         events = inl (rw no_events (append-nil es ∙ x.events));
         log = rw none (append-nil ls ∙ x.log);
         joined = x.joined;
+        late = late_held most j x.within;
         few = x.few;
         greedy = unjoinable_front most (map split x.given) (as_one j.host j.datagrams) x.greedy;
         reason = cuts_of why (held j) (es ++ fs) (inr failed) some;
@@ -625,11 +655,12 @@ none_in v n j is s s0 s1 book after sink wire result answers notes holds =
 
 module _ (n m : ℕ) (s t : Setup) (s0 s1 s2 : List Event → Type 0) (a b c : Told) (most : ℕ) (j k : JoinerState)
     (count : ℕ) (number : m ≡ n) (setup : t ≡ s) (is : j.most ≡ most) where
-  pub polls_step : (again : Bool) → again ≡ true → Plays (change n s s0 s1 a b) (polls_so most j count) Anyhow None
+  pub polls_step : (again : Bool) → again ≡ true → IsWithin k → k.most ≡ most
+      → Plays (change n s s0 s1 a b) (polls_so most j count) Anyhow None
       → Plays (change m t s1 s2 b c) (polls_once j k) (λ r. r ≡ again) None
       → Plays (change n s s0 s2 a c) (polls_so most k (count + 1)) Anyhow None
-  polls_step again on first second =
-      polls_more n s s0 s1 s2 a b c most j k count is first
+  polls_step again on within same first second =
+      polls_more n s s0 s1 s2 a b c most j k count is (subst (λ (m : ℕ). length k.datagrams ≤ m) same within.few) first
       (plays_at n m s t s1 s2 b c (polls_once j k) (λ r. r ≡ true) None number setup
       (subst (λ (x : Bool). Plays (change m t s1 s2 b c) (polls_once j k) (λ r. r ≡ x) None) on second))
 

@@ -99,7 +99,8 @@ CutsPolls stops.OutOfMemory missing es = ⊥
 CutsPolls stops.Unformatted missing es = ⊥
 CutsPolls stops.SinkFault missing es = ⊥
 
--- polls in which passes ended: what they gave was given on the wire, joined, but for a suffix that is missing
+-- polls in which passes ended: what they gave was given on the wire, joined, but for a suffix that is missing, of one
+-- more at most than are given as one
 pub record PollsCut (most : ℕ) (stop : Stop) (es : List Event) (ls : List Logged) : Type 0 where
   pub polled : List (Host × List ℕ)
   pub given : List (Host × List ℕ)
@@ -107,6 +108,7 @@ pub record PollsCut (most : ℕ) (stop : Stop) (es : List Event) (ls : List Logg
   pub events : (es ≡ polled_all polled) ⊎ (es ≡ polled_all polled ++ events.Polled None ∷ [])
   pub log : ls ≡ gave_all given
   pub joined : parts_all given ++ missing ≡ polled
+  pub late : length missing ≤ most + 1
   pub few : AreOfFew most given
   pub greedy : AreUnjoinable most (map split given)
   pub reason : CutsPolls stop missing es

@@ -141,6 +141,7 @@ impl Ports {
             (told (J.told book.new) sink (wire_tells (W.told wire.new) (W.faults wire.new) (W.moment wire.new))))
             (polls_once self.old.joiner self.new.joiner) (λ b. IfOk result (λ r. b ≡ r)) (stop_of result) }
         ensures unnoted { IfErr result (λ stop. stop ≡ Stop.Unnoted → J.may_want ≡ true) }
+        ensures within { IsWithin self.new.joiner }
         ensures most { self.new.joiner.most ≡ self.old.joiner.most }
         ensures node { self.new.node ≡ self.old.node }
         ensures setup { N.setup node.new ≡ N.setup node.old }

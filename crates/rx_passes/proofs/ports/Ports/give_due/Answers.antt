@@ -44,7 +44,7 @@ polls-preserved g c =
       plays = λ sink. polls_step c.args.self.now.node c.polls.self.node _
           _ _ _ _ _ _ _ c.args.self.now.joiner.most c.polls.self.joiner c.poll_once.new.self.joiner c.polls.given
           c.polls.invariant.number c.polls.invariant.setup c.polls.invariant.most c.in_ok-poll_once.field-0 on
-          (c.polls.invariant.plays sink) (c.in_ok-poll_once.ensures.plays sink);
+          c.poll_once.ensures.within (c.poll_once.ensures.most ∙ c.polls.invariant.most) (c.polls.invariant.plays sink) (c.in_ok-poll_once.ensures.plays sink);
       most = c.poll_once.ensures.most ∙ c.polls.invariant.most;
       number = c.poll_once.ensures.node ∙ c.polls.invariant.number;
       setup = c.poll_once.ensures.setup ∙ c.polls.invariant.setup;
