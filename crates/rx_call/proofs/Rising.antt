@@ -66,28 +66,28 @@ used_less : (r : Received) (a n : ℕ) → used_of r ≡ n → a < n → count_a
 used_less r a zero is lt = absurd (omega (arith, lt))
 used_less r a (suc n) is lt = count_less r.kept a (suc n) lt (used_kept r n (omega (arith, is)))
 
-pub owed_raised : (now : ℕ) (several end_ : Bool) (bytes : List ℕ) (r : Received) (o : Option Owed) →
+pub owed_raised : (now : ℕ) (prompt end_ : Bool) (bytes : List ℕ) (r : Received) (o : Option Owed) →
     count_above (used_of (after_read end_ bytes r)) r.kept < count_above (used_of r) r.kept →
-    owed_for_read now several (used_of r) (used_of (after_read end_ bytes r)) o ≡ owed_for_done now several o
-owed_raised now several end_ bytes r o fewer =
+    owed_for_read now prompt (used_of r) (used_of (after_read end_ bytes r)) o ≡ owed_for_done now prompt o
+owed_raised now prompt end_ bytes r o fewer =
     let after = used_of (after_read end_ bytes r) in
     elim (cases_lt (used_of r) after)
-    as (λ _. owed_for_read now several (used_of r) after o ≡ owed_for_done now several o) [
+    as (λ _. owed_for_read now prompt (used_of r) after o ≡ owed_for_done now prompt o) [
       | inl lt ↦ (
           let test : nat_lt (used_of r) after ≡ true = grind (arith, nat_tests, lt) in
-          ap (λ b. cond b (owed_for_done now several o) o) test)
+          ap (λ b. cond b (owed_for_done now prompt o) o) test)
       | inr ge ↦ absurd (let more = count_fewer r.kept after (used_of r) ge in omega (arith, more, fewer))
     ]
 
-pub owed_same : (now : ℕ) (several end_ : Bool) (bytes : List ℕ) (r : Received) (o : Option Owed) →
+pub owed_same : (now : ℕ) (prompt end_ : Bool) (bytes : List ℕ) (r : Received) (o : Option Owed) →
     count_above (used_of r) r.kept ≤ count_above (used_of (after_read end_ bytes r)) r.kept →
-    owed_for_read now several (used_of r) (used_of (after_read end_ bytes r)) o ≡ o
-owed_same now several end_ bytes r o most =
+    owed_for_read now prompt (used_of r) (used_of (after_read end_ bytes r)) o ≡ o
+owed_same now prompt end_ bytes r o most =
     let after = used_of (after_read end_ bytes r) in
-    elim (cases_lt (used_of r) after) as (λ _. owed_for_read now several (used_of r) after o ≡ o) [
+    elim (cases_lt (used_of r) after) as (λ _. owed_for_read now prompt (used_of r) after o ≡ o) [
       | inl lt ↦ absurd (
           let less = used_less (after_read end_ bytes r) (used_of r) after refl lt in omega (arith, less, most))
       | inr ge ↦ (
           let test : nat_lt (used_of r) after ≡ false = grind (arith, nat_tests, ge) in
-          ap (λ b. cond b (owed_for_done now several o) o) test)
+          ap (λ b. cond b (owed_for_done now prompt o) o) test)
     ]

@@ -2,9 +2,9 @@ ghost use Rattle.std.specs.Prelude.{◌≡◌, ◌+◌, ◌<◌, ◌^◌, ◌==�
 ghost use Rattle.rx_model.specs.Body.{Body};
 ghost use Rattle.rx_model.specs.Message.{has_flag};
 ghost use Rattle.rx_packet.specs.Seen.{message_with_head};
-ghost use Rattle.rx_rules.specs.Owing.{at_once, delayed, owed_for, owed_for_kept, owed_for_ack};
-ghost use Rattle.rx_rules.specs.Owing.{owed_for_done};
-ghost use Rattle.rx_call.specs.Standing.{owed_of};
+ghost use Rattle.rx_rules.specs.Owing.{at_once, behind_read, delayed, owed_for, owed_for_kept, owed_for_ack};
+ghost use Rattle.rx_rules.specs.Owing.{hastened, owed_for_done};
+ghost use Rattle.rx_call.specs.Standing.{owed_ack, owed_of};
 
 use rx_model::Took;
 use rx_model::wire::{
@@ -54,47 +54,60 @@ pub fn owe_later(now: u64, serial: u32, owed: Option<OwedAck>) -> Option<OwedAck
     }
 }
 
-/// What is owed behind a packet that was kept, where all up to `front` stood without a gap before it. One that `fills` a
-/// hole is acknowledged at once.
+/// So does one that is told behind the read of what came: a prompt node gives that a millisecond, any other none.
+fn owe_behind_read(now: u64, prompt: bool, reason: u8, serial: u32) -> Option<OwedAck>
+    requires { now < 2 ^ 62 }
+    ensures { owed_of result ≡ behind_read now prompt reason serial }
+{
+    Some(OwedAck {
+        reason,
+        serial,
+        rank: if prompt { now + 1 } else { 0 },
+    })
+}
+
+/// What is owed behind a packet that was kept, where all up to `front` stood without a gap before it, and one above the
+/// next where there was a `hole`.
 fn owe_for_kept(
     now: u64,
-    fills: bool,
+    prompt: bool,
+    hole: bool,
     head: &Head,
     front: u32,
     owed: Option<OwedAck>,
 ) -> Option<OwedAck>
     requires { now < 2 ^ 62 }
-    ensures { (body : Body) → owed_of result ≡ owed_for_kept now fills (message_with_head head.now body) front
+    ensures { (body : Body) → owed_of result ≡ owed_for_kept now prompt hole (message_with_head head.now body) front
         (owed_of owed) }
 {
     if head.seq as u64 != front as u64 + 1 {
         return owe_now(ACK_OUT_OF_SEQUENCE, head.serial);
     }
     if has_flag(head.flags, REQUEST_ACK) {
-        return owe_now(ACK_REQUESTED, head.serial);
+        return owe_behind_read(now, prompt, ACK_REQUESTED, head.serial);
     }
-    if fills {
-        return owe_now(ACK_DELAY, head.serial);
+    if prompt && hole {
+        return owe_behind_read(now, prompt, ACK_DELAY, head.serial);
     }
     owe_later(now, head.serial, owed)
 }
 
-/// What is owed behind a data packet with this answer, where the packet behind the front `fills` a hole of a prompt node
-/// or doesn't.
+/// What is owed behind a data packet with this answer.
 pub fn owe_for(
     took: Took,
     now: u64,
-    fills: bool,
+    prompt: bool,
+    hole: bool,
     head: &Head,
     front: u32,
     owed: Option<OwedAck>,
 ) -> Option<OwedAck>
     requires { now < 2 ^ 62 }
-    ensures { (body : Body) → owed_of result ≡ owed_for took now fills (message_with_head head.now body) front
+    ensures { (body : Body) → owed_of result ≡ owed_for took now prompt hole (message_with_head head.now body) front
         (owed_of owed) }
 {
     match took {
-        Took::Kept => owe_for_kept(now, fills, head, front, owed),
+        Took::Kept => owe_for_kept(now, prompt, hole, head, front, owed),
         Took::Repeat => owe_now(ACK_DUPLICATE, head.serial),
         Took::Beyond => owe_now(ACK_EXCEEDS_WINDOW, head.serial),
         Took::NoSlot => owe_now(ACK_NOSPACE, head.serial),
@@ -113,16 +126,31 @@ pub fn owe_for(
     }
 }
 
-/// What is owed behind a read behind which more packets are done with, where `several` stood kept at a prompt node or
-/// didn't.
-pub fn owe_for_done(now: u64, several: bool, owed: Option<OwedAck>) -> Option<OwedAck>
+/// What was left until the read is due at once.
+fn hasten(now: u64, owed: OwedAck) -> OwedAck
     requires { now < 2 ^ 62 }
-    ensures { owed_of result ≡ owed_for_done now several (owed_of owed) }
+    ensures { owed_ack result ≡ hastened now (owed_ack owed) }
 {
-    if several {
-        return owe_now(ACK_DELAY, 0);
+    OwedAck {
+        reason: owed.reason,
+        serial: owed.serial,
+        rank: if owed.rank <= now + 1 { 0 } else { owed.rank },
     }
-    owe_later(now, 0, owed)
+}
+
+/// What is owed behind a read behind which more packets are done with.
+pub fn owe_for_done(now: u64, prompt: bool, owed: Option<OwedAck>) -> Option<OwedAck>
+    requires { now < 2 ^ 62 }
+    ensures { owed_of result ≡ owed_for_done now prompt (owed_of owed) }
+{
+    let later = owe_later(now, 0, owed);
+    if prompt {
+        return match later {
+            Some(owed) => Some(hasten(now, owed)),
+            None => None,
+        };
+    }
+    later
 }
 
 /// What is owed behind an ACK with this reason: a ping is answered.

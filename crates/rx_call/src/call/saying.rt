@@ -1,6 +1,6 @@
-ghost use Rattle.std.specs.Prelude.{◌≡◌, ◌≤◌, ◌<◌, ◌+◌, ◌-◌, ◌^◌, ◌&&◌, min, length, take, drop, true, false};
+ghost use Rattle.std.specs.Prelude.{◌≡◌, ◌≤◌, ◌<◌, ◌+◌, ◌-◌, ◌^◌, min, length, take, drop, true, false};
 ghost use Rattle.rx_rules.specs.CallLooks.{CallLooks, lead, after_write, after_shut, after_read};
-ghost use Rattle.rx_rules.specs.Received.{has_several, read_of};
+ghost use Rattle.rx_rules.specs.Received.{read_of};
 ghost use Rattle.rx_rules.specs.Sent.{room_of};
 ghost use Rattle.rx_pool.specs.Pool.{Slots};
 ghost use Rattle.rx_pool.specs.Held.{Holds, Keeps};
@@ -48,14 +48,6 @@ impl Call {
         self.sent.shut(pool);
     }
 
-    /// Whether several packets stand kept at a prompt node.
-    fn tells_several(&self) -> bool
-        ensures { (pool : Slots) (k : CallLooks) → StandsCall pool self.now k →
-            result ≡ (k.cwnd.prompt && has_several k.received) }
-    {
-        self.cwnd.recovers() && self.received.held() > 1
-    }
-
     /// Gives the next bytes of the other side's stream, as many as fit. Where none is unread it answers the end, or
     /// nothing yet where the last packet isn't among those that stand without a gap. What lies in `to` behind the bytes
     /// given stays.
@@ -73,10 +65,9 @@ impl Call {
         ensures unshut { self.new.sent.shut ≡ self.old.sent.shut }
     {
         let before = self.received.held();
-        let several = self.tells_several();
         let answer = self.received.read(pool, to);
         if self.received.held() < before {
-            self.owed = owe_for_done(now, several, self.owed);
+            self.owed = owe_for_done(now, self.cwnd.recovers(), self.owed);
         }
         answer
     }

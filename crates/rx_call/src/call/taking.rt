@@ -6,7 +6,7 @@ ghost use Rattle.rx_packet.specs.Seen.{message_of, message_with_head, body_of, a
 ghost use Rattle.rx_rules.specs.CallLooks.{CallLooks, call_row, after_taken, after_newly, after_data, found, freed};
 ghost use Rattle.rx_rules.specs.CallLooks.{held};
 ghost use Rattle.rx_rules.specs.CallLooks.{lead, after_ack, packet_of};
-ghost use Rattle.rx_rules.specs.Received.{is_no_seq, has_hole};
+ghost use Rattle.rx_rules.specs.Received.{is_no_seq};
 ghost use Rattle.rx_rules.specs.Sent.{is_all_given, is_strange_ack, after_all};
 ghost use Rattle.rx_pool.specs.Pool.{Slots};
 ghost use Rattle.rx_pool.specs.Held.{Holds, Keeps};
@@ -107,14 +107,6 @@ impl Call {
         self.keep(pool, left, now, head, payload)
     }
 
-    /// Whether the packet behind the front would fill a hole of a prompt node.
-    fn fills(&self) -> bool
-        ensures { (pool : Slots) (k : CallLooks) → StandsCall pool self.now k →
-            result ≡ (k.cwnd.prompt && has_hole k.received) }
-    {
-        self.cwnd.recovers() && self.received.has_hole()
-    }
-
     /// It is judged, and what it causes is owed.
     fn keep(&mut self, pool: &mut Pool, left: u32, now: u64, head: &Head, payload: &[u8]) -> Took
         requires size { length payload.now ≤ PAYLOAD_BYTES }
@@ -133,12 +125,20 @@ impl Call {
     {
         let front = self.received.front();
         let last = has_flag(head.flags, LAST_PACKET);
-        let fills = self.fills();
+        let hole = self.received.has_hole();
         let leadless = !self.lead();
         let took = self
             .received
             .keep(pool, head.seq, payload, last, leadless, left);
-        self.owed = owe_for(took, now, fills, head, front, self.owed);
+        self.owed = owe_for(
+            took,
+            now,
+            self.cwnd.recovers(),
+            hole,
+            head,
+            front,
+            self.owed,
+        );
         self.heard = now;
         took
     }

@@ -6,7 +6,7 @@ use crate::tests::packets::reason_at;
 use crate::tests::pieces::{left, piece, say};
 use crate::{Call, Side};
 use arrayvec::ArrayVec;
-use rx_model::Took;
+use rx_model::{CallRead, Took};
 use rx_packet::{AckBody, Body};
 use rx_pool::Pool;
 use std::process::Abort;
@@ -37,23 +37,24 @@ fn hear(call: &mut Call, pool: &mut Pool, now: u32, first: u32, marks: [bool; 4]
 }
 
 #[test]
-fn a_prompt_end_acknowledges_at_once_what_fills_a_hole(rt: HostRuntime) -> Result<(), Fail> {
+fn a_prompt_end_leaves_what_fills_a_hole_a_millisecond(rt: HostRuntime) -> Result<(), Fail> {
     for (prompt, filled) in [(true, Some(8)), (false, None)] {
         let mut pool = Pool::make(rt.alloc(), 9)?;
         let mut call = Call::make(rt.alloc(), of_prompt(prompt))?;
         call.start(Side::Server, 0);
-        for (seq, reason) in [
-            (2, Some(3)),
-            (4, Some(3)),
-            (1, filled),
-            (3, filled),
-            (5, None),
+        for (seq, first, second) in [
+            (2, Some(3), None),
+            (4, Some(3), None),
+            (1, None, filled),
+            (3, None, filled),
+            (5, None, None),
         ] {
             assert_eq!(rt;
                 take(&mut call, &mut pool, 5, &head(seq, 9, 1), b"x"),
                 Took::Kept
             );
-            assert_eq!(rt; reason_at(&mut call, 5), reason);
+            assert_eq!(rt; reason_at(&mut call, 5), first);
+            assert_eq!(rt; reason_at(&mut call, 6), second);
         }
         assert_eq!(rt; call.due(), Some(105));
     }
@@ -61,9 +62,35 @@ fn a_prompt_end_acknowledges_at_once_what_fills_a_hole(rt: HostRuntime) -> Resul
 }
 
 #[test]
+fn a_prompt_end_tells_what_was_asked_behind_the_read(rt: HostRuntime) -> Result<(), Fail> {
+    for (prompt, before, behind, later) in [
+        (true, None, Some(1), 110),
+        (false, Some(1), None, 105),
+    ] {
+        let mut pool = Pool::make(rt.alloc(), 9)?;
+        let mut call = Call::make(rt.alloc(), of_prompt(prompt))?;
+        call.start(Side::Server, 0);
+        assert_eq!(rt;
+            take(&mut call, &mut pool, 5, &head(1, 9, 3), b"x"),
+            Took::Kept
+        );
+        assert_eq!(rt; reason_at(&mut call, 5), before);
+        assert_eq!(rt; call.read(&mut pool, 5, &mut [0]), CallRead::Got(1));
+        assert_eq!(rt; reason_at(&mut call, 5), behind);
+        assert_eq!(rt;
+            take(&mut call, &mut pool, 10, &head(2, 9, 1), b"x"),
+            Took::Kept
+        );
+        assert_eq!(rt; call.read(&mut pool, 10, &mut [0]), CallRead::Got(1));
+        assert_eq!(rt; call.due(), Some(later));
+    }
+    Ok(())
+}
+
+#[test]
 fn an_overtaken_piece_goes_again_at_once_and_asks(rt: HostRuntime) -> Result<(), Fail> {
     let fresh = [piece(7, false, false), piece(8, true, true), None];
-    for (prompt, first, due) in [(true, piece(3, true, false), 150), (false, None, 360)] {
+    for (prompt, first, due) in [(true, piece(3, true, false), 80), (false, None, 360)] {
         let mut pool = Pool::make(rt.alloc(), 9)?;
         let mut call = Call::make(rt.alloc(), of_prompt(prompt))?;
         call.start(Side::Server, 0);
@@ -96,7 +123,10 @@ fn an_overtaken_piece_goes_again_at_once_and_asks(rt: HostRuntime) -> Result<(),
 
 #[test]
 fn a_late_piece_goes_again_as_the_window_lets_it(rt: HostRuntime) -> Result<(), Fail> {
-    for (prompt, late, due) in [(true, piece(2, true, false), 3010), (false, None, 2000)] {
+    for (prompt, up, late, due) in [
+        (true, 1100, piece(2, true, false), 3110),
+        (false, 1000, None, 2000),
+    ] {
         let mut pool = Pool::make(rt.alloc(), 9)?;
         let mut call = Call::make(rt.alloc(), of_prompt(prompt))?;
         call.start(Side::Server, 0);
@@ -104,17 +134,17 @@ fn a_late_piece_goes_again_as_the_window_lets_it(rt: HostRuntime) -> Result<(), 
         for (now, giving) in [
             (0, piece(1, false, false)),
             (0, piece(2, true, false)),
-            (999, None),
-            (1000, piece(1, true, false)),
-            (1000, None),
+            (up - 1, None),
+            (up, piece(1, true, false)),
+            (up, None),
         ] {
             assert_eq!(rt; poll(&mut call, now), giving);
         }
         assert_eq!(rt;
-            hear(&mut call, &mut pool, 1010, 2, [false; 4]),
+            hear(&mut call, &mut pool, up + 10, 2, [false; 4]),
             Took::Heard
         );
-        assert_eq!(rt; poll(&mut call, 1010), late);
+        assert_eq!(rt; poll(&mut call, up + 10), late);
         assert_eq!(rt; call.due(), Some(due));
     }
     Ok(())

@@ -32,13 +32,13 @@ returns-clause-stands c =
     let holds = (rw (← c.self.view_is) at c.requires.holds) in
     let pool = c.keep-took.new.pool in
     let m = message_with_head c.args.head.now (bodies.Chunk c.args.payload.now) in
-    let filled = (rw (← c.self.view_is) at c.fills-fills.ensures) in
     rw (← c.self.view_is) (λ k st.
-    let fills = filled c.args.pool.now k st in
+    let prompt = c.recovers.ensures ∙ (λ i. (st.cwnd i).prompt) in
+    let hole = c.has_hole-hole.ensures.answered c.args.pool.now k.received st.received in
     let front = c.front-front.ensures.answered c.args.pool.now k.received st.received in
     let owed = (
     c.owe_for-self-inside.ensures (bodies.Chunk c.args.payload.now)
-    ∙ (λ i. owed_for c.keep-took.result c.args.now (fills i) m (front i) (st.owed i))) in
+    ∙ (λ i. owed_for c.keep-took.result c.args.now (prompt i) (hole i) m (front i) (st.owed i))) in
     let kept = (
     subst (λ (b : Bool). StandsReceived pool c.keep-took.new.self
     (after_packet c.keep-took.result (as_packet c.args.head.now.seq c.args.payload.now b) k.received))

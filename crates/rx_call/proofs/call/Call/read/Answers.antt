@@ -1,6 +1,6 @@
-use Rattle.std.proofs.Common.{◌∙◌, ◌&&◌, sym, take, arith}
+use Rattle.std.proofs.Common.{◌∙◌, sym, take, arith}
 use Rattle.rx_rules.specs.Owing.{owed_for_done}
-use Rattle.rx_rules.specs.Received.{after_read, has_several}
+use Rattle.rx_rules.specs.Received.{after_read}
 use Rattle.rx_pool.proofs.Beside.{holds_left, keeps_left}
 use Rattle.rx_recvwin.specs.Window.{packet_slots, given_count, tells_end}
 use Rattle.rx_sendwin.specs.Window.{piece_slots}
@@ -19,16 +19,15 @@ returns-then-held-before-clause-stands c =
     let pool = c.read-answer.new.pool in
     let end_ = tells_end c.read-answer.result in
     let bytes = take (given_count c.read-answer.result) c.read-answer.new.to in
-    let told = (rw (← c.self.view_is) at c.tells_several-several.ensures) in
     rw (← c.self.view_is) (λ k st.
     let now = c.read-answer.ensures.stands k.received st.received in
     let before = c.held-before.ensures.answered c.args.pool.now k.received st.received in
     let after = c.held.ensures.answered pool (after_read end_ bytes k.received) now in
     let less = c.if-held-before.true in
-    let several = told c.args.pool.now k st in
+    let prompt = c.recovers.ensures ∙ (λ i. (st.cwnd i).prompt) in
     let owed = (
-    c.owe_for_done-self-inside.ensures ∙ (λ i. owed_for_done c.args.now (several i) (st.owed i))
-    ∙ sym (owed_raised c.args.now (k.cwnd.prompt && has_several k.received) end_ bytes k.received k.owed_ack
+    c.owe_for_done-self-inside.ensures ∙ (λ i. owed_for_done c.args.now (prompt i) (st.owed i))
+    ∙ sym (owed_raised c.args.now k.cwnd.prompt end_ bytes k.received k.owed_ack
     (omega (arith, before, after, less)))) in
     now_owes pool _ _ _ _ owed (received_changed c.args.pool.now pool _ c.read-answer.new.self k _ holds
     c.read-answer.ensures.keeps st now))
@@ -51,7 +50,7 @@ returns-else-held-before-clause-stands c =
     let after = c.held.ensures.answered pool (after_read end_ bytes k.received) now in
     let most = c.if-held-before.false in
     let owed = (
-    st.owed ∙ sym (owed_same c.args.now (k.cwnd.prompt && has_several k.received) end_ bytes k.received k.owed_ack
+    st.owed ∙ sym (owed_same c.args.now k.cwnd.prompt end_ bytes k.received k.owed_ack
     (omega (arith, before, after, most)))) in
     now_owes pool _ _ _ _ owed (received_changed c.args.pool.now pool _ c.read-answer.new.self k _ holds
     c.read-answer.ensures.keeps st now))
