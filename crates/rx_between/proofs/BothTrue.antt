@@ -1,6 +1,6 @@
 -- What each end of a call takes for acknowledged the other has, along any history of a connection whose server starts
 -- the call once.
-use Rattle.std.proofs.Common.{◌≡◌, ◌==◌, ◌≤◌, ℕ, cond, Bool, true, false, List, [], ◌∷◌, length, Option, Some, None}
+use Rattle.std.proofs.Common.{◌≡◌, ◌≤◌, ℕ, Bool, true, false, List, ◌∷◌, length, Option, Some, None}
 use Rattle.std.proofs.Common.{refl, ap, sym, subst, ◌∙◌, arith}
 use Rattle.rx_model.specs.declared.answers.Took.{Took}
 use Rattle.rx_model.specs.declared.answers.Took.TheVariants as tooks
@@ -12,7 +12,6 @@ use Rattle.rx_model.specs.Body.{AckBody, Body}
 use Rattle.rx_model.specs.Body as bodies
 use Rattle.rx_model.specs.Message.{Message}
 use Rattle.rx_model.specs.Names.{Connection, connection_of, name_of}
-use Rattle.rx_model.proofs.NameLaws.{same_number}
 use Rattle.rx_rules.specs.After.{looks}
 use Rattle.rx_rules.specs.Looks.{CallRecord, Looks, call_at}
 use Rattle.rx_rules.specs.Received.{Received, used_of}
@@ -21,12 +20,13 @@ use Rattle.rx_rules.specs.Sent.{Sent, pieces_by, pieces_of}
 use Rattle.rx_rules.specs.Setup.{Setup, Kind, Client, Server, FitsSetup, IsServer, is_client, named}
 use Rattle.rx_law.proofs.Carries.{Carries}
 use Rattle.rx_law.proofs.Ends.{ends_of}
-use Rattle.rx_law.proofs.Joint.{Between, Fed, between, client-name, fed-before, not-both, of_call, server-name}
+use Rattle.rx_law.proofs.Joint.{Between, Fed, client-name, of_call, server-name}
 use Rattle.rx_law.specs.Sides.{side}
 use Rattle.rx_law.specs.Starts.{StartsOnce}
 use Rattle.rx_law.specs.Worlds.{Gave, TwoEnds}
 use Rattle.rx_between.specs.Acknowledged.{AreTrue, BothTrue, received_by, sent_by}
 use Rattle.rx_between.specs.Told.{IsEarlierAck}
+use Rattle.rx_between.proofs.Along.{along}
 use Rattle.rx_between.proofs.CameAll.{CameAll, JudgedCame}
 use Rattle.rx_between.proofs.EachStep.{Judges, is_own}
 use Rattle.rx_between.proofs.GivenAckAlls.{given_ackalls, no_ackalls}
@@ -39,7 +39,7 @@ use Rattle.rx_between.proofs.SentTrue.{ToldTruly, sent_true}
 use Rattle.rx_between.proofs.Truth.{true_grown}
 use Rattle.rx_between.proofs.Whole.{EndsWhole, whole_used}
 
-nothing-true : AreTrue (sent_by None) (received_by None)
+pub nothing-true : AreTrue (sent_by None) (received_by None)
 nothing-true = record { hard = omega arith; soft = λ k low marks. absurd cc }
 
 -- ---- a receiver that read all
@@ -104,7 +104,7 @@ not-foreign : (got : Took) → is_own got ≡ true → got ≡ tooks.Foreign →
 not-foreign got own is = absurd (let no' : is_own got ≡ false = ap is_own is in cc (own, no'))
 
 -- by the event that judges it
-came-of : (s : Setup) (l : Looks) (y : Connection) (e : Event) (c : CallName) (Wanted : List ℕ → Type 0)
+pub came-of : (s : Setup) (l : Looks) (y : Connection) (e : Event) (c : CallName) (Wanted : List ℕ → Type 0)
     → JudgedCame s l y e Wanted → connection_of c ≡ y → (m : Message) (got : Took) → is_own got ≡ true
     → (j : Judges s l e c m got) → Wanted j.bytes
 came-of s l y e c Wanted came on m got own j =
@@ -119,14 +119,14 @@ module _ (x : TwoEnds) (client_kind : x.client_setup.kind ≡ Client x.connectio
     (server_kind : IsServer x.server_setup.kind) (client_fits : FitsSetup x.client_setup)
     (server_fits : FitsSetup x.server_setup) (c : CallName) (on : connection_of c ≡ x.connection) where
   -- a message at the client has the same name where it was given
-  name-back : (from : Host) (m : Message) → named x.client_setup from m ≡ c
+  pub name-back : (from : Host) (m : Message) → named x.client_setup from m ≡ c
       → named x.server_setup x.connection.host m ≡ c
   name-back from m name =
       server-name x.server_setup x.connection.host m server_kind
       ∙ sym (client-name x.client_setup x.connection from m client_kind) ∙ name
 
   -- and one at the server
-  name-there : (from : Host) (m : Message) → named x.server_setup from m ≡ c
+  pub name-there : (from : Host) (m : Message) → named x.server_setup from m ≡ c
       → named x.client_setup x.server_host m ≡ c
   name-there from m name =
       let own : named x.server_setup from m ≡ name_of from m = server-name x.server_setup from m server_kind in
@@ -200,7 +200,7 @@ module _ (x : TwoEnds) (client_kind : x.client_setup.kind ≡ Client x.connectio
             came on m got own j
 
     -- an event of the client
-    client-step : (e : Event) → Legal x.client_setup (e ∷ cl)
+    pub client-step : (e : Event) → Legal x.client_setup (e ∷ cl)
         → JudgedCame x.client_setup (looks x.client_setup cl) x.connection e (λ bytes. Gave x.connection.host bytes sv)
         → BothTrue a b → BothTrue (call_at (looks x.client_setup (e ∷ cl)) c) b
     client-step e legal came truth =
@@ -215,7 +215,7 @@ module _ (x : TwoEnds) (client_kind : x.client_setup.kind ≡ Client x.connectio
         }
 
     -- an event of the server
-    server-step : (e : Event) → Legal x.server_setup (e ∷ sv) → StartsOnce x.server_setup (e ∷ sv) c
+    pub server-step : (e : Event) → Legal x.server_setup (e ∷ sv) → StartsOnce x.server_setup (e ∷ sv) c
         → JudgedCame x.server_setup (looks x.server_setup sv) x.connection e (λ bytes. Gave x.server_host bytes cl)
         → BothTrue a b → BothTrue a (call_at (looks x.server_setup (e ∷ sv)) c)
     server-step e legal once_more came truth =
@@ -228,38 +228,15 @@ module _ (x : TwoEnds) (client_kind : x.client_setup.kind ≡ Client x.connectio
               sent-step x.client_setup x.server_setup e sv c (received_by a) step (server-told e came) truth.reply;
         }
 
--- an event at one of the ends, at the other, or at neither
-step : (x : TwoEnds) (cl sv : List Event) (e : Event) (at_c at_s : Bool) (c : CallName)
-    → (at_c ≡ true → at_s ≡ true → ⊥) → x.client_setup.kind ≡ Client x.connection.host x.connection.epoch
-    → IsServer x.server_setup.kind → FitsSetup x.client_setup → FitsSetup x.server_setup
-    → connection_of c ≡ x.connection → Legal x.client_setup cl → Legal x.server_setup sv
-    → StartsOnce x.server_setup sv c
-    → Between (of_call x.client_setup cl c) (of_call x.server_setup sv c)
-    → Legal x.client_setup (cond at_c (e ∷ cl) cl) → Legal x.server_setup (cond at_s (e ∷ sv) sv)
-    → StartsOnce x.server_setup (cond at_s (e ∷ sv) sv) c
-    → (at_s ≡ true → JudgedCame x.server_setup (looks x.server_setup sv) x.connection e
-    (λ bytes. Gave x.server_host bytes cl))
-    → (at_c ≡ true → JudgedCame x.client_setup (looks x.client_setup cl) x.connection e
-    (λ bytes. Gave x.connection.host bytes sv))
-    → BothTrue (call_at (looks x.client_setup cl) c) (call_at (looks x.server_setup sv) c)
-    → BothTrue (call_at (looks x.client_setup (cond at_c (e ∷ cl) cl)) c)
-    (call_at (looks x.server_setup (cond at_s (e ∷ sv) sv)) c)
-step x cl sv e true true c apart kind server fc fs on called served once both lc ls more to_s to_c truth =
-    absurd (apart refl refl)
-step x cl sv e false false c apart kind server fc fs on called served once both lc ls more to_s to_c truth = truth
-step x cl sv e true false c apart kind server fc fs on called served once both lc ls more to_s to_c truth =
-    client-step x kind server fc fs c on cl sv called served once both e lc (to_c refl) truth
-step x cl sv e false true c apart kind server fc fs on called served once both lc ls more to_s to_c truth =
-    server-step x kind server fc fs c on cl sv called served once both e ls more (to_s refl) truth
-
 -- at every moment
 pub both_true : (x : TwoEnds) (h : List Noted) (c : CallName) → Fed x h → CameAll x h → connection_of c ≡ x.connection
     → BothTrue (call_at (looks x.client_setup (side x.client h)) c) (call_at (looks x.server_setup (side x.server h)) c)
-both_true x [] c f came on = record { request = nothing-true; reply = nothing-true }
-both_true x (e ∷ h) c f came on =
-    let old = fed-before x e h f in
-    step x (side x.client h) (side x.server h) e.event (e.node == x.client) (e.node == x.server) c
-    (not-both x.client x.server e.node f.apart) f.client_kind f.server_kind f.client_fits f.server_fits on
-    old.client_legal old.server_legal (old.once c on) (between x h c old on) f.client_legal f.server_legal (f.once c on)
-    (λ here. came.0 (same_number e.node x.server here)) (λ here. came.1 (same_number e.node x.client here))
-    (both_true x h c old came.2 on)
+both_true x h c f came on =
+    along x c (λ cl sv. BothTrue (call_at (looks x.client_setup cl) c) (call_at (looks x.server_setup sv) c))
+    (record { request = nothing-true; reply = nothing-true })
+    (λ cl sv e st new came truth.
+    client-step x st.client_kind st.server_kind st.client_fits st.server_fits c st.on cl sv st.called st.served st.once
+    st.both e new.called came truth)
+    (λ cl sv e st new came truth.
+    server-step x st.client_kind st.server_kind st.client_fits st.server_fits c st.on cl sv st.called st.served st.once
+    st.both e new.served new.once came truth) on h f came

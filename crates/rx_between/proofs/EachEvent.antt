@@ -64,7 +64,7 @@ twice true f g None = refl
 twice true f g (Some k) = refl
 twice false f g o = refl
 
-changed_twice : (c d : CallName) (f g : CallRecord → CallRecord) (l : Looks) → KeepsNames f → KeepsNames g
+pub changed_twice : (c d : CallName) (f g : CallRecord → CallRecord) (l : Looks) → KeepsNames f → KeepsNames g
     → call_at (on_call d g (on_call d f l)) c
     ≡ cond (same_name c d) (option_map (λ k. g (f k)) (call_at l c)) (call_at l c)
 changed_twice c d f g l keeps_f keeps_g =

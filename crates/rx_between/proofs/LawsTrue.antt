@@ -16,6 +16,7 @@ use Rattle.rx_law.proofs.ServerHistory.{spared-once}
 use Rattle.rx_law.proofs.StartsTimed.{starts-once}
 use Rattle.rx_law.proofs.World.{if-some, is_server, world-fed, world-fed-by}
 use Rattle.rx_law.proofs.WorldTimed.{world-lately}
+use Rattle.rx_law.specs.Premises.{Held, HeldOnce}
 use Rattle.rx_law.specs.Promises.{ServerForgotNone, at_client, at_server, ends_in}
 use Rattle.rx_law.specs.Sides.{Node, side}
 use Rattle.rx_law.specs.Starts.{StartsOnce}
@@ -58,28 +59,33 @@ came-on x (e ∷ h) came = (
 
 -- ---- each premise
 
-pub true_once : TrueOnce
-true_once x h held c on =
-    let j = held.joined in
-    let came : CameAll x h = joined_came x h j.client_kind j.server_kind j.carried held.linked in
-    both_true x h c
-    (record {
-      apart = j.apart;
-      client_kind = j.client_kind;
-      server_kind = j.server_kind;
-      client_fits = j.client_fits;
-      server_fits = j.server_fits;
-      client_legal = j.client_legal;
-      server_legal = j.server_legal;
-      came = came-on x h came;
-      once = held.once;
-    }) came on
+-- a server that starts no call anew, with a network that invents nothing
+module _ (x : TwoEnds) (h : List Noted) (held : HeldOnce x h) where
+  pub came_once : CameAll x h
+  came_once = joined_came x h held.joined.client_kind held.joined.server_kind held.joined.carried held.linked
 
-pub true_held : TrueHeld
-true_held x h held =
+  pub fed_once : Fed x h
+  fed_once =
+      record {
+        apart = held.joined.apart;
+        client_kind = held.joined.client_kind;
+        server_kind = held.joined.server_kind;
+        client_fits = held.joined.client_fits;
+        server_fits = held.joined.server_fits;
+        client_legal = held.joined.client_legal;
+        server_legal = held.joined.server_legal;
+        came = came-on x h came_once;
+        once = held.once;
+      }
+
+pub true_once : TrueOnce
+true_once x h held c on = both_true x h c (fed_once x h held) (came_once x h held) on
+
+-- it starts none where it forgot no record, or no datagram is old
+pub held_once : (x : TwoEnds) (h : List Noted) → Held x h → HeldOnce x h
+held_once x h held =
     let j = held.joined in
-    true_once x h
-    (record {
+    record {
       joined = j;
       linked = held.linked;
       once = λ c on. (elim held.kept as (λ k. StartsOnce x.server_setup (side x.server h) c) [
@@ -88,7 +94,10 @@ true_held x h held =
             (subst (λ (y : Connection). Spared y (at_server x h)) (sym on) kept)
         | inr timely ↦ starts-once x h c (joined-lately x h j held.linked timely) on
       ]);
-    })
+    }
+
+pub true_held : TrueHeld
+true_held x h held = true_once x h (held_once x h held)
 
 module _ (nodes : List Node) (h : List Noted) (w : World nodes h) (k : ℕ) (client server : Node) (x : Connection)
     (there : slice_get nodes k ≡ Some client) (kind : client.setup.kind ≡ Client x.host x.epoch)

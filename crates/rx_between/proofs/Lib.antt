@@ -25,3 +25,12 @@ pub mod PollSays
 pub mod JoinedCame
 pub mod LawsTold
 pub mod LawsTrue
+pub mod Along
+pub mod GivenSeqs
+pub mod Windows
+pub mod Lives
+pub mod ReadOut
+pub mod Followed
+pub mod WholeAcked
+pub mod AllAgree
+pub mod LawsAgree

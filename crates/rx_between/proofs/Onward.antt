@@ -81,7 +81,7 @@ pub clients : (kind : Kind) (s : Setup) (host : Host) (epoch : ℕ) (l : Looks) 
 clients kind s host epoch l e is allowed = subst (λ (k : Kind). AllowedAt k s l e) is allowed
 
 -- no message starts a call there
-no-opening : (s : Setup) (host : Host) (epoch : ℕ) (e : Event) (h : List Event) (c : CallName) (b : CallRecord)
+pub no-opening : (s : Setup) (host : Host) (epoch : ℕ) (e : Event) (h : List Event) (c : CallName) (b : CallRecord)
     → s.kind ≡ Client host epoch → Legal s (e ∷ h) → Opens s (looks s h) e c b → ⊥
 no-opening s host epoch e h c b kind legal opens =
     let t = opens.takes in

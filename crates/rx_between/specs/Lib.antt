@@ -1,2 +1,3 @@
 pub mod Acknowledged
 pub mod Told
+pub mod Agreed

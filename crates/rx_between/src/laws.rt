@@ -1,5 +1,6 @@
 //! Laws of what the two ends of a call know of each other.
 ghost use Rattle.rx_between.specs.Acknowledged.{TrueHeld, TrueInWorld, TrueOnce};
+ghost use Rattle.rx_between.specs.Agreed.{AgreeHeld, AgreeInWorld, AgreeOnce};
 ghost use Rattle.rx_between.specs.Told.{AckAllsTell, AcksTell, DataTells};
 
 /// Each ACK that a node gave tells truly what its call had received when it was made: how many packets were done with,
@@ -31,4 +32,15 @@ pub fn acknowledged_arrived()
     ensures once { TrueOnce }
     ensures held { TrueHeld }
     ensures world { TrueInWorld }
+{}
+
+/// The two ends of a call agree at every moment, whatever was lost, repeated and reordered. What each takes for
+/// acknowledged the other has. Each packet that one kept is a piece that the other gave. The window that one takes for
+/// the other's is no wider than that is. A call that the server knows its client knows. A client's call that was read to
+/// its end has ended; and where the server isn't prompt, its call is over with no code only where its client's has ended.
+/// Under the premises of [`acknowledged_arrived`].
+pub fn ends_agree()
+    ensures once { AgreeOnce }
+    ensures held { AgreeHeld }
+    ensures world { AgreeInWorld }
 {}

@@ -3,4 +3,4 @@
 
 mod laws;
 
-pub use laws::{ackalls_tell, acknowledged_arrived, acks_tell, data_tells};
+pub use laws::{ackalls_tell, acknowledged_arrived, acks_tell, data_tells, ends_agree};
