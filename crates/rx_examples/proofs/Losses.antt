@@ -2,7 +2,7 @@
 use Rattle.std.specs.Prelude.{◌≡◌, ◌==◌, ◌*◌, ℕ, Bool, true, false, List, [], ◌∷◌, map, refl, replicate}
 use Rattle.std.specs.Prelude.{Option, Some, None}
 use Rattle.rx_model.specs.declared.answers.Took.TheVariants as tooks
-use Rattle.rx_model.specs.declared.wire.TheConstants.{ACK_DELAY, ACK_REQUESTED, REQUEST_ACK}
+use Rattle.rx_model.specs.declared.wire.TheConstants.{ACK_DELAY, ACK_OUT_OF_SEQUENCE, ACK_REQUESTED, REQUEST_ACK}
 use Rattle.rx_model.specs.Body.{AckBody}
 use Rattle.rx_model.specs.Body as bodies
 use Rattle.rx_model.specs.Message.{Message}
@@ -276,11 +276,31 @@ all_four_lost_rto = refl
 abbrev data_of : ℕ → Message
 data_of seq = record (ack 1 []) { seq = seq; serial = seq; body = bodies.Chunk (97 ∷ []) }
 
--- packet 2 comes and is acknowledged, and then packet 1 at moment 50
+-- packet 2 comes at moment 0 and is acknowledged
+abbrev pub hole_told : Bool → CallLooks
+hole_told prompt = after_ack_given 0 (after_taken (view 0) tooks.Kept (data_of 2) (fresh_call 32 prompt 0))
+
+-- a prompt node tells it again where nothing comes for 10 ms
+hole_told_again : (hole_told true).owed_ack ≡ Some (record { reason = ACK_OUT_OF_SEQUENCE; serial = 0; rank = 10 })
+hole_told_again = refl
+
+hole_told_once : (hole_told false).owed_ack ≡ None
+hole_told_once = refl
+
+-- and again behind twice and four times as long
+abbrev pub told_twice : CallLooks
+told_twice = after_ack_given 10 (hole_told true)
+
+hole_told_twice : told_twice.owed_ack ≡ Some (record { reason = ACK_OUT_OF_SEQUENCE; serial = 0; rank = 20 })
+hole_told_twice = refl
+
+hole_told_thrice : (after_ack_given 20 told_twice).owed_ack
+    ≡ Some (record { reason = ACK_OUT_OF_SEQUENCE; serial = 0; rank = 40 })
+hole_told_thrice = refl
+
+-- then packet 1 comes at moment 50
 abbrev pub filled : Bool → CallLooks
-filled prompt =
-    after_taken (view 50) tooks.Kept (data_of 1)
-    (after_ack_given 10 (after_taken (view 0) tooks.Kept (data_of 2) (fresh_call 32 prompt 0)))
+filled prompt = after_taken (view 50) tooks.Kept (data_of 1) (hole_told prompt)
 
 -- a prompt node acknowledges it a millisecond later, any other 100
 hole_filled : (filled true).owed_ack ≡ Some (record { reason = ACK_DELAY; serial = 1; rank = 51 })

@@ -1,6 +1,6 @@
 -- Each event leaves each number of each call within its field.
 use Rattle.rx_rules.specs.Looks.{on_life}
-use Rattle.std.proofs.Common.{◌≡◌, ℕ, ℤ, cond, Bool, true, false, List, drop}
+use Rattle.std.proofs.Common.{◌≡◌, ◌&&◌, ◌-◌, ℕ, ℤ, cond, Bool, true, false, List, drop}
 use Rattle.std.proofs.Common.{Option, Some, None, Result, Ok, Err, refl}
 use Rattle.rx_model.specs.declared.answers.BadMsg.{BadMsg}
 use Rattle.rx_model.specs.declared.answers.ServeRefused.TheVariants as refusals
@@ -22,12 +22,13 @@ use Rattle.rx_rules.specs.CallLooks.{after_ack_given, after_piece, after_read, a
 use Rattle.rx_rules.specs.Life.{after_accept, after_cancel, after_end, after_finish, after_gone, after_silence}
 use Rattle.rx_rules.specs.Life as lives
 use Rattle.rx_rules.specs.Looks.{CallRecord, Looks, on_channel, on_looks}
+use Rattle.rx_rules.specs.Received.{has_hole}
 use Rattle.rx_rules.specs.Records.{is_silent, silence_of, silenced, unless_silent}
 use Rattle.rx_rules.specs.Setup.{Setup, Kind, Server, Client, FitsSetup, named}
 use Rattle.rx_law.proofs.FitCall.{CallsFit, FitsCall, life_fits, read_fits, write_fits}
 use Rattle.rx_law.proofs.FitCalls.{fit_calls, fit_life, fit_looks, fit_started}
 use Rattle.rx_law.proofs.FitTaken.{fit_message, read_came}
-use Rattle.rx_law.proofs.FitValues.{accept_life, cancel_life, end_life, finish_life, gone_life, silence_life}
+use Rattle.rx_law.proofs.FitValues.{accept_life, cancel_life, end_life, finish_life, given_owed_fits, gone_life, silence_life}
 use Rattle.rx_law.proofs.EventFacts.{EventFits}
 
 pub fit-silenced : (l : Looks) → CallsFit l.calls → CallsFit (silenced l).calls
@@ -52,7 +53,14 @@ fit-body c m (bodies.Chunk payload) l all =
     (λ k there f. record { received = f.received; owed = f.owed; said = f.said; life = f.life; number = f.number }) all
 fit-body c m (bodies.Ack a) l all =
     fit_looks c (after_ack_given l.now) l
-    (λ k there f. record { received = f.received; owed = tt; said = f.said; life = f.life; number = f.number }) all
+    (λ k there f. record {
+      received = f.received;
+      owed =
+          given_owed_fits l.now (k.looks.cwnd.prompt && has_hole k.looks.received) (l.now - k.looks.heard);
+      said = f.said;
+      life = f.life;
+      number = f.number;
+    }) all
 fit-body c m _ l all = all
 
 fit-given : (s : Setup) (to : Host) (reading : Result Message BadMsg) (l : Looks) → CallsFit l.calls

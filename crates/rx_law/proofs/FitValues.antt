@@ -14,7 +14,7 @@ use Rattle.rx_rules.specs.Life.{after_gone, after_later}
 use Rattle.rx_rules.specs.Life.{after_silence}
 use Rattle.rx_rules.specs.Life as lives
 use Rattle.rx_rules.specs.Owing.{Owed, at_once, behind_read, delayed, hastened, owed_for, owed_for_ack, owed_for_done}
-use Rattle.rx_rules.specs.Owing.{owed_for_read}
+use Rattle.rx_rules.specs.Owing.{owed_for_given, owed_for_read}
 use Rattle.rx_rules.specs.Received.{Packet, Received, after_packet, after_read, greatest, is_no_seq, nothing_received}
 use Rattle.rx_rules.specs.Received.{packet_at, used_of}
 use Rattle.rx_model.proofs.NameLaws.{neither}
@@ -128,6 +128,11 @@ pinged_fits reason serial o low f =
 hastened-fits : (now : ℕ) (o : Option Owed) → OwedFits o → OwedFits (option_map (hastened now) o)
 hastened-fits now None f = f
 hastened-fits now (Some owed) f = record { low = f.low; high = f.high; serial = f.serial }
+
+-- an ACK was given
+pub given_owed_fits : (now : ℕ) (tells : Bool) (silent : ℕ) → OwedFits (owed_for_given now tells silent)
+given_owed_fits now true silent = record { low = omega arith; high = omega arith; serial = omega arith }
+given_owed_fits now false silent = tt
 
 -- more was read
 pub read_owed_fits : (now : ℕ) (prompt : Bool) (before after : ℕ) (o : Option Owed) → OwedFits o

@@ -7,7 +7,7 @@ use Rattle.rx_model.specs.declared.wire.TheConstants.{LAST_PACKET}
 use Rattle.rx_model.specs.Body.{Body, AckBody}
 use Rattle.rx_model.specs.Body as bodies
 use Rattle.rx_model.specs.Message.{Message, has_flag}
-use Rattle.rx_rules.specs.Owing.{Owed, owed_for, owed_for_ack, owed_for_read}
+use Rattle.rx_rules.specs.Owing.{Owed, owed_for, owed_for_ack, owed_for_given, owed_for_read}
 use Rattle.rx_rules.specs.Rates.{Rtt, Cwnd, first_rtt, first_cwnd, after_sample, after_backoff, after_acked}
 use Rattle.rx_rules.specs.Lost.{is_lost, halves}
 use Rattle.rx_rules.specs.Rates.{after_timeout, after_loss}
@@ -174,9 +174,13 @@ after_read now end bytes k =
 
 -- ---- givings
 
--- an ACK was given: whatever was owed is told
+-- an ACK was given: whatever was owed is told; a prompt node tells a hole again
 abbrev pub after_ack_given : ℕ → CallLooks → CallLooks
-after_ack_given now k = record k { owed_ack = None; spoke = now }
+after_ack_given now k =
+    record k {
+      owed_ack = owed_for_given now (k.cwnd.prompt && has_hole k.received) (now - k.heard);
+      spoke = now;
+    }
 
 -- piece seq is given as its time is up: it was given before, and isn't taken for lost
 abbrev pub is_timed_out : CallLooks → ℕ → Bool
