@@ -3,7 +3,7 @@ use Rattle.std.proofs.Common.{◌≡◌, ◌&&◌, not, nat_le, cond, true, fals
 use Rattle.std.proofs.Common.{List, [], ◌∷◌, ◌++◌, Option, Some, None, refl, sym, arith}
 use Rattle.std.specs.Prelude.{filter, option_map, option_and_then}
 use Rattle.std.proofs.lemmas.Bool.Decides.{nat_tests}
-use Rattle.rx_rules.specs.CallItems.{CallItem, Sending, piece_items, lost_items, fresh_items, again_items, can_give, asks, wait_of}
+use Rattle.rx_rules.specs.CallItems.{CallItem, Sending, piece_items, lost_items, fresh_items, again_items, can_give, asks, resend_after}
 use Rattle.rx_rules.specs.CallItems as items
 use Rattle.rx_rules.specs.CallLooks.{CallLooks}
 use Rattle.rx_rules.specs.Least.{least_by, lesser_by}
@@ -78,8 +78,8 @@ right_both s (i ∷ is) js a b = (a.0, right_both s is js a.1 b)
 right_pieces : (rto : ℕ) (c : Cwnd) (s : Sent) → AllRight s (piece_items rto c s)
 right_pieces rto c s =
     let given : Option LastGiving = last_giving s.givings (lowest_of s) in
-    let rest = right_again s (wait_of rto c.prompt given) given refl in
-    let again : List CallItem = again_items (wait_of rto c.prompt given) (lowest_of s) given in
+    let rest = right_again s (resend_after rto c.prompt given) given refl in
+    let again : List CallItem = again_items (resend_after rto c.prompt given) (lowest_of s) given in
     let fresh : CallItem = record { rank = 0; sending = items.Piece (suc (given_of s)) false } in
     let test : nat_le (suc (given_of s)) (given_of s) ≡ false = grind (arith, nat_tests) in
     right_both s (lost_items (lost_of c s)) (fresh_items c s ++ again) (right_lost c s (lost_of c s) refl)

@@ -15,7 +15,7 @@ use Rattle.rx_model.specs.declared.wire.TheConstants.{ACK_PING, CLIENT_INITIATED
 use Rattle.rx_model.specs.Body.{Body}
 use Rattle.rx_model.specs.Body as bodies
 use Rattle.rx_rules.specs.CallItems.{CallItem, Sending, ack_items, again_items, asks, call_items, can_give, flags_of}
-use Rattle.rx_rules.specs.CallItems.{fresh_items, item_at, lost_items, wait_of}
+use Rattle.rx_rules.specs.CallItems.{fresh_items, item_at, lost_items, resend_after}
 use Rattle.rx_rules.specs.CallItems.{piece_items, ping_items, sending_body, sending_flags, sending_seq}
 use Rattle.rx_rules.specs.CallItems as sendings
 use Rattle.rx_rules.specs.CallLooks.{packet_of}
@@ -331,7 +331,7 @@ module _ (s : Setup) (l : Looks) (good : (c : CallName) → GoodCall s l c) wher
       → Every (λ i. Sound k i.sending) (piece_items k.looks.rtt.rto k.looks.cwnd k.looks.sent)
   pieces-sound k sends =
       let given : Option LastGiving = last_giving k.looks.sent.givings (lowest_of k.looks.sent) in
-      let wait : ℕ = wait_of k.looks.rtt.rto k.looks.cwnd.prompt given in
+      let wait : ℕ = resend_after k.looks.rtt.rto k.looks.cwnd.prompt given in
       let again : List CallItem = again_items wait (lowest_of k.looks.sent) given in
       every-append (λ i. Sound k i.sending) (lost_items (lost_of k.looks.cwnd k.looks.sent))
       (fresh_items k.looks.cwnd k.looks.sent ++ again)

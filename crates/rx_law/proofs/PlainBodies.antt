@@ -8,7 +8,7 @@ use Rattle.rx_model.specs.Body as bodies
 use Rattle.rx_model.specs.Spelling.{IsCode, IsPlainAck, IsPlainBody}
 use Rattle.rx_rules.specs.CallItems.{CallItem, Sending, ack_body, ack_items, again_items, asks, call_items, can_give}
 use Rattle.rx_rules.specs.CallItems.{fresh_items, item_at, lost_items}
-use Rattle.rx_rules.specs.CallItems.{piece_items, ping_items, wait_of}
+use Rattle.rx_rules.specs.CallItems.{piece_items, ping_items, resend_after}
 use Rattle.rx_rules.specs.CallItems as sendings
 use Rattle.rx_rules.specs.Classes.{FitsAnswer}
 use Rattle.rx_rules.specs.Items.{where_owed}
@@ -162,7 +162,7 @@ acks_fit client k f =
     let rto : ℕ = k.looks.rtt.rto in
     let low : ℕ = lowest_of k.looks.sent in
     let given : Option LastGiving = last_giving k.looks.sent.givings low in
-    let wait : ℕ = wait_of rto k.looks.cwnd.prompt given in
+    let wait : ℕ = resend_after rto k.looks.cwnd.prompt given in
     every-append P (piece_items rto k.looks.cwnd k.looks.sent)
     (ack_items k.looks.owed_ack ++ ping_items client k.looks.spoke)
     (every-append P (lost_items (lost_of k.looks.cwnd k.looks.sent))

@@ -44,8 +44,8 @@ lost_items (Some k) = item_at 0 (Piece k true)
 
 -- how long a piece waits for its acknowledgement behind its last giving: one RTO; where it was given once, a prompt node
 -- waits longer by what a peer may delay one that wasn't asked for (RFC 9002, section 6.2.1)
-abbrev pub wait_of : ℕ → Bool → Option LastGiving → ℕ
-wait_of rto prompt g = if prompt && is_once g then rto + ACK_DELAY_MS else rto
+abbrev pub resend_after : ℕ → Bool → Option LastGiving → ℕ
+resend_after rto prompt g = if prompt && is_once g then rto + ACK_DELAY_MS else rto
 
 -- then it is given again
 abbrev pub again_items : ℕ → ℕ → Option LastGiving → List CallItem
@@ -67,7 +67,7 @@ abbrev pub piece_items : ℕ → Cwnd → Sent → List CallItem
 piece_items rto c s =
     lost_items (lost_of c s)
     ++ (fresh_items c s
-    ++ again_items (wait_of rto c.prompt (last_giving s.givings (lowest_of s))) (lowest_of s)
+    ++ again_items (resend_after rto c.prompt (last_giving s.givings (lowest_of s))) (lowest_of s)
     (last_giving s.givings (lowest_of s)))
 
 -- in the order in which ties are broken

@@ -6,7 +6,7 @@ use Rattle.std.proofs.Common.{Option, Some, None, arith, refl, ◌||◌, is_some
 use Rattle.std.proofs.lemmas.Bool.{false≢true}
 use Rattle.std.specs.Prelude.{filter, option_map, option_and_then}
 use Rattle.std.proofs.lemmas.Bool.Decides.{nat_tests}
-use Rattle.rx_rules.specs.CallItems.{CallItem, Sending, can_give, lost_items, again_items, asks, wait_of}
+use Rattle.rx_rules.specs.CallItems.{CallItem, Sending, can_give, lost_items, again_items, asks, resend_after}
 use Rattle.rx_rules.specs.CallItems as items
 use Rattle.rx_rules.specs.Least.{least_by, lesser_by}
 use Rattle.rx_rules.specs.Lost.{lost_of, is_lost, is_piece, halves}
@@ -47,7 +47,7 @@ rank_by is = option_map (λ (i : CallItem). i.rank) (least_by (λ (i : CallItem)
 -- the items where a piece is lost, and where a new one is due
 abbrev pub items_by : Option ℕ → Bool → ℕ → Cwnd → Sent → Option LastGiving → List CallItem
 items_by lost fresh rto c s g =
-    lost_items lost ++ (cond fresh (fresh_item s ∷ []) [] ++ again_items (wait_of rto c.prompt g) (lowest_of s) g)
+    lost_items lost ++ (cond fresh (fresh_item s ∷ []) [] ++ again_items (resend_after rto c.prompt g) (lowest_of s) g)
 
 at_once : (now : ℕ) (c : Cwnd) (s : Sent) (x : CallItem) (rest : List CallItem) → x.rank ≡ 0 →
     piece_by now c s (x ∷ rest) ≡ piece_of c s x.sending
@@ -91,20 +91,20 @@ next_fresh now rto c s seq asking none fresh is asked =
       half = sym (halves_none c s (suc (given_of s)) none) i;
     }))
     ∙ sym ((λ i. piece_by now c s (items_by (none i) (fresh i) rto c s (again_of s)))
-    ∙ at_once now c s (fresh_item s) (again_items (wait_of rto c.prompt (again_of s)) (lowest_of s) (again_of s)) refl)
+    ∙ at_once now c s (fresh_item s) (again_items (resend_after rto c.prompt (again_of s)) (lowest_of s) (again_of s)) refl)
 
 -- where neither is so, the lowest one that isn't acknowledged decides
 later : (now rto : ℕ) (c : Cwnd) (s : Sent) (g : Option LastGiving) → lost_of c s ≡ None → can_give c s ≡ false →
-    again_of s ≡ g → next_piece now rto c s ≡ piece_by now c s (again_items (wait_of rto c.prompt g) (lowest_of s) g)
+    again_of s ≡ g → next_piece now rto c s ≡ piece_by now c s (again_items (resend_after rto c.prompt g) (lowest_of s) g)
 later now rto c s g none fresh given = λ i. piece_by now c s (items_by (none i) (fresh i) rto c s (given i))
 
 pub next_due : (now rto : ℕ) (c : Cwnd) (s : Sent) (seq : ℕ) (g : LastGiving) → lost_of c s ≡ None →
-    can_give c s ≡ false → seq ≡ lowest_of s → again_of s ≡ Some g → g.moment + wait_of rto c.prompt (Some g) ≤ now →
+    can_give c s ≡ false → seq ≡ lowest_of s → again_of s ≡ Some g → g.moment + resend_after rto c.prompt (Some g) ≤ now →
     ◌≡◌ {A = Option NextPiece} (Some (record { seq = seq; again = true; asks = true; up = true; half = false }))
     (next_piece now rto c s)
 next_due now rto c s seq g none fresh is given le =
-    let test : nat_le (g.moment + wait_of rto c.prompt (Some g)) now ≡ true = grind (arith, nat_tests, le) in
-    let item : List CallItem = again_item (wait_of rto c.prompt (Some g)) s g ∷ [] in
+    let test : nat_le (g.moment + resend_after rto c.prompt (Some g)) now ≡ true = grind (arith, nat_tests, le) in
+    let item : List CallItem = again_item (resend_after rto c.prompt (Some g)) s g ∷ [] in
     let asked : asks c s (lowest_of s) true ≡ true = or_true (piece_at s (lowest_of s)).last in
     let lost : not (is_lost c s (lowest_of s)) ≡ true = ap (λ o. not (is_piece o (lowest_of s))) none in
     (λ i. Some (record {
@@ -119,10 +119,10 @@ next_due now rto c s seq g none fresh is given le =
     (least_by (λ (i : CallItem). i.rank) (cond b item []))) test)
 
 pub next_waits : (now rto : ℕ) (c : Cwnd) (s : Sent) (g : LastGiving) → lost_of c s ≡ None → can_give c s ≡ false →
-    again_of s ≡ Some g → now < g.moment + wait_of rto c.prompt (Some g) → ◌≡◌ {A = Option NextPiece} None (next_piece now rto c s)
+    again_of s ≡ Some g → now < g.moment + resend_after rto c.prompt (Some g) → ◌≡◌ {A = Option NextPiece} None (next_piece now rto c s)
 next_waits now rto c s g none fresh given lt =
-    let test : nat_le (g.moment + wait_of rto c.prompt (Some g)) now ≡ false = grind (arith, nat_tests, lt) in
-    let item : List CallItem = again_item (wait_of rto c.prompt (Some g)) s g ∷ [] in
+    let test : nat_le (g.moment + resend_after rto c.prompt (Some g)) now ≡ false = grind (arith, nat_tests, lt) in
+    let item : List CallItem = again_item (resend_after rto c.prompt (Some g)) s g ∷ [] in
     sym (later now rto c s (Some g) none fresh given
     ∙ ap (λ b. option_and_then (λ (i : CallItem). piece_of c s i.sending)
     (least_by (λ (i : CallItem). i.rank) (cond b item []))) test)
@@ -160,11 +160,11 @@ rank_lost rto c s some =
 pub rank_fresh : (rto : ℕ) (c : Cwnd) (s : Sent) → lost_of c s ≡ None → can_give c s ≡ true →
     ◌≡◌ {A = Option ℕ} (Some 0) (least_rank rto c s)
 rank_fresh rto c s none fresh =
-    let rest = again_items (wait_of rto c.prompt (again_of s)) (lowest_of s) (again_of s) in
+    let rest = again_items (resend_after rto c.prompt (again_of s)) (lowest_of s) (again_of s) in
     let least = least_by (λ (i : CallItem). i.rank) rest in
     sym ((λ i. rank_by (items_by (none i) (fresh i) rto c s (again_of s)))
     ∙ ap (λ (x : CallItem). Some x.rank) (first_least (fresh_item s) least refl))
 
 pub rank_later : (rto : ℕ) (c : Cwnd) (s : Sent) (g : Option LastGiving) → lost_of c s ≡ None → can_give c s ≡ false →
-    again_of s ≡ g → least_rank rto c s ≡ rank_by (again_items (wait_of rto c.prompt g) (lowest_of s) g)
+    again_of s ≡ g → least_rank rto c s ≡ rank_by (again_items (resend_after rto c.prompt g) (lowest_of s) g)
 rank_later rto c s g none fresh given = λ i. rank_by (items_by (none i) (fresh i) rto c s (given i))

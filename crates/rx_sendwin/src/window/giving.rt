@@ -1,6 +1,6 @@
 ghost use Rattle.std.specs.Prelude.{◌≡◌, ◌≤◌, ◌<◌, ◌+◌, ◌-◌, ◌^◌, ◌==◌, ℕ, length, suc, Option, Some, None, true};
 ghost use Rattle.std.specs.Prelude.{false, IfSome};
-ghost use Rattle.rx_rules.specs.CallItems.{can_give, asks, wait_of};
+ghost use Rattle.rx_rules.specs.CallItems.{can_give, asks, resend_after};
 ghost use Rattle.rx_rules.specs.Lost.{lost_of, halves, is_once};
 ghost use Rattle.rx_rules.specs.Sent.{Sent, piece_at, given_of, lowest_of, last_giving, after_giving, after_time};
 ghost use Rattle.rx_pool.specs.Pool.{Slots};
@@ -203,7 +203,7 @@ impl SendWin {
         }
         match self.lowest() {
             Some((seq, giving)) => {
-                if giving.moment + wait_of(rto, giving, cw) <= now {
+                if giving.moment + resend_after(rto, giving, cw) <= now {
                     return Some(NextPiece {
                         seq,
                         again: true,
@@ -230,7 +230,7 @@ impl SendWin {
             return Some(0);
         }
         match self.lowest() {
-            Some((_seq, giving)) => Some(giving.moment + wait_of(rto, giving, cw)),
+            Some((_seq, giving)) => Some(giving.moment + resend_after(rto, giving, cw)),
             None => None,
         }
     }
@@ -238,8 +238,8 @@ impl SendWin {
 
 /// How long a piece waits for its acknowledgement behind its last giving, in milliseconds: one RTO; where it was given
 /// once, a prompt node waits longer by what a peer may delay one that wasn't asked for (RFC 9002, section 6.2.1).
-fn wait_of(rto: u32, giving: LastGiving, cw: &Cwnd) -> u64
-    ensures value { result ≡ wait_of rto cw.now.prompt (as_giving (Some giving)) }
+fn resend_after(rto: u32, giving: LastGiving, cw: &Cwnd) -> u64
+    ensures value { result ≡ resend_after rto cw.now.prompt (as_giving (Some giving)) }
     ensures most { result ≤ rto + 100 }
 {
     if cw.recovers() && !giving.again {

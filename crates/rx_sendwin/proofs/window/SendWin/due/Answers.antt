@@ -18,7 +18,7 @@ returns-then-can_give c = record {
 
 pub returns-in-Some : goal.returns-in-Some
 returns-in-Some c = record {
-  answered = λ pool s st. ap (λ (wait : ℕ). Some (c.in-Some.giving.moment + wait)) c.wait_of.ensures.value
+  answered = λ pool s st. ap (λ (wait : ℕ). Some (c.in-Some.giving.moment + wait)) c.resend_after.ensures.value
       ∙ sym (rank_later c.args.rto c.args.cw.now s _
       (sym (c.lost_piece.ensures.answered pool s st)
       ∙ not_some c.lost_piece.result (sym c.is_some.ensures ∙ c.if-is_some.false))

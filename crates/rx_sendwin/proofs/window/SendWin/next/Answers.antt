@@ -18,22 +18,22 @@ returns-then-can_give-clause-answered c =
     (sym (c.can_give.ensures.answered pool s st) ∙ c.if-can_give.true) (seq ∙ ap (λ n. n + 1) st.given)
     (c.asks.ensures pool s st)
 
-pub returns-then-giving-wait_of-clause-answered : goal.returns-then-giving-wait_of-clause-answered
-returns-then-giving-wait_of-clause-answered c =
+pub returns-then-giving-resend_after-clause-answered : goal.returns-then-giving-resend_after-clause-answered
+returns-then-giving-resend_after-clause-answered c =
     λ pool s st. next_due c.args.now c.args.rto c.args.cw.now s c.in-Some-lowest.seq _
     (sym (c.lost_piece.ensures.answered pool s st) ∙ unless_some c.lost_piece.result c.in_default.not-Some)
     (sym (c.can_give.ensures.answered pool s st) ∙ c.if-can_give.false) (c.in-Some-lowest.ensures.seq pool s st)
     (c.in-Some-lowest.ensures.some pool s st)
-    (subst (λ (wait : ℕ). c.in-Some-lowest.giving.moment + wait ≤ c.args.now) c.wait_of.ensures.value
-    c.if-giving-wait_of.true)
+    (subst (λ (wait : ℕ). c.in-Some-lowest.giving.moment + wait ≤ c.args.now) c.resend_after.ensures.value
+    c.if-giving-resend_after.true)
 
-pub returns-else-giving-wait_of-clause-answered : goal.returns-else-giving-wait_of-clause-answered
-returns-else-giving-wait_of-clause-answered c =
+pub returns-else-giving-resend_after-clause-answered : goal.returns-else-giving-resend_after-clause-answered
+returns-else-giving-resend_after-clause-answered c =
     λ pool s st. next_waits c.args.now c.args.rto c.args.cw.now s _
     (sym (c.lost_piece.ensures.answered pool s st) ∙ unless_some c.lost_piece.result c.in_default.not-Some)
     (sym (c.can_give.ensures.answered pool s st) ∙ c.if-can_give.false) (c.in-Some-lowest.ensures.some pool s st)
-    (subst (λ (wait : ℕ). c.args.now < c.in-Some-lowest.giving.moment + wait) c.wait_of.ensures.value
-    c.if-giving-wait_of.false)
+    (subst (λ (wait : ℕ). c.args.now < c.in-Some-lowest.giving.moment + wait) c.resend_after.ensures.value
+    c.if-giving-resend_after.false)
 
 pub returns-in-None-clause-answered : goal.returns-in-None-clause-answered
 returns-in-None-clause-answered c =
