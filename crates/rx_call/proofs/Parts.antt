@@ -1,12 +1,12 @@
 -- What is done to one part of a call, seen of the whole call.
-use Rattle.std.proofs.Common.{◌≡◌, inl, inr, ◌<◌, ◌∙◌, cond, not, min, nat_lt, Bool, true, false, ℕ}
+use Rattle.std.proofs.Common.{◌≡◌, ◌&&◌, ◌-◌, inl, inr, ◌<◌, ◌∙◌, cond, not, min, nat_lt, Bool, true, false, ℕ}
 use Rattle.std.proofs.Common.{Option, None, refl, sym, ap, subst, arith}
 use Rattle.std.proofs.lemmas.Bool.{cases_lt}
 use Rattle.std.proofs.lemmas.Bool.Decides.{nat_tests}
 use Rattle.rx_rules.specs.CallLooks.{CallLooks, found, is_timed_out, slowed, after_piece, after_ack_given}
 use Rattle.rx_rules.specs.CallItems.{Sending}
-use Rattle.rx_rules.specs.Owing.{Owed}
-use Rattle.rx_rules.specs.Received.{Received}
+use Rattle.rx_rules.specs.Owing.{Owed, owed_for_given}
+use Rattle.rx_rules.specs.Received.{Received, has_hole}
 use Rattle.rx_rules.specs.Lost.{halves}
 use Rattle.rx_rules.specs.Sent.{Sent, after_all, after_giving, after_time}
 use Rattle.rx_pool.specs.Pool.{Slots}
@@ -163,16 +163,17 @@ cut_some cut x y is same =
           ap (nat_lt 0) (none ∙ sym gone))
     ]
 
--- an acknowledgement was given
-pub ack_told : (pool : Slots) (c : EndOfCall) (k : CallLooks) (now : ℕ) → StandsCall pool c k →
-    StandsCall pool (record c { owed = None; spoke = now }) (after_ack_given now k)
-ack_told pool c k now st =
+-- an acknowledgement was given, and so much is owed behind it
+pub ack_told : (pool : Slots) (c : EndOfCall) (k : CallLooks) (now : ℕ) (o : Option Owed) →
+    o ≡ owed_for_given now (k.cwnd.prompt && has_hole k.received) (now - k.heard) → StandsCall pool c k →
+    StandsCall pool (record c { owed = o; spoke = now }) (after_ack_given now k)
+ack_told pool c k now o is st =
     record {
       received = st.received;
       sent = st.sent;
       rtt = st.rtt;
       cwnd = st.cwnd;
-      owed = refl;
+      owed = is;
       heard = st.heard;
       spoke = refl;
     }

@@ -3,7 +3,7 @@ ghost use Rattle.rx_model.specs.Body.{Body};
 ghost use Rattle.rx_model.specs.Message.{has_flag};
 ghost use Rattle.rx_packet.specs.Seen.{message_with_head};
 ghost use Rattle.rx_rules.specs.Owing.{at_once, behind_read, delayed, owed_for, owed_for_kept, owed_for_ack};
-ghost use Rattle.rx_rules.specs.Owing.{hastened, owed_for_done};
+ghost use Rattle.rx_rules.specs.Owing.{hastened, owed_for_done, owed_for_given};
 ghost use Rattle.rx_call.specs.Standing.{owed_ack, owed_of};
 
 use rx_model::Took;
@@ -12,6 +12,9 @@ use rx_model::wire::{
     ACK_PING, ACK_PING_RESPONSE, ACK_REQUESTED, REQUEST_ACK,
 };
 use rx_packet::Head;
+
+/// How long nothing is heard before a prompt node tells a hole again, in milliseconds.
+const HOLE_MS: u64 = 10;
 
 /// An acknowledgement that is owed: why, the serial that caused it, and the moment from which it is due, 0 for at once.
 #[derive(Clone, Copy, Debug, PartialEq, Eq)]
@@ -124,6 +127,23 @@ pub fn owe_for(
         Took::Foreign => owed,
         Took::Bad(_) => owed,
     }
+}
+
+/// What is owed behind an acknowledgement that was given, where nothing was heard for so long: a hole that the end `tells`
+/// is told again, as soon as that has lasted 10 ms, and then each time that it has lasted twice as long.
+pub fn owe_for_given(now: u64, tells: bool, silent: u64) -> Option<OwedAck>
+    requires now { now < 2 ^ 62 }
+    requires silent { silent < 2 ^ 62 }
+    ensures { owed_of result ≡ owed_for_given now tells silent }
+{
+    if tells {
+        return Some(OwedAck {
+            reason: ACK_OUT_OF_SEQUENCE,
+            serial: 0,
+            rank: now + silent.max(HOLE_MS),
+        });
+    }
+    None
 }
 
 /// What was left until the read is due at once.

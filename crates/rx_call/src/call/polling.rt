@@ -1,8 +1,9 @@
-ghost use Rattle.std.specs.Prelude.{◌≡◌, ◌≤◌, ◌<◌, ◌+◌, ◌^◌, nat_le, if◌then◌else◌, true, ℕ, Option, Some, None};
+ghost use Rattle.std.specs.Prelude.{◌≡◌, ◌≤◌, ◌<◌, ◌+◌, ◌&&◌, ◌^◌, nat_le, if◌then◌else◌, true, ℕ, Option, Some, None};
 ghost use Rattle.rx_rules.specs.CallItems.{call_due, next_sending};
 ghost use Rattle.rx_rules.specs.CallItems as items;
 ghost use Rattle.rx_rules.specs.CallLooks.{CallLooks, after_piece, is_timed_out, slowed};
 ghost use Rattle.rx_rules.specs.Lost.{halves};
+ghost use Rattle.rx_rules.specs.Received.{has_hole};
 ghost use Rattle.rx_rules.specs.Sent.{piece_at, after_time};
 ghost use Rattle.rx_pool.specs.Pool.{Slots};
 ghost use Rattle.rx_sendwin.specs.Window.{CanBeSent};
@@ -14,7 +15,7 @@ ghost use Rattle.rx_call.specs.declared.giving.Giving.TheVariants as givings;
 
 use crate::call::Call;
 use crate::giving::Giving;
-use crate::owing::OwedAck;
+use crate::owing::{OwedAck, owe_for_given};
 use crate::side::Side;
 use rx_model::wire::{ACK_PING, PING_MS};
 use rx_sendwin::NextPiece;
@@ -136,6 +137,14 @@ impl Call {
         }
     }
 
+    /// Whether a prompt node keeps a packet above a hole, and so tells of that again.
+    fn tells_hole(&self) -> bool
+        ensures { (pool : Slots) (k : CallLooks) → StandsCall pool self.now k →
+            result ≡ (k.cwnd.prompt && has_hole k.received) }
+    {
+        self.cwnd.recovers() && self.received.has_hole()
+    }
+
     /// What it gives at this moment; none where nothing is due.
     pub fn poll(&mut self, now: u64) -> Option<Giving>
         requires { now < 2 ^ 62 }
@@ -148,7 +157,8 @@ impl Call {
         ensures same { IsSameEnd self.old self.new }
     {
         if let Some(ack) = self.next_ack(now) {
-            self.owed = None;
+            let silent = now.saturating_sub(self.heard);
+            self.owed = owe_for_given(now, self.tells_hole(), silent);
             self.spoke = now;
             return Some(Giving::Ack {
                 reason: ack.reason,

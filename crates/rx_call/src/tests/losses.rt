@@ -62,6 +62,37 @@ fn a_prompt_end_leaves_what_fills_a_hole_a_millisecond(rt: HostRuntime) -> Resul
 }
 
 #[test]
+fn a_prompt_end_tells_a_hole_again_while_nothing_comes(rt: HostRuntime) -> Result<(), Fail> {
+    for (prompt, again) in [(true, Some(3)), (false, None)] {
+        let mut pool = Pool::make(rt.alloc(), 9)?;
+        let mut call = Call::make(rt.alloc(), of_prompt(prompt))?;
+        call.start(Side::Server, 0);
+        assert_eq!(rt;
+            take(&mut call, &mut pool, 5, &head(2, 9, 1), b"x"),
+            Took::Kept
+        );
+        for (now, reason) in [
+            (5, Some(3)),
+            (14, None),
+            (15, again),
+            (24, None),
+            (25, again),
+            (44, None),
+            (45, again),
+        ] {
+            assert_eq!(rt; reason_at(&mut call, now), reason);
+        }
+        assert_eq!(rt;
+            take(&mut call, &mut pool, 50, &head(1, 9, 3), b"x"),
+            Took::Kept
+        );
+        assert_eq!(rt; reason_at(&mut call, 51), Some(1));
+        assert_eq!(rt; call.due(), None);
+    }
+    Ok(())
+}
+
+#[test]
 fn a_prompt_end_tells_what_was_asked_behind_the_read(rt: HostRuntime) -> Result<(), Fail> {
     for (prompt, before, behind, later) in [
         (true, None, Some(1), 110),

@@ -1,6 +1,7 @@
-use Rattle.std.proofs.Common.{◌≡◌, ◌∙◌, ap, sym, subst, Some, None, Option}
+use Rattle.std.proofs.Common.{◌≡◌, ◌-◌, ◌∙◌, ap, sym, subst, Some, None, Option}
 use Rattle.rx_rules.specs.CallItems as items
 use Rattle.rx_rules.specs.CallItems.{next_sending}
+use Rattle.rx_rules.specs.Owing.{owed_for_given}
 use Rattle.rx_rules.specs.Sent.{piece_at}
 use Rattle.rx_sendwin.specs.Next.{next_piece}
 use Rattle.rx_sendwin.specs.declared.next.NextPiece.{NextPiece}
@@ -20,7 +21,12 @@ pub returns-in-Some-clause-stands : goal.returns-in-Some-clause-stands
 returns-in-Some-clause-stands c =
     λ pool k left st.
     let here = (rw (← c.self.view_is) at st) in
-    given_one pool _ k c.args.now _ _ (c.in-Some.ensures pool k left st) (ack_told pool _ k c.args.now here)
+    let tells = c.tells_hole.ensures pool k st in
+    let silent = c.saturating_sub-silent.ensures ∙ (λ i. c.args.now - here.heard i) in
+    let owed = (
+    c.owe_for_given-self-inside.ensures
+    ∙ (λ i. owed_for_given c.args.now (tells i) (silent i))) in
+    given_one pool _ k c.args.now _ _ (c.in-Some.ensures pool k left st) (ack_told pool _ k c.args.now _ owed here)
 
 pub returns-in-Some-clause-slots : goal.returns-in-Some-clause-slots
 returns-in-Some-clause-slots c = ap slots_of c.self.view_is
