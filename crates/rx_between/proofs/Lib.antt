@@ -9,6 +9,9 @@ pub mod Whole
 pub mod Onward
 pub mod GivenAcks
 pub mod Owing
+pub mod EachChange
+pub mod EachTaken
+pub mod EachGiven
 pub mod EachEvent
 pub mod Histories
 pub mod AckAllItems
@@ -34,3 +37,4 @@ pub mod Followed
 pub mod WholeAcked
 pub mod AllAgree
 pub mod LawsAgree
+pub mod Numbered

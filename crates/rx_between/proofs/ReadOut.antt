@@ -27,7 +27,8 @@ use Rattle.rx_law.proofs.Calls.{body-ends, found-ends}
 use Rattle.rx_law.proofs.Ends.{Ends}
 use Rattle.rx_between.specs.Acknowledged.{received_by}
 use Rattle.rx_between.specs.Agreed.{HasEnded}
-use Rattle.rx_between.proofs.EachEvent.{changed_twice, each_step}
+use Rattle.rx_between.proofs.EachChange.{changed_twice}
+use Rattle.rx_between.proofs.EachEvent.{each_step}
 use Rattle.rx_between.proofs.EachStep.{CallStep, EndStep, Starts, finishes, gives, reads, shuts, stays, takes, writes}
 use Rattle.rx_between.proofs.Histories.{StepOf}
 use Rattle.rx_between.proofs.Lives.{IsClients, clients_on, ended_on}

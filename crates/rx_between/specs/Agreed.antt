@@ -3,10 +3,10 @@ use Rattle.std.specs.Prelude.{◌≡◌, ◌⊎◌, ◌≤◌, is_some, ℕ, tru
 use Rattle.rx_model.specs.declared.answers.End.{End}
 use Rattle.rx_model.specs.declared.event.Noted.{Noted}
 use Rattle.rx_model.specs.declared.names.CallName.{CallName}
-use Rattle.rx_model.specs.Names.{Connection, connection_of}
+use Rattle.rx_model.specs.Names.{Channel, Connection, connection_of}
 use Rattle.rx_rules.specs.Life.{Life}
 use Rattle.rx_rules.specs.Life as lives
-use Rattle.rx_rules.specs.Looks.{CallRecord, call_at}
+use Rattle.rx_rules.specs.Looks.{CallRecord, call_at, channel_at}
 use Rattle.rx_rules.specs.Received.{Received, greatest}
 use Rattle.rx_rules.specs.Sent.{Sent, given_of}
 use Rattle.rx_rules.specs.Setup.{Setup, Client, receiving_window}
@@ -53,11 +53,14 @@ pub record Agrees (client server : Setup) (a b : Option CallRecord) : Type 0 whe
   pub read_out : (received_by a).ended ≡ true → HasEnded a
   pub over : server.prompt ≡ false → IsOverWell b → HasEnded a
 
--- each call of a connection
-abbrev pub AgreeOn : TwoEnds → List Noted → Type 0
-AgreeOn x h =
-    (c : CallName) → connection_of c ≡ x.connection
-    → Agrees x.client_setup x.server_setup (call_at (at_client x h) c) (call_at (at_server x h) c)
+-- each call of a connection; and of each channel the server's latest call is no later than the client's
+pub record AgreeOn (x : TwoEnds) (h : List Noted) : Type 0 where
+  pub calls :
+      (c : CallName) → connection_of c ≡ x.connection
+      → Agrees x.client_setup x.server_setup (call_at (at_client x h) c) (call_at (at_server x h) c)
+  pub channels :
+      (ch : Channel) → ch.connection ≡ x.connection
+      → (channel_at (at_server x h) ch).number ≤ (channel_at (at_client x h) ch).number
 
 -- between two legal ends with a network that invents nothing, where the server starts no call while it has a record of
 -- it

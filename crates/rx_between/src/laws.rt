@@ -37,7 +37,8 @@ pub fn acknowledged_arrived()
 /// The two ends of a call agree at every moment, whatever was lost, repeated and reordered. What each takes for
 /// acknowledged the other has. Each packet that one kept is a piece that the other gave. The window that one takes for
 /// the other's is no wider than that is. A call that the server knows its client knows. A client's call that was read to
-/// its end has ended; and where the server isn't prompt, its call is over with no code only where its client's has ended.
+/// its end has ended; and where the server isn't prompt, its call is over with no code only where its client's has ended. Of
+/// each channel the latest call at the server is no later than the latest at the client.
 /// Under the premises of [`acknowledged_arrived`].
 pub fn ends_agree()
     ensures once { AgreeOnce }
