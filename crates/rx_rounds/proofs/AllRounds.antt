@@ -106,7 +106,7 @@ module _ (x : Ends) (g : Handlers) (fits : FitsEnds x) (apart : AreApart x) (req
   replied = served_pieces (served_for g request)
 
   -- a handler that waits
-  pub waiting_ends : (left now turns : ℕ) (s t : Stage) → now + 2000 * left < 2 ^ 62 → turns + 4 * replied + 2 ≤ left
+  pub waiting_ends : (left now turns : ℕ) (s t : Stage) → now + 2000 * left < 2 ^ 62 → turns + 4 * replied + 3 ≤ left
       → Waiting x g request call line now turns s → Made (rounds g left) s t → HasCome x g request call line t
   waiting_ends zero now turns s t early enough h made = absurd (omega arith)
   waiting_ends (suc left) now turns s t early enough h made =
@@ -116,14 +116,14 @@ module _ (x : Ends) (g : Handlers) (fits : FitsEnds x) (apart : AreApart x) (req
       (waiting_next x g fits apart request call line small coded now turns s m.behind h m.first (omega arith))
     where
       by : (u : Stage) → Made (rounds g left) u t
-          → ((now2 turns2 : ℕ) → now2 + 2000 * left < 2 ^ 62 → turns2 + 4 * replied + 2 ≤ left
+          → ((now2 turns2 : ℕ) → now2 + 2000 * left < 2 ^ 62 → turns2 + 4 * replied + 3 ≤ left
           → Waiting x g request call line now2 turns2 u → HasCome x g request call line t)
           → WaitingNext x g request call line now turns u → HasCome x g request call line t
       by u others again (waits_less now2 turns2 from far less h2) = again now2 turns2 (omega arith) (omega arith) h2
       by u others again (then_replies reply r) =
           let is : replied ≡ total reply = reply_pieces g request reply r.served in
           let some : 1 ≤ turns = h.some in
-          replying_ends x g fits apart request call line (omega arith) left now 0 0 1 reply u t (omega arith) (omega arith)
+          replying_ends x g fits apart request call line (omega arith) left now 0 0 3 reply u t (omega arith) (omega arith)
           r others
       by u others again (then_refuses code r) =
           let some : 1 ≤ turns = h.some in
@@ -131,7 +131,7 @@ module _ (x : Ends) (g : Handlers) (fits : FitsEnds x) (apart : AreApart x) (req
 
   -- a request that comes
   pub arriving_ends : (left now a n q : ℕ) (s t : Stage) → now + 2000 * left < 2 ^ 62 → 1 ≤ n
-      → 4 * total request + q + (wait_of g request + 4 * replied + 2) ≤ left + 2 * (a + n)
+      → 4 * total request + q + (wait_of g request + 4 * replied + 3) ≤ left + 2 * (a + n)
       → Arriving x g request call line now a n q s → Made (rounds g left) s t → HasCome x g request call line t
   arriving_ends zero now a n q s t early known enough h made =
       absurd (let short : n < total request = h.reads.short in let low : a ≤ n = h.up.known in omega arith)
@@ -158,7 +158,7 @@ module _ (x : Ends) (g : Handlers) (fits : FitsEnds x) (apart : AreApart x) (req
 
       by : (u : Stage) → Made (rounds g left) u t
           → ((now2 a2 n2 q2 : ℕ) → now2 + 2000 * left < 2 ^ 62 → 1 ≤ n2
-          → 4 * total request + q2 + (wait_of g request + 4 * replied + 2) ≤ left + 2 * (a2 + n2)
+          → 4 * total request + q2 + (wait_of g request + 4 * replied + 3) ≤ left + 2 * (a2 + n2)
           → Arriving x g request call line now2 a2 n2 q2 u → HasCome x g request call line t)
           → ArrivingNext x g request call line now a n q u → HasCome x g request call line t
       by u others again (comes_on now2 a2 n2 q2 from far further h2) =
@@ -170,14 +170,14 @@ module _ (x : Ends) (g : Handlers) (fits : FitsEnds x) (apart : AreApart x) (req
           waiting_ends left now (wait_of g request) u t (omega arith) (omega arith) h2 others
       by u others again (replies_now reply r) =
           let is : replied ≡ total reply = reply_pieces g request reply r.served in
-          replying_ends x g fits apart request call line (omega arith) left now 0 0 1 reply u t (omega arith) (omega arith)
+          replying_ends x g fits apart request call line (omega arith) left now 0 0 3 reply u t (omega arith) (omega arith)
           r others
       by u others again (refuses_now code r) =
           refusing_ends x g fits apart request call line (omega arith) left now code u t (omega arith) r others
 
   -- behind the first pieces
   pub turns_end : (left now a n : ℕ) (s t : Stage) → now + 2000 * left < 2 ^ 62 → 1 ≤ n
-      → 4 * total request + 1 + (wait_of g request + 4 * replied + 2) ≤ left
+      → 4 * total request + 1 + (wait_of g request + 4 * replied + 3) ≤ left
       → TurnsNext x g request call line now a n s → Made (rounds g left) s t → HasCome x g request call line t
   turns_end left now a n s t early known enough (reads_more h) made =
       arriving_ends left now a n 1 s t early known (omega arith) h made
@@ -185,6 +185,6 @@ module _ (x : Ends) (g : Handlers) (fits : FitsEnds x) (apart : AreApart x) (req
       waiting_ends left now (wait_of g request) s t early (omega arith) h made
   turns_end left now a n s t early known enough (replies_next reply r) made =
       let is : replied ≡ total reply = reply_pieces g request reply r.served in
-      replying_ends x g fits apart request call line (omega arith) left now 0 0 1 reply s t early (omega arith) r made
+      replying_ends x g fits apart request call line (omega arith) left now 0 0 3 reply s t early (omega arith) r made
   turns_end left now a n s t early known enough (refuses_next code r) made =
       refusing_ends x g fits apart request call line (omega arith) left now code s t (omega arith) r made

@@ -2,21 +2,20 @@
 -- is due; or its handler waits, replies or refuses.
 use Rattle.std.proofs.Common.{◌≡◌, ◌≢◌, ◌<◌, ◌≤◌, ◌⊎◌, inl, inr, ⊎_elim, ◌+◌, ◌-◌, ◌*◌, ◌^◌, ◌++◌, ◌==◌, ℕ, ℤ, pos, suc}
 use Rattle.std.proofs.Common.{max, Bool, true, false, List, [], ◌∷◌, refl, ap, sym, subst, ◌∙◌, Option, Some, None, length}
-use Rattle.std.proofs.Common.{map, arith, append-nil, nat_le, nat_lt}
+use Rattle.std.proofs.Common.{arith, append-nil, nat_le}
 use Rattle.std.proofs.lemmas.Bool.{both_ways, cases_lt, lt-leb, ne_eqb, eq-eqb}
 use Rattle.std.proofs.lemmas.List.{length-append}
-use Rattle.std.specs.Prelude.{IfSome, IsSomeAnd, if◌then◌else◌}
+use Rattle.std.specs.Prelude.{IfSome, IsSomeAnd}
 use Rattle.rx_model.specs.declared.wire.TheConstants.{PING_MS, SILENCE_MS}
 use Rattle.rx_model.specs.declared.names.Host.{Host}
 use Rattle.rx_model.specs.Message.{IsBytes, Message}
-use Rattle.rx_rules.specs.CallItems.{CallItem, Piece, ack_items, again_items, can_give, fresh_items, item_at, lost_items, ping_items}
-use Rattle.rx_rules.specs.Lost.{first_lost, late_of, overtaken_of, under_way}
+use Rattle.rx_rules.specs.CallItems.{can_give}
 use Rattle.rx_rules.specs.CallLooks.{CallLooks}
 use Rattle.rx_rules.specs.Life as lives
 use Rattle.rx_rules.specs.Looks.{Looks}
 use Rattle.rx_rules.specs.Owing.{Owed}
 use Rattle.rx_rules.specs.Received.{Received, front_of, is_complete, is_within, nothing_received, unread_of}
-use Rattle.rx_rules.specs.Sent.{LastGiving, Sent, counting_by, last_giving, lowest_of, counting_of, given_of, held_pieces, nothing_sent, pieces_by}
+use Rattle.rx_rules.specs.Sent.{Sent, counting_by, counting_of, held_pieces, nothing_sent, pieces_by}
 use Rattle.rx_law.specs.Worlds.{Datagram}
 use Rattle.rx_script.specs.Served.{refusal}
 use Rattle.rx_asks.specs.declared.ask.Phase.TheVariants as phases
@@ -25,10 +24,10 @@ use Rattle.rx_jobs.specs.Jobs.{JobState, begun}
 use Rattle.rx_jobs.specs.Keeping.{kept_of}
 use Rattle.rx_plan.specs.Stages.{InvokedState, Stage}
 use Rattle.rx_rounds.proofs.ArrivingRound.{ClientBehind, Exchanged, client_behind, exchanged}
-use Rattle.rx_rounds.proofs.ArrivingRound.{nothing_gives, nothing_sends, pieces_none, tells_none, tells_read, used_read}
+use Rattle.rx_rounds.proofs.ArrivingRound.{nothing_gives, nothing_sends, tells_none, tells_read, used_read}
 use Rattle.rx_rounds.proofs.Between.{Arriving, InTouch, Refusing, Replying, Waiting, at_work, caller_with, client_at, server_at}
 use Rattle.rx_rounds.proofs.EachItem.{In}
-use Rattle.rx_rounds.proofs.Exchange.{PolledOut, burst_some, counts_within, lowest, must_go, polled_out}
+use Rattle.rx_rounds.proofs.Exchange.{PolledOut, burst_some, counts_within, must_go, polled_out}
 use Rattle.rx_rounds.proofs.Flow.{total}
 use Rattle.rx_rounds.proofs.Keeper.{kept_to, last_kept, part_read}
 use Rattle.rx_rounds.proofs.OneCall.{Ends, client_place, header_of, server_place, the_call}
@@ -38,6 +37,7 @@ use Rattle.rx_rounds.proofs.OneWay.{IsOwedBy, IsPlainOwed, IsSteady, Reads, Send
 use Rattle.rx_rounds.proofs.Pair.{CallEnd}
 use Rattle.rx_rounds.proofs.ReadOn.{begins_read}
 use Rattle.rx_rounds.proofs.ReadsNext.{Came, TurnsNext, reads_more, refuses_next, replies_next, turns_next, waits_next}
+use Rattle.rx_rounds.proofs.ReplyMoments.{MomentOf, in_ack, moment_of, of_ack, of_death, of_piece, of_ping}
 use Rattle.rx_rounds.proofs.RoundParts.{turn_still}
 use Rattle.rx_rounds.proofs.Rounded.{RoundMade, caller_at, settles_not}
 use Rattle.rx_rounds.proofs.SaidMore.{said_more}
@@ -54,7 +54,7 @@ pub data ArrivingNext (x : Ends) (g : Handlers) (request : List ℕ) (call line 
       → 2 * (a + n) + q2 + 1 ≤ 2 * (a2 + n2) + q
       → Arriving x g request call line now2 a2 n2 q2 t → ArrivingNext x g request call line now a n q t
   waits_now : Waiting x g request call line now (wait_of g request) t → ArrivingNext x g request call line now a n q t
-  replies_now : (reply : List ℕ) → Replying x g request reply call line now 0 0 1 t
+  replies_now : (reply : List ℕ) → Replying x g request reply call line now 0 0 3 t
       → ArrivingNext x g request call line now a n q t
   refuses_now : (code : ℤ) → Refusing x g request call line now code t → ArrivingNext x g request call line now a n q t
 
@@ -503,17 +503,10 @@ module _ (x : Ends) (g : Handlers) (fits : FitsEnds x) (apart : AreApart x) (req
 
           -- an ACK is owed soon
           module _ (w : Owed) (owes : ks1.owed_ack ≡ Some w) (low : w.rank ≤ h.since + 100) where
-            server_ends : end_moments false ks1 ≡ w.rank ∷ (ks1.heard + SILENCE_MS) ∷ []
-            server_ends =
-                ap (λ (is : List CallItem). map (λ (i : CallItem). i.rank) (is ++ (ack_items ks1.owed_ack ++ []))
-                ++ (ks1.heard + SILENCE_MS) ∷ []) (pieces_none ks1 new1 steady1)
-                ∙ ap (λ (z : Option Owed). map (λ (i : CallItem). i.rank) (ack_items z ++ [])
-                ++ (ks1.heard + SILENCE_MS) ∷ []) owes
-
             now2_low : settled.then_now ≤ h.since + 100
             now2_low =
                 let near : settled.then_now ≤ max now w.rank = settled.near w.rank
-                (inl (subst (λ (ms : List ℕ). In w.rank ms) (sym server_ends) (inl refl))) in
+                (inl (in_ack false ks1 w owes)) in
                 omega (arith, soon)
 
             now2_far : settled.then_now ≤ now + 2000
@@ -522,63 +515,23 @@ module _ (x : Ends) (g : Handlers) (fits : FitsEnds x) (apart : AreApart x) (req
                 (inr (in_ping kc2)) in
                 omega (arith, spoken2)
 
-            client_ends : (z : Option LastGiving) → last_giving kc2.sent.givings (suc a) ≡ z
-                → end_moments true kc2 ≡ map (λ (i : CallItem). i.rank) (again_items kc2.rtt.rto (suc a) z)
-                ++ (kc2.spoke + PING_MS) ∷ (kc2.heard + SILENCE_MS) ∷ []
-            client_ends z is =
-                ap (λ (b : Bool). map (λ (i : CallItem). i.rank)
-                ((lost_items (if b then first_lost (overtaken_of kc2.sent)
-                (if nat_lt (under_way kc2.sent) kc2.cwnd.window then late_of kc2.sent else None) else None)
-                ++ (fresh_items kc2.cwnd kc2.sent ++ again_items kc2.rtt.rto (lowest_of kc2.sent)
-                (last_giving kc2.sent.givings (lowest_of kc2.sent)))) ++ (ack_items kc2.owed_ack
-                ++ ping_items true kc2.spoke)) ++ (kc2.heard + SILENCE_MS) ∷ []) up3.rates.steady
-                ∙ ap (λ (b : Bool). map (λ (i : CallItem). i.rank)
-                (((if b then item_at 0 (Piece (suc (given_of kc2.sent)) false) else [])
-                ++ again_items kc2.rtt.rto (lowest_of kc2.sent)
-                (last_giving kc2.sent.givings (lowest_of kc2.sent))) ++ (ack_items kc2.owed_ack
-                ++ ping_items true kc2.spoke)) ++ (kc2.heard + SILENCE_MS) ∷ []) can_none
-                ∙ ap (λ (j : ℕ). map (λ (i : CallItem). i.rank) (again_items kc2.rtt.rto j
-                (last_giving kc2.sent.givings j) ++ (ack_items kc2.owed_ack
-                ++ ping_items true kc2.spoke)) ++ (kc2.heard + SILENCE_MS) ∷ []) (lowest request h.since a n kc2 up3)
-                ∙ ap (λ (v : Option Owed). map (λ (i : CallItem). i.rank) (again_items kc2.rtt.rto (suc a)
-                (last_giving kc2.sent.givings (suc a)) ++ (ack_items v
-                ++ ping_items true kc2.spoke)) ++ (kc2.heard + SILENCE_MS) ∷ []) none2
-                ∙ ap (λ (v : Option LastGiving). map (λ (i : CallItem). i.rank) (again_items kc2.rtt.rto (suc a) v
-                ++ ping_items true kc2.spoke) ++ (kc2.heard + SILENCE_MS) ∷ []) is
-                ∙ of z
-              where
-                of : (z : Option LastGiving) → map (λ (i : CallItem). i.rank) (again_items kc2.rtt.rto (suc a) z
-                    ++ ping_items true kc2.spoke) ++ (kc2.heard + SILENCE_MS) ∷ []
-                    ≡ map (λ (i : CallItem). i.rank) (again_items kc2.rtt.rto (suc a) z)
-                    ++ (kc2.spoke + PING_MS) ∷ (kc2.heard + SILENCE_MS) ∷ []
-                of None = refl
-                of (Some z) = refl
-
             -- nothing of the client is due
             client_later : (mm : ℕ) → In mm (end_moments true kc2) → settled.then_now < mm
-            client_later mm there =
-                by (last_giving kc2.sent.givings (suc a)) refl (up3.recent (suc a) (omega arith) (omega (arith, flying)))
+            client_later mm there = by (moment_of true request h.since a n kc2 up3 can_none mm there)
               where
-                by : (z : Option LastGiving) → last_giving kc2.sent.givings (suc a) ≡ z
-                    → IsSomeAnd z (λ v. h.since ≤ v.moment) → settled.then_now < mm
-                by None is some = absurd some
-                by (Some v) is some =
-                    of (subst (λ (ms : List ℕ). In mm ms) (client_ends (Some v) is) there)
-                  where
-                    client_spoke : h.since ≤ kc2.spoke
-                    client_spoke = (let older : h.since ≤ h.kc.spoke = h.gave flying in
-                        let is_ : kc2.spoke ≡ p.spoke = c.spoke in
-                        ⊎_elim (λ (u : p.spoke ≡ now). omega (arith, past))
-                        (λ (u : (p.spoke ≡ h.kc.spoke) × (p.pieces.last ≡ n)). (let same : p.spoke ≡ h.kc.spoke = u.0 in
-                        omega arith)) spoke_of)
+                client_spoke : h.since ≤ kc2.spoke
+                client_spoke = (let older : h.since ≤ h.kc.spoke = h.gave flying in
+                    let is_ : kc2.spoke ≡ p.spoke = c.spoke in
+                    ⊎_elim (λ (u : p.spoke ≡ now). omega (arith, past))
+                    (λ (u : (p.spoke ≡ h.kc.spoke) × (p.pieces.last ≡ n)). (let same : p.spoke ≡ h.kc.spoke = u.0 in
+                    omega arith)) spoke_of)
 
-                    of : In mm ((v.moment + kc2.rtt.rto) ∷ (kc2.spoke + PING_MS) ∷ (kc2.heard + SILENCE_MS) ∷ [])
-                        → settled.then_now < mm
-                    of (inl same) = (let slow : 350 ≤ kc2.rtt.rto = up3.rates.slow in omega (arith, now2_low))
-                    of (inr (inl same)) = omega (arith, now2_low, client_spoke)
-                    of (inr (inr (inl same))) =
-                        (let near : h.since ≤ h.kc.heard + 3000 = touch.client in omega (arith, now2_low, heard2))
-                    of (inr (inr (inr none_))) = absurd none_
+                by : MomentOf true request h.since a n kc2 up3 can_none mm → settled.then_now < mm
+                by (of_piece some late) = omega (arith, now2_low)
+                by (of_ack z is same) = absurd (let never : ◌≡◌ {A = Option Owed} (Some z) None = sym is ∙ none2 in cc)
+                by (of_ping side same) = omega (arith, now2_low, client_spoke)
+                by (of_death same) =
+                    (let near : h.since ≤ h.kc.heard + 3000 = touch.client in omega (arith, now2_low, heard2))
 
             -- so the ACK is
             due_now : IsOwedBy settled.then_now ks1
@@ -588,14 +541,17 @@ module _ (x : Ends) (g : Handlers) (fits : FitsEnds x) (apart : AreApart x) (req
                 by : (mm : ℕ) → InEither mm (end_moments false ks1) (end_moments true kc2) → mm ≤ settled.then_now
                     → IsOwedBy settled.then_now ks1
                 by mm (inr second) within = absurd (let later : settled.then_now < mm = client_later mm second in omega arith)
-                by mm (inl first) within = of (subst (λ (ms : List ℕ). In mm ms) server_ends first)
+                by mm (inl first) within =
+                    of (moment_of false [] now 0 0 ks1 (nothing_sends now ks1 new1 steady1) (nothing_gives ks1 new1) mm first)
                   where
-                    of : In mm (w.rank ∷ (ks1.heard + SILENCE_MS) ∷ []) → IsOwedBy settled.then_now ks1
-                    of (inl same) = subst (λ (z : Option Owed). IsSomeAnd z (λ v. v.rank ≤ settled.then_now)) (sym owes)
-                        (omega arith)
-                    of (inr (inl same)) = absurd (let near : h.since ≤ h.ks.heard + 1000 = touch.server in
+                    of : MomentOf false [] now 0 0 ks1 (nothing_sends now ks1 new1 steady1) (nothing_gives ks1 new1) mm
+                        → IsOwedBy settled.then_now ks1
+                    of (of_piece some late) = absurd (omega arith)
+                    of (of_ack z is same) =
+                        subst (λ (v : Option Owed). IsSomeAnd v (λ y. y.rank ≤ settled.then_now)) (sym is) (omega arith)
+                    of (of_ping side same) = absurd cc
+                    of (of_death same) = absurd (let near : h.since ≤ h.ks.heard + 1000 = touch.server in
                         omega (arith, now2_low, heard1))
-                    of (inr (inr none_)) = absurd none_
 
             waits_for_ack : 1 ≤ q → ArrivingNext x g request call line now a n q t
             waits_for_ack some =
@@ -783,12 +739,9 @@ module _ (x : Ends) (g : Handlers) (fits : FitsEnds x) (apart : AreApart x) (req
               even = steady1.even;
               slow = steady1.slow;
             };
-            owed = owed;
-            owes = refl;
             plain = plain;
             late = late_owed;
-            soon_owed = moments_are.soon_owed;
-            at_end = zero_end;
+            owes = inl moments_are.soon_owed;
             heard = refl;
             past = moments_are.past2;
             soon = moments_are.soon2;

@@ -44,7 +44,7 @@ nothing_sends since k none steady =
     record {
       acked = ap (λ (s : Sent). s.acked) none;
       given = ap given_of none;
-      hard = λ j. ap (λ (s : Sent). s.soft j) none;
+      marked = λ j past. ap (λ (s : Sent). s.soft j) none;
       peer = ap (λ (s : Sent). s.peer_window) none;
       known = omega arith;
       near = omega arith;

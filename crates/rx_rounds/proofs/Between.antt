@@ -1,7 +1,7 @@
 -- The stages of an invoke of a plan without a key between two rounds: its request comes, its handler waits, its reply
 -- comes, its code comes; and that its caller ended.
 use Rattle.std.proofs.Common.{◌≡◌, ◌≢◌, ◌<◌, ◌≤◌, ◌*◌, ◌+◌, ◌⊎◌, ℕ, ℤ, pos, Bool, true, false, List, [], ◌∷◌, ◌++◌}
-use Rattle.std.proofs.Common.{Some, None, length}
+use Rattle.std.proofs.Common.{Option, Some, None, length}
 use Rattle.std.specs.Prelude.{IfSome}
 use Rattle.rx_model.specs.Spelling.{IsCode}
 use Rattle.rx_model.specs.declared.answers.End.TheVariants as ends
@@ -10,6 +10,7 @@ use Rattle.rx_rules.specs.CallLooks.{CallLooks, fresh_call}
 use Rattle.rx_rules.specs.Life.{Life}
 use Rattle.rx_rules.specs.Life as lives
 use Rattle.rx_rules.specs.Looks.{Looks, fresh_channel}
+use Rattle.rx_rules.specs.Owing.{Owed}
 use Rattle.rx_rules.specs.Received.{nothing_received}
 use Rattle.rx_rules.specs.Sent.{counting_of, nothing_sent}
 use Rattle.rx_script.specs.Served.{Served, bytes, refusal}
@@ -111,11 +112,12 @@ pub record Arriving (x : Ends) (g : Handlers) (request : List ℕ) (call line no
 
 -- ---- its handler waits
 
--- how a client and a server stay in touch while a handler waits: nothing is owed; the server owes an ACK at once; a ping
--- is due
+-- how a client and a server stay in touch while a handler waits: nothing is owed; the server owes an ACK at once; it owes
+-- one that may be due later; a ping is due
 pub data Waits (now : ℕ) (kc ks : CallLooks) : Type 0 where
   rests : ks.owed_ack ≡ None → InTouch 1000 now kc ks → Waits now kc ks
   answers : IsOwedBy now ks → InTouch 6000 now kc ks → Waits now kc ks
+  answers_later : IsOwedBy (now + 100) ks → now ≤ kc.heard + 3200 → ks.heard ≡ now → kc.spoke ≡ now → Waits now kc ks
   pings : ks.owed_ack ≡ None → kc.spoke + 2000 ≤ now → now ≤ kc.heard + 3200 → now ≤ ks.heard + 3200
       → Waits now kc ks
 
@@ -146,7 +148,7 @@ pub record Waiting (x : Ends) (g : Handlers) (request : List ℕ) (call line now
   pub some : 1 ≤ left
   pub uncoded : early_code g request true ≡ None
   pub has : HasAll request kc ks
-  pub acks : (has.a ≡ total request) ⊎ (IsOwedBy now ks × (now ≤ has.since + 100))
+  pub acks : (has.a ≡ total request) ⊎ (IsOwedBy (has.since + 100) ks × (now ≤ has.since + 100))
   pub past : has.since ≤ now
   pub quiet : kc.received ≡ nothing_received
   pub owes_none : kc.owed_ack ≡ None
@@ -170,6 +172,12 @@ pub data Answering_ (x : Ends) (g : Handlers) (request : List ℕ) (said : List 
         reply = rest;
       } ∷ [])
   finished : shut ≡ true → rest ≡ [] → Answering_ x g request said shut rest lives.Finished []
+
+-- whether the server owes an ACK while its reply comes: none; one that is due, which counts one; or any, which counts two
+pub data Owing (now : ℕ) (o : Option Owed) (owing : ℕ) : Type 0 where
+  owes_none : o ≡ None → Owing now o owing
+  owes_now : 1 ≤ owing → IfSome o (λ w. w.rank ≤ now) → Owing now o owing
+  owes_any : 2 ≤ owing → Owing now o owing
 
 pub record Replying (x : Ends) (g : Handlers) (request reply : List ℕ) (call line now a n q : ℕ) (s : Stage)
     : Type 0 where
@@ -201,12 +209,14 @@ pub record Replying (x : Ends) (g : Handlers) (request reply : List ℕ) (call l
   pub time : OnTime 4000 since now a n kc ks kc
   pub spoken : kc.spoke ≤ now
   pub late : IfSome kc.owed_ack (λ o. o.rank ≤ now + 100)
-  -- behind a quiet round the ACK is due
-  pub due : q ≡ 0 → (a < n) × IsOwedBy now kc
-  pub ready : q ≤ 1
-  -- the ACK of the request, or that of a ping, may be owed before the first piece is given
+  -- the ACK of the request, or that of a ping, may be owed yet
+  pub owing : ℕ
+  pub passes : Owing now ks.owed_ack owing
+  pub within : owing ≤ q
+  -- behind a quiet round the client's ACK is due
+  pub due : q ≤ owing → (a < n) × IsOwedBy now kc
+  -- the request is acknowledged whole from the first piece on
   pub acks : (has.a ≡ total request) ⊎ ((n ≡ 0) × (now ≤ has.since + 100))
-  pub passes : (ks.owed_ack ≡ None) ⊎ ((n ≡ 0) × IsOwedBy now ks)
 
 -- ---- its code comes
 

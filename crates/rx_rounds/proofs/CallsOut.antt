@@ -30,8 +30,8 @@ use Rattle.rx_events.specs.Events.{written_count}
 use Rattle.rx_jobs.specs.Jobs.{JobState}
 use Rattle.rx_plan.specs.Stages.{InvokedState, Stage}
 use Rattle.rx_plan.specs.Turned.{turns_all}
-use Rattle.rx_rounds.proofs.Between.{caller_with, client_at}
-use Rattle.rx_rounds.proofs.OneCall.{Ends, client_setup, from_client, the_call}
+use Rattle.rx_rounds.proofs.Between.{caller_with}
+use Rattle.rx_rounds.proofs.OneCall.{Ends, answering_link, client_setup, node_of, the_call}
 use Rattle.rx_rounds.proofs.RoundParts.{two_callers}
 use Rattle.rx_rounds.proofs.OneSteps.{client_read_on, client_shut, own_is, wrote}
 use Rattle.rx_rounds.proofs.Rounded.{Made, call_to, caller_at}
@@ -63,9 +63,10 @@ slots_numbers : (h l : ℕ) → h ≤ 900 → l ≤ 1 → 32 ≤ 1984 - (h - l +
 slots_numbers h l few low = omega arith
 
 -- there is room up to the 32nd piece behind those that are hard acknowledged
-room_is : (x : Ends) (now given used a : ℕ) (k : CallLooks) → CanSay a k
-    → room (client_setup x) (client_at x given used [] now k) k ≡ 1412 * (a + 32) - length k.sent.said
-room_is x now given used a k h =
+room_is : (x : Ends) (answer : Option (List ℕ)) (now given used a : ℕ) (k : CallLooks) → CanSay a k
+    → room (client_setup x) (node_of x (answering_link x answer given used) [] now lives.Calling k) k
+    ≡ 1412 * (a + 32) - length k.sent.said
+room_is x answer now given used a k h =
     let holds : held k ≤ 900 = rw (h.going, h.quiet) (omega (arith, h.near, h.acked)) in
     let more : ℕ = 1984 - (held k - lead k + 0) + 1 - lead k in
     let slots : 32 ≤ more = slots_numbers (held k) (lead k) holds (lead_low k) in
@@ -74,12 +75,13 @@ room_is x now given used a k h =
 
 -- ---- the turn
 
-module _ (x : Ends) (ls : Looks) (cs : List InvokedState) (js : List JobState) (now given used : ℕ) where
+-- of a client that owes a RESPONSE or doesn't
+module _ (x : Ends) (answer : Option (List ℕ)) (ls : Looks) (cs : List InvokedState) (js : List JobState) (now given used : ℕ) where
   abbrev c : CallName
   c = the_call x
 
   abbrev calling_with : CallLooks → Looks
-  calling_with k = client_at x given used [] now k
+  calling_with k = node_of x (answering_link x answer given used) [] now lives.Calling k
 
   -- how its turn ends: there is no more room, or all is said and it shut
   pub data Said (a : ℕ) (k : CallLooks) (rest : List ℕ) (w : CallerState) (t : Stage) : Type 0 where
@@ -123,7 +125,7 @@ module _ (x : Ends) (ls : Looks) (cs : List InvokedState) (js : List JobState) (
       let e : Event = events.HasRead c 4096 (readers.Client answers.NotYet) [] in
       let is : read_event x (calling_with k) c 4096 ≡ e =
       ap (λ (o : Option CallRecord). events.HasRead c 4096 (readers.Client (client_read o 4096).0)
-      (client_read o 4096).1) (own_is x given used [] now lives.Calling k)
+      (client_read o 4096).1) (own_is x answer given used [] now lives.Calling k)
       ∙ ap (λ (r : Received). events.HasRead c 4096 (readers.Client (client_read_by lives.Calling (read_of r 4096)).0)
       (client_read_by lives.Calling (read_of r 4096)).1) none in
       let same : after_read now false [] k ≡ k =
@@ -136,7 +138,7 @@ module _ (x : Ends) (ls : Looks) (cs : List InvokedState) (js : List JobState) (
       (calls_read x REPLY_BYTES ls (calling_with k) cs js v w s t c 4096 go.0 asked go.1) in
       let two1 : Two x ls (calling_with k) cs js f.stage =
       two_as x ls (after (client_setup x) e (calling_with k)) ls (calling_with k) cs js f.stage f.stage refl
-      (client_read_on x (from_client x given used) [] now 4096 k answers.NotYet [] refl ∙ ap calling_with same) refl
+      (client_read_on x (answering_link x answer given used) [] now 4096 k answers.NotYet [] refl ∙ ap calling_with same) refl
       f.two in
       let o = calls_over REPLY_BYTES (caller_with x left shut [] phases.Resting) w f.stage t refl f.goes in (
         o.0,
@@ -151,13 +153,13 @@ module _ (x : Ends) (ls : Looks) (cs : List InvokedState) (js : List JobState) (
       let e : Event = events.Shut c (Ok tt) in
       let is : shut_event x (calling_with k) c ≡ e =
       ap (λ (o : Option CallRecord). events.Shut c (done_where (is_call can_say o)))
-      (own_is x given used [] now lives.Calling k)
+      (own_is x answer given used [] now lives.Calling k)
       ∙ rw can.going refl in
       let d = subst (λ (h : Event). Calls_ x REPLY_BYTES ls (calling_with k) cs js v h w t) is
       (calls_shut x REPLY_BYTES ls (calling_with k) cs js v w s t c go.0 refl go.1) in
       let two1 : Two x ls (calling_with (after_shut k)) cs js d.stage =
       two_as x ls (after (client_setup x) e (calling_with k)) ls (calling_with (after_shut k)) cs js d.stage d.stage refl
-      (client_shut x (from_client x given used) [] now k) refl d.two in
+      (client_shut x (answering_link x answer given used) [] now k) refl d.two in
       let r = reads_none (after_shut k) [] true phases.Offering d.stage t w can.quiet refl (two1, d.goes) in
       let none : k ≡ after_write [] k = ap (λ (ys : List ℕ). record k { sent = record k.sent { said = ys } })
       (sym (append-nil k.sent.said)) in
@@ -191,9 +193,9 @@ module _ (x : Ends) (ls : Looks) (cs : List InvokedState) (js : List JobState) (
       let e : Event = events.Wrote c (length offer) (writers.Client (Ok n)) (take n offer) in
       let got : ◌≡◌ {A = Result ℕ NotOpen} (client_write (client_setup x) lc (own_call lc c) (length offer)) (Ok n) =
       ap (λ (o : Option CallRecord). client_write (client_setup x) lc o (length offer))
-      (own_is x given used [] now lives.Calling k)
+      (own_is x answer given used [] now lives.Calling k)
       ∙ ap (λ (b : Bool). offer_at b (min (length offer) (room (client_setup x) lc k))) (ap not can.going)
-      ∙ ap (λ (m : ℕ). Ok (min (length offer) m)) (room_is x now given used a k can) in
+      ∙ ap (λ (m : ℕ). Ok (min (length offer) m)) (room_is x answer now given used a k can) in
       let is : offer_event x lc c offer ≡ e =
       ap (λ (q : Result ℕ NotOpen). events.Wrote c (length offer) (writers.Client q) (take (written_count q) offer)) got
       in
@@ -207,7 +209,7 @@ module _ (x : Ends) (ls : Looks) (cs : List InvokedState) (js : List JobState) (
         stage = i.stage;
         two = two_as x ls (after (client_setup x) e lc) ls (calling_with (after_write (take n offer) k))
             cs js i.stage i.stage refl
-            (wrote (client_setup x) x (from_client x given used) [] now (length offer) lives.Calling k
+            (wrote (client_setup x) x (answering_link x answer given used) [] now (length offer) lives.Calling k
             (writers.Client (Ok n)) (take n offer)) refl i.two;
         goes = subst (λ (m : ℕ). Calls REPLY_BYTES (caller_with x (drop m rest) false []
             (if nat_lt m (length offer) then phases.Reading else phases.Offering)) i.stage w t) counted i.goes;
@@ -302,33 +304,35 @@ module _ (x : Ends) (ls : Looks) (cs : List InvokedState) (js : List JobState) (
 
 -- ---- the turn of the one caller
 
-pub says_turn : (x : Ends) (ls : Looks) (js : List JobState) (now given used call line a : ℕ) (k : CallLooks)
-    (rest : List ℕ) (phase : Phase) (s t : Stage) → CanSay a k
-    → Two x ls (client_at x given used [] now k) (caller_at call line (caller_with x rest false [] phase) ∷ []) js s
+pub says_turn : (x : Ends) (answer : Option (List ℕ)) (ls : Looks) (js : List JobState) (now given used call line a : ℕ)
+    (k : CallLooks) (rest : List ℕ) (phase : Phase) (s t : Stage) → CanSay a k
+    → Two x ls (node_of x (answering_link x answer given used) [] now lives.Calling k) (caller_at call line (caller_with x rest false [] phase) ∷ []) js s
     → Made turns_all s t
     → (w : CallerState) × (u : Stage)
-    × Said x ls (caller_at call line (caller_with x rest false [] phase) ∷ []) js now given used a k rest w u
+    × Said x answer ls (caller_at call line (caller_with x rest false [] phase) ∷ []) js now given used a k rest w u
     × (t ≡ record u { callers = caller_at call line w ∷ [] })
-says_turn x ls js now given used call line a k rest phase s t can two made =
-    let m = call_to x ls (client_at x given used [] now k) js call line (caller_with x rest false [] phase) s t two
+says_turn x answer ls js now given used call line a k rest phase s t can two made =
+    let m = call_to x ls (node_of x (answering_link x answer given used) [] now lives.Calling k) js call line (caller_with x rest false [] phase) s t two
     made in (
       m.view,
       m.stage,
-      says_out x ls (caller_at call line (caller_with x rest false [] phase) ∷ []) js now given used (length rest) a k rest
+      says_out x answer ls (caller_at call line (caller_with x rest false [] phase) ∷ []) js now given used (length rest) a k rest
           s m.stage m.view (omega arith) can (two, m.calls),
       m.then_,
     )
 
 -- one that shut and reads nothing
-pub waits_turn : (x : Ends) (ls : Looks) (js : List JobState) (now given used call line : ℕ) (k : CallLooks)
-    (phase : Phase) (s t : Stage) → k.received ≡ nothing_received
-    → Two x ls (client_at x given used [] now k) (caller_at call line (caller_with x [] true [] phase) ∷ []) js s
+pub waits_turn : (x : Ends) (answer : Option (List ℕ)) (ls : Looks) (js : List JobState) (now given used call line : ℕ)
+    (k : CallLooks) (phase : Phase) (s t : Stage) → k.received ≡ nothing_received
+    → Two x ls (node_of x (answering_link x answer given used) [] now lives.Calling k)
+    (caller_at call line (caller_with x [] true [] phase) ∷ []) js s
     → Made turns_all s t
-    → Two x ls (client_at x given used [] now k) (caller_at call line (caller_with x [] true [] phases.Resting) ∷ []) js t
-waits_turn x ls js now given used call line k phase s t quiet two made =
-    let lc : Looks = client_at x given used [] now k in
+    → Two x ls (node_of x (answering_link x answer given used) [] now lives.Calling k)
+    (caller_at call line (caller_with x [] true [] phases.Resting) ∷ []) js t
+waits_turn x answer ls js now given used call line k phase s t quiet two made =
+    let lc : Looks = node_of x (answering_link x answer given used) [] now lives.Calling k in
     let cs : List InvokedState = caller_at call line (caller_with x [] true [] phase) ∷ [] in
     let m = call_to x ls lc js call line (caller_with x [] true [] phase) s t two made in
-    let r = reads_none x ls cs js now given used k [] true phases.Offering s m.stage m.view quiet refl (two, m.calls) in
+    let r = reads_none x answer ls cs js now given used k [] true phases.Offering s m.stage m.view quiet refl (two, m.calls) in
     two_callers x ls lc cs (caller_at call line (caller_with x [] true [] phases.Resting) ∷ []) js m.stage t
     (m.then_ ∙ ap (λ (v : CallerState). record m.stage { callers = caller_at call line v ∷ [] }) r.0) r.1

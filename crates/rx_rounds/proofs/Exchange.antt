@@ -19,7 +19,7 @@ use Rattle.rx_rules.specs.Received.{marks_of, reach, used_of}
 use Rattle.rx_rules.specs.Received as received
 use Rattle.rx_rules.specs.Sent.{Giving, LastGiving, after_giving, counting_of, given_of, greatest_given, in_flight, is_acked}
 use Rattle.rx_rules.specs.Sent.{last_giving, lowest_of, opened, orders_of, payload_at, piece_at}
-use Rattle.rx_rounds.proofs.Counting.{count_rest, reach_least, reach_short}
+use Rattle.rx_rounds.proofs.Counting.{count_none, reach_least}
 use Rattle.rx_rounds.proofs.Flow.{total}
 use Rattle.rx_rounds.proofs.Keeper.{piece}
 use Rattle.rx_rounds.proofs.OneWay.{IsPlainOwed, Sends, Tells}
@@ -126,24 +126,37 @@ module _ (whole : List ℕ) (since a n : ℕ) (k : CallLooks) (h : Sends whole s
   acked_low : (j : ℕ) → j ≤ a → is_acked k.sent j ≡ true
   acked_low j low = or_left (nat_le j k.sent.acked) (k.sent.soft j) (le-leb j k.sent.acked (omega (arith, h.acked)))
 
-  acked_high : (j : ℕ) → a < j → is_acked k.sent j ≡ false
-  acked_high j high = rw (lt-leb j k.sent.acked (omega (arith, h.acked)), h.hard j) refl
+  -- where all that was given is hard acknowledged nothing is in flight
+  flight : a ≡ n → in_flight k.sent ≡ 0
+  flight all =
+      rw h.given (count_none (λ j. not (is_acked k.sent j)) n (λ j low high. ap not (acked_low j (omega arith))))
 
-  pub flight : in_flight k.sent ≡ n - a
-  flight =
-      let within : a ≤ n = h.known in
-      rw h.given
-      (count_rest (λ j. not (is_acked k.sent j)) a (n - a) n (omega arith)
-      (λ j low high. ap not (acked_low j high))
-      (λ j low high. ap not (acked_high j low)))
-
-  pub lowest : lowest_of k.sent ≡ suc a
-  lowest =
-      let within : a ≤ n = h.known in
-      let low : a ≤ reach (is_acked k.sent) n = reach_least (is_acked k.sent) n a within (λ j from to. acked_low j to) in
-      let high : reach (is_acked k.sent) n < suc a = reach_short (is_acked k.sent) n (suc a) (omega arith)
-      (acked_high (suc a) (omega arith)) in
+  -- the lowest piece that isn't acknowledged lies behind those that are hard acknowledged
+  lowest_low : a < lowest_of k.sent
+  lowest_low =
+      let low : a ≤ reach (is_acked k.sent) n = reach_least (is_acked k.sent) n a h.known (λ j from to. acked_low j to) in
       rw h.given (omega arith)
+
+  -- what is due of it again is due 350 ms behind the moment since which pieces were given, or later
+  pub again_late : IfSome (last_giving k.sent.givings (lowest_of k.sent)) (λ g. since + 350 ≤ g.moment + k.rtt.rto)
+  again_late = of (lowest_of k.sent) lowest_low (cases_lt n (lowest_of k.sent))
+    where
+      of : (j : ℕ) → a < j → (n < j) ⊎ (j ≤ n)
+          → IfSome (last_giving k.sent.givings j) (λ g. since + 350 ≤ g.moment + k.rtt.rto)
+      of j low (inl past) =
+          subst (λ (o : Option LastGiving). IfSome o (λ g. since + 350 ≤ g.moment + k.rtt.rto))
+          (sym (never_given k.sent.givings j (omega (arith, h.given)))) tt
+      of j low (inr given) = by (last_giving k.sent.givings j) (h.recent j low given)
+        where
+          by : (o : Option LastGiving) → IsSomeAnd o (λ g. since ≤ g.moment)
+              → IfSome o (λ g. since + 350 ≤ g.moment + k.rtt.rto)
+          by None some = tt
+          by (Some g) some = (let slow : 350 ≤ k.rtt.rto = h.rates.slow in omega arith)
+
+  -- where all that was given is hard acknowledged it was never given
+  pub again_never : a ≡ n → last_giving k.sent.givings (lowest_of k.sent) ≡ None
+  again_never all =
+      let low : a < lowest_of k.sent = lowest_low in never_given k.sent.givings (lowest_of k.sent) (omega (arith, h.given))
 
   -- pieces that count are pieces of the whole
   pub counts_within : counting_of k.sent ≤ total whole
@@ -162,7 +175,7 @@ module _ (whole : List ℕ) (since a n : ℕ) (k : CallLooks) (h : Sends whole s
       record {
         acked = h.acked;
         given = h.given;
-        hard = h.hard;
+        marked = h.marked;
         peer = h.peer;
         known = h.known;
         near = h.near;
@@ -223,7 +236,7 @@ module _ (whole : List ℕ) (since a n : ℕ) (k : CallLooks) (h : Sends whole s
       record {
         acked = h.acked;
         given = omega (arith, h.given);
-        hard = h.hard;
+        marked = λ j past. h.marked j (omega arith);
         peer = h.peer;
         known = omega (arith, h.known);
         near = near;
@@ -282,17 +295,18 @@ module _ (whole : List ℕ) (since a n : ℕ) (k : CallLooks) (h : Sends whole s
       → ripe_at now (again_items k.rtt.rto (lowest_of k.sent)
       (last_giving k.sent.givings (lowest_of k.sent))) ≡ []
   again_none now early =
-      rw lowest (elim (cases_lt a n) as (λ c. ripe_at now
-      (again_items k.rtt.rto (suc a) (last_giving k.sent.givings (suc a))) ≡ []) [
-        | inl less ↦ of (last_giving k.sent.givings (suc a)) (h.recent (suc a) (omega arith) (omega arith)) (early less)
-        | inr all ↦ rw (never_given k.sent.givings (suc a) (omega (arith, h.given))) refl
-      ])
+      elim (cases_lt a n) as (λ c. ripe_at now
+      (again_items k.rtt.rto (lowest_of k.sent) (last_giving k.sent.givings (lowest_of k.sent))) ≡ []) [
+        | inl less ↦ of (lowest_of k.sent) (last_giving k.sent.givings (lowest_of k.sent)) again_late (early less)
+        | inr all ↦
+            ap (λ (o : Option LastGiving). ripe_at now (again_items k.rtt.rto (lowest_of k.sent) o))
+            (again_never (let within : a ≤ n = h.known in omega arith))
+      ]
     where
-      of : (o : Option LastGiving) → IsSomeAnd o (λ g. since ≤ g.moment) → now ≤ since + 100
-          → ripe_at now (again_items k.rtt.rto (suc a) o) ≡ []
-      of None some soon = absurd some
-      of (Some g) some soon = let slow : 350 ≤ k.rtt.rto = h.rates.slow in rw (lt-leb (g.moment + k.rtt.rto) now
-          (omega arith)) refl
+      of : (j : ℕ) (o : Option LastGiving) → IfSome o (λ g. since + 350 ≤ g.moment + k.rtt.rto) → now ≤ since + 100
+          → ripe_at now (again_items k.rtt.rto j o) ≡ []
+      of j None late soon = refl
+      of j (Some g) late soon = rw (lt-leb (g.moment + k.rtt.rto) now (omega arith)) refl
 
   -- where none may go, what it tells
   pub next_rest : (p : Place) → can_give k.cwnd k.sent ≡ false → (a < n → p.now ≤ since + 100)
@@ -324,7 +338,7 @@ module _ (whole : List ℕ) (since a n : ℕ) (k : CallLooks) (h : Sends whole s
   pub must_go : a ≡ n → n < counting_of k.sent → can_give k.cwnd k.sent ≡ true
   must_go all some =
       let wide : 1 ≤ k.cwnd.window = h.rates.wide in
-      let fly : in_flight k.sent ≡ 0 = flight ∙ (let z : n - a ≡ 0 = omega arith in z) in
+      let fly : in_flight k.sent ≡ 0 = flight all in
       rw fly (rw (
         lt-ltb (given_of k.sent) (counting_of k.sent) (omega (arith, h.given)),
         lt-ltb 0 k.cwnd.window wide,
@@ -610,7 +624,7 @@ sends_told p whole since a n m e o s h =
         record {
           acked = g.acked;
           given = g.given;
-          hard = g.hard;
+          marked = g.marked;
           peer = g.peer;
           known = g.known;
           near = g.near;
@@ -641,7 +655,7 @@ given_told whole s a n k owed spoke g =
     record {
       acked = g.acked;
       given = g.given;
-      hard = g.hard;
+      marked = g.marked;
       peer = g.peer;
       known = g.known;
       near = g.near;

@@ -1,11 +1,13 @@
 -- The second round: the first pieces come to a server that knows nothing of their call, and it waits for a dispatcher.
 use Rattle.std.proofs.Common.{◌≡◌, ◌<◌, ◌≤◌, ⊎_elim, ◌+◌, ◌++◌, ◌==◌, ℕ, suc, true, false, List, []}
-use Rattle.std.proofs.Common.{◌∷◌, refl, ap, sym, subst, ◌∙◌, Option, Some, None, length, arith, append-nil}
+use Rattle.std.proofs.Common.{◌∷◌, refl, ap, sym, subst, ◌∙◌, Option, Some, None, length, arith, append-nil, is_some, Bool}
 use Rattle.std.specs.Prelude.{IfSome}
 use Rattle.rx_model.specs.declared.answers.Took.{Took}
 use Rattle.rx_model.specs.declared.answers.Took.TheVariants as tooks
 use Rattle.rx_model.specs.declared.event.Event.TheVariants as events
 use Rattle.rx_model.specs.declared.wire.TheConstants.{CLIENT_INITIATED}
+use Rattle.rx_model.specs.Body.{Body}
+use Rattle.rx_model.specs.Body as bodies
 use Rattle.rx_model.specs.Message.{Message, has_flag}
 use Rattle.rx_model.specs.Spelling.{made, IsPlain}
 use Rattle.rx_rules.specs.After.{after}
@@ -24,27 +26,80 @@ use Rattle.rx_plan.specs.Network.{delivers}
 use Rattle.rx_plan.specs.Parts.{To, each}
 use Rattle.rx_plan.specs.Stages.{InvokedState, Stage}
 use Rattle.rx_rounds.proofs.ArrivingRound.{tells_none}
-use Rattle.rx_rounds.proofs.Between.{caller_with, client_at, server_at}
+use Rattle.rx_rounds.proofs.Between.{caller_with, client_at}
 use Rattle.rx_rounds.proofs.Exchange.{Burst, PolledOut, a_piece, burst_some, counts_within, no_piece, piece_with, polled_out, sends_told}
 use Rattle.rx_rounds.proofs.Flow.{total}
 use Rattle.rx_rounds.proofs.Keeper.{part_read, piece}
-use Rattle.rx_rounds.proofs.Making.{then_to}
-use Rattle.rx_rounds.proofs.OneCall.{Ends, Link, client_place, header_of, node_of, open_link, server_place, server_setup, the_call}
+use Rattle.rx_rounds.proofs.KeyClass.{challenged_new, or_same}
+use Rattle.rx_rounds.proofs.Making.{ends_to, then_to}
+use Rattle.rx_rounds.proofs.OneBurst.{link_kept, link_took}
+use Rattle.rx_rounds.proofs.OneCall.{Ends, client_place, header_of, node_of, served_link, server_place, server_setup, the_call}
 use Rattle.rx_rounds.proofs.OneFields.{FitsEnds, fresh}
 use Rattle.rx_rounds.proofs.OneNode.{ArePlain, datagrams, plain_acks, plain_both, plain_burst, plain_piece, side_flags}
 use Rattle.rx_rounds.proofs.OneSteps.{empty_at, server_began, server_begins}
-use Rattle.rx_rounds.proofs.OneTaken.{later_burst, server_takes}
+use Rattle.rx_rounds.proofs.OneTaken.{AreLater, later_burst}
 use Rattle.rx_rounds.proofs.OneWay.{IsPlainOwed, Sends}
 use Rattle.rx_rounds.proofs.Pair.{CallEnd, view_of}
 use Rattle.rx_rounds.proofs.RoundParts.{client_polled}
 use Rattle.rx_rounds.proofs.Rounded.{Made, RoundMade, caller_at}
 use Rattle.rx_rounds.proofs.SaidMore.{said_more}
 use Rattle.rx_rounds.proofs.SaysOn.{SaidOn}
-use Rattle.rx_rounds.proofs.Taking.{OwesBehind, Takes, TookPieces, came_behind, kept_one, keeps_one, none_came, owes_behind, some_came, takes_burst, takes_none}
+use Rattle.rx_rounds.proofs.Taking.{OwesBehind, Takes, TookPieces, came_behind, hears, keeps, kept_one, keeps_one, none_came}
+use Rattle.rx_rounds.proofs.Taking.{owes_behind, some_came, takes_burst, takes_none}
 use Rattle.rx_rounds.proofs.Two.{AreApart, Two, delivered_server, sent, two_as}
 
-module _ (x : Ends) (fits : FitsEnds x) (apart : AreApart x) (open_ : x.key ≡ None) (request : List ℕ)
+-- messages that bring pieces
+abbrev pub IsChunk : Body → Type 0
+IsChunk (bodies.Chunk payload) = Unit {0}
+IsChunk _ = ⊥
+
+abbrev pub AreChunks : List Message → Type 0
+AreChunks [] = Unit {0}
+AreChunks (m ∷ ms) = IsChunk m.body × AreChunks ms
+
+burst_chunks : (frame : Message) (client : Bool) (whole : List ℕ) (n m : ℕ) (ms : List Message)
+    → Burst frame client whole n m ms → AreChunks ms
+burst_chunks frame client whole n m ms (no_piece i) = tt
+burst_chunks frame client whole n m ms (a_piece i j serial asking others low asks rest) =
+    (tt, burst_chunks frame client whole (suc n) m others rest)
+
+-- the server that waits for its client to show the key, where there is one, and takes more pieces
+abbrev pub waiting_at : Ends → ℕ → CallLooks → Looks
+waiting_at x used k = node_of x (served_link x false (is_some x.key) 0 used) (the_call x ∷ []) 0 lives.Waiting k
+
+module _ (x : Ends) (fits : FitsEnds x) (apart : AreApart x) (request : List ℕ)
     (small : total request ≤ 1000000) (lc : Looks) (cs : List InvokedState) where
+  waiting_takes : (k l : CallLooks) (ms : List Message) → Takes (server_place x 0) k ms l → AreLater ms → AreChunks ms
+      → (used : ℕ) (s t : Stage) → Two x (waiting_at x used k) lc cs [] s
+      → Made (each delivers (datagrams x.client x.server ms)) s t
+      → (last : ℕ) × Two x (waiting_at x last l) lc cs [] t
+  waiting_takes k l ms (takes_none i) late chunks used s t two made_ = (
+    used,
+    subst (λ (u : Stage). Two x (waiting_at x used k) lc cs [] u) (sym (ends_to s t made_.0 made_.1)) two,
+  )
+  waiting_takes k l ms (keeps whole i j seq serial asking others low few row rest) late chunks used s t two made_ =
+      let m : Message = piece_with (header_of x) true whole seq serial asking in
+      let plain : IsPlain m = plain_piece x fits true whole seq serial asking low few in
+      let some_first : 1 < x.first + 1 = (let known : 1 ≤ x.first = fits.some in omega arith) in
+      let ours : has_flag CLIENT_INITIATED m.flags ≡ true = side_flags true asking (seq == total whole) in
+      let b = then_to (delivers (sent x.client x.server (made m)) s) (each delivers (datagrams x.client x.server others))
+      made_.0 t made_.1 in
+      let d = delivered_server x (waiting_at x used k) lc cs [] s b.between x.client (made m) b.front apart two b.made in
+      let next : after (server_setup x)
+      (events.Taken x.client (made m) (took_of (server_setup x) (waiting_at x used k) x.client (made m)))
+      (waiting_at x used k) ≡ waiting_at x 0 (after_taken (view_of (server_place x 0) k) tooks.Kept m k) =
+      ap (λ (got : Took). after (server_setup x) (events.Taken x.client (made m) got) (waiting_at x used k))
+      (link_took x false (is_some x.key) (the_call x ∷ []) 0 used 0 lives.Waiting k seq serial m.flags
+      (piece whole seq).payload some_first refl plain ours ∙ row)
+      ∙ link_kept x false (is_some x.key) (is_some x.key) (the_call x ∷ []) 0 used 0 lives.Waiting k seq serial m.flags
+      (piece whole seq).payload (challenged_new x.key) refl plain ours late.0
+      ∙ ap (λ (o : Bool). node_of x (served_link x false o 0 0) (the_call x ∷ []) 0 lives.Waiting
+      (after_taken (view_of (server_place x 0) k) tooks.Kept m k)) (or_same (is_some x.key)) in
+      waiting_takes (after_taken (view_of (server_place x 0) k) tooks.Kept m k) l others rest late.1 chunks.1 0 b.between t
+      (two_as x _ lc _ lc cs [] b.between b.between next refl refl d) (b.rest, b.goes)
+  waiting_takes k l ms (hears i j n serial previous caused reason others few f1 f2 f3 low high kind row rest) late chunks
+      used s t two made_ = absurd chunks.0
+
   -- the server behind them
   pub record ServerCame (last : ℕ) (t : Stage) : Type 0 where
     pub owed : Owed
@@ -52,7 +107,7 @@ module _ (x : Ends) (fits : FitsEnds x) (apart : AreApart x) (open_ : x.key ≡ 
     pub soon : owed.rank ≤ 100
     pub ended : last ≡ total request → owed.rank ≡ 0
     pub used : ℕ
-    pub two : Two x (server_at x 0 used 0 lives.Waiting (came_behind false 0 request [] last owed fresh)) lc cs [] t
+    pub two : Two x (waiting_at x used (came_behind false 0 request [] last owed fresh)) lc cs [] t
 
   pub first_come : (last : ℕ) (ms : List Message) → Burst (header_of x) true request 0 last ms → 1 ≤ last → last ≤ 32
       → last ≤ total request → (s t : Stage) → Two x (empty_at 0) lc cs [] s
@@ -71,13 +126,11 @@ module _ (x : Ends) (fits : FitsEnds x) (apart : AreApart x) (open_ : x.key ≡ 
       let k1 : CallLooks = kept_one false 0 request [] 0 serial asking fresh in
       let next : after (server_setup x)
       (events.Taken x.client (made m) (took_of (server_setup x) (empty_at 0) x.client (made m))) (empty_at 0)
-      ≡ server_at x 0 0 0 lives.Waiting k1 =
+      ≡ waiting_at x 0 k1 =
       ap (λ (got : Took). after (server_setup x) (events.Taken x.client (made m) got) (empty_at 0))
       (server_begins x 0 serial m.flags (piece request 1).payload some_first plain ours ∙ one.0)
       ∙ server_began x 0 serial m.flags (piece request 1).payload some_first plain ours
-      ∙ ap (λ (l : Link). node_of x l (the_call x ∷ []) 0 lives.Waiting
-      (after_taken (view_of (server_place x 0) fresh) tooks.Kept m fresh)) (open_link x 0 0 open_)
-      ∙ ap (server_at x 0 0 0 lives.Waiting) one.1 in
+      ∙ ap (waiting_at x 0) one.1 in
       by (owes_behind 0 asking serial None low tt tt)
       (takes_burst false 0 (header_of x) request [] 1 1 last 0 k1 others rest refl (omega arith) (omega arith) within
       (omega arith) (omega arith) refl (λ is. absurd cc)
@@ -91,7 +144,7 @@ module _ (x : Ends) (fits : FitsEnds x) (apart : AreApart x) (open_ : x.key ≡ 
       k2 = kept_one false 0 request [] 0 serial asking fresh
 
       by : (o : OwesBehind 0 asking serial None) → TookPieces false 0 (header_of x) request [] 1 last k2 others
-          → (u : Stage) → Two x (server_at x 0 0 0 lives.Waiting k2) lc cs [] u
+          → (u : Stage) → Two x (waiting_at x 0 k2) lc cs [] u
           → Made (each delivers (datagrams x.client x.server others)) u t → ServerCame last t
       by o (none_came all none) u two1 goes =
           let same : k2 ≡ came_behind false 0 request [] last o.owed fresh =
@@ -102,27 +155,27 @@ module _ (x : Ends) (fits : FitsEnds x) (apart : AreApart x) (open_ : x.key ≡ 
           }) o.is ∙ ap (λ (n : ℕ). came_behind false 0 request [] n o.owed fresh) all in
           let takes : Takes (server_place x 0) k2 others k2 =
           subst (λ (ms : List Message). Takes (server_place x 0) k2 ms k2) (sym none) (takes_none k2) in
-          let r = server_takes x fits apart 0 cs [] lc lives.Waiting k2 k2 others refl (λ b. refl) takes
-          (later_burst (header_of x) true request 1 last others (omega arith) rest) 0 0 u t two1 goes in
+          let r = waiting_takes k2 k2 others takes (later_burst (header_of x) true request 1 last others (omega arith) rest)
+          (burst_chunks (header_of x) true request 1 last others rest) 0 u t two1 goes in
           record {
             owed = o.owed;
             plain = o.plain;
             soon = o.soon;
             ended = λ end. o.asked (asks (omega arith));
             used = r.0;
-            two = subst (λ (k : CallLooks). Two x (server_at x 0 r.0 0 lives.Waiting k) lc cs [] t) same r.1;
+            two = subst (λ (k : CallLooks). Two x (waiting_at x r.0 k) lc cs [] t) same r.1;
           }
       by o (some_came less owed plain soon sooner ended behind) u two1 goes =
           let l : CallLooks = came_behind false 0 request [] last owed fresh in
           let takes : Takes (server_place x 0) k2 others l =
           subst (λ (ms : List Message). Takes (server_place x 0) k2 ms l) (append-nil others)
           (behind [] l (takes_none l)) in
-          let r = server_takes x fits apart 0 cs [] lc lives.Waiting k2 l others refl (λ b. refl) takes
-          (later_burst (header_of x) true request 1 last others (omega arith) rest) 0 0 u t two1 goes in
+          let r = waiting_takes k2 l others takes (later_burst (header_of x) true request 1 last others (omega arith) rest)
+          (burst_chunks (header_of x) true request 1 last others rest) 0 u t two1 goes in
           record { owed = owed; plain = plain; soon = soon; ended = ended; used = r.0; two = r.1 }
 
 -- the second round as far as the deliveries
-module _ (x : Ends) (g : Handlers) (fits : FitsEnds x) (apart : AreApart x) (open_ : x.key ≡ None) (request : List ℕ)
+module _ (x : Ends) (g : Handlers) (fits : FitsEnds x) (apart : AreApart x) (request : List ℕ)
     (call line : ℕ) (small : total request ≤ 1000000) (used : ℕ) (s t : Stage)
     (o : SaidOn x request call line 0 0 used 0 0 0 (empty_at 0) [] fresh s)
     (can : can_give (said_more o.more o.shut fresh).cwnd (said_more o.more o.shut fresh).sent ≡ true)
@@ -159,7 +212,9 @@ module _ (x : Ends) (g : Handlers) (fits : FitsEnds x) (apart : AreApart x) (ope
     pub gc : ℕ
     pub uc : ℕ
     pub us : ℕ
-    pub two : Two x (server_at x 0 us 0 lives.Waiting (came_behind false 0 request [] last owed fresh))
+    -- no more of them may go
+    pub over : can_give kc2.cwnd kc2.sent ≡ false
+    pub two : Two x (waiting_at x us (came_behind false 0 request [] last owed fresh))
         (client_at x gc uc [] 0 kc2) cs2 [] m.delivered
     pub loud : 1 ≤ length m.polled.given
 
@@ -186,7 +241,7 @@ module _ (x : Ends) (g : Handlers) (fits : FitsEnds x) (apart : AreApart x) (ope
         subst (λ (ds : List Datagram). each delivers ds m.polled.stage m.delivers_are.0 (To m.delivered)) is
             m.delivers_are.1,
       ) in
-      let r = first_come x fits apart open_ request small (client_at x p.behind.given q.1.0 [] 0 p.behind.looks) cs2
+      let r = first_come x fits apart request small (client_at x p.behind.given q.1.0 [] 0 p.behind.looks) cs2
       p.pieces.last p.pieces.messages p.pieces.burst some (omega arith) within m.polled.stage m.delivered q.1.1 made_ in
       record {
         last = p.pieces.last;
@@ -216,6 +271,8 @@ module _ (x : Ends) (g : Handlers) (fits : FitsEnds x) (apart : AreApart x) (ope
         gc = p.behind.given;
         uc = q.1.0;
         us = r.used;
+        over = ap (λ (k : CallLooks). can_give k.cwnd k.sent) p.is
+            ∙ sym (ap (λ (k : CallLooks). can_give k.cwnd k.sent) p.pieces.is) ∙ p.pieces.over;
         two = r.two;
         loud = subst (λ (n : ℕ). 1 ≤ n) (sym (ap (λ (ds : List Datagram). length ds) is
             ∙ length_map p.pieces.messages))

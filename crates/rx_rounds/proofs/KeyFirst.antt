@@ -118,7 +118,7 @@ marks_given zero first given within = refl
 marks_given (suc m) first given within =
     rw (le-ltb given first (omega arith)) (marks_given m (suc first) given (omega arith))
 
-length_marks : (n : ℕ) → length (replicate n true) ≡ n
+pub length_marks : (n : ℕ) → length (replicate n true) ≡ n
 length_marks zero = refl
 length_marks (suc n) = ap (λ (k : ℕ). suc k) (length_marks n)
 

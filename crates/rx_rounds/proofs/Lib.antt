@@ -17,6 +17,8 @@ pub mod Growing
 pub mod Keeper
 pub mod Keeping
 pub mod KeepsOn
+pub mod KeyAnswers
+pub mod KeyAsks
 pub mod KeyClass
 pub mod KeyFirst
 pub mod KeySteps

@@ -338,9 +338,10 @@ pub call_is : (x : Ends) (y : Link) (firsts : List CallName) (now : ℕ) (life :
 call_is x y firsts now life k =
     simp (number_itself x.client.addr, number_itself x.client.port, number_itself x.epoch, number_itself x.first) refl
 
-pub own_is : (x : Ends) (given used : ℕ) (firsts : List CallName) (now : ℕ) (life : Life) (k : CallLooks)
-    → own_call (node_of x (from_client x given used) firsts now life k) (the_call x) ≡ Some (the_record x life k)
-own_is x given used firsts now life k =
+pub own_is : (x : Ends) (o : Option (List ℕ)) (given used : ℕ) (firsts : List CallName) (now : ℕ) (life : Life)
+    (k : CallLooks)
+    → own_call (node_of x (answering_link x o given used) firsts now life k) (the_call x) ≡ Some (the_record x life k)
+own_is x o given used firsts now life k =
     simp (number_itself x.client.addr, number_itself x.client.port, number_itself x.epoch, number_itself x.first) refl
 
 pub server_read : (x : Ends) (firsts : List CallName) (now used given max : ℕ) (k : CallLooks) (got : ServeRead)

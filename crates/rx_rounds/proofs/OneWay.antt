@@ -7,7 +7,7 @@ use Rattle.rx_rules.specs.CallLooks.{CallLooks}
 use Rattle.rx_rules.specs.Owing.{Owed}
 use Rattle.rx_rules.specs.Received.{marks_of, unread_of, used_of}
 use Rattle.rx_rules.specs.Sent.{counting_of, given_of, held_pieces, last_giving}
-use Rattle.rx_rounds.proofs.Flow.{IsHard, total}
+use Rattle.rx_rounds.proofs.Flow.{total}
 use Rattle.rx_rounds.proofs.Keeper.{part_read}
 
 -- an end as its node's limits make it, and as it stays where nothing is lost
@@ -18,12 +18,12 @@ pub record IsSteady (k : CallLooks) : Type 0 where
   pub even : k.rtt.prompt ≡ false
   pub slow : 350 ≤ k.rtt.rto
 
--- the end that says a stream, of which it gave n pieces: the first a are hard acknowledged, and the others were last
--- given at this moment or later
+-- the end that says a stream, of which it gave n pieces: the first a are hard acknowledged, marks are of some of the
+-- others, and all of these were last given at this moment or later
 pub record Sends (whole : List ℕ) (since a n : ℕ) (k : CallLooks) : Type 0 where
   pub acked : k.sent.acked ≡ a
   pub given : given_of k.sent ≡ n
-  pub hard : IsHard k.sent.soft
+  pub marked : (j : ℕ) → n < j → k.sent.soft j ≡ false
   pub peer : k.sent.peer_window ≡ 32
   pub known : a ≤ n
   pub near : n ≤ a + 32

@@ -1,6 +1,7 @@
 -- The lines of a plan whose client writes a request by hand and shuts it, before rounds: what each makes; none is
 -- refused.
 use Rattle.std.proofs.Common.{◌≡◌, ◌≤◌, ℕ, List, [], ◌∷◌, refl, ap, sym, subst}
+use Rattle.std.proofs.Common.{None}
 use Rattle.std.proofs.Common.{◌∙◌, inl, inr, Option, Result, Ok, length, take, min, arith}
 use Rattle.std.proofs.lemmas.List.{take_all}
 use Rattle.rx_model.specs.declared.answers.CallRefused.{CallRefused}
@@ -134,7 +135,7 @@ module _ (g : Handlers) (at : Host) (service nonce : ℕ) (from : Host) (epoch f
   room_is =
       let all : min (length offer) 45184 ≡ length offer = omega arith in
       ap (λ (o : Option CallRecord). client_write (client_setup the_ends) (client_has fresh) o (length offer))
-      (own_is the_ends 0 0 [] 0 lives.Calling fresh)
+      (own_is the_ends None 0 0 [] 0 lives.Calling fresh)
       ∙ ap (λ (k : ℕ). Ok k) all
 
   wrote_looks : after (client_setup the_ends) written (client_has fresh) ≡ client_has wrote
@@ -176,7 +177,7 @@ module _ (g : Handlers) (at : Host) (service nonce : ℕ) (from : Host) (epoch f
 
   says_is : done_where (is_call can_say (own_call (client_has wrote) c)) ≡ Ok tt
   says_is =
-      ap (λ (o : Option CallRecord). done_where (is_call can_say o)) (own_is the_ends 0 0 [] 0 lives.Calling wrote)
+      ap (λ (o : Option CallRecord). done_where (is_call can_say o)) (own_is the_ends None 0 0 [] 0 lives.Calling wrote)
 
   shut_looks : after (client_setup the_ends) shut (client_has wrote) ≡ client_has (after_shut wrote)
   shut_looks = rw (number_itself from.addr, number_itself from.port, number_itself epoch, number_itself first) refl

@@ -1,7 +1,8 @@
 -- An end while its stream is read: what was read and what stands to be read are the stream's front.
-use Rattle.std.proofs.Common.{◌&&◌, ◌≡◌, ◌≤◌, ◌+◌, ◌*◌, ◌++◌, ℕ, Bool, true, false, cond, List, [], refl, ap, sym, ◌∙◌, Option}
+use Rattle.std.proofs.Common.{◌&&◌, ◌≡◌, ◌<◌, ◌≤◌, ◌+◌, ◌*◌, ◌++◌, ℕ, Bool, true, false, cond, List, [], refl, ap, sym, ◌∙◌, Option}
 use Rattle.std.proofs.Common.{Some, None, length, take, drop, nat_lt, arith, append-nil, append_assoc}
-use Rattle.std.specs.Prelude.{IfSome}
+use Rattle.std.proofs.lemmas.Bool.{ltb-false}
+use Rattle.std.specs.Prelude.{IfSome, IsSomeAnd}
 use Rattle.rx_rules.specs.CallLooks.{CallLooks, after_read}
 use Rattle.rx_rules.specs.Owing.{Owed, delayed, owed_for_read}
 use Rattle.rx_rules.specs.Received.{Received, has_several, heard_of, unread_of, used_of}
@@ -19,6 +20,9 @@ module _ (whole : List ℕ) (now p n : ℕ) (first : CallLooks) where
     pub stays : (o : Owed) → first.owed_ack ≡ Some o → owed ≡ Some o
     pub plain : IfSome first.owed_ack IsPlainOwed → IfSome owed IsPlainOwed
     pub late : IfSome first.owed_ack (λ o. o.rank ≤ now + 100) → IfSome owed (λ o. o.rank ≤ now + 100)
+    -- once more packets are done with an ACK is owed
+    pub raised : used_of first.received < used_of (part_read whole read p n)
+        → IfSome first.owed_ack (λ o. o.rank ≤ now + 100) → IsSomeAnd owed (λ o. o.rank ≤ now + 100)
 
   -- as it stands before it is read on
   pub begins_read : (read : List ℕ) (m : ℕ) → first.received ≡ part_read whole read p n → m ≤ n
@@ -32,6 +36,8 @@ module _ (whole : List ℕ) (now p n : ℕ) (first : CallLooks) where
         stays = λ o was. was;
         plain = λ was. was;
         late = λ was. was;
+        raised = λ more was. absurd (let same : used_of first.received ≡ used_of (part_read whole read p n) =
+            ap (λ (r : Received). used_of r) is in omega arith);
       }
 
   -- more is read
@@ -56,8 +62,21 @@ module _ (whole : List ℕ) (now p n : ℕ) (first : CallLooks) where
         stays = λ o was. still (nat_lt (used_of r) (used_of s)) o (h.stays o was);
         plain = λ was. fine (nat_lt (used_of r) (used_of s)) h.owed (h.plain was);
         late = λ was. soon (nat_lt (used_of r) (used_of s)) h.owed (h.late was);
+        raised = λ rises was. rise (used_of r) (used_of s) (nat_lt (used_of r) (used_of s)) refl rises (h.late was)
+            (λ less. h.raised less was);
       }
     where
+      rise : (u v : ℕ) (b : Bool) → nat_lt u v ≡ b → used_of first.received < v
+          → IfSome h.owed (λ o. o.rank ≤ now + 100)
+          → (used_of first.received < u → IsSomeAnd h.owed (λ o. o.rank ≤ now + 100))
+          → IsSomeAnd (cond b (delayed now 0 h.owed) h.owed) (λ o. o.rank ≤ now + 100)
+      rise u v true is rises late before = by h.owed late
+        where
+          by : (o : Option Owed) → IfSome o (λ w. w.rank ≤ now + 100) → IsSomeAnd (delayed now 0 o) (λ w. w.rank ≤ now + 100)
+          by None was = omega arith
+          by (Some o) was = was
+      rise u v false is rises late before = (let not_less : v ≤ u = ltb-false u v is in before (omega arith))
+
       still : (b : Bool) (o : Owed) → h.owed ≡ Some o → cond b (delayed now 0 h.owed) h.owed ≡ Some o
       still true o was = ap (delayed now 0) was
       still false o was = was

@@ -3,7 +3,7 @@
 use Rattle.std.proofs.Common.{◌&&◌, ◌≡◌, ◌≢◌, ◌<◌, ◌≤◌, ◌⊎◌, inl, inr, ⊎_elim, ◌+◌, ◌^◌, ◌++◌, ℕ, ℤ, pos}
 use Rattle.std.proofs.Common.{Bool, true, false, cond, List, [], ◌∷◌, refl, ap, sym, subst, ◌∙◌, Option, Some, None, length}
 use Rattle.std.proofs.Common.{arith, append-nil, nat_lt}
-use Rattle.std.proofs.lemmas.Bool.{both_ways, cases_Bool}
+use Rattle.std.proofs.lemmas.Bool.{both_ways, cases_Bool, ltb-false}
 use Rattle.std.proofs.lemmas.List.{length-append}
 use Rattle.std.specs.Prelude.{IfSome, IsSomeAnd}
 use Rattle.rx_model.specs.Spelling.{IsCode}
@@ -21,9 +21,9 @@ use Rattle.rx_jobs.specs.Jobs.{JobState, begun}
 use Rattle.rx_jobs.specs.Keeping.{kept_of}
 use Rattle.rx_plan.specs.Stages.{InvokedState, Stage}
 use Rattle.rx_plan.specs.Turned.{turns_all}
-use Rattle.rx_rounds.proofs.ArrivingRound.{reads_out_of}
-use Rattle.rx_rounds.proofs.Between.{Answering_, Arriving, HasAll, InTouch, Refusing, Replying, Waiting, answers}
-use Rattle.rx_rounds.proofs.Between.{caller_with, client_at, finished, server_at, writes}
+use Rattle.rx_rounds.proofs.ArrivingRound.{reads_out_of, tells_read}
+use Rattle.rx_rounds.proofs.Between.{Answering_, Arriving, HasAll, InTouch, Refusing, Replying, Waiting, answers_later}
+use Rattle.rx_rounds.proofs.Between.{caller_with, client_at, finished, owes_any, server_at, writes}
 use Rattle.rx_rounds.proofs.CallsOut.{waits_turn}
 use Rattle.rx_rounds.proofs.Flow.{total}
 use Rattle.rx_rounds.proofs.Keeper.{kept_to}
@@ -48,7 +48,7 @@ says_any whole since k none steady =
     record {
       acked = ap (λ (s : Sent). s.acked) none;
       given = ap given_of none;
-      hard = λ j. ap (λ (s : Sent). s.soft j) none;
+      marked = λ j past. ap (λ (s : Sent). s.soft j) none;
       peer = ap (λ (s : Sent). s.peer_window) none;
       known = omega arith;
       near = omega arith;
@@ -79,7 +79,7 @@ given_all whole since a n k h all =
 pub data TurnsNext (x : Ends) (g : Handlers) (request : List ℕ) (call line now a n : ℕ) (t : Stage) : Type 0 where
   reads_more : Arriving x g request call line now a n 1 t → TurnsNext x g request call line now a n t
   waits_next : Waiting x g request call line now (wait_of g request) t → TurnsNext x g request call line now a n t
-  replies_next : (reply : List ℕ) → Replying x g request reply call line now 0 0 1 t
+  replies_next : (reply : List ℕ) → Replying x g request reply call line now 0 0 3 t
       → TurnsNext x g request call line now a n t
   refuses_next : (code : ℤ) → Refusing x g request call line now code t → TurnsNext x g request call line now a n t
 
@@ -95,7 +95,6 @@ module _ (x : Ends) (g : Handlers) (request : List ℕ) (call line now : ℕ) wh
     pub touch : InTouch 4000 now kc ks
     pub spoken : kc.spoke ≤ now
     pub acks : (has.a ≡ total request) ⊎ (now ≤ has.since + 100)
-    pub passes : (ks.owed_ack ≡ None) ⊎ IsOwedBy now ks
 
   ends_of : (said rest : List ℕ) (shut : Bool) (life : _) (jobs : List JobState)
       → Answering_ x g request said shut rest life jobs → shut ≡ true → rest ≡ []
@@ -107,7 +106,7 @@ module _ (x : Ends) (g : Handlers) (request : List ℕ) (call line now : ℕ) wh
       → Begins kc ks → served_for g request ≡ bytes reply
       → WroteOn x g request (client_at x given_client used_client [] now kc)
       (caller_at call line (caller_with x [] true [] phase) ∷ []) now given_server used_server 0 ks reply s
-      → Made turns_all s t → Replying x g request reply call line now 0 0 1 t
+      → Made turns_all s t → Replying x g request reply call line now 0 0 3 t
   replying_at reply kc ks given_client used_client given_server used_server lc cs phase s t b served w made =
       let going : ks.sent.shut ≡ false = ap (λ (z : Sent). z.shut) b.new in
       let said_none : ks.sent.said ≡ [] = ap (λ (z : Sent). z.said) b.new in
@@ -116,7 +115,7 @@ module _ (x : Ends) (g : Handlers) (request : List ℕ) (call line now : ℕ) wh
       ∙ ap (λ (ys : List ℕ). (ys ++ w.more) ++ w.rest) (sym said_none) in
       let ends : w.shut ≡ true → w.rest ≡ [] = ends_of (ks.sent.said ++ w.more) w.rest w.shut w.life w.jobs w.job in
       let ls : Looks = server_at x given_server used_server now w.life (said_more w.more w.shut ks) in
-      let two1 = waits_turn x ls w.jobs now given_client used_client call line kc phase s t b.quiet w.two made in
+      let two1 = waits_turn x None ls w.jobs now given_client used_client call line kc phase s t b.quiet w.two made in
       let read_none : kc.received.read ≡ [] = ap (λ (r : Received). r.read) b.quiet in
       record {
         kc = kc;
@@ -173,10 +172,11 @@ module _ (x : Ends) (g : Handlers) (request : List ℕ) (call line now : ℕ) wh
         };
         spoken = b.spoken;
         late = subst (λ (o : Option Owed). IfSome o (λ z. z.rank ≤ now + 100)) (sym b.none) tt;
+        owing = 2;
+        passes = owes_any (omega arith);
+        within = omega arith;
         due = λ is. absurd (omega arith);
-        ready = omega arith;
         acks = ⊎_elim (λ (z : b.has.a ≡ total request). inl z) (λ (z : now ≤ b.has.since + 100). inr (refl, z)) b.acks;
-        passes = ⊎_elim (λ (z : ks.owed_ack ≡ None). inl z) (λ (z : IsOwedBy now ks). inr (refl, z)) b.passes;
       }
 
 -- ---- the turns
@@ -195,12 +195,10 @@ pub record Came (x : Ends) (request : List ℕ) (now a n since : ℕ) (kc first 
   pub done : shut ≡ true → offering ≡ []
   pub new : first.sent ≡ nothing_sent
   pub steady : IsSteady first
-  pub owed : Owed
-  pub owes : first.owed_ack ≡ Some owed
-  pub plain : IsPlainOwed owed
-  pub late : owed.rank ≤ now + 100
-  pub soon_owed : owed.rank ≤ since + 100
-  pub at_end : n ≡ total request → owed.rank ≡ 0
+  pub plain : IfSome first.owed_ack IsPlainOwed
+  pub late : IfSome first.owed_ack (λ o. o.rank ≤ now + 100)
+  -- an ACK is owed before long, or will be once these pieces are read
+  pub owes : IsOwedBy (since + 100) first ⊎ ((since ≡ now) × (used_of first.received < n))
   pub heard : first.heard ≡ now
   pub past : since ≤ now
   pub soon : now ≤ since + 100
@@ -218,8 +216,32 @@ module _ (x : Ends) (g : Handlers) (request : List ℕ) (call line : ℕ) (small
 
   -- the end as it was read on
   module _ (k : CallLooks) (read : List ℕ) (h : IsRead request now n n first read k) where
-    owed_still : k.owed_ack ≡ Some b.owed
-    owed_still = ap (λ (i : CallLooks). i.owed_ack) h.is ∙ h.stays b.owed b.owes
+    owed_is : k.owed_ack ≡ h.owed
+    owed_is = ap (λ (i : CallLooks). i.owed_ack) h.is
+
+    -- what was owed is owed still
+    owes_still : IsOwedBy (since + 100) first → IsOwedBy (since + 100) k
+    owes_still was = subst (λ (o : Option Owed). IsSomeAnd o (λ z. z.rank ≤ since + 100)) (sym owed_is)
+        (of first.owed_ack refl was)
+      where
+        of : (o : Option Owed) → first.owed_ack ≡ o → IsSomeAnd o (λ z. z.rank ≤ since + 100)
+            → IsSomeAnd h.owed (λ z. z.rank ≤ since + 100)
+        of None is some = absurd some
+        of (Some z) is some = subst (λ (v : Option Owed). IsSomeAnd v (λ y. y.rank ≤ since + 100)) (sym (h.stays z is)) some
+
+    -- where more is done with something is owed
+    owes_raised : since ≡ now → used_of first.received < used_of k.received → IsOwedBy (since + 100) k
+    owes_raised same more =
+        subst (λ (o : Option Owed). IsSomeAnd o (λ z. z.rank ≤ since + 100)) (sym owed_is)
+        (subst (λ (i : ℕ). IsSomeAnd h.owed (λ z. z.rank ≤ i + 100)) (sym same)
+        (h.raised (subst (λ (r : Received). used_of first.received < used_of r) (ap (λ (i : CallLooks). i.received) h.is) more)
+        b.late))
+
+    plain_still : IfSome k.owed_ack IsPlainOwed
+    plain_still = subst (λ (o : Option Owed). IfSome o IsPlainOwed) (sym owed_is) (h.plain b.plain)
+
+    late_still : IfSome k.owed_ack (λ z. z.rank ≤ now + 100)
+    late_still = subst (λ (o : Option Owed). IfSome o (λ z. z.rank ≤ now + 100)) (sym owed_is) (h.late b.late)
 
     new_still : k.sent ≡ nothing_sent
     new_still = ap (λ (i : CallLooks). i.sent) h.is ∙ b.new
@@ -236,19 +258,17 @@ module _ (x : Ends) (g : Handlers) (request : List ℕ) (call line : ℕ) (small
       slow = b.steady.slow;
     })
 
-    owes_by : (r : ℕ) → b.owed.rank ≤ r → IsOwedBy r k
-    owes_by r low = subst (λ (o : Option Owed). IsSomeAnd o (λ z. z.rank ≤ r)) (sym owed_still) low
-
     -- it waits for more
     on_reading : unread_of k.received ≡ [] → is_complete k.received ≡ false
         → Two x (server_at x gs us now lives.Accepted k) lc cs
         (record (begun (the_call x)) { request = kept_of g read } ∷ []) s
         → TurnsNext x g request call line now a n t
     on_reading none part two =
-        let plain : IfSome first.owed_ack IsPlainOwed = subst (λ (o : Option Owed). IfSome o IsPlainOwed) (sym b.owes)
-        b.plain in
-        let reads : Reads request n k = reads_out_of request now n n first k read b.known (omega (arith, b.within)) plain h
+        let reads : Reads request n k = reads_out_of request now n n first k read b.known (omega (arith, b.within)) b.plain h
         none part b.within in
+        let done : used_of k.received ≡ n = (tells_read request n k reads).used in
+        let owes : IsOwedBy (since + 100) k = ⊎_elim owes_still
+        (λ (w : (since ≡ now) × (used_of first.received < n)). owes_raised w.0 (omega (arith, w.1))) b.owes in
         let read_is : k.received.read ≡ read = ap (λ (i : CallLooks). i.received.read) h.is in
         reads_more (arriving_at x request call line g now since a n gc uc gs us kc k offering shut phase s t b.known b.up
         b.quiet b.none b.offers b.closed b.done reads new_still steady_still
@@ -261,11 +281,10 @@ module _ (x : Ends) (g : Handlers) (request : List ℕ) (call line : ℕ) (small
           past = b.past;
           soon = b.soon;
           rests = λ same. absurd (omega (arith, b.less));
-          owes = λ less. owes_by (since + 100) b.soon_owed;
+          owes = λ less. owes;
           came = λ less. omega (arith, b.past, heard_still);
         }) (λ less. omega (arith, b.past, b.spoke)) (omega (arith, b.spoke))
-        (subst (λ (o : Option Owed). IfSome o (λ z. z.rank ≤ now + 100)) (sym owed_still) b.late)
-        (omega (arith, b.less, b.within))
+        late_still (omega (arith, b.less, b.within))
         (subst (λ (ys : List ℕ). Two x (server_at x gs us now lives.Accepted k) lc cs
         (record (begun (the_call x)) { request = kept_of g ys } ∷ []) s) (sym read_is) two) calls)
 
@@ -316,19 +335,53 @@ module _ (x : Ends) (g : Handlers) (request : List ℕ) (call line : ℕ) (small
           let stands : heard_of (kept_to request n) ≡ read = heard_whole request n all ∙ sym stood in
           omega (arith, ap (λ (ys : List ℕ). length ys) stands, ap (λ (ys : List ℕ). length ys) (append-nil read))
 
-      owed_ended : ended.owed_ack ≡ Some b.owed
+      used_ended : used_of ended.received ≡ n
+      used_ended = ap (λ (i : CallLooks). used_of (after_read now true [] i).received) h.is
+          ∙ used_all request (read ++ []) n n long
+
+      owed_ended : ended.owed_ack
+          ≡ cond (nat_lt (used_of k.received) (used_of ended.received)) (delayed now 0 k.owed_ack) k.owed_ack
       owed_ended =
           ap (λ (t : Bool). owed_for_read now (t && has_several k.received) (used_of k.received) (used_of ended.received)
           k.owed_ack) (ap (λ (i : CallLooks). i.cwnd.prompt) h.is ∙ h.unprompted)
-          ∙ ap (λ (o : Option Owed). owed_for_read now false (used_of k.received) (used_of ended.received) o) owed_still
-          ∙ of (nat_lt (used_of k.received) (used_of ended.received))
-        where
-          of : (z : Bool) → cond z (delayed now 0 (Some b.owed)) (Some b.owed) ≡ Some b.owed
-          of true = refl
-          of false = refl
 
-      owes_now : IsOwedBy now ended
-      owes_now = subst (λ (o : Option Owed). IsSomeAnd o (λ z. z.rank ≤ now)) (sym owed_ended) (omega (arith, b.at_end all))
+      plain_ended : IfSome ended.owed_ack IsPlainOwed
+      plain_ended =
+          subst (λ (o : Option Owed). IfSome o IsPlainOwed) (sym owed_ended)
+          (of (nat_lt (used_of k.received) (used_of ended.received)) k.owed_ack plain_still)
+        where
+          of : (z : Bool) (o : Option Owed) → IfSome o IsPlainOwed → IfSome (cond z (delayed now 0 o) o) IsPlainOwed
+          of true None was = record { reason_low = omega arith; reason_high = omega arith; serial = omega arith; no_ping = refl }
+          of true (Some o) was = was
+          of false o was = was
+
+      owes_soon : IsOwedBy (since + 100) ended
+      owes_soon =
+          subst (λ (o : Option Owed). IsSomeAnd o (λ z. z.rank ≤ since + 100)) (sym owed_ended)
+          (⊎_elim (λ (w : IsOwedBy (since + 100) first).
+          kept (nat_lt (used_of k.received) (used_of ended.received)) k.owed_ack (owes_still w))
+          (λ (w : (since ≡ now) × (used_of first.received < n)).
+          newly (nat_lt (used_of k.received) (used_of ended.received)) refl w.0 w.1) b.owes)
+        where
+          kept : (z : Bool) (o : Option Owed) → IsSomeAnd o (λ w. w.rank ≤ since + 100)
+              → IsSomeAnd (cond z (delayed now 0 o) o) (λ w. w.rank ≤ since + 100)
+          kept z None some = absurd some
+          kept true (Some o) some = some
+          kept false (Some o) some = some
+
+          new_owed : (o : Option Owed) → since ≡ now → IfSome o (λ w. w.rank ≤ now + 100)
+              → IsSomeAnd (delayed now 0 o) (λ w. w.rank ≤ since + 100)
+          new_owed None same was = omega arith
+          new_owed (Some o) same was = omega arith
+
+          newly : (z : Bool) → nat_lt (used_of k.received) (used_of ended.received) ≡ z → since ≡ now
+              → used_of first.received < n
+              → IsSomeAnd (cond z (delayed now 0 k.owed_ack) k.owed_ack) (λ w. w.rank ≤ since + 100)
+          newly true is same more = new_owed k.owed_ack same late_still
+          newly false is same more =
+              (let not_less : used_of ended.received ≤ used_of k.received =
+              ltb-false (used_of k.received) (used_of ended.received) is in
+              owes_raised same (omega (arith, used_ended)))
 
       shut_is : kc.sent.shut ≡ true
       shut_is = given_all request since a n kc b.up all
@@ -337,12 +390,11 @@ module _ (x : Ends) (g : Handlers) (request : List ℕ) (call line : ℕ) (small
       has_all =
           record {
             tells = record {
-              used = ap (λ (i : CallLooks). used_of (after_read now true [] i).received) h.is
-                  ∙ used_all request (read ++ []) n n long ∙ all;
+              used = used_ended ∙ all;
               marks = ap (λ (i : CallLooks). marks_of (after_read now true [] i).received) h.is
                   ∙ marks_all request (read ++ []) n n long;
               previous = subst (λ (i : CallLooks). i.received.previous < 2 ^ 32) (sym h.is) (omega (arith, b.within));
-              plain = subst (λ (o : Option Owed). IfSome o IsPlainOwed) (sym owed_ended) b.plain;
+              plain = plain_ended;
             };
             ended = refl;
             a = a;
@@ -360,6 +412,10 @@ module _ (x : Ends) (g : Handlers) (request : List ℕ) (call line : ℕ) (small
       caller_is : cs ≡ caller_at call line (caller_with x [] true [] phase) ∷ []
       caller_is = ap (λ (ys : List ℕ). caller_at call line (caller_with x ys shut [] phase) ∷ []) none_left
           ∙ ap (λ (z : Bool). caller_at call line (caller_with x [] z [] phase) ∷ []) closed
+
+      later : (o : Option Owed) → IsSomeAnd o (λ w. w.rank ≤ since + 100) → IsSomeAnd o (λ w. w.rank ≤ now + 100)
+      later None some = absurd some
+      later (Some o) some = omega (arith, b.past)
 
       begins : Begins x g request call line now kc ended
       begins =
@@ -382,7 +438,6 @@ module _ (x : Ends) (g : Handlers) (request : List ℕ) (call line : ℕ) (small
             };
             spoken = omega (arith, b.spoke);
             acks = inr b.soon;
-            passes = inr owes_now;
           }
 
       on_end : ServedOn x g request lc cs now gs us 0 ended s → TurnsNext x g request call line now a n t
@@ -401,14 +456,14 @@ module _ (x : Ends) (g : Handlers) (request : List ℕ) (call line : ℕ) (small
             used_server = us;
             phase = phases.Resting;
             steps = 0;
-            two = waits_turn x (server_at x gs us now lives.Accepted ended)
+            two = waits_turn x None (server_at x gs us now lives.Accepted ended)
                 (record (begun (the_call x)) { request = kept_of g request; ended = true; steps = 0 } ∷ []) now gc uc call
                 line kc phase s t b.quiet two1 calls;
             turns = omega arith;
             some = omega arith;
             uncoded = uncoded;
             has = has_all;
-            acks = inr (owes_now, b.soon);
+            acks = inr (owes_soon, b.soon);
             past = b.past;
             quiet = b.quiet;
             owes_none = b.none;
@@ -421,11 +476,7 @@ module _ (x : Ends) (g : Handlers) (request : List ℕ) (call line : ℕ) (small
               slow = steady_still.slow;
             };
             spoken = omega (arith, b.spoke);
-            waits = answers owes_now (record {
-              client = omega (arith, b.touch, b.soon);
-              server = omega (arith, heard_still);
-              spoke = omega (arith, b.spoke);
-            });
+            waits = answers_later (later ended.owed_ack owes_soon) (omega (arith, b.touch, b.soon)) heard_still b.spoke;
           })
       on_end (replies_now reply served w) =
           replies_next reply (replying_at x g request call line now reply kc ended gc uc gs us lc cs phase s t begins served
@@ -444,7 +495,7 @@ module _ (x : Ends) (g : Handlers) (request : List ℕ) (call line : ℕ) (small
             offering = [];
             shut = true;
             phase = phases.Resting;
-            two = waits_turn x (refused_at x code gs us now ended) [] now gc uc call line kc phase s t b.quiet two1 calls;
+            two = waits_turn x None (refused_at x code gs us now ended) [] now gc uc call line kc phase s t b.quiet two1 calls;
             served = served;
             some = some;
             fits = fits;

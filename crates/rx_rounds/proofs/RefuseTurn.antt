@@ -1,5 +1,6 @@
 -- A turn of the caller whose call ended with a code: it is told so, and ends.
 use Rattle.std.proofs.Common.{◌≡◌, ◌<◌, ◌++◌, ℕ, ℤ, Bool, true, false, List, [], ◌∷◌, refl, ap}
+use Rattle.std.proofs.Common.{None}
 use Rattle.std.proofs.Common.{subst, ◌∙◌, Option, Some, Result, Err, length, take, arith, length-take}
 use Rattle.std.proofs.lemmas.Bool.{lt-ltb}
 use Rattle.rx_model.specs.declared.answers.End.TheVariants as ends
@@ -53,7 +54,7 @@ module _ (x : Ends) (ls : Looks) (js : List JobState) (cs : List InvokedState) (
       let e : Event = events.HasRead c 4096 (readers.Client (answers.Gone (ends.Abort code))) [] in
       let is : read_event x (gone_with k) c 4096 ≡ e =
       ap (λ (o : Option CallRecord). events.HasRead c 4096 (readers.Client (client_read o 4096).0)
-      (client_read o 4096).1) (own_is x given used firsts now (lives.Ended (ends.Abort code)) k) in
+      (client_read o 4096).1) (own_is x None given used firsts now (lives.Ended (ends.Abort code)) k) in
       let m = subst (λ (f : Event). Calls_ x REPLY_BYTES ls (gone_with k) cs js v f w t) is
       (calls_read x REPLY_BYTES ls (gone_with k) cs js v w s t c 4096 two asked calls) in
       (calls_over REPLY_BYTES (gone v) w m.stage t refl m.goes).0
@@ -70,7 +71,7 @@ module _ (x : Ends) (ls : Looks) (js : List JobState) (cs : List InvokedState) (
       let e : Event = events.Shut c (Err (record {})) in
       let is : shut_event x (gone_with k) c ≡ e =
       ap (λ (o : Option CallRecord). events.Shut c (done_where (is_call can_say o)))
-      (own_is x given used firsts now (lives.Ended (ends.Abort code)) k) in
+      (own_is x None given used firsts now (lives.Ended (ends.Abort code)) k) in
       let m = subst (λ (f : Event). Calls_ x REPLY_BYTES ls (gone_with k) cs js v f w t) is
       (calls_shut x REPLY_BYTES ls (gone_with k) cs js v w s t c two refl calls) in
       let v1 : CallerState = record v { shut = true } in
@@ -82,7 +83,7 @@ module _ (x : Ends) (ls : Looks) (js : List JobState) (cs : List InvokedState) (
       let refused : ◌≡◌ {A = Result ℕ NotOpen} (client_write (client_setup x) (gone_with k)
       (own_call (gone_with k) c) (length block)) (Err (record {})) =
       ap (λ (o : Option CallRecord). client_write (client_setup x) (gone_with k) o (length block))
-      (own_is x given used firsts now (lives.Ended (ends.Abort code)) k) in
+      (own_is x None given used firsts now (lives.Ended (ends.Abort code)) k) in
       let is : offer_event x (gone_with k) c block ≡ e =
       ap (λ (r : Result ℕ NotOpen). events.Wrote c (length block) (writers.Client r) (take (written_count r) block))
       refused in

@@ -52,7 +52,7 @@ module _ (whole : List ℕ) (k : CallLooks) (h : GaveAll whole k) where
         sends = record {
           acked = ap (λ (s : Sent). s.acked) sent ∙ pieces_all;
           given = ap (λ (s : Sent). given_of s) sent ∙ h.sends.given;
-          hard = λ j. ap (λ (s : Sent). s.soft j) sent ∙ h.sends.hard j;
+          marked = λ j past. ap (λ (s : Sent). s.soft j) sent ∙ h.sends.marked j past;
           peer = ap (λ (s : Sent). s.peer_window) sent ∙ h.sends.peer;
           known = omega arith;
           near = omega arith;

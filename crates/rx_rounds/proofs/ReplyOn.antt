@@ -11,8 +11,7 @@ use Rattle.rx_rules.specs.Received.{Received, is_complete, marks_of, unread_of, 
 use Rattle.rx_asks.specs.declared.ask.Phase.TheVariants as phases
 use Rattle.rx_jobs.specs.Handlers.{Handlers}
 use Rattle.rx_plan.specs.Stages.{Stage}
-use Rattle.rx_rounds.proofs.Between.{HasAll, HasCome, OnTime, Replying, caller_with}
-use Rattle.rx_rounds.proofs.Between.{client_at, server_at}
+use Rattle.rx_rounds.proofs.Between.{HasAll, HasCome, OnTime, Owing, Replying, caller_with, client_at, server_at}
 use Rattle.rx_rounds.proofs.Flow.{total}
 use Rattle.rx_rounds.proofs.Keeper.{part_read}
 use Rattle.rx_rounds.proofs.OneCall.{Ends}
@@ -25,7 +24,7 @@ use Rattle.rx_rounds.proofs.SaidMore.{sends_same}
 use Rattle.rx_rounds.proofs.Two.{AreApart, Two}
 use Rattle.rx_rounds.proofs.ReplyTurn.{p, o, soon}
 use Rattle.rx_rounds.proofs.ReplyTurn.{came, k1, last, last_more, last_within}
-use Rattle.rx_rounds.proofs.ReplyTurn.{wrote, k2, ls2, can_go, owed_none, heard_p}
+use Rattle.rx_rounds.proofs.ReplyTurn.{wrote, k2, ls2, can_go, heard_p, owing2, plain2}
 use Rattle.rx_rounds.proofs.ReplyTurn.{spoke_p, acked_all, split2, down2, more2}
 use Rattle.rx_rounds.proofs.ReplyTurn.{loud}
 
@@ -100,7 +99,7 @@ module _ (x : Ends) (g : Handlers) (fits : FitsEnds x) (apart : AreApart x) (req
             used = ap (λ (v : Received). used_of v) (came x g fits apart request reply call line few1 now a n q s t r m early).received ∙ r.has.tells.used;
             marks = ap (λ (v : Received). marks_of v) (came x g fits apart request reply call line few1 now a n q s t r m early).received ∙ r.has.tells.marks;
             previous = subst (λ (v : Received). v.previous < 2 ^ 32) (sym (came x g fits apart request reply call line few1 now a n q s t r m early).received) r.has.tells.previous;
-            plain = subst (λ (w : Option Owed). IfSome w IsPlainOwed) (sym (owed_none x g fits apart request reply call line few1 now a n q s t r m early)) tt;
+            plain = (plain2 x g fits apart request reply call line few1 now a n q s t r m early);
           };
           ended = ap (λ (v : Received). v.ended) (came x g fits apart request reply call line few1 now a n q s t r m early).received ∙ r.has.ended;
           a = (came x g fits apart request reply call line few1 now a n q s t r m early).got.all.acked;
@@ -112,15 +111,16 @@ module _ (x : Ends) (g : Handlers) (fits : FitsEnds x) (apart : AreApart x) (req
         }
 
     -- the stage behind it
-    pub stage_on : (now2 q2 : ℕ)
+    pub stage_on : (now2 q2 more : ℕ)
         → Two x (server_at x (o x g fits apart request reply call line few1 now a n q s t r m early).behind.given (came x g fits apart request reply call line few1 now a n q s t r m early).used_server now2 (wrote x g fits apart request reply call line few1 now a n q s t r m early).life (k2 x g fits apart request reply call line few1 now a n q s t r m early))
         (client_at x (p x g fits apart request reply call line few1 now a n q s t r m early).behind.given (came x g fits apart request reply call line few1 now a n q s t r m early).used_client (came x g fits apart request reply call line few1 now a n q s t r m early).names now2 k3)
         (caller_at call line (caller_with x [] true read phases.Resting) ∷ []) (wrote x g fits apart request reply call line few1 now a n q s t r m early).jobs t
         → OnTime 4000 (came x g fits apart request reply call line few1 now a n q s t r m early).since1 now2 (came x g fits apart request reply call line few1 now a n q s t r m early).a1 (last x g fits apart request reply call line few1 now a n q s t r m early) k3 (k2 x g fits apart request reply call line few1 now a n q s t r m early) k3 → k3.spoke ≤ now2
-        → IfSome k3.owed_ack (λ z. z.rank ≤ now2 + 100) → (q2 ≡ 0 → ((came x g fits apart request reply call line few1 now a n q s t r m early).a1 < (last x g fits apart request reply call line few1 now a n q s t r m early)) × IsOwedBy now2 k3) → q2 ≤ 1
+        → IfSome k3.owed_ack (λ z. z.rank ≤ now2 + 100) → Owing now2 (k2 x g fits apart request reply call line few1 now a n q s t r m early).owed_ack more → more ≤ q2
+        → (q2 ≤ more → ((came x g fits apart request reply call line few1 now a n q s t r m early).a1 < (last x g fits apart request reply call line few1 now a n q s t r m early)) × IsOwedBy now2 k3)
         → Replying x g request reply call line now2 (came x g fits apart request reply call line few1 now a n q s t r m early).a1 (last x g fits apart request reply call line few1 now a n q s t r m early) q2 t
     unfolding has3
-    stage_on now2 q2 two time spoken late due ready =
+    stage_on now2 q2 more two time spoken late passes within due =
         record {
           kc = k3;
           ks = (k2 x g fits apart request reply call line few1 now a n q s t r m early);
@@ -150,10 +150,11 @@ module _ (x : Ends) (g : Handlers) (fits : FitsEnds x) (apart : AreApart x) (req
           time = time;
           spoken = spoken;
           late = late;
+          owing = more;
+          passes = passes;
+          within = within;
           due = due;
-          ready = ready;
           acks = inl (acked_all x g fits apart request reply call line few1 now a n q s t r m early);
-          passes = inl (owed_none x g fits apart request reply call line few1 now a n q s t r m early);
         }
 
     pub late3 : (now2 : ℕ) → now ≤ now2 → IfSome k3.owed_ack (λ z. z.rank ≤ now2 + 100)
@@ -167,14 +168,15 @@ module _ (x : Ends) (g : Handlers) (fits : FitsEnds x) (apart : AreApart x) (req
     -- an ACK (came x g fits apart request reply call line few1 now a n q s t r m early), or pieces passed: no clock moved
     pub loud_on : Two x (ls2 x g fits apart request reply call line few1 now a n q s t r m early) (client_at x (p x g fits apart request reply call line few1 now a n q s t r m early).behind.given (came x g fits apart request reply call line few1 now a n q s t r m early).used_client (came x g fits apart request reply call line few1 now a n q s t r m early).names now k3)
         (caller_at call line (caller_with x [] true read phases.Resting) ∷ []) (wrote x g fits apart request reply call line few1 now a n q s t r m early).jobs m.called
-        → 1 ≤ length (p x g fits apart request reply call line few1 now a n q s t r m early).acks + length (o x g fits apart request reply call line few1 now a n q s t r m early).pieces.messages
+        → 1 ≤ (length (p x g fits apart request reply call line few1 now a n q s t r m early).acks + length (o x g fits apart request reply call line few1 now a n q s t r m early).pieces.messages) + length (o x g fits apart request reply call line few1 now a n q s t r m early).acks
         → (came x g fits apart request reply call line few1 now a n q s t r m early).since1 ≤ now → now ≤ (came x g fits apart request reply call line few1 now a n q s t r m early).since1 + 100 → (came x g fits apart request reply call line few1 now a n q s t r m early).since1 ≤ k3.heard + 4000 → (came x g fits apart request reply call line few1 now a n q s t r m early).since1 ≤ (k2 x g fits apart request reply call line few1 now a n q s t r m early).heard + 1000
         → (came x g fits apart request reply call line few1 now a n q s t r m early).since1 ≤ k3.spoke + 1000 → ((came x g fits apart request reply call line few1 now a n q s t r m early).a1 ≡ (last x g fits apart request reply call line few1 now a n q s t r m early) → (came x g fits apart request reply call line few1 now a n q s t r m early).since1 ≡ now)
         → ((came x g fits apart request reply call line few1 now a n q s t r m early).a1 < (last x g fits apart request reply call line few1 now a n q s t r m early) → IsOwedBy ((came x g fits apart request reply call line few1 now a n q s t r m early).since1 + 100) k3) → ((came x g fits apart request reply call line few1 now a n q s t r m early).a1 < (last x g fits apart request reply call line few1 now a n q s t r m early) → (came x g fits apart request reply call line few1 now a n q s t r m early).since1 ≤ k3.heard)
         → a + n + 1 ≤ (came x g fits apart request reply call line few1 now a n q s t r m early).a1 + (last x g fits apart request reply call line few1 now a n q s t r m early) → ReplyNext x g request reply call line now a n q t
     loud_on two some past_ soon_ client_ server_ spoke_ rests_ owes_ came_ further =
-        comes_on now (came x g fits apart request reply call line few1 now a n q s t r m early).a1 (last x g fits apart request reply call line few1 now a n q s t r m early) 1 (omega arith) (omega arith) (omega arith)
-        (stage_on now 1 (subst (λ (u : Stage). Two x (ls2 x g fits apart request reply call line few1 now a n q s t r m early)
+        let more = (owing2 x g fits apart request reply call line few1 now a n q s t r m early) in let within = r.within in
+        comes_on now (came x g fits apart request reply call line few1 now a n q s t r m early).a1 (last x g fits apart request reply call line few1 now a n q s t r m early) (more.0 + 1) (omega arith) (omega arith) (omega (arith, more.1))
+        (stage_on now (more.0 + 1) more.0 (subst (λ (u : Stage). Two x (ls2 x g fits apart request reply call line few1 now a n q s t r m early)
         (client_at x (p x g fits apart request reply call line few1 now a n q s t r m early).behind.given (came x g fits apart request reply call line few1 now a n q s t r m early).used_client (came x g fits apart request reply call line few1 now a n q s t r m early).names now k3)
         (caller_at call line (caller_with x [] true read phases.Resting) ∷ []) (wrote x g fits apart request reply call line few1 now a n q s t r m early).jobs u) (sym ((loud x g fits apart request reply call line few1 now a n q s t r m early) some)) two)
         (record {
@@ -184,7 +186,7 @@ module _ (x : Ends) (g : Handlers) (fits : FitsEnds x) (apart : AreApart x) (req
           rests = rests_;
           owes = owes_;
           came = came_;
-        }) spoken3 (late3 now (omega arith)) (λ is. absurd (omega arith)) (omega arith))
+        }) spoken3 (late3 now (omega arith)) more.2 (omega arith) (λ is. absurd (omega arith)))
 
     -- the ACK (came x g fits apart request reply call line few1 now a n q s t r m early)
     pub told_on : Two x (ls2 x g fits apart request reply call line few1 now a n q s t r m early) (client_at x (p x g fits apart request reply call line few1 now a n q s t r m early).behind.given (came x g fits apart request reply call line few1 now a n q s t r m early).used_client (came x g fits apart request reply call line few1 now a n q s t r m early).names now k3)

@@ -81,7 +81,7 @@ module _ (x : Ends) (reply : List ℕ) (ls : Looks) (js : List JobState) (call l
       ≡ events.HasRead c 4096 (readers.Client (client_read_by lives.Calling (got, came)).0)
       (client_read_by lives.Calling (got, came)).1 =
       ap (λ (o : Option CallRecord). events.HasRead c 4096 (readers.Client (client_read o 4096).0)
-      (client_read o 4096).1) (own_is x given used firsts now lives.Calling k)
+      (client_read o 4096).1) (own_is x None given used firsts now lives.Calling k)
       ∙ ap (λ (r : CallRead × List ℕ). events.HasRead c 4096 (readers.Client (client_read_by lives.Calling r).0)
       (client_read_by lives.Calling r).1) is in
       subst (λ (e : Event). Calls_ x REPLY_BYTES ls (kept_with k) go.0 js (caller_in phase read) e w t) same

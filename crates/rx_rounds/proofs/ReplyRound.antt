@@ -1,27 +1,24 @@
 -- A round in which a reply comes: more pieces of it came, or an ACK of those that had come; or nothing was given, and then
 -- the ACK that is owed is due; or the caller has all of it.
 use Rattle.std.proofs.Common.{◌≡◌, ◌<◌, ◌≤◌, inl, inr, ⊎_elim, ◌+◌, ◌-◌, ◌*◌, ◌^◌, ◌++◌, ◌==◌, ℕ}
-use Rattle.std.proofs.Common.{suc, Bool, true, false, List, [], ◌∷◌, refl, ap, sym, subst, ◌∙◌, Option, Some, None}
-use Rattle.std.proofs.Common.{max, map, length, arith, append-nil, nat_le}
+use Rattle.std.proofs.Common.{Bool, true, false, List, [], ◌∷◌, refl, ap, sym, subst, ◌∙◌, Option, Some, None}
+use Rattle.std.proofs.Common.{max, length, arith, append-nil, nat_le}
 use Rattle.std.proofs.lemmas.Bool.{both_ways, cases_lt, eq-eqb, lt-leb}
 use Rattle.std.proofs.lemmas.List.{length-append}
-use Rattle.std.specs.Prelude.{IsSomeAnd}
+use Rattle.std.specs.Prelude.{IfSome, IsSomeAnd}
 use Rattle.rx_model.specs.declared.wire.TheConstants.{PING_MS, SILENCE_MS}
 use Rattle.rx_model.specs.Message.{Message}
-use Rattle.rx_rules.specs.CallItems.{CallItem, ack_items, again_items, can_give, ping_items}
+use Rattle.rx_rules.specs.CallItems.{can_give}
 use Rattle.rx_rules.specs.CallLooks.{CallLooks}
 use Rattle.rx_rules.specs.Life.{is_active, is_live}
 use Rattle.rx_rules.specs.Looks.{Looks}
 use Rattle.rx_rules.specs.Owing.{Owed}
 use Rattle.rx_rules.specs.Received.{is_complete, unread_of}
-use Rattle.rx_rules.specs.Sent.{LastGiving, last_giving}
 use Rattle.rx_script.specs.Served.{Served}
 use Rattle.rx_asks.specs.declared.ask.Phase.TheVariants as phases
 use Rattle.rx_jobs.specs.Handlers.{Handlers}
 use Rattle.rx_plan.specs.Stages.{InvokedState, Stage}
-use Rattle.rx_rounds.proofs.Between.{EndsWith, Replying, caller_with}
-use Rattle.rx_rounds.proofs.Between.{client_at}
-use Rattle.rx_rounds.proofs.EachItem.{In}
+use Rattle.rx_rounds.proofs.Between.{EndsWith, OnTime, Owing, Replying, caller_with, client_at, owes_any, owes_none, owes_now}
 use Rattle.rx_rounds.proofs.Flow.{total}
 use Rattle.rx_rounds.proofs.OneCall.{Ends, the_call}
 use Rattle.rx_rounds.proofs.OneFields.{FitsEnds}
@@ -29,7 +26,7 @@ use Rattle.rx_rounds.proofs.OneWay.{IsOwedBy, Sends}
 use Rattle.rx_rounds.proofs.ReadOn.{IsRead}
 use Rattle.rx_rounds.proofs.RefuseRound.{ended_settled}
 use Rattle.rx_rounds.proofs.ReplyEnds.{gives_none}
-use Rattle.rx_rounds.proofs.ReplyMoments.{moments_are, moments_rest}
+use Rattle.rx_rounds.proofs.ReplyMoments.{MomentOf, in_ack, moment_of, of_ack, of_death, of_piece, of_ping}
 use Rattle.rx_rounds.proofs.ReplyReads.{ReplyRead, caller_ended, waits_for_more}
 use Rattle.rx_rounds.proofs.Rounded.{RoundMade, caller_at}
 use Rattle.rx_rounds.proofs.SaidMore.{said_more, sends_same}
@@ -38,7 +35,8 @@ use Rattle.rx_rounds.proofs.Two.{AreApart, Two}
 use Rattle.rx_rounds.proofs.ReplyParts.{answering_ends, answering_lives, answering_shut, burst_none, burst_some}
 use Rattle.rx_rounds.proofs.ReplyTurn.{p, o, touch, past, soon}
 use Rattle.rx_rounds.proofs.ReplyTurn.{came, k1, last, last_more, job1}
-use Rattle.rx_rounds.proofs.ReplyTurn.{wrote, k2, ls2, turned, can_go, owed_none}
+use Rattle.rx_rounds.proofs.ReplyTurn.{loud, none_due, owes2}
+use Rattle.rx_rounds.proofs.ReplyTurn.{wrote, k2, ls2, turned, can_go}
 use Rattle.rx_rounds.proofs.ReplyTurn.{spoke_p, quiet_owes, acked_all, ends2, keeps2, down2}
 use Rattle.rx_rounds.proofs.ReplyTurn.{given_long}
 use Rattle.rx_rounds.proofs.ReplyOn.{ReplyNext, comes_on, has_come, heard3}
@@ -175,140 +173,172 @@ module _ (x : Ends) (g : Handlers) (fits : FitsEnds x) (apart : AreApart x) (req
           shut = ap (λ (i : CallLooks). i.sent.shut) h.is ∙ (came x g fits apart request reply call line few1 now a n q s t r m early).got.all.shut;
         })
 
-        -- no datagram was given
-        is_quiet : (length m.polled.given == 0) ≡ true
-        is_quiet = eq-eqb (length m.polled.given) 0
-            (let one : length (p x g fits apart request reply call line few1 now a n q s t r m early).pieces.messages ≡ 0 = ap (λ (ms : List Message). length ms)
-            ((p x g fits apart request reply call line few1 now a n q s t r m early).pieces.none (gives_none request r.kc (record {
-              since = r.has.since;
-              acked = r.has.a;
-              sends = r.has.all;
-              shut = r.has.shut;
-            }))).1 in
-            let two_ : length (p x g fits apart request reply call line few1 now a n q s t r m early).acks ≡ 0 = ap (λ (ms : List Message). length ms) quiet in
-            let three : length (o x g fits apart request reply call line few1 now a n q s t r m early).pieces.messages ≡ 0 = burst_none _ false reply n (last x g fits apart request reply call line few1 now a n q s t r m early) (o x g fits apart request reply call line few1 now a n q s t r m early).pieces.messages (o x g fits apart request reply call line few1 now a n q s t r m early).pieces.burst
-            (omega arith) in
-            let four : length (o x g fits apart request reply call line few1 now a n q s t r m early).acks ≡ 0 = ap (λ (ms : List Message). length ms) ((o x g fits apart request reply call line few1 now a n q s t r m early).quiet passed (λ is. absurd cc)) in
-            let sum : length m.polled.given ≡ (length (p x g fits apart request reply call line few1 now a n q s t r m early).pieces.messages + length (p x g fits apart request reply call line few1 now a n q s t r m early).acks)
-            + (length (o x g fits apart request reply call line few1 now a n q s t r m early).pieces.messages + length (o x g fits apart request reply call line few1 now a n q s t r m early).acks) = (given_long x g fits apart request reply call line few1 now a n q s t r m early) in omega arith)
+        -- the client's ACK isn't due, so that there are rounds left
+        not_due : IsOwedBy now r.kc → ⊥
+        not_due owes = by r.kc.owed_ack owes ((quiet_owes x g fits apart request reply call line few1 now a n q s t r m early) quiet).1
           where
-            passed : r.ks.owed_ack ≡ None
-            passed = ⊎_elim (λ (w : r.ks.owed_ack ≡ None). w)
-                (λ (w : (n ≡ 0) × IsOwedBy now r.ks). absurd (let zero_ : n ≡ 0 = w.0 in omega (arith, flying))) r.passes
+            by : (z : Option Owed) → IsSomeAnd z (λ v. v.rank ≤ now) → ((y : Owed) → z ≡ Some y → now < y.rank) → ⊥
+            by None some later = absurd some
+            by (Some y) some later = (let high : now < y.rank = later y refl in absurd (omega arith))
 
-        lives2 : (is_active (wrote x g fits apart request reply call line few1 now a n q s t r m early).life ≡ true) × (is_live (wrote x g fits apart request reply call line few1 now a n q s t r m early).life ≡ true)
-        lives2 = answering_lives x g request ((k1 x g fits apart request reply call line few1 now a n q s t r m early).sent.said ++ (wrote x g fits apart request reply call line few1 now a n q s t r m early).more) (wrote x g fits apart request reply call line few1 now a n q s t r m early).shut (wrote x g fits apart request reply call line few1 now a n q s t r m early).rest (wrote x g fits apart request reply call line few1 now a n q s t r m early).life (wrote x g fits apart request reply call line few1 now a n q s t r m early).jobs
-            (wrote x g fits apart request reply call line few1 now a n q s t r m early).job
+        some_left : r.owing < q
+        some_left = elim (cases_lt r.owing q) as (λ z. r.owing < q) [
+          | inl more ↦ more
+          | inr none_ ↦ absurd (not_due (r.due none_).1)
+        ]
 
-        awake_k3 : nat_le SILENCE_MS (now - k3.heard) ≡ false
-        awake_k3 = lt-leb SILENCE_MS (now - k3.heard) (omega (arith, client_near, (soon x g fits apart request reply call line few1 now a n q s t r m early)))
+        owes_soon : IsOwedBy (r.since + 100) k3
+        owes_soon = subst (λ (b : ℕ). IsOwedBy (b + 100) k3) since_same (owes_on flying)
 
-        awake_k2 : nat_le SILENCE_MS (now - (k2 x g fits apart request reply call line few1 now a n q s t r m early).heard) ≡ false
-        awake_k2 = lt-leb SILENCE_MS (now - (k2 x g fits apart request reply call line few1 now a n q s t r m early).heard) (omega (arith, server_near, (soon x g fits apart request reply call line few1 now a n q s t r m early)))
+        time_on : (now2 : ℕ) → now ≤ now2 → now2 ≤ r.since + 100
+            → OnTime 4000 (came x g fits apart request reply call line few1 now a n q s t r m early).since1 now2 (came x g fits apart request reply call line few1 now a n q s t r m early).a1 (last x g fits apart request reply call line few1 now a n q s t r m early) k3 (k2 x g fits apart request reply call line few1 now a n q s t r m early) k3
+        time_on now2 from low =
+            record {
+              touch = record { client = client_near; server = server_near; spoke = spoke_near };
+              past = omega (arith, (past x g fits apart request reply call line few1 now a n q s t r m early), since_same);
+              soon = omega (arith, since_same);
+              rests = λ same. absurd (omega (arith, flying));
+              owes = λ less. owes_on flying;
+              came = λ less. (let old : r.since ≤ r.kc.heard = r.time.came flying in
+                  ⊎_elim (λ (v : k3.heard ≡ now). omega (arith, (past x g fits apart request reply call line few1 now a n q s t r m early), since_same))
+                  (λ (v : (k3.heard ≡ r.kc.heard) × (n ≡ (last x g fits apart request reply call line few1 now a n q s t r m early))). (let same : k3.heard ≡ r.kc.heard = v.0 in
+                  omega (arith, since_same))) (heard3 x g fits apart request reply call line few1 now a n q s t r m early k3 read h none3 part3));
+            }
 
-        abbrev lc3 : Looks
-        lc3 = client_at x (p x g fits apart request reply call line few1 now a n q s t r m early).behind.given (came x g fits apart request reply call line few1 now a n q s t r m early).used_client (came x g fits apart request reply call line few1 now a n q s t r m early).names now k3
+        -- the server's ACK was given, and nothing else
+        told_alone : (k2 x g fits apart request reply call line few1 now a n q s t r m early).owed_ack ≡ None → 1 ≤ length (o x g fits apart request reply call line few1 now a n q s t r m early).acks → ReplyNext x g request reply call line now a n q t
+        told_alone none some = by r.passes
+          where
+            on : 1 ≤ r.owing → ReplyNext x g request reply call line now a n q t
+            on some_owed =
+                comes_on now (came x g fits apart request reply call line few1 now a n q s t r m early).a1 (last x g fits apart request reply call line few1 now a n q s t r m early) 1 (omega arith) (omega arith) (omega (arith, some_left))
+                ((stage_on x g fits apart request reply call line few1 now a n q s t r m early k3 read h none3 part3) now 1 0
+                (subst (λ (u : Stage). Two x (ls2 x g fits apart request reply call line few1 now a n q s t r m early)
+                (client_at x (p x g fits apart request reply call line few1 now a n q s t r m early).behind.given (came x g fits apart request reply call line few1 now a n q s t r m early).used_client (came x g fits apart request reply call line few1 now a n q s t r m early).names now k3)
+                (caller_at call line (caller_with x [] true read phases.Resting) ∷ []) (wrote x g fits apart request reply call line few1 now a n q s t r m early).jobs u) (sym ((loud x g fits apart request reply call line few1 now a n q s t r m early) (omega arith))) two)
+                (time_on now (omega arith) (omega (arith, (soon x g fits apart request reply call line few1 now a n q s t r m early))))
+                (spoken3 x g fits apart request reply call line few1 now a n q s t r m early k3 read h none3 part3) ((late3 x g fits apart request reply call line few1 now a n q s t r m early k3 read h none3 part3) now (omega arith)) (owes_none none) (omega arith)
+                (λ is. absurd (omega arith)))
 
-        abbrev cs3 : List InvokedState
-        cs3 = caller_at call line (caller_with x [] true read phases.Resting) ∷ []
+            by : Owing now r.ks.owed_ack r.owing → ReplyNext x g request reply call line now a n q t
+            by (owes_none was) =
+                absurd (let empty : length (o x g fits apart request reply call line few1 now a n q s t r m early).acks ≡ 0 = ap (λ (ms : List Message). length ms)
+                ((o x g fits apart request reply call line few1 now a n q s t r m early).quiet was (λ is. absurd cc)) in omega arith)
+            by (owes_now some_owed low) = on some_owed
+            by (owes_any some_owed) = on (omega arith)
 
-        abbrev ended : Settled x (ls2 x g fits apart request reply call line few1 now a n q s t r m early) lc3 cs3 (wrote x g fits apart request reply call line few1 now a n q s t r m early).jobs now (end_moments false (k2 x g fits apart request reply call line few1 now a n q s t r m early)) (end_moments true k3)
-            (length m.polled.given == 0) t
-        ended = settles_two x (ls2 x g fits apart request reply call line few1 now a n q s t r m early) lc3 cs3 (wrote x g fits apart request reply call line few1 now a n q s t r m early).jobs now (end_moments false (k2 x g fits apart request reply call line few1 now a n q s t r m early)) (end_moments true k3) refl refl
-            (server_moments x (the_call x ∷ []) now (came x g fits apart request reply call line few1 now a n q s t r m early).used_server (o x g fits apart request reply call line few1 now a n q s t r m early).behind.given (wrote x g fits apart request reply call line few1 now a n q s t r m early).life (k2 x g fits apart request reply call line few1 now a n q s t r m early) lives2.0 lives2.1
-            awake_k2)
-            (client_moments x (came x g fits apart request reply call line few1 now a n q s t r m early).names now (came x g fits apart request reply call line few1 now a n q s t r m early).used_client (p x g fits apart request reply call line few1 now a n q s t r m early).behind.given k3 awake_k3) (k3.spoke + PING_MS) (in_ping k3)
-            (omega (arith, (spoken3 x g fits apart request reply call line few1 now a n q s t r m early k3 read h none3 part3))) early (length m.polled.given == 0) m.called t two m.settles_are
+        -- no datagram was given
+        module _ (silent : (o x g fits apart request reply call line few1 now a n q s t r m early).acks ≡ []) (still : (k2 x g fits apart request reply call line few1 now a n q s t r m early).owed_ack ≡ r.ks.owed_ack)
+            (later : (z : Owed) → r.ks.owed_ack ≡ Some z → now < z.rank) where
+          is_quiet : (length m.polled.given == 0) ≡ true
+          is_quiet = eq-eqb (length m.polled.given) 0
+              (let one : length (p x g fits apart request reply call line few1 now a n q s t r m early).pieces.messages ≡ 0 = ap (λ (ms : List Message). length ms)
+              ((p x g fits apart request reply call line few1 now a n q s t r m early).pieces.none (gives_none request r.kc (record {
+                since = r.has.since;
+                acked = r.has.a;
+                sends = r.has.all;
+                shut = r.has.shut;
+              }))).1 in
+              let two_ : length (p x g fits apart request reply call line few1 now a n q s t r m early).acks ≡ 0 = ap (λ (ms : List Message). length ms) quiet in
+              let three : length (o x g fits apart request reply call line few1 now a n q s t r m early).pieces.messages ≡ 0 = burst_none _ false reply n (last x g fits apart request reply call line few1 now a n q s t r m early) (o x g fits apart request reply call line few1 now a n q s t r m early).pieces.messages (o x g fits apart request reply call line few1 now a n q s t r m early).pieces.burst
+              (omega arith) in
+              let four : length (o x g fits apart request reply call line few1 now a n q s t r m early).acks ≡ 0 = ap (λ (ms : List Message). length ms) silent in
+              let sum : length m.polled.given ≡ (length (p x g fits apart request reply call line few1 now a n q s t r m early).pieces.messages + length (p x g fits apart request reply call line few1 now a n q s t r m early).acks)
+              + (length (o x g fits apart request reply call line few1 now a n q s t r m early).pieces.messages + length (o x g fits apart request reply call line few1 now a n q s t r m early).acks) = (given_long x g fits apart request reply call line few1 now a n q s t r m early) in omega arith)
 
-        -- the ACK that is owed
-        module _ (w : Owed) (owes : k3.owed_ack ≡ Some w) (low : w.rank ≤ r.since + 100) where
-          client_ends : end_moments true k3 ≡ w.rank ∷ (k3.spoke + PING_MS) ∷ (k3.heard + SILENCE_MS) ∷ []
-          client_ends =
-              moments_rest true request (came x g fits apart request reply call line few1 now a n q s t r m early).got.all.since (total request) k3 all3 can_none3
-              ∙ ap (λ (z : Option Owed). map (λ (i : CallItem). i.rank) (ack_items z ++ ping_items true k3.spoke)
-              ++ (k3.heard + SILENCE_MS) ∷ []) owes
+          lives2 : (is_active (wrote x g fits apart request reply call line few1 now a n q s t r m early).life ≡ true) × (is_live (wrote x g fits apart request reply call line few1 now a n q s t r m early).life ≡ true)
+          lives2 = answering_lives x g request ((k1 x g fits apart request reply call line few1 now a n q s t r m early).sent.said ++ (wrote x g fits apart request reply call line few1 now a n q s t r m early).more) (wrote x g fits apart request reply call line few1 now a n q s t r m early).shut (wrote x g fits apart request reply call line few1 now a n q s t r m early).rest (wrote x g fits apart request reply call line few1 now a n q s t r m early).life (wrote x g fits apart request reply call line few1 now a n q s t r m early).jobs
+              (wrote x g fits apart request reply call line few1 now a n q s t r m early).job
+
+          awake_k3 : nat_le SILENCE_MS (now - k3.heard) ≡ false
+          awake_k3 = lt-leb SILENCE_MS (now - k3.heard) (omega (arith, client_near, (soon x g fits apart request reply call line few1 now a n q s t r m early)))
+
+          awake_k2 : nat_le SILENCE_MS (now - (k2 x g fits apart request reply call line few1 now a n q s t r m early).heard) ≡ false
+          awake_k2 = lt-leb SILENCE_MS (now - (k2 x g fits apart request reply call line few1 now a n q s t r m early).heard) (omega (arith, server_near, (soon x g fits apart request reply call line few1 now a n q s t r m early)))
+
+          abbrev lc3 : Looks
+          lc3 = client_at x (p x g fits apart request reply call line few1 now a n q s t r m early).behind.given (came x g fits apart request reply call line few1 now a n q s t r m early).used_client (came x g fits apart request reply call line few1 now a n q s t r m early).names now k3
+
+          abbrev cs3 : List InvokedState
+          cs3 = caller_at call line (caller_with x [] true read phases.Resting) ∷ []
+
+          abbrev ended : Settled x (ls2 x g fits apart request reply call line few1 now a n q s t r m early) lc3 cs3 (wrote x g fits apart request reply call line few1 now a n q s t r m early).jobs now (end_moments false (k2 x g fits apart request reply call line few1 now a n q s t r m early)) (end_moments true k3)
+              (length m.polled.given == 0) t
+          ended = settles_two x (ls2 x g fits apart request reply call line few1 now a n q s t r m early) lc3 cs3 (wrote x g fits apart request reply call line few1 now a n q s t r m early).jobs now (end_moments false (k2 x g fits apart request reply call line few1 now a n q s t r m early)) (end_moments true k3) refl refl
+              (server_moments x (the_call x ∷ []) now (came x g fits apart request reply call line few1 now a n q s t r m early).used_server (o x g fits apart request reply call line few1 now a n q s t r m early).behind.given (wrote x g fits apart request reply call line few1 now a n q s t r m early).life (k2 x g fits apart request reply call line few1 now a n q s t r m early) lives2.0 lives2.1
+              awake_k2)
+              (client_moments x (came x g fits apart request reply call line few1 now a n q s t r m early).names now (came x g fits apart request reply call line few1 now a n q s t r m early).used_client (p x g fits apart request reply call line few1 now a n q s t r m early).behind.given k3 awake_k3) (k3.spoke + PING_MS) (in_ping k3)
+              (omega (arith, (spoken3 x g fits apart request reply call line few1 now a n q s t r m early k3 read h none3 part3))) early (length m.polled.given == 0) m.called t two m.settles_are
 
           low2 : ended.then_now ≤ r.since + 100
-          low2 =
-              let near : ended.then_now ≤ max now w.rank = ended.near w.rank
-              (inr (subst (λ (ms : List ℕ). In w.rank ms) (sym client_ends) (inl refl))) in
-              omega (arith, (soon x g fits apart request reply call line few1 now a n q s t r m early))
-
-          -- nothing of the server is due
-          server_later : (mm : ℕ) → In mm (end_moments false (k2 x g fits apart request reply call line few1 now a n q s t r m early)) → ended.then_now < mm
-          server_later mm there =
-              by (last_giving (k2 x g fits apart request reply call line few1 now a n q s t r m early).sent.givings (suc a)) refl (down3.recent (suc a) (omega arith)
-              (omega (arith, flying)))
+          low2 = by k3.owed_ack refl owes_soon
             where
-              by : (z : Option LastGiving) → last_giving (k2 x g fits apart request reply call line few1 now a n q s t r m early).sent.givings (suc a) ≡ z
-                  → IsSomeAnd z (λ v. r.since ≤ v.moment) → ended.then_now < mm
+              by : (z : Option Owed) → k3.owed_ack ≡ z → IsSomeAnd z (λ v. v.rank ≤ r.since + 100)
+                  → ended.then_now ≤ r.since + 100
               by None is some = absurd some
-              by (Some v) is some =
-                  of (subst (λ (ms : List ℕ). In mm ms) (moments_are false reply r.since a (last x g fits apart request reply call line few1 now a n q s t r m early) (k2 x g fits apart request reply call line few1 now a n q s t r m early) down3 can_none2
-                  ∙ ap (λ (z : Option LastGiving). map (λ (i : CallItem). i.rank) (again_items (k2 x g fits apart request reply call line few1 now a n q s t r m early).rtt.rto (suc a) z
-                  ++ (ack_items (k2 x g fits apart request reply call line few1 now a n q s t r m early).owed_ack ++ [])) ++ ((k2 x g fits apart request reply call line few1 now a n q s t r m early).heard + SILENCE_MS) ∷ []) is
-                  ∙ ap (λ (z : Option Owed). map (λ (i : CallItem). i.rank) (again_items (k2 x g fits apart request reply call line few1 now a n q s t r m early).rtt.rto (suc a) (Some v)
-                  ++ (ack_items z ++ [])) ++ ((k2 x g fits apart request reply call line few1 now a n q s t r m early).heard + SILENCE_MS) ∷ []) (owed_none x g fits apart request reply call line few1 now a n q s t r m early)) there)
-                where
-                  of : In mm ((v.moment + (k2 x g fits apart request reply call line few1 now a n q s t r m early).rtt.rto) ∷ ((k2 x g fits apart request reply call line few1 now a n q s t r m early).heard + SILENCE_MS) ∷ []) → ended.then_now < mm
-                  of (inl same) = (let slow : 350 ≤ (k2 x g fits apart request reply call line few1 now a n q s t r m early).rtt.rto = down3.rates.slow in omega (arith, low2))
-                  of (inr (inl same)) = omega (arith, low2, server_near, since_same)
-                  of (inr (inr none_)) = absurd none_
+              by (Some w) is some =
+                  (let near : ended.then_now ≤ max now w.rank = ended.near w.rank (inr (in_ack true k3 w is)) in
+                  omega (arith, (soon x g fits apart request reply call line few1 now a n q s t r m early)))
 
-          -- so the ACK is
-          due_now : IsOwedBy ended.then_now k3
-          due_now = (let v = ended.reached is_quiet in by v.0 v.1 v.2)
+          -- an ACK that is owed is due then: the client's, or the server's
+          data DueThen : Type 0 where
+            client_due : IsOwedBy ended.then_now k3 → DueThen
+            server_due : (z : Owed) → (k2 x g fits apart request reply call line few1 now a n q s t r m early).owed_ack ≡ Some z → z.rank ≤ ended.then_now → DueThen
+
+          due_then : DueThen
+          due_then = (let v = ended.reached is_quiet in by v.0 v.1 v.2)
             where
-              by : (mm : ℕ) → InEither mm (end_moments false (k2 x g fits apart request reply call line few1 now a n q s t r m early)) (end_moments true k3) → mm ≤ ended.then_now
-                  → IsOwedBy ended.then_now k3
-              by mm (inl first) within = absurd (let later : ended.then_now < mm = server_later mm first in omega arith)
-              by mm (inr second) within = of (subst (λ (ms : List ℕ). In mm ms) client_ends second)
+              by : (mm : ℕ) → InEither mm (end_moments false (k2 x g fits apart request reply call line few1 now a n q s t r m early)) (end_moments true k3) → mm ≤ ended.then_now → DueThen
+              by mm (inl first) within = of (moment_of false reply r.since a (last x g fits apart request reply call line few1 now a n q s t r m early) (k2 x g fits apart request reply call line few1 now a n q s t r m early) down3 can_none2 mm first)
                 where
-                  of : In mm (w.rank ∷ (k3.spoke + PING_MS) ∷ (k3.heard + SILENCE_MS) ∷ []) → IsOwedBy ended.then_now k3
-                  of (inl same) = subst (λ (z : Option Owed). IsSomeAnd z (λ v. v.rank ≤ ended.then_now)) (sym owes)
-                      (omega arith)
-                  of (inr (inl same)) = absurd (omega (arith, low2, spoke_near, since_same))
-                  of (inr (inr (inl same))) = absurd (omega (arith, low2, client_near, since_same))
-                  of (inr (inr (inr none_))) = absurd none_
+                  of : MomentOf false reply r.since a (last x g fits apart request reply call line few1 now a n q s t r m early) (k2 x g fits apart request reply call line few1 now a n q s t r m early) down3 can_none2 mm → DueThen
+                  of (of_piece some late) = absurd (omega (arith, low2))
+                  of (of_ack z is same) = server_due z is (omega arith)
+                  of (of_ping side same) = absurd cc
+                  of (of_death same) = absurd (omega (arith, low2, server_near, since_same))
+              by mm (inr second) within = of (moment_of true request (came x g fits apart request reply call line few1 now a n q s t r m early).got.all.since (total request) (total request) k3 all3
+                  can_none3 mm second)
+                where
+                  of : MomentOf true request (came x g fits apart request reply call line few1 now a n q s t r m early).got.all.since (total request) (total request) k3 all3 can_none3 mm → DueThen
+                  of (of_piece some late) = absurd (omega arith)
+                  of (of_ack z is same) =
+                      client_due (subst (λ (v : Option Owed). IsSomeAnd v (λ y. y.rank ≤ ended.then_now)) (sym is) (omega arith))
+                  of (of_ping side same) = absurd (omega (arith, low2, spoke_near, since_same))
+                  of (of_death same) = absurd (omega (arith, low2, client_near, since_same))
 
-          waits_for_ack : 1 ≤ q → ReplyNext x g request reply call line now a n q t
-          waits_for_ack some =
+          waits_with : (q2 more : ℕ) → q2 < q → more ≤ q2 → Owing ended.then_now (k2 x g fits apart request reply call line few1 now a n q s t r m early).owed_ack more
+              → (q2 ≤ more → IsOwedBy ended.then_now k3) → ReplyNext x g request reply call line now a n q t
+          waits_with q2 more less within passes due =
               let from : now ≤ ended.then_now = ended.from in
-              comes_on ended.then_now (came x g fits apart request reply call line few1 now a n q s t r m early).a1 (last x g fits apart request reply call line few1 now a n q s t r m early) 0 from (omega (arith, low2, (past x g fits apart request reply call line few1 now a n q s t r m early))) (omega arith)
-              ((stage_on x g fits apart request reply call line few1 now a n q s t r m early k3 read h none3 part3) ended.then_now 0 ended.two
-              (record {
-                touch = record { client = client_near; server = server_near; spoke = spoke_near };
-                past = omega (arith, (past x g fits apart request reply call line few1 now a n q s t r m early), since_same);
-                soon = omega (arith, low2, since_same);
-                rests = λ same. absurd (omega (arith, flying));
-                owes = λ less. owes_on flying;
-                came = λ less. (let old : r.since ≤ r.kc.heard = r.time.came flying in
-                    ⊎_elim (λ (v : k3.heard ≡ now). omega (arith, (past x g fits apart request reply call line few1 now a n q s t r m early), since_same))
-                    (λ (v : (k3.heard ≡ r.kc.heard) × (n ≡ (last x g fits apart request reply call line few1 now a n q s t r m early))). (let same : k3.heard ≡ r.kc.heard = v.0 in
-                    omega (arith, since_same))) (heard3 x g fits apart request reply call line few1 now a n q s t r m early k3 read h none3 part3));
-              }) (omega (arith, (spoken3 x g fits apart request reply call line few1 now a n q s t r m early k3 read h none3 part3))) ((late3 x g fits apart request reply call line few1 now a n q s t r m early k3 read h none3 part3) ended.then_now from) (λ is. (omega (arith, flying), due_now))
-              (omega arith))
+              comes_on ended.then_now (came x g fits apart request reply call line few1 now a n q s t r m early).a1 (last x g fits apart request reply call line few1 now a n q s t r m early) q2 from (omega (arith, low2, (past x g fits apart request reply call line few1 now a n q s t r m early))) (omega arith)
+              ((stage_on x g fits apart request reply call line few1 now a n q s t r m early k3 read h none3 part3) ended.then_now q2 more ended.two (time_on ended.then_now from low2)
+              (omega (arith, (spoken3 x g fits apart request reply call line few1 now a n q s t r m early k3 read h none3 part3))) ((late3 x g fits apart request reply call line few1 now a n q s t r m early k3 read h none3 part3) ended.then_now from) passes within
+              (λ is. (omega (arith, flying), due is)))
+
+          waits_for_ack : ReplyNext x g request reply call line now a n q t
+          waits_for_ack = by r.passes due_then
+            where
+              none_owed : (k2 x g fits apart request reply call line few1 now a n q s t r m early).owed_ack ≡ None → DueThen → ReplyNext x g request reply call line now a n q t
+              none_owed none (client_due owes) =
+                  waits_with 0 0 (omega (arith, some_left)) (omega arith) (owes_none none) (λ is. owes)
+              none_owed none (server_due z is low) =
+                  absurd (let never : ◌≡◌ {A = Option Owed} (Some z) None = sym is ∙ none in cc)
+
+              by : Owing now r.ks.owed_ack r.owing → DueThen → ReplyNext x g request reply call line now a n q t
+              by (owes_none none) due = none_owed (still ∙ none) due
+              by (owes_now some low) due = none_owed (still ∙ none_due x g fits apart request reply call line few1 now a n q s t r m early r.ks.owed_ack low later) due
+              by (owes_any some) (client_due owes) =
+                  waits_with 2 2 (omega (arith, some_left)) (omega arith) (owes_any (omega arith)) (λ is. owes)
+              by (owes_any some) (server_due z is low) =
+                  waits_with 2 1 (omega (arith, some_left)) (omega arith)
+                  (owes_now (omega arith) (subst (λ (v : Option Owed). IfSome v (λ y. y.rank ≤ ended.then_now)) (sym is) low))
+                  (λ no. absurd (omega arith))
 
         quiet_on : ReplyNext x g request reply call line now a n q t
-        quiet_on = of k3.owed_ack refl (subst (λ (b : ℕ). IsOwedBy (b + 100) k3) since_same (owes_on flying))
-          where
-            not_due : IsOwedBy now r.kc → ⊥
-            not_due owes = by r.kc.owed_ack owes ((quiet_owes x g fits apart request reply call line few1 now a n q s t r m early) quiet).1
-              where
-                by : (z : Option Owed) → IsSomeAnd z (λ v. v.rank ≤ now) → ((y : Owed) → z ≡ Some y → now < y.rank) → ⊥
-                by None some later = absurd some
-                by (Some y) some later = (let high : now < y.rank = later y refl in absurd (omega arith))
-
-            some : 1 ≤ q
-            some = elim (cases_lt 0 q) as (λ z. 1 ≤ q) [
-              | inl more ↦ more
-              | inr none_ ↦ absurd (not_due (r.due (omega arith)).1)
-            ]
-
-            of : (z : Option Owed) → k3.owed_ack ≡ z → IsSomeAnd z (λ v. v.rank ≤ r.since + 100)
-                → ReplyNext x g request reply call line now a n q t
-            of None is some_ = absurd some_
-            of (Some w) is some_ = waits_for_ack w is some_ some
+        quiet_on = ⊎_elim
+            (λ (w : ((k2 x g fits apart request reply call line few1 now a n q s t r m early).owed_ack ≡ None) × (1 ≤ length (o x g fits apart request reply call line few1 now a n q s t r m early).acks)). told_alone w.0 w.1)
+            (λ (w : ((k2 x g fits apart request reply call line few1 now a n q s t r m early).owed_ack ≡ r.ks.owed_ack) × ((o x g fits apart request reply call line few1 now a n q s t r m early).acks ≡ [])
+            × ((z : Owed) → r.ks.owed_ack ≡ Some z → now < z.rank)). waits_for_ack w.1 w.0 w.2) (owes2 x g fits apart request reply call line few1 now a n q s t r m early)
 
       silent_on : ReplyNext x g request reply call line now a n q t
       silent_on = elim (cases_lt n (last x g fits apart request reply call line few1 now a n q s t r m early)) as (λ w. ReplyNext x g request reply call line now a n q t) [

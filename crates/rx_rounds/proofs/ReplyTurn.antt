@@ -4,7 +4,7 @@ use Rattle.std.proofs.Common.{suc, Bool, true, false, List, [], ◌∷◌, refl,
 use Rattle.std.proofs.Common.{length, arith, append-nil, append_assoc, nat_le}
 use Rattle.std.proofs.lemmas.Bool.{cases_lt, lt-leb, ne_eqb}
 use Rattle.std.proofs.lemmas.List.{length-append}
-use Rattle.std.specs.Prelude.{IsSomeAnd}
+use Rattle.std.specs.Prelude.{IfSome}
 use Rattle.rx_model.specs.declared.names.Host.{Host}
 use Rattle.rx_model.specs.declared.wire.TheConstants.{SILENCE_MS}
 use Rattle.rx_model.specs.Message.{Message}
@@ -17,14 +17,14 @@ use Rattle.rx_law.specs.Worlds.{Datagram}
 use Rattle.rx_jobs.specs.Handlers.{Handlers}
 use Rattle.rx_plan.specs.Stages.{InvokedState, Stage}
 use Rattle.rx_rounds.proofs.ArrivingRound.{tells_read}
-use Rattle.rx_rounds.proofs.Between.{Answering_, InTouch, Replying, caller_with}
-use Rattle.rx_rounds.proofs.Between.{client_at, server_at}
+use Rattle.rx_rounds.proofs.Between.{Answering_, InTouch, Owing, Replying, caller_with, client_at, owes_any, owes_none, owes_now}
+use Rattle.rx_rounds.proofs.Between.{server_at}
 use Rattle.rx_rounds.proofs.Exchange.{PolledOut, counts_within, must_go, polled_out}
 use Rattle.rx_rounds.proofs.Flow.{total}
 use Rattle.rx_rounds.proofs.OneCall.{Ends, client_place, server_place}
 use Rattle.rx_rounds.proofs.OneFields.{FitsEnds}
 use Rattle.rx_rounds.proofs.OneNode.{datagrams}
-use Rattle.rx_rounds.proofs.OneWay.{IsOwedBy, Sends}
+use Rattle.rx_rounds.proofs.OneWay.{IsPlainOwed, Sends}
 use Rattle.rx_rounds.proofs.Pair.{CallEnd}
 use Rattle.rx_rounds.proofs.ReadOn.{begins_read}
 use Rattle.rx_rounds.proofs.ReplyComes.{ReplyCame, reply_came}
@@ -171,19 +171,37 @@ module _ (x : Ends) (g : Handlers) (fits : FitsEnds x) (apart : AreApart x) (req
   pub can_go : a ≡ n → n < last
   can_go same = o.pieces.some (must_go reply r.since a n r.ks r.down same (r.more same))
 
-  -- it owes nothing behind its polls
-  pub owed_none : k2.owed_ack ≡ None
-  owed_none = came.owed ∙ ⊎_elim
-      (λ (w : (o.owed ≡ None) × (o.spoke ≡ now) × (1 ≤ length o.acks)). w.0)
+  -- behind its polls it owes nothing, or what it owed, which isn't due
+  pub owes2 : ((k2.owed_ack ≡ None) × (1 ≤ length o.acks))
+      ⊎ ((k2.owed_ack ≡ r.ks.owed_ack) × (o.acks ≡ []) × ((z : Owed) → r.ks.owed_ack ≡ Some z → now < z.rank))
+  owes2 = ⊎_elim
+      (λ (w : (o.owed ≡ None) × (o.spoke ≡ now) × (1 ≤ length o.acks)). inl (came.owed ∙ w.0, w.2))
       (λ (w : (o.acks ≡ []) × (o.owed ≡ r.ks.owed_ack) × (o.spoke ≡ o.pieces.spoke)
       × ((z : Owed) → o.owed ≡ Some z → now < z.rank) × (false ≡ true → now < o.spoke + 2000)).
-      ⊎_elim (λ (z : r.ks.owed_ack ≡ None). w.1 ∙ z)
-      (λ (z : (n ≡ 0) × IsOwedBy now r.ks). absurd (not_due r.ks.owed_ack z.1 (λ y is. w.3 y (w.1 ∙ is))))
-      r.passes) o.told
+      inr (came.owed ∙ w.1, w.0, λ z is. w.3 z (w.1 ∙ is))) o.told
+
+  pub plain2 : IfSome k2.owed_ack IsPlainOwed
+  plain2 = ⊎_elim
+      (λ (w : (k2.owed_ack ≡ None) × (1 ≤ length o.acks)). subst (λ (z : Option Owed). IfSome z IsPlainOwed) (sym w.0) tt)
+      (λ (w : (k2.owed_ack ≡ r.ks.owed_ack) × (o.acks ≡ []) × ((z : Owed) → r.ks.owed_ack ≡ Some z → now < z.rank)).
+      subst (λ (z : Option Owed). IfSome z IsPlainOwed) (sym w.0) r.has.tells.plain) owes2
+
+  -- what it owes is none where only what is due was owed
+  pub none_due : (z : Option Owed) → IfSome z (λ w. w.rank ≤ now) → ((w : Owed) → z ≡ Some w → now < w.rank) → z ≡ None
+  none_due None low later = refl
+  none_due (Some w) low later = absurd (let high : now < w.rank = later w refl in omega arith)
+
+  -- it counts no more than before
+  pub owing2 : (more : ℕ) × (more ≤ r.owing) × Owing now k2.owed_ack more
+  owing2 = of r.passes owes2
     where
-      not_due : (w : Option Owed) → IsSomeAnd w (λ z. z.rank ≤ now) → ((z : Owed) → w ≡ Some z → now < z.rank) → ⊥
-      not_due None some later = absurd some
-      not_due (Some z) some later = (let high : now < z.rank = later z refl in absurd (omega arith))
+      of : Owing now r.ks.owed_ack r.owing → ((k2.owed_ack ≡ None) × (1 ≤ length o.acks))
+          ⊎ ((k2.owed_ack ≡ r.ks.owed_ack) × (o.acks ≡ []) × ((z : Owed) → r.ks.owed_ack ≡ Some z → now < z.rank))
+          → (more : ℕ) × (more ≤ r.owing) × Owing now k2.owed_ack more
+      of passes (inl w) = (0, omega arith, owes_none w.0)
+      of (owes_none none) (inr w) = (0, omega arith, owes_none (w.0 ∙ none))
+      of (owes_now some low) (inr w) = (0, omega arith, owes_none (w.0 ∙ none_due r.ks.owed_ack low w.2))
+      of (owes_any some) (inr w) = (r.owing, omega arith, owes_any some)
 
   -- the client's end behind its polls
   pub heard_p : p.behind.looks.heard ≡ r.kc.heard
@@ -275,7 +293,7 @@ module _ (x : Ends) (g : Handlers) (fits : FitsEnds x) (apart : AreApart x) (req
       sums : (u v w z : ℕ) → u ≡ v → w ≡ z → u + w ≡ v + z
       sums u v w z one two_ = omega arith
 
-  pub loud : 1 ≤ length p.acks + length o.pieces.messages → t ≡ m.called
+  pub loud : 1 ≤ (length p.acks + length o.pieces.messages) + length o.acks → t ≡ m.called
   loud some = settles_not m.called t (length m.polled.given == 0)
       (ne_eqb (length m.polled.given) 0 (λ (z : length m.polled.given ≡ 0).
       (let all : length m.polled.given ≡ (length p.pieces.messages + length p.acks)

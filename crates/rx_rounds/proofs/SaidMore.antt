@@ -61,7 +61,7 @@ sends_same whole since a n k j sent rtt cwnd h =
     record {
       acked = ap (λ (s : Sent). s.acked) sent ∙ h.acked;
       given = ap (λ (s : Sent). given_of s) sent ∙ h.given;
-      hard = λ i. ap (λ (s : Sent). s.soft i) sent ∙ h.hard i;
+      marked = λ i past. ap (λ (s : Sent). s.soft i) sent ∙ h.marked i past;
       peer = ap (λ (s : Sent). s.peer_window) sent ∙ h.peer;
       known = h.known;
       near = h.near;
@@ -94,7 +94,7 @@ module _ (whole : List ℕ) (since a n : ℕ) (k : CallLooks) (h : Sends whole s
       record {
         acked = h.acked;
         given = h.given;
-        hard = h.hard;
+        marked = h.marked;
         peer = h.peer;
         known = h.known;
         near = h.near;

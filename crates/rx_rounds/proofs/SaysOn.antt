@@ -1,6 +1,7 @@
 -- The client's end behind its caller's turn: it said as much as there was room for, or all.
 use Rattle.std.proofs.Common.{◌≡◌, ◌<◌, ◌≤◌, ◌⊎◌, inl, inr, ◌+◌, ◌-◌, ◌*◌, ◌++◌, ℕ, Bool, true, false, List, [], ◌∷◌, refl, ap, sym}
-use Rattle.std.proofs.Common.{subst, ◌∙◌, None, length, arith, append_assoc, append-nil}
+use Rattle.std.proofs.Common.{subst, ◌∙◌, Option, None, length, arith, append_assoc, append-nil}
+use Rattle.std.proofs.lemmas.List.{length-append}
 use Rattle.std.specs.Prelude.{IfSome}
 use Rattle.rx_rules.specs.CallLooks.{CallLooks, after_write}
 use Rattle.rx_rules.specs.Looks.{Looks}
@@ -17,7 +18,7 @@ use Rattle.rx_plan.specs.Turned.{turns_all}
 use Rattle.rx_rules.specs.Life as lives
 use Rattle.rx_rounds.proofs.Between.{Arriving, OnTime, at_work, caller_with, client_at, server_at}
 use Rattle.rx_rounds.proofs.CallsOut.{CanSay, Said, fills_up, says_all, says_turn, waits_turn}
-use Rattle.rx_rounds.proofs.OneCall.{Ends, the_call}
+use Rattle.rx_rounds.proofs.OneCall.{Ends, answering_link, node_of, the_call}
 use Rattle.rx_rounds.proofs.OneWay.{IsSteady, Reads, Sends}
 use Rattle.rx_rounds.proofs.RoundParts.{two_callers}
 use Rattle.rx_rounds.proofs.Rounded.{Made, caller_at}
@@ -64,7 +65,7 @@ module _ (x : Ends) (request : List ℕ) (call line : ℕ) where
       let two1 : Two x ls (client_at x given used [] now kc) (caller_at call line (caller_with x [] true [] phase) ∷ []) js
       s = subst (λ (ys : List ℕ). Two x ls (client_at x given used [] now kc)
       (caller_at call line (caller_with x ys true [] phase) ∷ []) js s) none two in
-      let two2 = waits_turn x ls js now given used call line kc phase s t quiet two1 made in
+      let two2 = waits_turn x None ls js now given used call line kc phase s t quiet two1 made in
       let same : kc ≡ said_more [] true kc =
       ap (λ (b : Bool). record kc { sent = record kc.sent { said = kc.sent.said; shut = b } }) closed
       ∙ ap (λ (ys : List ℕ). record kc { sent = record kc.sent { said = ys; shut = true } })
@@ -81,14 +82,14 @@ module _ (x : Ends) (request : List ℕ) (call line : ℕ) where
             (caller_at call line (caller_with x [] true [] phases.Resting) ∷ []) js t) same two2;
       }
   says_on false now given used since a n ls js kc offering phase s t h quiet offers closed done small two made =
-      let r = says_turn x ls js now given used call line a kc offering phase s t
+      let r = says_turn x None ls js now given used call line a kc offering phase s t
       (can_say since a n kc h quiet closed small) two made in
       by r.0 r.1 r.2 r.3
     where
       cs : List InvokedState
       cs = caller_at call line (caller_with x offering false [] phase) ∷ []
 
-      by : (w : CallerState) (u : Stage) → Said x ls cs js now given used a kc offering w u
+      by : (w : CallerState) (u : Stage) → Said x None ls cs js now given used a kc offering w u
           → t ≡ record u { callers = caller_at call line w ∷ [] } → SaidOn now given used since a n ls js kc t
       by w u (fills_up more left split some full two1 same) then_ =
           let is : after_write more kc ≡ said_more more false kc =
@@ -121,6 +122,65 @@ module _ (x : Ends) (request : List ℕ) (call line : ℕ) where
                 (caller_at call line (caller_with x [] true [] phases.Resting) ∷ []) js u t
                 (then_ ∙ ap (λ (v : CallerState). record u { callers = caller_at call line v ∷ [] }) same) two1;
           }
+
+  -- where it said all, or there is no more room, it says nothing more, whether it owes a RESPONSE or doesn't
+  pub says_still : (answer : Option (List ℕ)) (shut : Bool) (now given used since a n : ℕ) (ls : Looks) (js : List JobState)
+      (kc : CallLooks) (offering : List ℕ) (phase : Phase) (s t : Stage) → Sends request since a n kc
+      → kc.received ≡ nothing_received → kc.sent.shut ≡ shut → a ≤ 1000000000
+      → ((offering ≡ []) × (shut ≡ true))
+      ⊎ ((shut ≡ false) × (0 < length offering) × (length kc.sent.said ≡ 1412 * (a + 32)))
+      → Two x ls (node_of x (answering_link x answer given used) [] now lives.Calling kc)
+      (caller_at call line (caller_with x offering shut [] phase) ∷ []) js s
+      → Made turns_all s t
+      → Two x ls (node_of x (answering_link x answer given used) [] now lives.Calling kc)
+      (caller_at call line (caller_with x offering shut [] phases.Resting) ∷ []) js t
+  says_still answer shut now given used since a n ls js kc offering phase s t h quiet closed small (inl done) two made =
+      subst (λ (ys : List ℕ). Two x ls (calling kc) (caller_at call line (caller_with x ys shut [] phases.Resting) ∷ []) js t)
+      (sym done.0)
+      (subst (λ (b : Bool). Two x ls (calling kc) (caller_at call line (caller_with x [] b [] phases.Resting) ∷ []) js t)
+      (sym done.1)
+      (waits_turn x answer ls js now given used call line kc phase s t quiet
+      (subst (λ (b : Bool). Two x ls (calling kc) (caller_at call line (caller_with x [] b [] phase) ∷ []) js s) done.1
+      (subst (λ (ys : List ℕ). Two x ls (calling kc) (caller_at call line (caller_with x ys shut [] phase) ∷ []) js s) done.0
+      two)) made))
+    where
+      calling : CallLooks → Looks
+      calling k = node_of x (answering_link x answer given used) [] now lives.Calling k
+  says_still answer shut now given used since a n ls js kc offering phase s t h quiet closed small (inr more) two made =
+      let r = says_turn x answer ls js now given used call line a kc offering phase s t
+      (can_say since a n kc h quiet (closed ∙ more.0) small)
+      (subst (λ (b : Bool). Two x ls (calling kc) (caller_at call line (caller_with x offering b [] phase) ∷ []) js s) more.0
+      two) made in
+      subst (λ (b : Bool). Two x ls (calling kc) (caller_at call line (caller_with x offering b [] phases.Resting) ∷ []) js t)
+      (sym more.0) (by r.0 r.1 r.2 r.3)
+    where
+      calling : CallLooks → Looks
+      calling k = node_of x (answering_link x answer given used) [] now lives.Calling k
+
+      cs : List InvokedState
+      cs = caller_at call line (caller_with x offering false [] phase) ∷ []
+
+      nothing : (ys : List ℕ) → length ys ≡ 0 → ys ≡ []
+      nothing [] none = refl
+      nothing (y ∷ ys) none = absurd (omega arith)
+
+      by : (w : CallerState) (u : Stage) → Said x answer ls cs js now given used a kc offering w u
+          → t ≡ record u { callers = caller_at call line w ∷ [] }
+          → Two x ls (calling kc) (caller_at call line (caller_with x offering false [] phases.Resting) ∷ []) js t
+      by w u (fills_up said left split some full two1 same) then_ =
+          let long : length (kc.sent.said ++ said) ≡ length kc.sent.said + length said = length-append kc.sent.said said in
+          let none : said ≡ [] = nothing said (omega (arith, more.2)) in
+          let kept : after_write said kc ≡ kc =
+          ap (λ (ys : List ℕ). after_write ys kc) none
+          ∙ ap (λ (ys : List ℕ). record kc { sent = record kc.sent { said = ys } }) (append-nil kc.sent.said) in
+          let rest : offering ≡ left = split ∙ ap (λ (ys : List ℕ). ys ++ left) none in
+          two_callers x ls (calling kc) cs (caller_at call line (caller_with x offering false [] phases.Resting) ∷ []) js u t
+          (then_ ∙ ap (λ (v : CallerState). record u { callers = caller_at call line v ∷ [] })
+          (same ∙ ap (λ (ys : List ℕ). caller_with x ys false [] phases.Resting) (sym rest)))
+          (subst (λ (k : CallLooks). Two x ls (calling k) cs js u) kept two1)
+      by w u (says_all within two1 same) then_ =
+          absurd (let long : length (kc.sent.said ++ offering) ≡ length kc.sent.said + length offering =
+          length-append kc.sent.said offering in omega (arith, more.1, more.2))
 
   -- the stage behind it
   pub arriving_at : (g : Handlers) (now since a n given used gs us : ℕ) (kc ks : CallLooks) (offering : List ℕ)

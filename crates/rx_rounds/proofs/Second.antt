@@ -1,9 +1,10 @@
 -- The second round of an invoke: its first pieces come to a server that didn't know the call, and its handler begins.
-use Rattle.std.proofs.Common.{◌≡◌, ◌≢◌, ◌<◌, ◌≤◌, ⊎_elim, ◌+◌, ◌*◌, ◌==◌, ◌++◌, ℕ, ℤ, pos, true, false, List, [], ◌∷◌, refl, ap}
+use Rattle.std.proofs.Common.{◌≡◌, ◌≢◌, ◌<◌, ◌≤◌, inl, ⊎_elim, ◌+◌, ◌*◌, ◌==◌, ◌++◌, ℕ, ℤ, pos, true, false, List, [], ◌∷◌, refl, ap}
 use Rattle.std.proofs.Common.{sym, subst, ◌∙◌, None, length, arith}
 use Rattle.std.proofs.lemmas.Bool.{both_ways, ne_eqb}
 use Rattle.rx_model.specs.Message.{IsBytes}
 use Rattle.rx_rules.specs.CallLooks.{CallLooks}
+use Rattle.rx_rules.specs.Life as lives
 use Rattle.rx_rules.specs.Looks.{Looks}
 use Rattle.rx_script.specs.Served.{refusal}
 use Rattle.rx_asks.specs.declared.ask.Phase.TheVariants as phases
@@ -12,7 +13,7 @@ use Rattle.rx_plan.specs.Stages.{InvokedState, Stage}
 use Rattle.rx_rounds.proofs.Between.{caller_with, client_at}
 use Rattle.rx_rounds.proofs.FirstCame.{FirstCame, first_comes}
 use Rattle.rx_rounds.proofs.Flow.{total}
-use Rattle.rx_rounds.proofs.OneCall.{Ends}
+use Rattle.rx_rounds.proofs.OneCall.{Ends, Link, node_of, open_link, the_call}
 use Rattle.rx_rounds.proofs.OneFields.{FitsEnds, fresh}
 use Rattle.rx_rounds.proofs.ReadOn.{begins_read}
 use Rattle.rx_rounds.proofs.ReadsNext.{Came, TurnsNext, turns_next}
@@ -20,14 +21,14 @@ use Rattle.rx_rounds.proofs.Rounded.{RoundMade, caller_at, settles_not}
 use Rattle.rx_rounds.proofs.ServeTurns.{turn_begins}
 use Rattle.rx_rounds.proofs.Starts.{Started}
 use Rattle.rx_rounds.proofs.Taking.{came_behind}
-use Rattle.rx_rounds.proofs.Two.{AreApart}
+use Rattle.rx_rounds.proofs.Two.{AreApart, Two}
 
 module _ (x : Ends) (g : Handlers) (fits : FitsEnds x) (apart : AreApart x) (open_ : x.key ≡ None) (request : List ℕ)
     (call line : ℕ) (small : total request ≤ 1000000) (are_bytes : IsBytes request)
     (coded : (code : ℤ) → served_for g request ≡ refusal code → code ≢ pos 0) (some : 0 < length request) (s t : Stage)
     (first : Started x g request call line some s) (m : RoundMade g s t) where
-  abbrev f : FirstCame x g fits apart open_ request call line small first.used s t first.said first.can m
-  f = first_comes x g fits apart open_ request call line small first.used s t first.said first.can m
+  abbrev f : FirstCame x g fits apart request call line small first.used s t first.said first.can m
+  f = first_comes x g fits apart request call line small first.used s t first.said first.can m
 
   abbrev ks : CallLooks
   ks = came_behind false 0 request [] f.last f.owed fresh
@@ -60,12 +61,9 @@ module _ (x : Ends) (g : Handlers) (fits : FitsEnds x) (apart : AreApart x) (ope
             × (length first.said.more ≡ 1412 * (0 + 32))). absurd (both_ways first.said.shut w.0 closed)) first.said.out;
         new = refl;
         steady = record { wide = omega arith; most = refl; steady = refl; even = refl; slow = omega arith };
-        owed = f.owed;
-        owes = refl;
         plain = f.plain;
         late = (let soon : f.owed.rank ≤ 100 = f.soon in omega arith);
-        soon_owed = (let soon : f.owed.rank ≤ 100 = f.soon in omega arith);
-        at_end = f.ended;
+        owes = inl (let soon : f.owed.rank ≤ 100 = f.soon in omega arith);
         heard = refl;
         past = omega arith;
         soon = omega arith;
@@ -78,7 +76,9 @@ module _ (x : Ends) (g : Handlers) (fits : FitsEnds x) (apart : AreApart x) (ope
       turns_next x g request call line small 0 0 f.last 0 f.gc f.uc 0 f.us f.kc2 ks first.said.offering first.said.shut
       phases.Resting came m.served m.called m.calls_are
       (turn_begins x g request lc cs 0 0 f.us f.last f.last ks [] m.delivered m.served are_bytes coded refl f.within refl
-      (begins_read request 0 f.last f.last ks [] 0 refl (omega arith) refl refl) f.two m.serves_are)
+      (begins_read request 0 f.last f.last ks [] 0 refl (omega arith) refl refl)
+      (subst (λ (l : Link). Two x (node_of x l (the_call x ∷ []) 0 lives.Waiting ks) lc cs [] m.delivered)
+      (open_link x 0 f.us open_) f.two) m.serves_are)
 
   pub second : (last : ℕ) × (1 ≤ last) × TurnsNext x g request call line 0 0 last t
   second = (f.last, f.some, subst (TurnsNext x g request call line 0 0 f.last) (sym still) turned)

@@ -34,7 +34,7 @@ sends_fresh request =
     record {
       acked = refl;
       given = refl;
-      hard = λ j. refl;
+      marked = λ j past. refl;
       peer = refl;
       known = omega arith;
       near = omega arith;

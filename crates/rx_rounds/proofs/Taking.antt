@@ -337,11 +337,11 @@ heard_ack now u reason serial k =
       heard = now;
     }
 
-slow_sampled : (o : Option ℕ) (r : Rtt) → r.prompt ≡ false → 350 ≤ r.rto → 350 ≤ (sampled o r).rto
+pub slow_sampled : (o : Option ℕ) (r : Rtt) → r.prompt ≡ false → 350 ≤ r.rto → 350 ≤ (sampled o r).rto
 slow_sampled None r plain slow = slow
 slow_sampled (Some ms) r plain slow = rw plain (omega arith)
 
-even_sampled : (o : Option ℕ) (r : Rtt) → r.prompt ≡ false → (sampled o r).prompt ≡ false
+pub even_sampled : (o : Option ℕ) (r : Rtt) → r.prompt ≡ false → (sampled o r).prompt ≡ false
 even_sampled None r plain = plain
 even_sampled (Some ms) r plain = plain
 
@@ -405,7 +405,7 @@ module _ (whole : List ℕ) (since a n : ℕ) (k : CallLooks) (h : Sends whole s
       record {
         acked = refl;
         given = h.given;
-        hard = λ j. and_right (nat_le (u + 1) j) false refl;
+        marked = λ j past. and_right (nat_le (u + 1) j) false refl;
         peer = refl;
         known = high;
         near = (let near : n ≤ a + 32 = h.near in omega arith);

@@ -1,24 +1,24 @@
 -- A round of an invoke whose handler waits: it waits a turn less, or replies or refuses; the client pings and is answered.
 use Rattle.std.proofs.Common.{◌≡◌, ◌≢◌, ◌<◌, ◌≤◌, ◌⊎◌, inl, inr, ⊎_elim, ◌+◌, ◌-◌, ◌^◌, ◌++◌, ◌==◌, ℕ, ℤ, pos, suc}
 use Rattle.std.proofs.Common.{max, min, Bool, true, false, List, [], ◌∷◌, refl, ap, sym, subst, ◌∙◌, Option, Some, None, length}
-use Rattle.std.proofs.Common.{map, arith, append-nil, nat_le, nat_lt}
-use Rattle.std.proofs.lemmas.Bool.{and_left, and_right, le-ltb, lt-leb, ne_eqb, eq-eqb}
+use Rattle.std.proofs.Common.{arith, append-nil, nat_le, nat_lt}
+use Rattle.std.proofs.lemmas.Bool.{and_left, and_right, cases_lt, le-ltb, lt-leb, ne_eqb, eq-eqb}
 use Rattle.std.proofs.lemmas.List.{length-append}
 use Rattle.std.specs.Prelude.{IfSome, IsSomeAnd, if◌then◌else◌}
 use Rattle.rx_model.specs.declared.names.Host.{Host}
 use Rattle.rx_model.specs.declared.wire.TheConstants.{PING_MS, SILENCE_MS}
 use Rattle.rx_model.specs.Message.{Message}
 use Rattle.rx_model.proofs.NameLaws.{number_itself}
-use Rattle.rx_rules.specs.CallItems.{CallItem, Piece, ack_items, again_items, can_give, fresh_items, item_at, lost_items, piece_items, ping_items}
+use Rattle.rx_rules.specs.CallItems.{Piece, ack_items, again_items, can_give, fresh_items, item_at, lost_items, piece_items}
 use Rattle.rx_rules.specs.CallLooks.{CallLooks}
 use Rattle.rx_rules.specs.Items.{moments}
 use Rattle.rx_rules.specs.Life as lives
 use Rattle.rx_rules.specs.Looks.{Looks}
 use Rattle.rx_rules.specs.Life.{is_active, is_live}
-use Rattle.rx_rules.specs.Lost.{first_lost, late_of, lost_of, overtaken_of, under_way}
+use Rattle.rx_rules.specs.Lost.{lost_of}
 use Rattle.rx_rules.specs.Owing.{Owed}
 use Rattle.rx_rules.specs.Received.{Received, marks_of, nothing_received, used_of}
-use Rattle.rx_rules.specs.Sent.{LastGiving, Sent, counting_of, given_of, is_marked, last_giving, lowest_of, nothing_sent}
+use Rattle.rx_rules.specs.Sent.{Sent, counting_of, given_of, is_marked, last_giving, lowest_of, nothing_sent}
 use Rattle.rx_law.specs.Worlds.{Datagram}
 use Rattle.rx_script.specs.Served.{refusal}
 use Rattle.rx_asks.specs.declared.ask.Phase.TheVariants as phases
@@ -27,12 +27,12 @@ use Rattle.rx_jobs.specs.Jobs.{JobState, begun}
 use Rattle.rx_jobs.specs.Keeping.{kept_of}
 use Rattle.rx_plan.specs.Stages.{InvokedState, Stage}
 use Rattle.rx_rounds.proofs.ArrivingRound.{ClientBehind, Exchanged, client_behind, exchanged, nothing_gives, nothing_sends}
-use Rattle.rx_rounds.proofs.ArrivingRound.{pieces_none, tells_none}
-use Rattle.rx_rounds.proofs.Between.{HasAll, InTouch, Refusing, Replying, Waiting, Waits, answers, caller_with, client_at, pings}
-use Rattle.rx_rounds.proofs.Between.{rests, server_at}
+use Rattle.rx_rounds.proofs.ArrivingRound.{tells_none}
+use Rattle.rx_rounds.proofs.Between.{HasAll, InTouch, Refusing, Replying, Waiting, Waits, answers, answers_later, caller_with}
+use Rattle.rx_rounds.proofs.Between.{client_at, pings, rests, server_at}
 use Rattle.rx_rounds.proofs.CallsOut.{waits_turn}
 use Rattle.rx_rounds.proofs.EachItem.{In, in_behind, in_front}
-use Rattle.rx_rounds.proofs.Exchange.{PolledOut, counts_within, lowest, must_go, never_given, polled_out, sends_sooner}
+use Rattle.rx_rounds.proofs.Exchange.{PolledOut, counts_within, must_go, polled_out, sends_sooner}
 use Rattle.rx_rounds.proofs.Flow.{total}
 use Rattle.rx_rounds.proofs.OneCall.{Ends, client_place, header_of, server_place, server_setup, the_call}
 use Rattle.rx_rounds.proofs.OneFields.{FitsEnds}
@@ -40,6 +40,7 @@ use Rattle.rx_rounds.proofs.OneNode.{datagrams}
 use Rattle.rx_rounds.proofs.OneWay.{IsOwedBy, IsPlainOwed, IsSteady, Sends}
 use Rattle.rx_rounds.proofs.Pair.{CallEnd}
 use Rattle.rx_rounds.proofs.ReadsNext.{replying_at}
+use Rattle.rx_rounds.proofs.ReplyMoments.{MomentOf, in_ack, moment_of, of_ack, of_death, of_piece, of_ping}
 use Rattle.rx_rounds.proofs.ReplyParts.{answering_lives}
 use Rattle.rx_rounds.proofs.Rounded.{RoundMade, caller_at, settles_not}
 use Rattle.rx_rounds.proofs.ServeDecides.{refused_at}
@@ -53,7 +54,7 @@ use Rattle.rx_rounds.proofs.Two.{AreApart, Two}
 pub data WaitingNext (x : Ends) (g : Handlers) (request : List ℕ) (call line now left : ℕ) (t : Stage) : Type 0 where
   waits_less : (now2 left2 : ℕ) → now ≤ now2 → now2 ≤ now + 2000 → left2 + 1 ≤ left
       → Waiting x g request call line now2 left2 t → WaitingNext x g request call line now left t
-  then_replies : (reply : List ℕ) → Replying x g request reply call line now 0 0 1 t
+  then_replies : (reply : List ℕ) → Replying x g request reply call line now 0 0 3 t
       → WaitingNext x g request call line now left t
   then_refuses : (code : ℤ) → Refusing x g request call line now code t
       → WaitingNext x g request call line now left t
@@ -86,7 +87,7 @@ module _ (x : Ends) (g : Handlers) (fits : FitsEnds x) (apart : AreApart x) (req
 
     near_since : h.has.a < n → now ≤ h.has.since + 100
     near_since less = ⊎_elim (λ (w : h.has.a ≡ n). absurd (omega arith))
-        (λ (w : IsOwedBy now h.ks × (now ≤ h.has.since + 100)). w.1) h.acks
+        (λ (w : IsOwedBy (h.has.since + 100) h.ks × (now ≤ h.has.since + 100)). w.1) h.acks
 
     abbrev p : PolledOut (client_place x now) request h.has.since h.has.a n 0 e
     p = polled_out (client_place x now) request h.has.since h.has.a n 0 e refl near_since h.has.all
@@ -122,6 +123,7 @@ module _ (x : Ends) (g : Handlers) (fits : FitsEnds x) (apart : AreApart x) (req
         by : Waits now h.kc h.ks → Heard
         by (rests none touch) = record { client = omega (arith, touch.client); server = omega (arith, touch.server) }
         by (answers owes touch) = record { client = touch.client; server = omega (arith, touch.server) }
+        by (answers_later owes near same_heard same_spoke) = record { client = omega arith; server = omega arith }
         by (pings none late near near2) = record { client = omega arith; server = near2 }
 
     awake : nat_le SILENCE_MS (now - h.kc.heard) ≡ false
@@ -212,11 +214,14 @@ module _ (x : Ends) (g : Handlers) (fits : FitsEnds x) (apart : AreApart x) (req
       steady : IsSteady ks
       spoken : kc.spoke ≤ now
       touch : InTouch 4000 now kc ks
-      acks : a ≡ n
+      acks : (a ≡ n) ⊎ (IsOwedBy (since + 100) ks × (now ≤ since + 100))
       past : since ≤ now
-      passes : (ks.owed_ack ≡ None) ⊎ IsOwedBy now ks
 
     module _ (kc ks : CallLooks) (gc uc gs us : ℕ) (b : Stand kc ks gc uc gs us) where
+      soon_where : b.a < n → now ≤ b.since + 100
+      soon_where less = ⊎_elim (λ (w : b.a ≡ n). absurd (omega arith))
+          (λ (w : IsOwedBy (b.since + 100) ks × (now ≤ b.since + 100)). w.1) b.acks
+
       abbrev has : HasAll request kc ks
       has =
           record {
@@ -240,7 +245,7 @@ module _ (x : Ends) (g : Handlers) (fits : FitsEnds x) (apart : AreApart x) (req
             (caller_at call line (caller_with x [] true [] phases.Resting) ∷ [])
             (record (begun (the_call x)) { request = kept_of g request; ended = true; steps = h.steps + 1 } ∷ []) m.called
             → Turned_
-        then_writes : (reply : List ℕ) → Replying x g request reply call line now 0 0 1 m.called → Turned_
+        then_writes : (reply : List ℕ) → Replying x g request reply call line now 0 0 3 m.called → Turned_
         then_codes : (code : ℤ) → (r : Refusing x g request call line now code m.called) → r.kc.spoke ≤ now → Turned_
 
       turned : Turned_
@@ -249,7 +254,7 @@ module _ (x : Ends) (g : Handlers) (fits : FitsEnds x) (apart : AreApart x) (req
         where
           by : ServedOn x g request (client_at x gc uc [] now kc) cs now gs us (h.steps + 1) ks m.served → Turned_
           by (waits_longer less uncoded two) =
-              still_waits less (waits_turn x (server_at x gs us now lives.Accepted ks)
+              still_waits less (waits_turn x None (server_at x gs us now lives.Accepted ks)
               (record (begun (the_call x)) { request = kept_of g request; ended = true; steps = h.steps + 1 } ∷ []) now gc uc
               call line kc h.phase m.served m.called b.quiet two m.calls_are)
           by (replies_now reply served w) =
@@ -263,8 +268,8 @@ module _ (x : Ends) (g : Handlers) (fits : FitsEnds x) (apart : AreApart x) (req
                 none = b.none;
                 touch = b.touch;
                 spoken = b.spoken;
-                acks = inl b.acks;
-                passes = b.passes;
+                acks = ⊎_elim (λ (z : b.a ≡ n). inl z)
+                    (λ (z : IsOwedBy (b.since + 100) ks × (now ≤ b.since + 100)). inr z.1) b.acks;
               }) served w m.calls_are)
           by (refused code served some fits_ two) =
               then_codes code (record {
@@ -277,7 +282,7 @@ module _ (x : Ends) (g : Handlers) (fits : FitsEnds x) (apart : AreApart x) (req
                 offering = [];
                 shut = true;
                 phase = phases.Resting;
-                two = waits_turn x (refused_at x code gs us now ks) [] now gc uc call line kc h.phase m.served m.called
+                two = waits_turn x None (refused_at x code gs us now ks) [] now gc uc call line kc h.phase m.served m.called
                     b.quiet two m.calls_are;
                 served = served;
                 some = some;
@@ -289,16 +294,17 @@ module _ (x : Ends) (g : Handlers) (fits : FitsEnds x) (apart : AreApart x) (req
                 n = n;
                 since = b.since;
                 up = b.up;
-                soon = λ less. absurd (omega (arith, b.acks));
+                soon = soon_where;
               }) b.spoken
 
       -- the stage of one that waits on
-      waiting_at : (now2 : ℕ) → now ≤ now2 → now2 ≤ now + 2000 → h.steps + 1 < wait_of g request → Waits now2 kc ks
+      waiting_at : (now2 : ℕ) → now ≤ now2 → now2 ≤ now + 2000 → (b.a < n → now2 ≤ b.since + 100)
+          → h.steps + 1 < wait_of g request → Waits now2 kc ks
           → Two x (server_at x gs us now2 lives.Accepted ks) (client_at x gc uc [] now2 kc)
           (caller_at call line (caller_with x [] true [] phases.Resting) ∷ [])
           (record (begun (the_call x)) { request = kept_of g request; ended = true; steps = h.steps + 1 } ∷ []) t
           → WaitingNext x g request call line now left t
-      waiting_at now2 from far less waits two =
+      waiting_at now2 from far soon less waits two =
           waits_less now2 (wait_of g request - (h.steps + 1)) from far (omega (arith, h.turns))
           (record {
             kc = kc;
@@ -314,7 +320,14 @@ module _ (x : Ends) (g : Handlers) (fits : FitsEnds x) (apart : AreApart x) (req
             some = omega arith;
             uncoded = h.uncoded;
             has = has;
-            acks = inl b.acks;
+            acks = elim (cases_lt b.a n) as (λ z. (b.a ≡ n) ⊎ (IsOwedBy (b.since + 100) ks × (now2 ≤ b.since + 100))) [
+              | inl flying ↦ inr (
+                ⊎_elim (λ (z : b.a ≡ n). absurd (omega arith))
+                    (λ (z : IsOwedBy (b.since + 100) ks × (now ≤ b.since + 100)). z.0) b.acks,
+                soon flying,
+              )
+              | inr all ↦ inl (let known : b.a ≤ n = b.up.known in omega arith)
+            ];
             past = omega (arith, b.past);
             quiet = b.quiet;
             owes_none = b.none;
@@ -329,13 +342,13 @@ module _ (x : Ends) (g : Handlers) (fits : FitsEnds x) (apart : AreApart x) (req
       loud_next same waits = by turned
         where
           by : Turned_ → WaitingNext x g request call line now left t
-          by (still_waits less two) = waiting_at now (omega arith) (omega arith) less waits
+          by (still_waits less two) = waiting_at now (omega arith) (omega arith) soon_where less waits
               (subst (λ (u : Stage). Two x (server_at x gs us now lives.Accepted ks) (client_at x gc uc [] now kc)
               (caller_at call line (caller_with x [] true [] phases.Resting) ∷ [])
               (record (begun (the_call x)) { request = kept_of g request; ended = true; steps = h.steps + 1 } ∷ []) u)
               (sym same) two)
           by (then_writes reply next) = then_replies reply
-              (subst (Replying x g request reply call line now 0 0 1) (sym same) next)
+              (subst (Replying x g request reply call line now 0 0 3) (sym same) next)
           by (then_codes code next spoken) = then_refuses code (subst (Refusing x g request call line now code) (sym same) next)
 
     -- ---- the client behind polls and deliveries
@@ -363,17 +376,18 @@ module _ (x : Ends) (g : Handlers) (fits : FitsEnds x) (apart : AreApart x) (req
         let is : c.kc2.spoke ≡ p.spoke = c.spoke in
         ⊎_elim (λ (w : p.spoke ≡ now). omega arith) (λ (w : p.spoke ≡ h.kc.spoke). omega arith) spoke_of)
 
-    spoke_near : now ≤ h.kc.spoke + 1000 → now ≤ c.kc2.spoke + 1000
-    spoke_near near = (let is : c.kc2.spoke ≡ p.spoke = c.spoke in
+    spoke_near : (far : ℕ) → now ≤ h.kc.spoke + far → now ≤ c.kc2.spoke + far
+    spoke_near far near = (let is : c.kc2.spoke ≡ p.spoke = c.spoke in
         ⊎_elim (λ (w : p.spoke ≡ now). omega arith) (λ (w : p.spoke ≡ h.kc.spoke). omega arith) spoke_of)
 
     -- both stand so, where the server has these looks then
-    stand : (ks : CallLooks) (takes : Takes (server_place x now) ks1 (p.pieces.messages ++ p.acks) ks)
+    abbrev stand : (ks : CallLooks) (takes : Takes (server_place x now) ks1 (p.pieces.messages ++ p.acks) ks)
         → ks.received ≡ ks1.received → IfSome ks.owed_ack IsPlainOwed → ks.sent ≡ nothing_sent → IsSteady ks
-        → InTouch 4000 now c.kc2 ks → c.a2 ≡ n → c.since2 ≤ now → (ks.owed_ack ≡ None) ⊎ IsOwedBy now ks
+        → InTouch 4000 now c.kc2 ks → (c.a2 ≡ n) ⊎ (IsOwedBy (c.since2 + 100) ks × (now ≤ c.since2 + 100))
+        → c.since2 ≤ now
         → Stand c.kc2 ks p.behind.given (pass.two ks c.kc2 takes c.takes).1.0 o.behind.given
         (pass.two ks c.kc2 takes c.takes).0
-    stand ks takes same plain new steady touch acks past passes =
+    stand ks takes same plain new steady touch acks past =
         record {
           two = (pass.two ks c.kc2 takes c.takes).1.1;
           a = c.a2;
@@ -390,7 +404,6 @@ module _ (x : Ends) (g : Handlers) (fits : FitsEnds x) (apart : AreApart x) (req
           touch = touch;
           acks = acks;
           past = past;
-          passes = passes;
         }
 
     -- it takes no ping
@@ -401,17 +414,16 @@ module _ (x : Ends) (g : Handlers) (fits : FitsEnds x) (apart : AreApart x) (req
     plain_none : (ks : CallLooks) → ks.owed_ack ≡ None → IfSome ks.owed_ack IsPlainOwed
     plain_none ks none = subst (λ (w : Option Owed). IfSome w IsPlainOwed) (sym none) tt
 
-    -- the server owes an ACK: it gives it
-    answers_next : IsOwedBy now h.ks → InTouch 6000 now h.kc h.ks → WaitingNext x g request call line now left t
-    answers_next owes touch =
+    -- the server gave an ACK
+    acked_next : InTouch 6000 now h.kc h.ks → o.owed ≡ None → 1 ≤ length o.acks
+        → WaitingNext x g request call line now left t
+    acked_next touch owed_now some =
         ⊎_elim
-        (λ (w : (o.owed ≡ None) × (o.spoke ≡ now) × (1 ≤ length o.acks)). ⊎_elim
         (λ (z : (o.acks ≡ []) × (c.a2 ≡ h.has.a) × (c.kc2 ≡ p.behind.looks) × (h.has.a < n → c.since2 ≡ h.has.since)
         × (n ≤ h.has.a → c.since2 ≡ now)).
-        absurd (let none : length o.acks ≡ 0 = ap (λ (xs : List Message). length xs) z.0 in
-        let some : 1 ≤ length o.acks = w.2 in omega arith))
+        absurd (let none : length o.acks ≡ 0 = ap (λ (xs : List Message). length xs) z.0 in omega arith))
         (λ (z : (1 ≤ length o.acks) × (c.a2 ≡ n) × (c.kc2.heard ≡ now) × (c.since2 ≡ now)).
-        (let none : ks1.owed_ack ≡ None = owed1 ∙ w.0 in
+        (let none : ks1.owed_ack ≡ None = owed1 ∙ owed_now in
         let quiet : p.acks ≡ [] = p.quiet h.owes_none (λ is. (let near : now ≤ h.kc.spoke + 1000 = touch.spoke in
         omega arith)) in
         let heard_now : c.kc2.heard ≡ now = z.2 in
@@ -419,16 +431,22 @@ module _ (x : Ends) (g : Handlers) (fits : FitsEnds x) (apart : AreApart x) (req
         let near : InTouch 4000 now c.kc2 ks1 = record {
           client = omega arith;
           server = omega (arith, touch.server, heard1);
-          spoke = spoke_near touch.spoke;
+          spoke = spoke_near 1000 touch.spoke;
         } in
-        let b = stand ks1 (takes_nothing quiet) refl (plain_none ks1 none) new1 steady1 near z.1 (omega arith) (inl none) in
+        let b = stand ks1 (takes_nothing quiet) refl (plain_none ks1 none) new1 steady1 near (inl z.1) (omega arith) in
         loud_next c.kc2 ks1 p.behind.given (pass.two ks1 c.kc2 (takes_nothing quiet) c.takes).1.0 o.behind.given
         (pass.two ks1 c.kc2 (takes_nothing quiet) c.takes).0 b (loud (omega (arith, z.0)))
         (rests none (record {
           client = omega arith;
           server = omega (arith, touch.server, heard1);
-          spoke = spoke_near touch.spoke;
-        })))) c.told)
+          spoke = spoke_near 1000 touch.spoke;
+        })))) c.told
+
+    -- it owes one that is due: it gives it
+    answers_next : IsOwedBy now h.ks → InTouch 6000 now h.kc h.ks → WaitingNext x g request call line now left t
+    answers_next owes touch =
+        ⊎_elim
+        (λ (w : (o.owed ≡ None) × (o.spoke ≡ now) × (1 ≤ length o.acks)). acked_next touch w.0 w.2)
         (λ (w : (o.acks ≡ []) × (o.owed ≡ h.ks.owed_ack) × (o.spoke ≡ o.pieces.spoke)
         × ((z : Owed) → o.owed ≡ Some z → now < z.rank) × (false ≡ true → now < o.spoke + 2000)).
         absurd (later h.ks.owed_ack owes (λ z is. w.3 z (w.1 ∙ is)))) o.told
@@ -440,8 +458,8 @@ module _ (x : Ends) (g : Handlers) (fits : FitsEnds x) (apart : AreApart x) (req
     -- all is acknowledged where nothing is owed
     all_known : h.ks.owed_ack ≡ None → h.has.a ≡ n
     all_known none = ⊎_elim (λ (w : h.has.a ≡ n). w)
-        (λ (w : IsOwedBy now h.ks × (now ≤ h.has.since + 100)).
-        absurd (subst (λ (z : Option Owed). IsSomeAnd z (λ v. v.rank ≤ now)) none w.0)) h.acks
+        (λ (w : IsOwedBy (h.has.since + 100) h.ks × (now ≤ h.has.since + 100)).
+        absurd (subst (λ (z : Option Owed). IsSomeAnd z (λ v. v.rank ≤ h.has.since + 100)) none w.0)) h.acks
 
     server_quiet : h.ks.owed_ack ≡ None → o.acks ≡ []
     server_quiet none = o.quiet none (λ is. absurd cc)
@@ -495,7 +513,7 @@ module _ (x : Ends) (g : Handlers) (fits : FitsEnds x) (apart : AreApart x) (req
             let is_since : c.since2 ≡ now = u.2 in
             let b = stand ks2 takes2 refl
             (record { reason_low = omega arith; reason_high = omega arith; serial = fits_; no_ping = refl }) new2 steady2
-            touch u.0 (omega arith) (inr (omega arith)) in
+            touch (inl u.0) (omega arith) in
             loud_next c.kc2 ks2 p.behind.given (pass.two ks2 c.kc2 takes2 c.takes).1.0 o.behind.given
             (pass.two ks2 c.kc2 takes2 c.takes).0 b (loud (omega arith))
             (answers (omega arith) (record {
@@ -506,13 +524,49 @@ module _ (x : Ends) (g : Handlers) (fits : FitsEnds x) (apart : AreApart x) (req
 
     -- ---- nothing is given
 
-    module _ (none : h.ks.owed_ack ≡ None) (touch : InTouch 1000 now h.kc h.ks) where
-      owed_still : ks1.owed_ack ≡ None
+    module _ (calm : o.acks ≡ []) (lasts : IfSome h.ks.owed_ack (λ z. z.rank ≤ now + 100))
+        (touch : InTouch 3200 now h.kc h.ks) (near_none : h.ks.owed_ack ≡ None → now ≤ h.kc.heard + 1000)
+        (near_some : (z : Owed) → h.ks.owed_ack ≡ Some z → (now ≤ h.ks.heard + 900) × (now ≤ h.kc.spoke + 900)) where
+      owed_still : ks1.owed_ack ≡ h.ks.owed_ack
       owed_still = owed1 ∙ ⊎_elim
-          (λ (w : (o.owed ≡ None) × (o.spoke ≡ now) × (1 ≤ length o.acks)). w.0)
+          (λ (w : (o.owed ≡ None) × (o.spoke ≡ now) × (1 ≤ length o.acks)).
+          absurd (let empty : length o.acks ≡ 0 = ap (λ (ms : List Message). length ms) calm in
+          let some : 1 ≤ length o.acks = w.2 in omega arith))
           (λ (w : (o.acks ≡ []) × (o.owed ≡ h.ks.owed_ack) × (o.spoke ≡ o.pieces.spoke)
           × ((z : Owed) → o.owed ≡ Some z → now < z.rank) × (false ≡ true → now < o.spoke + 2000)).
-          w.1 ∙ none) o.told
+          w.1) o.told
+
+      -- the client wasn't told
+      record Untold : Type 0 where
+        same_a : c.a2 ≡ h.has.a
+        same_kc : c.kc2 ≡ p.behind.looks
+        when_less : h.has.a < n → c.since2 ≡ h.has.since
+        when_all : n ≤ h.has.a → c.since2 ≡ now
+
+      not_told : Untold
+      not_told = ⊎_elim
+          (λ (z : (o.acks ≡ []) × (c.a2 ≡ h.has.a) × (c.kc2 ≡ p.behind.looks) × (h.has.a < n → c.since2 ≡ h.has.since)
+          × (n ≤ h.has.a → c.since2 ≡ now)).
+          record { same_a = z.1; same_kc = z.2; when_less = z.3; when_all = z.4 })
+          (λ (z : (1 ≤ length o.acks) × (c.a2 ≡ n) × (c.kc2.heard ≡ now) × (c.since2 ≡ now)).
+          absurd (let empty : length o.acks ≡ 0 = ap (λ (ms : List Message). length ms) calm in
+          let some : 1 ≤ length o.acks = z.0 in omega arith)) c.told
+
+      past2 : c.since2 ≤ now
+      past2 = elim (cases_lt h.has.a n) as (λ z. c.since2 ≤ now) [
+        | inl less ↦ omega (arith, not_told.when_less less, h.past)
+        | inr all ↦ omega (arith, not_told.when_all all)
+      ]
+
+      -- where it knows of less the server owes an ACK soon
+      owes_on : h.has.a < n → IsOwedBy (c.since2 + 100) ks1 × (now ≤ c.since2 + 100)
+      owes_on less = ⊎_elim
+          (λ (z : h.has.a ≡ n). absurd (omega arith))
+          (λ (z : IsOwedBy (h.has.since + 100) h.ks × (now ≤ h.has.since + 100)). (
+            subst (λ (i : ℕ). IsOwedBy (i + 100) ks1) (sym (not_told.when_less less))
+                (subst (λ (v : Option Owed). IsSomeAnd v (λ y. y.rank ≤ h.has.since + 100)) (sym owed_still) z.0),
+            omega (arith, not_told.when_less less, z.1),
+          )) h.acks
 
       no_ping : p.acks ≡ []
       no_ping = p.quiet h.owes_none (λ is. (let near : now ≤ h.kc.spoke + 1000 = touch.spoke in omega arith))
@@ -527,22 +581,27 @@ module _ (x : Ends) (g : Handlers) (fits : FitsEnds x) (apart : AreApart x) (req
       gs = (pass.two ks1 c.kc2 quiet_takes c.takes).0
 
       heard_is : c.kc2.heard ≡ h.kc.heard
-      heard_is = ap (λ (k : CallLooks). k.heard) (untold none).1 ∙ ap (λ (k : CallLooks). k.heard) p.is
+      heard_is = ap (λ (k : CallLooks). k.heard) not_told.same_kc ∙ ap (λ (k : CallLooks). k.heard) p.is
 
-      stands : Stand c.kc2 ks1 p.behind.given gc o.behind.given gs
-      stands = stand ks1 quiet_takes refl (plain_none ks1 owed_still) new1 steady1
+      abbrev stands : Stand c.kc2 ks1 p.behind.given gc o.behind.given gs
+      stands = stand ks1 quiet_takes refl
+          (subst (λ (w : Option Owed). IfSome w IsPlainOwed) (sym owed_still) h.has.tells.plain) new1 steady1
           (record {
             client = omega (arith, touch.client, heard_is);
             server = omega (arith, touch.server, heard1);
-            spoke = spoke_near touch.spoke;
-          }) (untold none).0 (omega (arith, (untold none).2)) (inl owed_still)
+            spoke = spoke_near 1000 touch.spoke;
+          })
+          (elim (cases_lt h.has.a n) as (λ z. (c.a2 ≡ n) ⊎ (IsOwedBy (c.since2 + 100) ks1 × (now ≤ c.since2 + 100))) [
+            | inl less ↦ inr (owes_on less)
+            | inr all ↦ inl (let known : h.has.a ≤ n = h.has.all.known in omega (arith, not_told.same_a))
+          ]) past2
 
       is_quiet : (length m.polled.given == 0) ≡ true
       is_quiet = eq-eqb (length m.polled.given) 0
           (let one : length p.pieces.messages ≡ 0 = ap (λ (ms : List Message). length ms) no_pieces.1 in
           let two_ : length p.acks ≡ 0 = ap (λ (ms : List Message). length ms) no_ping in
           let three : length o.pieces.messages ≡ 0 = ap (λ (ms : List Message). length ms) nothing.1 in
-          let four : length o.acks ≡ 0 = ap (λ (ms : List Message). length ms) (server_quiet none) in
+          let four : length o.acks ≡ 0 = ap (λ (ms : List Message). length ms) calm in
           let sum : length m.polled.given ≡ (length p.pieces.messages + length p.acks)
           + (length o.pieces.messages + length o.acks) = given_long in omega arith)
 
@@ -558,7 +617,7 @@ module _ (x : Ends) (g : Handlers) (fits : FitsEnds x) (apart : AreApart x) (req
       ping_soon : c.kc2.spoke + PING_MS ≤ now + 2000
       ping_soon = omega (arith, spoken2)
 
-      -- it waits on: both clocks move until a ping is due
+      -- it waits on: both clocks move until the ACK that is owed is due, or a ping
       still : h.steps + 1 < wait_of g request
           → Two x (server_at x o.behind.given gs now lives.Accepted ks1) lc2
           (caller_at call line (caller_with x [] true [] phases.Resting) ∷ [])
@@ -578,66 +637,84 @@ module _ (x : Ends) (g : Handlers) (fits : FitsEnds x) (apart : AreApart x) (req
           let from : now ≤ z.then_now = z.from in
           let near : z.then_now ≤ max now (c.kc2.spoke + 2000) = z.near (c.kc2.spoke + PING_MS) (inr (in_ping c.kc2)) in
           let far : z.then_now ≤ now + 2000 = omega (arith, spoken2) in
+          let low : (w : Owed) → ks1.owed_ack ≡ Some w → z.then_now ≤ max now w.rank =
+          λ w is. z.near w.rank (inl (in_ack false ks1 w is)) in
           let r = z.reached is_quiet in
-          waiting_at c.kc2 ks1 p.behind.given gc o.behind.given gs stands z.then_now from far less
-          (pings owed_still (by z.then_now far r.0 r.1 r.2) (omega (arith, touch.client, heard_is))
-          (omega (arith, touch.server, heard1))) z.two
+          waiting_at c.kc2 ks1 p.behind.given gc o.behind.given gs stands z.then_now from far (soon_on z.then_now low) less
+          (by z.then_now from far low r.0 r.1 r.2) z.two
         where
-          server_ends : end_moments false ks1 ≡ (ks1.heard + SILENCE_MS) ∷ []
-          server_ends =
-              ap (λ (is : List CallItem). map (λ (i : CallItem). i.rank) (is ++ (ack_items ks1.owed_ack ++ []))
-              ++ (ks1.heard + SILENCE_MS) ∷ []) (pieces_none ks1 new1 steady1)
-              ∙ ap (λ (v : Option Owed). map (λ (i : CallItem). i.rank) (ack_items v ++ [])
-              ++ (ks1.heard + SILENCE_MS) ∷ []) owed_still
-
-          up3 : Sends request c.since2 n n c.kc2
-          up3 = subst (λ (i : ℕ). Sends request c.since2 i n c.kc2) (untold none).0
+          up3 : Sends request c.since2 h.has.a n c.kc2
+          up3 = subst (λ (i : ℕ). Sends request c.since2 i n c.kc2) not_told.same_a
               (subst (λ (i : ℕ). Sends request c.since2 c.a2 i c.kc2) no_pieces.0 c.up)
 
           can_none : can_give c.kc2.cwnd c.kc2.sent ≡ false
-          can_none = ap (λ (k : CallLooks). can_give k.cwnd k.sent) (untold none).1
+          can_none = ap (λ (k : CallLooks). can_give k.cwnd k.sent) not_told.same_kc
               ∙ ap (λ (k : CallLooks). can_give k.cwnd k.sent) p.is
               ∙ sym (ap (λ (k : CallLooks). can_give k.cwnd k.sent) p.pieces.is) ∙ p.pieces.over
 
-          client_ends : end_moments true c.kc2 ≡ (c.kc2.spoke + PING_MS) ∷ (c.kc2.heard + SILENCE_MS) ∷ []
-          client_ends =
-              ap (λ (b : Bool). map (λ (i : CallItem). i.rank)
-              ((lost_items (if b then first_lost (overtaken_of c.kc2.sent)
-              (if nat_lt (under_way c.kc2.sent) c.kc2.cwnd.window then late_of c.kc2.sent else None) else None)
-              ++ (fresh_items c.kc2.cwnd c.kc2.sent ++ again_items c.kc2.rtt.rto (lowest_of c.kc2.sent)
-              (last_giving c.kc2.sent.givings (lowest_of c.kc2.sent)))) ++ (ack_items c.kc2.owed_ack
-              ++ ping_items true c.kc2.spoke)) ++ (c.kc2.heard + SILENCE_MS) ∷ []) up3.rates.steady
-              ∙ ap (λ (b : Bool). map (λ (i : CallItem). i.rank)
-              (((if b then item_at 0 (Piece (suc (given_of c.kc2.sent)) false) else [])
-              ++ again_items c.kc2.rtt.rto (lowest_of c.kc2.sent)
-              (last_giving c.kc2.sent.givings (lowest_of c.kc2.sent))) ++ (ack_items c.kc2.owed_ack
-              ++ ping_items true c.kc2.spoke)) ++ (c.kc2.heard + SILENCE_MS) ∷ []) can_none
-              ∙ ap (λ (j : ℕ). map (λ (i : CallItem). i.rank) (again_items c.kc2.rtt.rto j
-              (last_giving c.kc2.sent.givings j) ++ (ack_items c.kc2.owed_ack
-              ++ ping_items true c.kc2.spoke)) ++ (c.kc2.heard + SILENCE_MS) ∷ [])
-              (lowest request c.since2 n n c.kc2 up3)
-              ∙ ap (λ (v : Option LastGiving). map (λ (i : CallItem). i.rank) (again_items c.kc2.rtt.rto (suc n) v
-              ++ (ack_items c.kc2.owed_ack ++ ping_items true c.kc2.spoke)) ++ (c.kc2.heard + SILENCE_MS) ∷ [])
-              (never_given c.kc2.sent.givings (suc n) (omega (arith, up3.given)))
-              ∙ ap (λ (v : Option Owed). map (λ (i : CallItem). i.rank) (ack_items v
-              ++ ping_items true c.kc2.spoke) ++ (c.kc2.heard + SILENCE_MS) ∷ []) (c.owed ∙ owed_none)
+          -- the clocks don't pass the moment of the ACK
+          soon_at : (then_now : ℕ) → ((w : Owed) → ks1.owed_ack ≡ Some w → then_now ≤ max now w.rank) → h.has.a < n
+              → then_now ≤ c.since2 + 100
+          soon_at then_now low less = of ks1.owed_ack refl (owes_on less).0
+            where
+              of : (v : Option Owed) → ks1.owed_ack ≡ v → IsSomeAnd v (λ y. y.rank ≤ c.since2 + 100)
+                  → then_now ≤ c.since2 + 100
+              of None is some = absurd some
+              of (Some w) is some = (let near : then_now ≤ max now w.rank = low w is in
+                  let soon : now ≤ c.since2 + 100 = (owes_on less).1 in omega arith)
 
-          by : (then_now : ℕ) → then_now ≤ now + 2000 → (mm : ℕ)
-              → InEither mm (end_moments false ks1) (end_moments true c.kc2) → mm ≤ then_now
-              → c.kc2.spoke + 2000 ≤ then_now
-          by then_now far mm (inl first) within =
-              of (subst (λ (ms : List ℕ). In mm ms) server_ends first)
+          soon_on : (then_now : ℕ) → ((w : Owed) → ks1.owed_ack ≡ Some w → then_now ≤ max now w.rank) → c.a2 < n
+              → then_now ≤ c.since2 + 100
+          soon_on then_now low less = soon_at then_now low (omega (arith, not_told.same_a))
+
+          by : (then_now : ℕ) → now ≤ then_now → then_now ≤ now + 2000
+              → ((w : Owed) → ks1.owed_ack ≡ Some w → then_now ≤ max now w.rank) → (mm : ℕ)
+              → InEither mm (end_moments false ks1) (end_moments true c.kc2) → mm ≤ then_now → Waits then_now c.kc2 ks1
+          by then_now from far low mm (inl first) within =
+              of (moment_of false [] now 0 0 ks1 (nothing_sends now ks1 new1 steady1) (nothing_gives ks1 new1) mm first)
             where
-              of : In mm ((ks1.heard + SILENCE_MS) ∷ []) → c.kc2.spoke + 2000 ≤ then_now
-              of (inl same) = absurd (omega (arith, touch.server, heard1))
-              of (inr never) = absurd never
-          by then_now far mm (inr second) within =
-              of (subst (λ (ms : List ℕ). In mm ms) client_ends second)
+              answer : (w : Owed) → ks1.owed_ack ≡ Some w → w.rank ≤ then_now
+                  → IfSome ks1.owed_ack (λ y. y.rank ≤ now + 100) → Waits then_now c.kc2 ks1
+              answer w is due late =
+                  (let near : then_now ≤ max now w.rank = low w is in
+                  let soon : w.rank ≤ now + 100 = subst (λ (v : Option Owed). IfSome v (λ y. y.rank ≤ now + 100)) is late in
+                  let lately = near_some w (sym owed_still ∙ is) in
+                  answers (subst (λ (v : Option Owed). IsSomeAnd v (λ y. y.rank ≤ then_now)) (sym is) due)
+                  (record {
+                    client = omega (arith, touch.client, heard_is);
+                    server = omega (arith, lately.0, heard1);
+                    spoke = omega (arith, spoke_near 900 lately.1);
+                  }))
+
+              of : MomentOf false [] now 0 0 ks1 (nothing_sends now ks1 new1 steady1) (nothing_gives ks1 new1) mm
+                  → Waits then_now c.kc2 ks1
+              of (of_piece some late) = absurd (omega arith)
+              of (of_ack w is same) =
+                  answer w is (omega arith)
+                  (subst (λ (v : Option Owed). IfSome v (λ y. y.rank ≤ now + 100)) (sym owed_still) lasts)
+              of (of_ping side same) = absurd cc
+              of (of_death same) = absurd (omega (arith, touch.server, heard1))
+          by then_now from far low mm (inr second) within =
+              of (moment_of true request c.since2 h.has.a n c.kc2 up3 can_none mm second)
             where
-              of : In mm ((c.kc2.spoke + PING_MS) ∷ (c.kc2.heard + SILENCE_MS) ∷ []) → c.kc2.spoke + 2000 ≤ then_now
-              of (inl same) = omega arith
-              of (inr (inl same)) = absurd (omega (arith, touch.client, heard_is))
-              of (inr (inr never)) = absurd never
+              ping : (v : Option Owed) → ks1.owed_ack ≡ v → IfSome v (λ y. y.rank ≤ now + 100)
+                  → c.kc2.spoke + 2000 ≤ then_now → Waits then_now c.kc2 ks1
+              ping None is late due =
+                  (let near : now ≤ h.kc.heard + 1000 = near_none (sym owed_still ∙ is) in
+                  pings is due (omega (arith, heard_is)) (omega (arith, touch.server, heard1)))
+              ping (Some w) is late due =
+                  absurd (let near : then_now ≤ max now w.rank = low w is in
+                  let spoke : now ≤ c.kc2.spoke + 1000 = spoke_near 1000 touch.spoke in omega arith)
+
+              of : MomentOf true request c.since2 h.has.a n c.kc2 up3 can_none mm → Waits then_now c.kc2 ks1
+              of (of_piece less late) =
+                  absurd (let soon : then_now ≤ c.since2 + 100 = soon_at then_now low less in omega arith)
+              of (of_ack w is same) =
+                  absurd (let never : ◌≡◌ {A = Option Owed} (Some w) None = sym is ∙ c.owed ∙ owed_none in cc)
+              of (of_ping side same) =
+                  ping ks1.owed_ack refl
+                  (subst (λ (v : Option Owed). IfSome v (λ y. y.rank ≤ now + 100)) (sym owed_still) lasts) (omega arith)
+              of (of_death same) = absurd (omega (arith, touch.client, heard_is))
 
       -- it replies or refuses: something is due at once, and no clock moves
       rests_next : WaitingNext x g request call line now left t
@@ -646,7 +723,7 @@ module _ (x : Ends) (g : Handlers) (fits : FitsEnds x) (apart : AreApart x) (req
           by : Turned_ c.kc2 ks1 p.behind.given gc o.behind.given gs stands → WaitingNext x g request call line now left t
           by (still_waits less two) = still less two
           by (then_writes reply r) =
-              then_replies reply (subst (Replying x g request reply call line now 0 0 1)
+              then_replies reply (subst (Replying x g request reply call line now 0 0 3)
               (sym (stays_still x (server_at x r.given_server r.used_server now r.life r.ks)
               (client_at x r.given_client r.used_client r.firsts now r.kc)
               (caller_at call line (caller_with x [] true r.kc.received.read r.phase) ∷ []) r.jobs now
@@ -693,7 +770,26 @@ module _ (x : Ends) (g : Handlers) (fits : FitsEnds x) (apart : AreApart x) (req
     pub waiting_next : WaitingNext x g request call line now left t
     waiting_next = by h.waits
       where
+        if_some : (v : Option Owed) → IsSomeAnd v (λ y. y.rank ≤ now + 100) → IfSome v (λ y. y.rank ≤ now + 100)
+        if_some None some = absurd some
+        if_some (Some y) some = some
+
         by : Waits now h.kc h.ks → WaitingNext x g request call line now left t
-        by (rests none touch) = rests_next none touch
+        by (rests none touch) =
+            rests_next (server_quiet none)
+            (subst (λ (v : Option Owed). IfSome v (λ y. y.rank ≤ now + 100)) (sym none) tt)
+            (record { client = omega (arith, touch.client); server = touch.server; spoke = touch.spoke })
+            (λ is. touch.client)
+            (λ z is. absurd (let never : ◌≡◌ {A = Option Owed} (Some z) None = sym is ∙ none in cc))
         by (answers owes touch) = answers_next owes touch
+        by (answers_later owes near same_heard same_spoke) =
+            ⊎_elim
+            (λ (w : (o.owed ≡ None) × (o.spoke ≡ now) × (1 ≤ length o.acks)).
+            acked_next (record { client = omega arith; server = omega arith; spoke = omega arith }) w.0 w.2)
+            (λ (w : (o.acks ≡ []) × (o.owed ≡ h.ks.owed_ack) × (o.spoke ≡ o.pieces.spoke)
+            × ((z : Owed) → o.owed ≡ Some z → now < z.rank) × (false ≡ true → now < o.spoke + 2000)).
+            rests_next w.0 (if_some h.ks.owed_ack owes)
+            (record { client = near; server = omega arith; spoke = omega arith })
+            (λ none. absurd (subst (λ (v : Option Owed). IsSomeAnd v (λ y. y.rank ≤ now + 100)) none owes))
+            (λ z is. (omega arith, omega arith))) o.told
         by (pings none late near near2) = pings_next none late near near2

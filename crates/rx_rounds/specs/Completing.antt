@@ -73,9 +73,9 @@ CompletesBy g ls key n (RefusedAt line why) = ⊥
 CompletesBy g ls key n CutOff = Unit {0}
 CompletesBy g ls key n EndlessIn = Unit {0}
 
--- whatever such a plan without a key makes
+-- whatever such a plan makes
 abbrev pub PlansComplete : Type 0
 PlansComplete =
-    (g : Handlers) (ls : List Numbered) (es : List Noted) (went : Went) (n : ℕ)
-    → AreServable g → WaitsShort g → All (λ l. IsWell g l.what) ls → InvokesOnce ls None n → plan_goes g ls es went
-    → CompletesBy g ls None n went
+    (g : Handlers) (ls : List Numbered) (key : Option (List ℕ)) (es : List Noted) (went : Went) (n : ℕ)
+    → AreServable g → WaitsShort g → All (λ l. IsWell g l.what) ls → InvokesOnce ls key n → plan_goes g ls es went
+    → CompletesBy g ls key n went

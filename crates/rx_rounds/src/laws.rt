@@ -11,11 +11,11 @@ pub fn plans_arrive()
     ensures { PlansArrive }
 {}
 
-/// Where a plan has a server and a client with the default limits and no key, on two hosts, and its client connects and
-/// makes an invoke, and then so many rounds are made: four for each piece of the request and of the reply that is served
-/// for it, one for each turn that its handler waits, and sixteen. Then the line of its caller says what is served: ok with
-/// what the reply says, or abort with the code. So the call ends. No line of the plan is refused; only want of memory, a
-/// fault of the sink, or a polling or a turn of 2^64 - 1 events stands in the way.
+/// Where a plan has a server and a client with the default limits and one key or none, on two hosts, and its client
+/// connects and makes an invoke, and then so many rounds are made: four for each piece of the request and of the reply that
+/// is served for it, one for each turn that its handler waits, and sixteen, or with a key twenty-four. Then the line of its
+/// caller says what is served: ok with what the reply says, or abort with the code. So the call ends. No line of the plan is
+/// refused; only want of memory, a fault of the sink, or a polling or a turn of 2^64 - 1 events stands in the way.
 pub fn plans_complete()
     ensures { PlansComplete }
 {}

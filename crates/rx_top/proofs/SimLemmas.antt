@@ -199,7 +199,7 @@ module _ (are_well : (g : Handlers) (text : List ℕ) (ls : List Numbered) → p
         promises = (keeps run).0;
         told = (keeps run).1;
         arrives = arrives run;
-        completes = λ n short invokes. completes run n servable short invokes;
+        completes = λ key n short invokes. completes run key n servable short invokes;
         answers = λ t whole driven distinct premise.
             let goes : plan_goes g lines run.events (Whole t) = subst (plan_goes g lines run.events) whole run.goes in
             record {

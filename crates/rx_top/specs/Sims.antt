@@ -1,5 +1,5 @@
 -- What `sim` makes and leaves, by how it ended. Public clauses cite this module.
-use Rattle.std.specs.Prelude.{◌≡◌, ◌⊎◌, ℕ, List, reverse, All, None, Some, Ok, IsSomeAnd}
+use Rattle.std.specs.Prelude.{◌≡◌, ◌⊎◌, ℕ, List, reverse, All, Option, Some, Ok, IsSomeAnd}
 use Rattle.rx_jobs.specs.Handlers.{Handlers}
 use Rattle.rx_law.specs.Promises.{ServerForgotNone}
 use Rattle.rx_law.specs.Times.{Timely}
@@ -53,14 +53,15 @@ AnswersInvokes g lines es went =
 
 -- the lines of a plan were run, and the events of that keep the promises of a plan; each is one that its line tells, so
 -- no other events have their text; its invokes are answered; a request that it writes before rounds arrives; and one
--- invoke before so many rounds, without a key, comes to its end
+-- invoke before so many rounds comes to its end
 pub record Played (g : Handlers) (lines : List Numbered) (ran : Outcome) (before after : Told) : Type 0 where
   pub run : RunIs g lines ran before after
   pub promises : Promises lines run.events
   pub told : All IsToldNoted run.events
   pub answers : AnswersInvokes g lines run.events run.went
   pub arrives : (offer : List ℕ) (n : ℕ) → WritesRequest lines offer n → ArrivesBy lines offer run.went
-  pub completes : (n : ℕ) → WaitsShort g → InvokesOnce lines None n → CompletesBy g lines None n run.went
+  pub completes : (key : Option (List ℕ)) (n : ℕ) → WaitsShort g → InvokesOnce lines key n
+      → CompletesBy g lines key n run.went
 
 -- `sim` ended as the run of the plan of this file did
 abbrev pub EndsAs : SimOutcome → List ℕ → (Outcome → Type 0) → Type 0

@@ -28,5 +28,5 @@ run_arrives g ls outcome old new well r offer n writes = arrive g ls r.events r.
 -- and an invoke that they make comes to its end
 pub run_completes : (g : Handlers) (ls : List Numbered) (outcome : Outcome) (old new : Told)
     → All (λ l. IsWell g l.what) ls → Completes g ls outcome old new
-run_completes g ls outcome old new well r n servable short invokes =
-    complete g ls r.events r.went n servable short well invokes r.goes
+run_completes g ls outcome old new well r key n servable short invokes =
+    complete g ls key r.events r.went n servable short well invokes r.goes
