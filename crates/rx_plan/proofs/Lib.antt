@@ -41,6 +41,7 @@ pub mod Replying
 pub mod RowsAsked
 pub mod RowsOver
 pub mod ScriptReading
+pub mod ScriptWaits
 pub mod ServicesStay
 pub mod Sound
 pub mod SoundLines

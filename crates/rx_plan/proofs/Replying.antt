@@ -169,20 +169,37 @@ returned_said t p down a out r =
     ap (reply_says t p down) (r.spelled ∙ sym (append-nil (reply_spelling t p down r.says)))
     ∙ spelled_is_said t p down r.says [] r.can
 
--- ---- no code is 0
+-- ---- blocks and their lines
 
-given_nonzero : (give : Saying → Option ℤ)
-    → ((l : Saying) (c : ℤ) → AnswersNoZero l → give l ≡ Some c → c ≢ pos 0)
-    → (ls : List Saying) (c : ℤ) → All AnswersNoZero ls → first_given give ls ≡ Some c → c ≢ pos 0
-given_nonzero give one [] c all is = absurd cc
-given_nonzero give one (l ∷ ls) c all is =
-    by (give l) refl (given_nonzero give one ls c (All-tail AnswersNoZero l ls all))
+-- what the first line gives, of which something is given, is so where each line's is
+pub first_given_is : {A : Type 0} (give : Saying → Option A) (P : Saying → Type 0) (Q : A → Type 0)
+    → ((l : Saying) (a : A) → P l → give l ≡ Some a → Q a)
+    → (ls : List Saying) (a : A) → All P ls → first_given give ls ≡ Some a → Q a
+first_given_is give P Q one [] a all is = absurd cc
+first_given_is {A = A} give P Q one (l ∷ ls) a all is =
+    by (give l) refl (first_given_is give P Q one ls a (All-tail P l ls all))
   where
-    by : (o : Option ℤ) → give l ≡ o → (first_given give ls ≡ Some c → c ≢ pos 0) → c ≢ pos 0
-    by None none next = (let there : first_given give ls ≡ Some c = rw none at is in next there)
-    by (Some d) some next =
-        (let same : Some d ≡ Some c = rw some at is in
-        one l c (All-head AnswersNoZero l ls all) (some ∙ same))
+    by : (o : Option A) → give l ≡ o → (first_given give ls ≡ Some a → Q a) → Q a
+    by None none next = (let there : first_given give ls ≡ Some a = rw none at is in next there)
+    by (Some b) some next =
+        (let same : Some b ≡ Some a = rw some at is in
+        one l a (All-head P l ls all) (some ∙ same))
+
+-- what is so of the lines of all blocks is so of those of a block that is named
+pub block_in : (P : List Saying → Type 0) (name : List ℕ) (bs : List Answering) (b : Answering)
+    → All (λ (x : Answering). P x.lines) bs → block_named name bs ≡ Some b → P b.lines
+block_in P name [] b all is = absurd cc
+block_in P name (x ∷ xs) b all is =
+    by (bytes_eq x.proc name) refl (block_in P name xs b (All-tail (λ (y : Answering). P y.lines) x xs all))
+  where
+    by : (same : Bool) → bytes_eq x.proc name ≡ same → (block_named name xs ≡ Some b → P b.lines) → P b.lines
+    by true same next =
+        (let here : Some x ≡ Some b = rw same at is in
+        let one : x ≡ b = cc in
+        subst (λ (y : Answering). P y.lines) one (All-head (λ (y : Answering). P y.lines) x xs all))
+    by false same next = (let there : block_named name xs ≡ Some b = rw same at is in next there)
+
+-- ---- no code is 0
 
 held_nonzero : (ps : List Param) (args : Data) (l : Saying) (c : ℤ) → AnswersNoZero l → held_code ps args l ≡ Some c
     → c ≢ pos 0
@@ -203,22 +220,6 @@ either_given : (x y : Option ℤ) (c : ℤ) → option_or x y ≡ Some c → (x 
 either_given None y c is first second = second is
 either_given (Some d) y c is first second = first is
 
-block_in : (name : List ℕ) (bs : List Answering) (b : Answering) → All (λ (x : Answering). All AnswersNoZero x.lines) bs
-    → block_named name bs ≡ Some b → All AnswersNoZero b.lines
-block_in name [] b all is = absurd cc
-block_in name (x ∷ xs) b all is =
-    by (bytes_eq x.proc name) refl
-    (block_in name xs b (All-tail (λ (y : Answering). All AnswersNoZero y.lines) x xs all))
-  where
-    by : (same : Bool) → bytes_eq x.proc name ≡ same
-        → (block_named name xs ≡ Some b → All AnswersNoZero b.lines) → All AnswersNoZero b.lines
-    by true same next =
-        (let here : Some x ≡ Some b = rw same at is in
-        let one : x ≡ b = cc in
-        subst (λ (y : Answering). All AnswersNoZero y.lines) one
-        (All-head (λ (y : Answering). All AnswersNoZero y.lines) x xs all))
-    by false same next = (let there : block_named name xs ≡ Some b = rw same at is in next there)
-
 pub answer_nonzero : (g : Handlers) (i : Invoked) (c : ℤ) → AreServable g → answer_for g i ≡ code c → c ≢ pos 0
 answer_nonzero g i c servable is = by (block_named i.proc.name g.script) refl is
   where
@@ -232,14 +233,15 @@ answer_nonzero g i c servable is = by (block_named i.proc.name g.script) refl is
         (let same : d ≡ c = cc in
         either_given (first_given (held_code i.proc.params i.args) ls) (first_given fail_code ls) c
         (some ∙ ap (λ (z : ℤ). Some z) same)
-        (given_nonzero (held_code i.proc.params i.args) (held_nonzero i.proc.params i.args) ls c all)
-        (given_nonzero fail_code fail_nonzero ls c all))
+        (first_given_is (held_code i.proc.params i.args) AnswersNoZero (λ d. d ≢ pos 0)
+        (held_nonzero i.proc.params i.args) ls c all)
+        (first_given_is fail_code AnswersNoZero (λ d. d ≢ pos 0) fail_nonzero ls c all))
 
     by : (o : Option Answering) → block_named i.proc.name g.script ≡ o
         → block_answer g.types i.proc.params i.args args_up o ≡ code c → c ≢ pos 0
     by None none is = absurd cc
     by (Some b) some is =
-        codes b.lines _ (block_in i.proc.name g.script b servable.codes some)
+        codes b.lines _ (block_in (All AnswersNoZero) i.proc.name g.script b servable.codes some)
         (code_of i.proc.params i.args b.lines) refl is (λ d never. absurd cc)
 
 -- so no invoke's request is answered with the code 0

@@ -1,5 +1,5 @@
 -- What the answer lines of a driven plan say: what the script answers to each invoke. Public clauses cite this module.
-use Rattle.std.specs.Prelude.{◌≡◌, ◌≢◌, ◌⊎◌, ◌<◌, ◌^◌, ◌∷◌, ◌++◌, Ok, is_some, if◌then◌else◌, ℕ, ℤ, pos, Bool, List, []}
+use Rattle.std.specs.Prelude.{◌≡◌, ◌≢◌, ◌⊎◌, ◌<◌, ◌≤◌, ◌^◌, ◌∷◌, ◌++◌, Ok, is_some, if◌then◌else◌, ℕ, ℤ, pos, Bool, List, []}
 use Rattle.std.specs.Prelude.{Option, Some, None, option_map, option_and_then, slice_get, string_bytes, All, IsTrue}
 use Rattle.std.specs.Prelude.{IfSome, IsSomeAnd}
 use Rattle.xdr_value.specs.Data.{Data, Procedure}
@@ -19,7 +19,7 @@ use Rattle.rx_asks.specs.declared.ask.TheConstants.{CC_UNMARSHAL}
 use Rattle.rx_law.specs.Promises.{EndsAs, ends_in}
 use Rattle.rx_law.specs.Sides.{Node, side}
 use Rattle.rx_law.specs.Streams.{said}
-use Rattle.rx_jobs.specs.Handlers.{Handlers, served_for}
+use Rattle.rx_jobs.specs.Handlers.{Handlers, served_for, wait_of}
 use Rattle.rx_reply.specs.Replies.{Returned, reply_line}
 use Rattle.rx_reply.specs.Sent.{sent_spelling}
 use Rattle.rx_script.specs.Answers.{Answer, answer_of, block_named}
@@ -28,6 +28,7 @@ use Rattle.rx_script.specs.Procs.{proc_named}
 use Rattle.rx_script.specs.Saying.{Answering, Saying, when, fail}
 use Rattle.rx_script.specs.ScriptRows.{is_down, is_up}
 use Rattle.rx_script.specs.Served.{block_has, bytes, refusal}
+use Rattle.rx_script.specs.declared.limits.TheConstants.{MAX_WAIT}
 use Rattle.rx_script.specs.declared.plan.Numbered.{Numbered}
 use Rattle.rx_script.specs.declared.plan.PlanLine.{PlanLine}
 use Rattle.rx_script.specs.declared.plan.PlanLine.TheVariants as lines
@@ -80,6 +81,10 @@ pub record AreServable (g : Handlers) : Type 0 where
   pub sound : IsTrue (is_sound g.types g.procs)
   pub opcodes : All (λ p. p.opcode < 2 ^ 32) g.procs
   pub codes : All (λ (b : Answering). All AnswersNoZero b.lines) g.script
+
+-- no request waits longer than a script may say: else clocks might reach their end before it is answered
+abbrev pub WaitsShort : Handlers → Type 0
+WaitsShort g = (request : List ℕ) → wait_of g request ≤ MAX_WAIT
 
 -- ---- invokes
 

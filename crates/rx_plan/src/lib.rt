@@ -16,4 +16,4 @@ pub use call::ClientCall;
 pub use fate::Fate;
 pub use laws::{plans_answer_as_served, plans_are_legal, plans_are_worlds, plans_keep_promises};
 pub use limits::{MAX_CLIENTS, MAX_PACKETS, MAX_SLOTS, plan_limits};
-pub use plans::{plans_are_well, scripts_answer_no_zero};
+pub use plans::{plans_are_well, scripts_answer_no_zero, scripts_wait_shortly};

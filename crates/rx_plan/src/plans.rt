@@ -7,7 +7,7 @@ ghost use Rattle.rx_script.specs.Plans.{plan_of};
 ghost use Rattle.rx_script.specs.Saying.{Answering, plan_rows};
 ghost use Rattle.rx_script.specs.Scripts.{script_of};
 ghost use Rattle.rx_script.specs.declared.plan.Numbered.{Numbered};
-ghost use Rattle.rx_plan.specs.Answering.{AnswersNoZero};
+ghost use Rattle.rx_plan.specs.Answering.{AnswersNoZero, WaitsShort};
 ghost use Rattle.rx_plan.specs.Lines.{IsWell};
 
 /// In a plan that was read all numbers are in range, and the arguments of each invoke fit: it can be run.
@@ -21,4 +21,9 @@ pub fn scripts_answer_no_zero()
     ensures { (types : Types) (procs : Procs) (text : List ℕ) (script : List Answering)
         → script_of types procs text ≡ Ok script
         → All (λ (b : Answering). All AnswersNoZero b.lines) script }
+{}
+
+/// Handlers that go by a script that was read wait no longer for any request than a script may say.
+pub fn scripts_wait_shortly()
+    ensures { (g : Handlers) (text : List ℕ) → script_of g.types g.procs text ≡ Ok g.script → WaitsShort g }
 {}

@@ -5,10 +5,10 @@ use Rattle.rx_model.specs.Message.{IsBytes}
 use Rattle.rx_script.specs.Served.{Served, bytes, refusal}
 use Rattle.rx_asks.specs.declared.ask.Phase.TheVariants as phases
 use Rattle.rx_jobs.specs.Handlers.{Handlers, served_for, wait_of}
-use Rattle.rx_plan.specs.Answering.{AreServable}
+use Rattle.rx_plan.specs.Answering.{AreServable, WaitsShort}
 use Rattle.rx_plan.specs.Rounds.{rounds}
 use Rattle.rx_plan.specs.Stages.{Stage}
-use Rattle.rx_rounds.specs.Bounds.{WaitsShort, both_pieces, served_pieces}
+use Rattle.rx_rounds.specs.Bounds.{both_pieces, served_pieces}
 use Rattle.rx_rounds.specs.Completing.{PlansComplete}
 use Rattle.rx_rounds.proofs.AllRounds.{rounds_split, turns_end}
 use Rattle.rx_rounds.proofs.Between.{HasCome, caller_with, client_at}

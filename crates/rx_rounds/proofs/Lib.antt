@@ -14,6 +14,7 @@ pub mod Exchange
 pub mod FirstCame
 pub mod Flow
 pub mod Growing
+pub mod HaveEnded
 pub mod Keeper
 pub mod Keeping
 pub mod KeepsOn

@@ -23,7 +23,7 @@ use Rattle.rx_asks.specs.View.{CallerState, caller_for}
 use Rattle.rx_jobs.specs.Handlers.{Handlers, served_for}
 use Rattle.rx_reply.specs.Replies.{reply_line, reply_says}
 use Rattle.rx_reply.specs.Sent.{CanSend}
-use Rattle.rx_plan.specs.Answering.{AreDriven, AreServable, Invoked, IsDriven, invoked_at, request_for}
+use Rattle.rx_plan.specs.Answering.{AreDriven, AreServable, Invoked, IsDriven, WaitsShort, invoked_at, request_for}
 use Rattle.rx_plan.specs.Answers.{answer_line, answer_of, asked_at, line_for, ok_text, said, said_of}
 use Rattle.rx_plan.specs.Follows.{Went, Whole, plan_goes}
 use Rattle.rx_plan.specs.Lines.{IsWell, TakesArguments}
@@ -31,7 +31,7 @@ use Rattle.rx_plan.specs.Promises.{AreDistinct, plan_nodes}
 use Rattle.rx_plan.specs.Rounds.{rounds}
 use Rattle.rx_plan.specs.Stages.{InvokedState, Stage}
 use Rattle.rx_plan.proofs.Answered.{caller_at as caller_of}
-use Rattle.rx_rounds.specs.Bounds.{WaitsShort, default_limits}
+use Rattle.rx_rounds.specs.Bounds.{default_limits}
 use Rattle.rx_rounds.specs.Completing.{AllSayServed, CompletesBy, InvokesOnce, SaysServed, became, rounds_for}
 use Rattle.rx_rounds.proofs.Between.{EndsWith, HasCome}
 use Rattle.rx_rounds.proofs.LinesInvoke.{IsPlayed, behind_call, invoke_goes, plays_none, rounds_on}

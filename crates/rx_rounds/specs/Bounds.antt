@@ -1,12 +1,11 @@
--- How much there is to be done for a call: the pieces of its request and of what is served for it, and the turns that
--- its handler waits. Public clauses cite this module.
-use Rattle.std.specs.Prelude.{◌+◌, ◌≤◌, ℕ, true, List, length}
+-- How much there is to be done for a call: the pieces of its request and of what is served for it. Public clauses cite
+-- this module.
+use Rattle.std.specs.Prelude.{◌+◌, ℕ, true, List, length}
 use Rattle.rx_model.specs.declared.names.Limits.{Limits}
 use Rattle.rx_model.specs.declared.wire.TheConstants.{DEFAULT_CALLS, DEFAULT_CONNS, DEFAULT_SLOTS, DEFAULT_WINDOW}
 use Rattle.rx_rules.specs.Sent.{pieces_by}
-use Rattle.rx_script.specs.declared.limits.TheConstants.{MAX_WAIT}
 use Rattle.rx_script.specs.Served.{Served, refusal, bytes}
-use Rattle.rx_jobs.specs.Handlers.{Handlers, served_for, wait_of}
+use Rattle.rx_jobs.specs.Handlers.{Handlers, served_for}
 
 -- the limits of a node whose line names none
 abbrev pub default_limits : Limits
@@ -25,7 +24,3 @@ served_pieces (bytes reply) = pieces reply
 -- the pieces of a request and of what is served for it
 abbrev pub both_pieces : Handlers → List ℕ → ℕ
 both_pieces g request = pieces request + served_pieces (served_for g request)
-
--- no request waits longer than a script may say: else clocks might reach their end before it is answered
-abbrev pub WaitsShort : Handlers → Type 0
-WaitsShort g = (request : List ℕ) → wait_of g request ≤ MAX_WAIT

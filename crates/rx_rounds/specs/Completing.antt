@@ -14,12 +14,12 @@ use Rattle.rx_script.specs.Served.{Served, refusal, bytes}
 use Rattle.rx_asks.specs.declared.ask.TheConstants.{CC_UNMARSHAL, REPLY_BYTES}
 use Rattle.rx_jobs.specs.Handlers.{Handlers, served_for, wait_of}
 use Rattle.rx_reply.specs.Replies.{reply_line, reply_says}
-use Rattle.rx_plan.specs.Answering.{AreServable, Invoked, invoked_at, request_for}
+use Rattle.rx_plan.specs.Answering.{AreServable, Invoked, WaitsShort, invoked_at, request_for}
 use Rattle.rx_plan.specs.Answers.{answer_line, line_for, ok_text}
 use Rattle.rx_plan.specs.Follows.{Went, Empty, Whole, RefusedAt, CutOff, EndlessIn, plan_goes}
 use Rattle.rx_plan.specs.Lines.{IsWell}
 use Rattle.rx_plan.specs.Stages.{InvokedState, Stage}
-use Rattle.rx_rounds.specs.Bounds.{WaitsShort, default_limits, both_pieces}
+use Rattle.rx_rounds.specs.Bounds.{default_limits, both_pieces}
 
 -- what a plan says that makes one invoke before rounds: both nodes have the default limits, and one key or none
 pub record InvokesOnce (ls : List Numbered) (key : Option (List ℕ)) (n : ℕ) : Type 0 where

@@ -1,3 +1,4 @@
 pub mod Arriving
 pub mod Bounds
 pub mod Completing
+pub mod Ended

@@ -1,6 +1,7 @@
 //! Laws of the rounds of plans.
 ghost use Rattle.rx_rounds.specs.Arriving.{PlansArrive};
 ghost use Rattle.rx_rounds.specs.Completing.{PlansComplete};
+ghost use Rattle.rx_rounds.specs.Ended.{CallsEnd};
 
 /// Where a plan has a server and a client with the default limits and one key or none, on two hosts, and its client
 /// connects, calls, writes at most 45,184 bytes, shuts the request, and then so many rounds are made: two for each piece
@@ -18,4 +19,12 @@ pub fn plans_arrive()
 /// refused; only want of memory, a fault of the sink, or a polling or a turn of 2^64 - 1 events stands in the way.
 pub fn plans_complete()
     ensures { PlansComplete }
+{}
+
+/// What is said of a plan that completes says by itself that its call ended: a stage behind so many rounds at which the
+/// call is open, or was given up for silence, isn't of that, whatever was made on the way. So it refuses what is left by a
+/// server that accepts and never reads, a handler that is never finished, a client that never polls its last piece, a
+/// caller that never shuts, and clocks that stand where nothing else happens.
+pub fn completed_calls_have_ended()
+    ensures { CallsEnd }
 {}

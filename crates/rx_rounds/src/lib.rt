@@ -6,4 +6,4 @@
 
 mod laws;
 
-pub use laws::{plans_arrive, plans_complete};
+pub use laws::{completed_calls_have_ended, plans_arrive, plans_complete};

@@ -18,7 +18,7 @@ use Rattle.rx_script.specs.Scripts.{script_of}
 use Rattle.rx_words.specs.declared.command.Command.{Command}
 use Rattle.rx_words.specs.declared.command.Command.TheVariants as commands
 use Rattle.rx_plan.specs.Answering.{AbortedAsServed, AnswersNoZero, AreDriven, AreServable, EndedAsServed}
-use Rattle.rx_plan.specs.Answering.{EndedByLaw, OkAsAnswered}
+use Rattle.rx_plan.specs.Answering.{EndedByLaw, OkAsAnswered, WaitsShort}
 use Rattle.rx_plan.specs.Follows.{CutOff, Empty, EndlessIn, RefusedAt, Went, Whole, plan_goes}
 use Rattle.rx_plan.specs.Lines.{IsWell}
 use Rattle.rx_plan.specs.Promises.{AreDistinct, plan_nodes}
@@ -97,6 +97,14 @@ script_codes no_zero contents m None s is =
     subst (λ (bs : List Answering). All (λ (b : Answering). All AnswersNoZero b.lines) bs) (sym is)
     (All-nil (λ (b : Answering). All AnswersNoZero b.lines))
 script_codes no_zero contents m (Some name) s is = no_zero m.types m.procs is.0 s is.2
+
+-- and by it no request waits longer than a script may say
+pub script_waits : (short : (g : Handlers) (text : List ℕ) → script_of g.types g.procs text ≡ Ok g.script → WaitsShort g)
+    (contents : Option (List (List ℕ × List ℕ))) (m : Meant) (name : Option (List ℕ)) (s : List Answering)
+    → IsScript contents m name s → WaitsShort (handlers_with m s)
+script_waits short contents m None s is =
+    subst (λ (bs : List Answering). WaitsShort (handlers_with m bs)) (sym is) (short (handlers_with m []) [] refl)
+script_waits short contents m (Some name) s is = short (handlers_with m s) is.0 is.2
 
 -- ---- words
 
@@ -187,11 +195,12 @@ module _ (are_well : (g : Handlers) (text : List ℕ) (ls : List Numbered) → p
     (aborts : SaysOfInvokes (λ g lines es s. AbortedAsServed g lines (plan_nodes lines) (reverse es) s)) where
   -- the run of a plan that was read keeps its promises, and its invokes are answered
   pub run_plays : (m : Meant) (s : List Answering) (lines : List Numbered) (ran : Outcome) (before after : Told)
-      → AreServable (handlers_with m s) → IsRead m lines → RunIs (handlers_with m s) lines ran before after
+      → AreServable (handlers_with m s) → WaitsShort (handlers_with m s) → IsRead m lines
+      → RunIs (handlers_with m s) lines ran before after
       → KeepsPromises (handlers_with m s) lines ran before after → Arrives (handlers_with m s) lines ran before after
       → Completes (handlers_with m s) lines ran before after
       → Played (handlers_with m s) lines ran before after
-  run_plays m s lines ran before after servable read run keeps arrives completes =
+  run_plays m s lines ran before after servable short read run keeps arrives completes =
       let g : Handlers = handlers_with m s in
       let well : All (λ l. IsWell g l.what) lines = are_well g read.0 lines read.1 in
       record {
@@ -199,7 +208,7 @@ module _ (are_well : (g : Handlers) (text : List ℕ) (ls : List Numbered) → p
         promises = (keeps run).0;
         told = (keeps run).1;
         arrives = arrives run;
-        completes = λ key n short invokes. completes run key n servable short invokes;
+        completes = λ key n invokes. completes run key n servable short invokes;
         answers = λ t whole driven distinct premise.
             let goes : plan_goes g lines run.events (Whole t) = subst (plan_goes g lines run.events) whole run.goes in
             record {

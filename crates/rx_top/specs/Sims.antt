@@ -13,7 +13,6 @@ use Rattle.rx_plan.specs.Answering.{AbortedAsServed, AreDriven, EndedAsServed, E
 use Rattle.rx_plan.specs.Follows.{Went, Whole}
 use Rattle.rx_plan.specs.Promises.{AreDistinct, Promises, plan_nodes}
 use Rattle.rx_rounds.specs.Arriving.{ArrivesBy, WritesRequest}
-use Rattle.rx_rounds.specs.Bounds.{WaitsShort}
 use Rattle.rx_rounds.specs.Completing.{CompletesBy, InvokesOnce}
 use Rattle.rx_world.specs.Runs.{RunIs}
 use Rattle.rx_plan.specs.Stages.{Stage}
@@ -60,8 +59,7 @@ pub record Played (g : Handlers) (lines : List Numbered) (ran : Outcome) (before
   pub told : All IsToldNoted run.events
   pub answers : AnswersInvokes g lines run.events run.went
   pub arrives : (offer : List ℕ) (n : ℕ) → WritesRequest lines offer n → ArrivesBy lines offer run.went
-  pub completes : (key : Option (List ℕ)) (n : ℕ) → WaitsShort g → InvokesOnce lines key n
-      → CompletesBy g lines key n run.went
+  pub completes : (key : Option (List ℕ)) (n : ℕ) → InvokesOnce lines key n → CompletesBy g lines key n run.went
 
 -- `sim` ended as the run of the plan of this file did
 abbrev pub EndsAs : SimOutcome → List ℕ → (Outcome → Type 0) → Type 0

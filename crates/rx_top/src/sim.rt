@@ -3,7 +3,7 @@
 ghost use Rattle.std.specs.Prelude.{◌≡◌, ◌≢◌, ◌<◌, ◌^◌, All};
 ghost use Rattle.rx_base.specs.Sink.{HasRisen};
 ghost use Rattle.rx_script.specs.Saying.{blocks_of};
-ghost use Rattle.rx_plan.specs.Answering.{AreServable};
+ghost use Rattle.rx_plan.specs.Answering.{AreServable, WaitsShort};
 ghost use Rattle.rx_world.specs.Tells.{told};
 ghost use Rattle.xg_check.specs.Meaning.{interface_of};
 ghost use Rattle.rx_top.specs.Inputs.{reads_by, status_of};
@@ -14,7 +14,9 @@ use crate::inputs::{named_interface, named_script, plan_file};
 use crate::outcome::SimOutcome;
 use crate::status::Status;
 use rx_base::{Files, Sink};
-use rx_plan::{plans_answer_as_served, plans_are_well, scripts_answer_no_zero};
+use rx_plan::{
+    plans_answer_as_served, plans_are_well, scripts_answer_no_zero, scripts_wait_shortly,
+};
 use rx_script::{Outcome, Plan, Script};
 use rx_wire::Journal;
 use rx_world::run;
@@ -79,6 +81,7 @@ fn sim_over<'a, F: Files, O: Sink, J: Journal>(
         → F.failed_last files.new ≡ F.failed_last files.old }
 {
     scripts_answer_no_zero();
+    scripts_wait_shortly();
     match named_script(alloc, iface, &names.script, files) {
         Ok(script) => sim_with(alloc, iface, script, names.plan.as_str(), files, out, book),
         Err(outcome) => outcome,
@@ -95,7 +98,8 @@ fn sim_with<'a, F: Files, O: Sink, J: Journal>(
     out: &mut O,
     book: &mut J,
 ) -> SimOutcome<'a>
-    requires { AreServable (handlers_with (interface_of iface.now) (blocks_of script.blocks.items)) }
+    requires servable { AreServable (handlers_with (interface_of iface.now) (blocks_of script.blocks.items)) }
+    requires short { WaitsShort (handlers_with (interface_of iface.now) (blocks_of script.blocks.items)) }
     ensures sim { PlanIs (interface_of iface.now) (blocks_of script.blocks.items) name.now result
         (reads_by F.contents F.failed_last F.reads files.old files.new)
         (told (J.told book.old) (O.told out.old) (O.faults out.old))
@@ -125,6 +129,7 @@ fn play<'a, O: Sink, J: Journal>(
     book: &mut J,
 ) -> SimOutcome<'a>
     requires servable { AreServable (handlers_with (interface_of iface.now) (blocks_of script.blocks.items)) }
+    requires short { WaitsShort (handlers_with (interface_of iface.now) (blocks_of script.blocks.items)) }
     requires read { IsRead (interface_of iface.now) plan.now.lines.items }
     ensures played { EndsAs result name.now (λ ran. Played
         (handlers_with (interface_of iface.now) (blocks_of script.blocks.items)) plan.now.lines.items ran

@@ -1,5 +1,5 @@
-use Rattle.rx_plan.proofs.ScriptReading.{script_some}
+use Rattle.rx_plan.proofs.ScriptWaits.{script_codes}
 use Rattle.rx_plan.proofs.plans.scripts_answer_no_zero.Goals as goal
 
 pub returns : goal.returns
-returns c = script_some
+returns c = script_codes

@@ -14,7 +14,8 @@ pub returns-in-Ran-clause-played : goal.returns-in-Ran-clause-played
 returns-in-Ran-clause-played g c =
     let law = c.plans_answer_as_served.ensures in
     run_plays c.plans_are_well.ensures law.ok law.ended law.caused law.aborted (interface_of c.args.iface.now)
-    (blocks_of c.args.script.blocks.items) _ _ _ _ c.requires.servable c.requires.read c.in-Ran.ensures.run
+    (blocks_of c.args.script.blocks.items) _ _ _ _ c.requires.servable c.requires.short
+    c.requires.read c.in-Ran.ensures.run
     c.in-Ran.ensures.headline c.in-Ran.ensures.arrives c.in-Ran.ensures.completes
 
 pub returns-in-Ran-clause-no_sink_fault : goal.returns-in-Ran-clause-no_sink_fault
@@ -25,7 +26,8 @@ returns-in-Refused-clause-played g c =
     let law = c.plans_answer_as_served.ensures in (
       refl,
       run_plays c.plans_are_well.ensures law.ok law.ended law.caused law.aborted (interface_of c.args.iface.now)
-          (blocks_of c.args.script.blocks.items) _ _ _ _ c.requires.servable c.requires.read c.in-Refused.ensures.run
+          (blocks_of c.args.script.blocks.items) _ _ _ _ c.requires.servable c.requires.short
+          c.requires.read c.in-Refused.ensures.run
           c.in-Refused.ensures.headline c.in-Refused.ensures.arrives c.in-Refused.ensures.completes,
     )
 
@@ -36,7 +38,8 @@ pub returns-in-SinkFault-clause-played : goal.returns-in-SinkFault-clause-played
 returns-in-SinkFault-clause-played g c =
     let law = c.plans_answer_as_served.ensures in
     run_plays c.plans_are_well.ensures law.ok law.ended law.caused law.aborted (interface_of c.args.iface.now)
-    (blocks_of c.args.script.blocks.items) _ _ _ _ c.requires.servable c.requires.read c.in-SinkFault.ensures.run
+    (blocks_of c.args.script.blocks.items) _ _ _ _ c.requires.servable c.requires.short
+    c.requires.read c.in-SinkFault.ensures.run
     c.in-SinkFault.ensures.headline c.in-SinkFault.ensures.arrives c.in-SinkFault.ensures.completes
 
 pub returns-in-SinkFault-clause-sink_fault : goal.returns-in-SinkFault-clause-sink_fault
@@ -46,7 +49,8 @@ pub returns-in-OutOfMemory-clause-played : goal.returns-in-OutOfMemory-clause-pl
 returns-in-OutOfMemory-clause-played g c =
     let law = c.plans_answer_as_served.ensures in
     run_plays c.plans_are_well.ensures law.ok law.ended law.caused law.aborted (interface_of c.args.iface.now)
-    (blocks_of c.args.script.blocks.items) _ _ _ _ c.requires.servable c.requires.read c.in-OutOfMemory.ensures.run
+    (blocks_of c.args.script.blocks.items) _ _ _ _ c.requires.servable c.requires.short
+    c.requires.read c.in-OutOfMemory.ensures.run
     c.in-OutOfMemory.ensures.headline c.in-OutOfMemory.ensures.arrives c.in-OutOfMemory.ensures.completes
 
 pub returns-in-OutOfMemory-clause-no_sink_fault : goal.returns-in-OutOfMemory-clause-no_sink_fault
