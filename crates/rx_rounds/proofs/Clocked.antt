@@ -20,7 +20,8 @@ use Rattle.rx_rounds.proofs.OneCall.{Ends, client_setup, server_setup}
 use Rattle.rx_rounds.proofs.Rounded.{Made}
 use Rattle.rx_rounds.proofs.Two.{Two, two_client, two_server}
 
-clocked_is : (now : ℕ) (e : Event) → IsClocked now e → e ≡ events.Clocked now
+-- a clock event with this moment
+pub clocked_is : (now : ℕ) (e : Event) → IsClocked now e → e ≡ events.Clocked now
 clocked_is now (events.Clocked moment) is = ap (λ (m : ℕ). events.Clocked m) is
 clocked_is now (events.Linked a b c d) is = absurd is
 clocked_is now (events.Called a b) is = absurd is

@@ -5,6 +5,7 @@ pub mod ArrivingRound
 pub mod Between
 pub mod CallsOut
 pub mod Clocked
+pub mod ClocksMove
 pub mod Codes
 pub mod Complete
 pub mod Counting
@@ -13,6 +14,7 @@ pub mod EachPoll
 pub mod Exchange
 pub mod FirstCame
 pub mod Flow
+pub mod GivesOrMoves
 pub mod Growing
 pub mod HaveEnded
 pub mod Keeper
@@ -48,6 +50,8 @@ pub mod OneWrite
 pub mod OtherCalls
 pub mod Pair
 pub mod PlanLines
+pub mod PolledOut
+pub mod QuietPolls
 pub mod ReadOn
 pub mod ReadsNext
 pub mod ReadsOut

@@ -18,13 +18,15 @@ use Rattle.rx_rules.specs.Setup.{Setup, is_client}
 use Rattle.rx_rounds.proofs.EachItem.{In, in_behind, in_channel, in_filter, in_front, in_items, in_map, is_due}
 use Rattle.rx_rounds.proofs.EachItem.{least_in, least_low, least_none}
 
-in_parts : {X : Type 0} (x : X) (xs ys : List X) → In x (xs ++ ys) → In x xs ⊎ In x ys
+-- one of two lists joined is one of either
+pub in_parts : {X : Type 0} (x : X) (xs ys : List X) → In x (xs ++ ys) → In x xs ⊎ In x ys
 in_parts x [] ys there = inr there
 in_parts {X = X} x (y ∷ xs) ys (inl same) = inl (inl same)
 in_parts {X = X} x (y ∷ xs) ys (inr rest) =
     ⊎_elim (λ (h : In x xs). inl (inr h)) (λ (h : In x ys). inr h) (in_parts x xs ys rest)
 
-in_mapped : {X Y : Type 0} (f : X → Y) (y : Y) (xs : List X) → In y (map f xs) → (x : X) × In x xs × (y ≡ f x)
+-- one of a list that was mapped comes of one before
+pub in_mapped : {X Y : Type 0} (f : X → Y) (y : Y) (xs : List X) → In y (map f xs) → (x : X) × In x xs × (y ≡ f x)
 in_mapped f y [] there = absurd there
 in_mapped f y (x ∷ xs) (inl same) = (x, inl refl, same)
 in_mapped f y (x ∷ xs) (inr rest) = (let r = in_mapped f y xs rest in (r.0, inr r.1, r.2))

@@ -92,7 +92,7 @@ at_client x ls lc cs js s is e two allowed = (
 -- ---- polls
 
 -- a poll is of what the rules give
-polled_is : (e : Event) → IsPolled e → (got : Option (Host × List ℕ)) × (e ≡ events.Polled got)
+pub polled_is : (e : Event) → IsPolled e → (got : Option (Host × List ℕ)) × (e ≡ events.Polled got)
 polled_is (events.Polled got) is = (got, refl)
 polled_is (events.Linked a b c d) is = absurd is
 polled_is (events.Called a b) is = absurd is

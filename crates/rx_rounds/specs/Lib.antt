@@ -1,4 +1,5 @@
 pub mod Arriving
 pub mod Bounds
+pub mod Clocks
 pub mod Completing
 pub mod Ended

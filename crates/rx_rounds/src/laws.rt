@@ -1,5 +1,6 @@
 //! Laws of the rounds of plans.
 ghost use Rattle.rx_rounds.specs.Arriving.{PlansArrive};
+ghost use Rattle.rx_rounds.specs.Clocks.{DueGives, PolledLater, QuietMoves};
 ghost use Rattle.rx_rounds.specs.Completing.{PlansComplete};
 ghost use Rattle.rx_rounds.specs.Ended.{CallsEnd};
 
@@ -27,4 +28,14 @@ pub fn plans_complete()
 /// caller that never shuts, and clocks that stand where nothing else happens.
 pub fn completed_calls_have_ended()
     ensures { CallsEnd }
+{}
+
+/// Where nothing is given in a round, all clocks move on by the least time until something is due at a node, and nothing
+/// else changes, unless one would reach 2^62. Where something is due at once, the polls of the next round give something,
+/// or a call is silent; and a poll of a node that gives nothing leaves nothing that is due at once. So of two rounds that
+/// give nothing the first moves all clocks, or a call is silent behind it.
+pub fn clocks_move()
+    ensures moves { QuietMoves }
+    ensures gives { DueGives }
+    ensures later { PolledLater }
 {}
