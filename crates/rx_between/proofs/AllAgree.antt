@@ -1,5 +1,5 @@
 -- The two ends of a call agree along any joint history of its connection whose server starts no call anew.
-use Rattle.std.proofs.Common.{◌≡◌, ℕ, is_some, true, false, List, [], ◌∷◌, Option, Some, None, refl, ◌∙◌, ap}
+use Rattle.std.proofs.Common.{◌≡◌, ◌+◌, ℕ, is_some, true, false, List, [], ◌∷◌, Option, Some, None, refl, ◌∙◌, ap}
 use Rattle.std.proofs.Common.{sym, subst, arith, ◌≤◌, nat_lt, inl, inr}
 use Rattle.rx_model.specs.declared.answers.Took.{Took}
 use Rattle.rx_model.specs.declared.answers.Took.TheVariants as tooks
@@ -28,7 +28,7 @@ use Rattle.rx_law.proofs.Fronts.{ArePieces}
 use Rattle.rx_law.proofs.Joint.{Fed}
 use Rattle.rx_law.proofs.OnceLaw.{served}
 use Rattle.rx_between.specs.Acknowledged.{BothTrue, received_by, sent_by}
-use Rattle.rx_between.specs.Agreed.{Agrees, AreGiven, HasEnded, IsLetBy, IsOverWell, is_over_well}
+use Rattle.rx_between.specs.Agreed.{Agrees, AreGiven, HasEnded, IsLetBy, IsOverWell, IsWithin, is_over_well}
 use Rattle.rx_between.proofs.Along.{Stands, ToClient, ToServer, along}
 use Rattle.rx_between.proofs.BothTrue.{came-of, client-step, name-back, name-there, nothing-true, server-step}
 use Rattle.rx_between.proofs.CameAll.{CameAll}
@@ -37,18 +37,19 @@ use Rattle.rx_between.proofs.EachStep.{CallStep, IsFollowedBy, Judges, Starts, i
 use Rattle.rx_between.proofs.Followed.{earlier_ended, followed_data, gave_there, later_on, some_stays, starts_data}
 use Rattle.rx_between.proofs.GivenAcks.{given_acks}
 use Rattle.rx_between.proofs.GivenSeqs.{OnlyGives, given_seqs, given_step, kept_given}
-use Rattle.rx_between.proofs.Histories.{StepOf, client_only_grows, client_onward, server_only_grows, server_onward}
+use Rattle.rx_between.proofs.Histories.{StepOf, client_only_grows, client_onward, server_only_grows, server_onward, grown_step}
 use Rattle.rx_between.proofs.Lives.{OverBy, by_acks, by_later, over_by, was_over}
 use Rattle.rx_between.proofs.Onward.{client_anew, no-opening}
 use Rattle.rx_between.proofs.Onward as onward
 use Rattle.rx_between.proofs.Prepared.{prepared_number}
 use Rattle.rx_between.proofs.ReadOut.{AreClients, EndsRead, clients_step, end_prompt, ended_stays, ends_read}
 use Rattle.rx_between.proofs.WholeAcked.{acked_ended, delivered_acked}
+use Rattle.rx_between.proofs.Within.{within_step}
 use Rattle.rx_between.proofs.Windows.{TellsWindow, fresh_let, let_step}
 
 -- ---- what an end only does more of
 
-client_only_gives : (s : Setup) (host : Host) (epoch : ℕ) (h : List Event) (c : CallName) → s.kind ≡ Client host epoch
+pub client_only_gives : (s : Setup) (host : Host) (epoch : ℕ) (h : List Event) (c : CallName) → s.kind ≡ Client host epoch
     → FitsSetup s → Legal s h → OnlyGives s c h
 client_only_gives s host epoch [] c kind fits legal = tt
 client_only_gives s host epoch (e ∷ h) c kind fits legal = (
@@ -56,7 +57,7 @@ client_only_gives s host epoch (e ∷ h) c kind fits legal = (
   client_only_gives s host epoch h c kind fits legal.1,
 )
 
-server_only_gives : (s : Setup) (h : List Event) (c : CallName) → IsServer s.kind → FitsSetup s → Legal s h
+pub server_only_gives : (s : Setup) (h : List Event) (c : CallName) → IsServer s.kind → FitsSetup s → Legal s h
     → StartsOnce s h c → OnlyGives s c h
 server_only_gives s [] c server fits legal once = tt
 server_only_gives s (e ∷ h) c server fits legal once = (
@@ -83,6 +84,12 @@ tells peer bodies.AckAll told = tt
 tells peer (bodies.Challenge bytes) told = tt
 tells peer (bodies.Response bytes) told = tt
 
+-- what both windows let a sender give
+window_lets : (a b : Option CallRecord) (peer : Setup) → (sent_by a).acked ≤ used_of (received_by b)
+    → IsLetBy peer (sent_by a)
+    → (sent_by a).acked + (sent_by a).peer_window ≤ used_of (received_by b) + receiving_window peer
+window_lets a b peer hard lets = omega (arith, hard, lets)
+
 same_kept : (a : Option CallRecord) → (ends_of a).kept ≡ (received_by a).kept
 same_kept None = refl
 same_kept (Some k) = refl
@@ -103,6 +110,8 @@ module _ (x : TwoEnds) (c : CallName) where
     reply_given : AreGiven (sent_by (at_s sv)) (received_by (at_c cl))
     request_let : IsLetBy x.server_setup (sent_by (at_c cl))
     reply_let : IsLetBy x.client_setup (sent_by (at_s sv))
+    request_within : IsWithin x.server_setup (sent_by (at_c cl)) (received_by (at_s sv))
+    reply_within : IsWithin x.client_setup (sent_by (at_s sv)) (received_by (at_c cl))
     known : is_some (at_s sv) ≡ true → is_some (at_c cl) ≡ true
     clients : AreClients (at_c cl)
     read_out : EndsRead (at_c cl)
@@ -173,6 +182,14 @@ module _ (x : TwoEnds) (c : CallName) where
             request_let =
                 let_step x.server_setup st.server_fits x.client_setup e cl c client_steps client_tells old.request_let;
             reply_let = old.reply_let;
+            request_within =
+                within_step x.client_setup e cl c (used_of (received_by (at_s sv)) + receiving_window x.server_setup)
+                client_steps old.request_within (window_lets (at_c cl) (at_s sv) x.server_setup old.both.request.hard
+                old.request_let);
+            reply_within =
+                (let low = old.reply_within in
+                let grows = (grown_step x.client_setup e cl c client_steps).used in
+                omega arith);
             known = λ there.
                 some_stays x.client_setup cl e c st.client_fits new.called (old.known there);
             clients = clients_step x.client_setup cl e c st.client_fits new.called starts_calling old.clients;
@@ -323,6 +340,14 @@ module _ (x : TwoEnds) (c : CallName) where
             request_let = old.request_let;
             reply_let =
                 let_step x.client_setup st.client_fits x.server_setup e sv c server_steps server_tells old.reply_let;
+            request_within =
+                (let low = old.request_within in
+                let grows = (grown_step x.server_setup e sv c server_steps).used in
+                omega arith);
+            reply_within =
+                within_step x.server_setup e sv c (used_of (received_by (at_c cl)) + receiving_window x.client_setup)
+                server_steps old.reply_within (window_lets (at_s sv) (at_c cl) x.client_setup old.both.reply.hard
+                old.reply_let);
             known = known_behind old (at_s sv) (at_s (e ∷ sv)) refl step;
             clients = old.clients;
             read_out = old.read_out;
@@ -341,6 +366,8 @@ module _ (x : TwoEnds) (c : CallName) where
         reply_given = omega arith;
         request_let = fresh_let x.server_setup server_fits;
         reply_let = fresh_let x.client_setup client_fits;
+        request_within = omega arith;
+        reply_within = omega arith;
         known = λ there. absurd cc;
         clients = tt;
         read_out = none_ended;
@@ -362,6 +389,8 @@ module _ (x : TwoEnds) (c : CallName) where
         reply_given = a.reply_given;
         request_let = a.request_let;
         reply_let = a.reply_let;
+        request_within = a.request_within;
+        reply_within = a.reply_within;
         known = a.known;
         read_out = a.read_out;
         over = a.over;

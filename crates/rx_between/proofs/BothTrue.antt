@@ -57,7 +57,7 @@ kept-is None = refl
 kept-is (Some k) = refl
 
 -- is done with all pieces of the sender
-all-used : (a b : Option CallRecord) → Carries (ends_of a).said (ends_of a).shut (ends_of b) → EndsWhole (received_by b)
+pub all-used : (a b : Option CallRecord) → Carries (ends_of a).said (ends_of a).shut (ends_of b) → EndsWhole (received_by b)
     → (received_by b).ended ≡ true → pieces_of (sent_by a) ≤ used_of (received_by b)
 all-used a b carries whole ended =
     let w = whole_used (ends_of a).said (ends_of a).shut (ends_of b) (received_by b) carries (kept-is b) (whole ended) in

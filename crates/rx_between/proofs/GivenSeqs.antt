@@ -44,7 +44,7 @@ chunk_givings : (v : NodeView) (got : Took) (m : Message) (body : Body) (k : Cal
 chunk_givings v got m (bodies.Chunk payload) k = ap (λ (x : Ends). x.givings) (found-ends v.client k)
 chunk_givings v got m _ k = refl
 
-taken_givings : (v : NodeView) (got : Took) (m : Message) (k : CallLooks)
+pub taken_givings : (v : NodeView) (got : Took) (m : Message) (k : CallLooks)
     → (after_taken v got m k).sent.givings ≡ k.sent.givings
 taken_givings v tooks.Kept m k = chunk_givings v tooks.Kept m m.body k
 taken_givings v tooks.Repeat m k = chunk_givings v tooks.Repeat m m.body k

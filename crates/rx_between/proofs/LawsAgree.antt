@@ -12,11 +12,12 @@ use Rattle.rx_law.specs.Worlds.{TwoEnds}
 use Rattle.rx_law.proofs.ClientHistory.{client-calls}
 use Rattle.rx_law.proofs.Joint.{Fed}
 use Rattle.rx_law.proofs.SoundLaws.{Below}
-use Rattle.rx_between.specs.Agreed.{AgreeHeld, AgreeInWorld, AgreeOn, AgreeOnce}
+use Rattle.rx_between.specs.Agreed.{AgreeHeld, AgreeInWorld, AgreeOn, AgreeOnce, SenseHeld, SenseInWorld, SenseOnce}
 use Rattle.rx_between.proofs.AllAgree.{all_agree}
 use Rattle.rx_between.proofs.CameAll.{CameAll}
 use Rattle.rx_between.proofs.LawsTrue.{came_in, came_once, fed_in, fed_once, held_once}
 use Rattle.rx_between.proofs.Numbered.{latest_there}
+use Rattle.rx_between.proofs.Sense.{sense_on}
 
 -- what is known of a call that its client has, of its number
 below : (o : Option CallRecord) (number top : ℕ) → Below o number top → is_some o ≡ true → number ≤ top
@@ -58,4 +59,17 @@ agree_held x h held = agree_once x h (held_once x h held)
 pub agree_in_world : AgreeInWorld
 agree_in_world nodes h w kept x k client server there kind first =
     agree_on (ends_in x k client server) h (fed_in nodes h w k client server x there kind first kept)
+    (came_in nodes h w k client server x there kind first)
+
+-- ---- what one end gave makes sense at the other
+
+pub sense_once : SenseOnce
+sense_once x h held = sense_on x h (fed_once x h held) (came_once x h held)
+
+pub sense_held : SenseHeld
+sense_held x h held = sense_once x h (held_once x h held)
+
+pub sense_in_world : SenseInWorld
+sense_in_world nodes h w kept x k client server there kind first =
+    sense_on (ends_in x k client server) h (fed_in nodes h w k client server x there kind first kept)
     (came_in nodes h w k client server x there kind first)

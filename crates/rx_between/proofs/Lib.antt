@@ -38,3 +38,6 @@ pub mod WholeAcked
 pub mod AllAgree
 pub mod LawsAgree
 pub mod Numbered
+pub mod Within
+pub mod HonestRows
+pub mod Sense

@@ -1,6 +1,6 @@
 //! Laws of what the two ends of a call know of each other.
 ghost use Rattle.rx_between.specs.Acknowledged.{TrueHeld, TrueInWorld, TrueOnce};
-ghost use Rattle.rx_between.specs.Agreed.{AgreeHeld, AgreeInWorld, AgreeOnce};
+ghost use Rattle.rx_between.specs.Agreed.{AgreeHeld, AgreeInWorld, AgreeOnce, SenseHeld, SenseInWorld, SenseOnce};
 ghost use Rattle.rx_between.specs.Told.{AckAllsTell, AcksTell, DataTells};
 
 /// Each ACK that a node gave tells truly what its call had received when it was made: how many packets were done with,
@@ -36,7 +36,7 @@ pub fn acknowledged_arrived()
 
 /// The two ends of a call agree at every moment, whatever was lost, repeated and reordered. What each takes for
 /// acknowledged the other has. Each packet that one kept is a piece that the other gave. The window that one takes for
-/// the other's is no wider than that is. A call that the server knows its client knows. A client's call that was read to
+/// the other's is no wider than that is, and what one gave lies within it. A call that the server knows its client knows. A client's call that was read to
 /// its end has ended; and where the server isn't prompt, its call is over with no code only where its client's has ended. Of
 /// each channel the latest call at the server is no later than the latest at the client.
 /// Under the premises of [`acknowledged_arrived`].
@@ -44,4 +44,14 @@ pub fn ends_agree()
     ensures once { AgreeOnce }
     ensures held { AgreeHeld }
     ensures world { AgreeInWorld }
+{}
+
+/// Whatever message of a call one end gave so far, at whatever moment it comes, makes sense at the other, whether that knows
+/// the call or not: data is kept, was there already or has no slot; an ACK, an ACKALL, a BUSY, a CHALLENGE and a RESPONSE
+/// are heard; an ABORT stops the call. So nothing is beyond a window, clashes with a last packet, or speaks of pieces that
+/// were never given. Under the premises of [`acknowledged_arrived`].
+pub fn messages_make_sense()
+    ensures once { SenseOnce }
+    ensures held { SenseHeld }
+    ensures world { SenseInWorld }
 {}

@@ -3,4 +3,6 @@
 
 mod laws;
 
-pub use laws::{ackalls_tell, acknowledged_arrived, acks_tell, data_tells, ends_agree};
+pub use laws::{
+    ackalls_tell, acknowledged_arrived, acks_tell, data_tells, ends_agree, messages_make_sense,
+};
