@@ -27,7 +27,7 @@ use Rattle.rx_books.specs.Books.{BooksState, IsBooked}
 use Rattle.rx_books.proofs.ChannelMoments.{rank_is, silence_is, silence_key}
 use Rattle.rx_books.proofs.FirstDeath.{DiesAt, death_dies, first_death}
 use Rattle.rx_books.proofs.FirstOf.{first_of_all, none_of_all}
-use Rattle.rx_books.proofs.Noted.{none_there}
+use Rattle.rx_table.proofs.Noted.{none_there}
 
 -- a key with a rank is one
 pub rank_key : (n : NodeState) (b : BooksState) → IsBooked n b → (key moment : ℕ) → moment_of b.ranks key ≡ Some moment

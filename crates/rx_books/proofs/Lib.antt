@@ -1,4 +1,3 @@
-pub mod Noted
 pub mod Rebooked
 pub mod ChannelMoments
 pub mod FirstDeath

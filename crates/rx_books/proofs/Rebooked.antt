@@ -22,7 +22,7 @@ use Rattle.rx_node.proofs.KeptKeys.{kept_key}
 use Rattle.rx_node.proofs.MomentSteps.{silence_idle}
 use Rattle.rx_node.proofs.TableSteps.{decided}
 use Rattle.rx_books.specs.Books.{BooksState, IsBooked, IsNoted, KeepsKeys, KeepsPlaces}
-use Rattle.rx_books.proofs.Noted.{none_made}
+use Rattle.rx_table.proofs.Noted.{none_made}
 
 -- a channel that stays what it was has the moments that it had
 pub carried : (n z : NodeState) (b d : BooksState) (q : ℕ) → SameChannel n z q

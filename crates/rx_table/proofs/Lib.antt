@@ -5,3 +5,6 @@ pub mod PlaceLaws
 pub mod IndexLaws
 pub mod EnterLaws
 pub mod IdleLaws
+pub mod Noted
+pub mod UseLaws
+pub mod TakenLaws

@@ -2,3 +2,4 @@ pub mod Names
 pub mod Records
 pub mod Layout
 pub mod Lending
+pub mod Uses

@@ -1,6 +1,6 @@
 -- What a contract sees of a table: the record of each connection by its place. Public clauses cite this module.
 use Rattle.std.specs.Prelude.{◌≡◌, ◌≤◌, ◌<◌, ◌+◌, ◌-◌, ◌/◌, ◌%◌, ◌^◌, ◌&&◌, not, if◌then◌else◌, nat_le, is_some}
-use Rattle.std.specs.Prelude.{ℕ, zero, suc, Bool, false, List, [], ◌∷◌, map, set, replicate, position, slice_get}
+use Rattle.std.specs.Prelude.{ℕ, zero, suc, Bool, count_by, false, List, [], ◌∷◌, map, set, replicate, position, slice_get}
 use Rattle.std.specs.Prelude.{Option, Some, None, option_and_then}
 use Rattle.std.specs.List.{list_any}
 use Rattle.rx_model.specs.declared.wire.TheConstants.{IDLE_MS}
@@ -103,6 +103,14 @@ next_serial serial = (serial + 1) % 2 ^ 32
 -- no call of it lives, and it wasn't used for long
 abbrev pub is_idle : ℕ → ConnRecord → Bool
 is_idle now r = not (list_any (λ seat. is_some seat.live) r.seats) && nat_le IDLE_MS (now - r.last_use)
+
+-- a call of it lives, and it wasn't used for long
+abbrev pub is_held : ℕ → ConnRecord → Bool
+is_held now r = list_any (λ seat. is_some seat.live) r.seats && nat_le IDLE_MS (now - r.last_use)
+
+-- how many such connections are there
+abbrev pub held_count : ℕ → Records → ℕ
+held_count now t = count_by (is_held now) t.conns
 
 -- the last use of the record at a place, where it is idle
 abbrev pub idle_since : ℕ → Records → ℕ → Option ℕ

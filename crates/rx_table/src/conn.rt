@@ -2,13 +2,10 @@ ghost use Rattle.std.specs.Prelude.{◌≡◌, position};
 ghost use Rattle.rx_model.specs.Names.{same_connection};
 ghost use Rattle.rx_table.specs.Layout.{name_in, record_of};
 ghost use Rattle.rx_table.specs.Names.{key_of};
-ghost use Rattle.rx_table.specs.Records.{fresh_record, fresh_seats, is_idle};
+ghost use Rattle.rx_table.specs.Records.{fresh_record, fresh_seats};
 
 use crate::key::Key;
-use crate::seat::Seat;
-use crate::seats::has_live;
 use rx_model::Host;
-use rx_model::wire::IDLE_MS;
 
 /// A connection without its seats.
 #[derive(Clone, Copy, Debug, PartialEq, Eq)]
@@ -54,13 +51,6 @@ impl Conn {
             ≡ same_connection (name_in self.now) (record { host = host; epoch = epoch; cid = cid }) }
     {
         self.host == host && (self.epoch == epoch && self.cid == cid)
-    }
-
-    /// Whether no call lives at its seats, and it wasn't used for long.
-    pub fn is_idle(&self, seats: &[Seat], now: u64) -> bool
-        ensures { result ≡ is_idle now (record_of self.now seats.now) }
-    {
-        !has_live(seats) && now.saturating_sub(self.last_use) >= IDLE_MS
     }
 }
 

@@ -1,19 +1,23 @@
-ghost use Rattle.std.specs.Prelude.{◌≡◌, ◌≤◌, ◌<◌, ◌+◌, ◌*◌, ◌/◌, ◌%◌, ◌↔◌, ◌++◌, [], ◌∷◌, ℕ, true, length, Some};
+ghost use Rattle.std.specs.Prelude.{◌≡◌, ◌≤◌, ◌<◌, ◌+◌, ◌*◌, ◌/◌, ◌%◌, ◌^◌, ◌↔◌, ◌++◌, [], ◌∷◌, ℕ, true, length, Some};
 ghost use Rattle.std.specs.Prelude.{None, Err};
 ghost use Rattle.std.specs.Prelude.{IfOk, OnOk, OnErr, IfSome, IsNone, IsSome, IsSomeAnd};
 ghost use Rattle.std.specs.Borrow.{sem};
+ghost use Rattle.rx_due.specs.Cost.{AtMost, AtMostForEntries};
 ghost use Rattle.rx_table.specs.Lending.{LendsSeat};
 ghost use Rattle.rx_table.specs.Records.{seat_at, names, place_of, record_at, on_place, fresh_record, next_serial};
-ghost use Rattle.rx_table.specs.Records.{idle_since, IsDistinct, IsLongestIdle};
+ghost use Rattle.rx_table.specs.Records.{held_count, idle_since, IsDistinct, IsLongestIdle};
 
 use crate::conn::{Conn, place_among};
 use crate::index::Index;
 use crate::key::Key;
 use crate::seat::{CHANNELS, Seat};
 use crate::seats::{push_fresh, renew};
+use crate::uses::Uses;
+use rx_due::Steps;
 use rx_model::{Full, Host};
 use std::alloc::{AllocError, Global};
-use std::marker::Model;
+use std::marker::{Brand, Model};
+use std::sync::ledger::{Blank, Ledger};
 
 /// The connections of a node, each in a place from 0 on, and the seats of their channels.
 #[derive(Debug, Drop)]
@@ -24,12 +28,14 @@ pub struct Table {
     index: Index,
     /// Whether the index has taken the key of each connection.
     complete: bool,
+    uses: Uses,
     room: u32,
 }
 
 impl Model for Table {
     ghost use Rattle.std.specs.Prelude.{◌≡◌, ◌≤◌, ◌*◌, length, vec_capacity};
     ghost use Rattle.rx_table.specs.Layout.{joined, IsKept};
+    ghost use Rattle.rx_table.specs.Uses.{AreUses};
     ghost use Rattle.rx_table.specs.Records.{Records};
     ghost use Rattle.rx_table.specs.declared.seat.TheConstants.{CHANNELS};
 
@@ -38,7 +44,8 @@ impl Model for Table {
     ghost view = { λ t. record { room = t.room; conns = joined t.conns.items t.seats.items } };
 
     ghost invariant = { λ t. IsKept t.conns.items t.seats.items t.index t.complete t.room
-        × (t.room ≤ vec_capacity t.conns) × (CHANNELS * t.room ≤ vec_capacity t.seats) };
+        × (t.room ≤ vec_capacity t.conns) × (CHANNELS * t.room ≤ vec_capacity t.seats)
+        × AreUses t.uses t.conns.items t.room };
 }
 
 impl Table {
@@ -52,11 +59,13 @@ impl Table {
         let conns = Vec::with_capacity(alloc, room as usize)?;
         let seats = Vec::with_capacity(alloc, CHANNELS as usize * room as usize)?;
         let index = Index::make(alloc, room)?;
+        let uses = Uses::make(alloc, room)?;
         Ok(Table {
             conns,
             seats,
             index,
             complete: true,
+            uses,
             room,
         })
     }
@@ -108,51 +117,74 @@ impl Table {
         self.conns
             .push_reserved(Conn::fresh(host, epoch, cid, nonce, now));
         push_fresh(&mut self.seats);
+        self.uses.enter(place, now);
         self.complete &= self.index.take(Key::of(host, epoch, cid), place);
         Ok(place)
     }
 
     /// The connection at a place is used now, in milliseconds.
-    pub fn touch(&mut self, position: u32, now: u64)
+    pub fn touch<L: Ledger>(&mut self, position: u32, now: u64, steps: &mut Steps<L>)
+        requires { position < length self.old.conns }
+        ensures updates { self.new ≡ on_place position (λ r. record r { last_use = now }) self.old }
+        ensures steps { AtMostForEntries (length self.old.conns) steps.old steps.new }
+    {
+        let conn = &mut self.conns[position as usize];
+        self.uses.renew(position, conn.last_use, now, steps);
+        conn.last_use = now;
+    }
+
+    /// The same, with a counter of its own.
+    pub fn touch_now(&mut self, position: u32, now: u64)
         requires { position < length self.old.conns }
         ensures { self.new ≡ on_place position (λ r. record r { last_use = now }) self.old }
     {
-        self.conns[position as usize].last_use = now;
+        self.touch_counted::<Brand>(position, now, Blank::new(1));
+    }
+
+    fn touch_counted<L: Ledger>(&mut self, position: u32, now: u64, blank: Blank)
+        requires position { position < length self.old.conns }
+        requires name { blank.name ≡ L.name }
+        requires parts { blank.parts ≡ L.parts }
+        requires counts { 0 < blank.parts }
+        ensures { self.new ≡ on_place position (λ r. record r { last_use = now }) self.old }
+    {
+        let mut steps = Steps::<L>::new(blank);
+        self.touch(position, now, &mut steps);
     }
 
     /// The place that may be used anew: of the idle connections, on which no call lives and which weren't used for
     /// 600,000 milliseconds, the one that was used the longest ago, at the lowest place among equals. None where no one
-    /// is idle.
-    pub fn idle(&self, now: u64) -> Option<u32>
-        ensures longest { IfSome result (IsLongestIdle now self.now) }
-        ensures none { IsNone result → (place : ℕ) → idle_since now self.now place ≡ None }
+    /// is idle. It looks at connections in the order of their last use, and so at that one and at those before it on
+    /// which a call lives.
+    pub fn idle<L: Ledger>(&mut self, now: u64, steps: &mut Steps<L>) -> Option<u32>
+        ensures longest { IfSome result (IsLongestIdle now self.old) }
+        ensures none { IsNone result → (place : ℕ) → idle_since now self.old place ≡ None }
+        ensures same { self.new ≡ self.old }
+        ensures steps { (d : ℕ) → 2 * self.old.room + 1 < 2 ^ (d + 1) →
+            AtMost ((held_count now self.old + 1) * (16 * d + 17)) steps.old steps.new }
     {
-        let mut longest = None;
-        for place in 0..self.conns.len() as u32 {
-            let Some(since) = self.idle_since(place, now) else {
-                continue;
-            };
-            match longest {
-                Some((_, before)) if before <= since => {}
-                Some(_) | None => longest = Some((place, since)),
-            }
-        }
-        let (place, _) = longest?;
-        Some(place)
+        self.uses.first_free(&self.seats, now, steps)
     }
 
-    /// The last use of the connection at a place, where it is idle.
-    fn idle_since(&self, place: u32, now: u64) -> Option<u64>
-        requires { place < length self.now.conns }
-        ensures { result ≡ idle_since now self.now place }
+    /// The same, with a counter of its own.
+    pub fn idle_now(&mut self, now: u64) -> Option<u32>
+        ensures longest { IfSome result (IsLongestIdle now self.old) }
+        ensures none { IsNone result → (place : ℕ) → idle_since now self.old place ≡ None }
+        ensures same { self.new ≡ self.old }
     {
-        let conn = &self.conns[place as usize];
-        let first = place as usize * CHANNELS as usize;
-        let seats = &self.seats[first..first + CHANNELS as usize];
-        if conn.is_idle(seats, now) {
-            return Some(conn.last_use);
-        }
-        None
+        self.idle_counted::<Brand>(now, Blank::new(1))
+    }
+
+    fn idle_counted<L: Ledger>(&mut self, now: u64, blank: Blank) -> Option<u32>
+        requires name { blank.name ≡ L.name }
+        requires parts { blank.parts ≡ L.parts }
+        requires counts { 0 < blank.parts }
+        ensures longest { IfSome result (IsLongestIdle now self.old) }
+        ensures none { IsNone result → (place : ℕ) → idle_since now self.old place ≡ None }
+        ensures same { self.new ≡ self.old }
+    {
+        let mut steps = Steps::<L>::new(blank);
+        self.idle(now, &mut steps)
     }
 
     /// Forgets the connection at a place, which is idle, and enters another, which isn't there, in its place.
@@ -165,6 +197,7 @@ impl Table {
         self.index.forget(&self.conns[position as usize].key());
         self.conns[position as usize] = Conn::fresh(host, epoch, cid, nonce, now);
         renew(&mut self.seats, position as usize * CHANNELS as usize);
+        self.uses.enter(position, now);
         self.complete &= self.index.take(Key::of(host, epoch, cid), position);
     }
 

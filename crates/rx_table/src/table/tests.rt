@@ -31,7 +31,7 @@ fn place(rt: &impl Abort, table: &Table, cid: u32) -> u32
 /// Enters the connection of a cid, which isn't there, in the place that is idle the longest.
 fn replace(rt: &impl Abort, table: &mut Table, cid: u32, now: u64) -> u32 {
     assert!(rt; table.find(PEER, 1, cid) == None);
-    let place = table.idle(now).expect(rt, "none is idle");
+    let place = table.idle_now(now).expect(rt, "none is idle");
     table.replace(place, PEER, 1, cid, 78, now);
     place
 }
@@ -62,12 +62,12 @@ fn a_fourth_connection_finds_a_table_of_three_full(rt: HostRuntime) -> Result<()
 fn the_connection_that_is_idle_the_longest_is_replaced(rt: HostRuntime) -> Result<(), Fail> {
     let mut table = Table::make(rt.alloc(), 3)?;
     let first = enter(&rt, &mut table, 4, 0);
-    table.touch(first, 20);
+    table.touch_now(first, 20);
     enter(&rt, &mut table, 8, 10);
     enter(&rt, &mut table, 12, 10);
-    assert_eq!(&rt; table.idle(600_009), None);
-    assert_eq!(&rt; table.idle(600_010), Some(1));
-    assert_eq!(&rt; table.idle(600_020), Some(1));
+    assert_eq!(&rt; table.idle_now(600_009), None);
+    assert_eq!(&rt; table.idle_now(600_010), Some(1));
+    assert_eq!(&rt; table.idle_now(600_020), Some(1));
     let old = place(&rt, &table, 8);
     table.prove(old);
     assert_eq!(&rt; replace(&rt, &mut table, 16, 600_020), 1);
@@ -77,7 +77,7 @@ fn the_connection_that_is_idle_the_longest_is_replaced(rt: HostRuntime) -> Resul
     assert!(&rt; table.named(new) == (PEER, 1, 16));
     assert_eq!(&rt; table.nonce(new), 78);
     assert!(&rt; !table.proved(new));
-    assert_eq!(&rt; table.idle(600_020), Some(2));
+    assert_eq!(&rt; table.idle_now(600_020), Some(2));
     Ok(())
 }
 
@@ -88,7 +88,7 @@ fn a_connection_with_a_live_call_is_never_idle(rt: HostRuntime) -> Result<(), Fa
     enter(&rt, &mut table, 8, 0);
     assert_eq!(&rt; place(&rt, &table, 8), 1);
     table.seat_mut(3).live = Some(9);
-    assert_eq!(&rt; table.idle(600_000), Some(1));
+    assert_eq!(&rt; table.idle_now(600_000), Some(1));
     Ok(())
 }
 
@@ -130,6 +130,7 @@ fn a_connection_whose_key_the_index_refused_is_found(rt: HostRuntime) -> Result<
         seats: Vec::with_capacity(rt.alloc(), 12)?,
         index: Index::make(rt.alloc(), 2)?,
         complete: true,
+        uses: Uses::make(rt.alloc(), 3)?,
         room: 3,
     };
     enter(&rt, &mut table, 4, 0);

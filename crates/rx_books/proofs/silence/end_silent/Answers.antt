@@ -6,7 +6,7 @@ use Rattle.rx_node.specs.Moments.{silence_at}
 use Rattle.rx_node.proofs.KeptKeys.{kept_both, kept_key}
 use Rattle.rx_books.proofs.ChannelMoments.{silence_key}
 use Rattle.rx_books.proofs.Costs.{noted_cost}
-use Rattle.rx_books.proofs.Noted.{one_fewer}
+use Rattle.rx_table.proofs.Noted.{one_fewer}
 use Rattle.rx_books.proofs.Rebooked.{rebooked}
 use Rattle.rx_books.proofs.SilentCalls.{ending_done, ending_next}
 use Rattle.rx_books.proofs.silence.end_silent.Goals as goal

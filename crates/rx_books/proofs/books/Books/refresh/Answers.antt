@@ -2,7 +2,7 @@ use Rattle.std.proofs.Common.{◌≡◌, ◌≤◌, ◌∙◌, ap, sym, subst, a
 use Rattle.rx_due.specs.Book.{entries_of, moment_of}
 use Rattle.rx_node.specs.Moments.{IsRankAt}
 use Rattle.rx_books.specs.Books.{BooksState}
-use Rattle.rx_books.proofs.Noted.{set_here}
+use Rattle.rx_table.proofs.Noted.{set_here}
 use Rattle.rx_books.proofs.books.Books.refresh.Goals as goal
 
 pub note-requires : goal.note-requires

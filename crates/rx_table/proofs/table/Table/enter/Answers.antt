@@ -3,6 +3,7 @@ use Rattle.rx_model.specs.Names.{Connection}
 use Rattle.rx_table.specs.Layout.{name_in}
 use Rattle.rx_table.proofs.KeptLaws.{count_is}
 use Rattle.rx_table.proofs.EnterLaws.{asked, kept-push, records-push}
+use Rattle.rx_table.proofs.UseLaws.{uses_entered}
 use Rattle.rx_table.proofs.table.Table.enter.Goals as goal
 
 pub returns-then-len-self-clause-full : goal.returns-then-len-self-clause-full
@@ -21,7 +22,12 @@ invariant_of-self c =
           (asked _ _ _ y _ _ _ c.of.ensures (omega arith) c.take.ensures.taken c.take.ensures.refused),
       omega arith,
       omega arith,
+      uses_entered _ _ _ _ _ _ c.args.now c.fresh.result (omega arith) c.self.invariant.3 (omega arith) c.enter.ensures
+          c.push_reserved.ensures.items (ap (λ r. r.last_use) c.fresh.ensures),
     )
+
+pub enter-requires : goal.enter-requires
+enter-requires c = let places = c.self.invariant.3.places in omega (arith, places)
 
 pub returns-clause-full : goal.returns-clause-full
 returns-clause-full c =

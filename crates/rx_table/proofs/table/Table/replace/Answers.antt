@@ -4,6 +4,7 @@ use Rattle.rx_table.specs.Layout.{name_in}
 use Rattle.rx_table.proofs.KeptLaws.{count_is}
 use Rattle.rx_table.proofs.IdleLaws.{idle_within}
 use Rattle.rx_table.proofs.EnterLaws.{asked, kept-replace, length-renewed, less_key, records-replace, seats_renewed}
+use Rattle.rx_table.proofs.UseLaws.{uses_changed}
 use Rattle.rx_table.proofs.table.Table.replace.Goals as goal
 
 pub index-requires : goal.index-requires
@@ -43,7 +44,17 @@ invariant_of-self c =
           (asked _ _ _ y _ _ _ c.of.ensures refl c.take.ensures.taken c.take.ensures.refused),
       c.self.invariant.1,
       c.self.invariant.2,
+      uses_changed _ _ _ _ _ c.args.now c.fresh.result (omega (arith, e, there)) c.self.invariant.3 c.enter.ensures
+          (ap (λ r. r.last_use) c.fresh.ensures),
     )
+
+pub enter-requires : goal.enter-requires
+enter-requires c =
+    let e = count_is _ _ _ _ c.self.view_is in
+    let there = idle_within c.args.now c.args.position c.args.self.now c.requires.idle in
+    let places = c.self.invariant.3.places in
+    let fits = c.self.invariant.0.fits in
+    omega (arith, e, there, places, fits)
 
 pub returns : goal.returns
 returns c =

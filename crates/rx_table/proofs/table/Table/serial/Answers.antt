@@ -1,6 +1,7 @@
 use Rattle.std.proofs.Common.{◌≡◌, refl, arith}
-use Rattle.rx_table.proofs.KeptLaws.{count_is, kept-set, on_record, place-set}
+use Rattle.rx_table.proofs.KeptLaws.{count_is, kept-set, on_record, place-set, within_list}
 use Rattle.rx_table.specs.Records.{next_serial}
+use Rattle.rx_table.proofs.UseLaws.{uses_kept}
 use Rattle.rx_table.proofs.table.Table.serial.Goals as goal
 
 pub index_mut-conn-requires : goal.index_mut-conn-requires
@@ -11,6 +12,8 @@ invariant_of-self c = (
   kept-set _ _ _ _ _ _ _ _ c.index_mut-conn.ensures.value refl c.self.invariant.0,
   c.self.invariant.1,
   c.self.invariant.2,
+  uses_kept _ _ _ _ c.index_mut-conn.result.now _ (within_list _ _ _ _ _ c.self.view_is c.requires) c.index_mut-conn.ensures.value refl
+      c.self.invariant.3,
 )
 
 pub returns-clause-drawn : goal.returns-clause-drawn
