@@ -1,6 +1,6 @@
 -- What decides the rows of a message, by the key of its channel.
 use Rattle.std.proofs.Common.{◌≡◌, ℕ, Bool, false, List, Option, Some, None, option_map, refl, ap, sym}
-use Rattle.std.specs.Prelude.{IfSome, is_some}
+use Rattle.std.specs.Prelude.{is_some}
 use Rattle.rx_model.specs.Names.{Channel}
 use Rattle.rx_rules.specs.Classes.{Class}
 use Rattle.rx_rules.specs.Life.{Life}
@@ -27,9 +27,3 @@ pub known_is : (class : List ℕ → Class) (n : NodeState) (l : Looks) (ch : Ch
 known_is class n l ch None m at = ap (λ (o : Option ConnLooks). is_some o) (sym at)
 known_is class n l ch (Some key) m at =
     ap (λ (o : Option ConnLooks). is_some o) (sym (channel_conn l key ch m.orderly.conns.differ at))
-
--- by what a look-up of its key says
-pub channel_at_key : (l : Looks) (ch : Channel) (o : Option ℕ) → IfSome o (λ key. IsChannel l key ch)
-    → (o ≡ None → conn_at l ch.connection ≡ None) → IsChannelAt l o ch
-channel_at_key l ch None at none = none refl
-channel_at_key l ch (Some key) at none = at

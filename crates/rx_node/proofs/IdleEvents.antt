@@ -1,5 +1,5 @@
 -- Events that change no look-ups: a read and a write of no bytes.
-use Rattle.std.proofs.Common.{◌≡◌, ◌++◌, ◌&&◌, ℕ, if◌then◌else◌, Bool, true, false, List, [], ◌∷◌, map, nat_lt}
+use Rattle.std.proofs.Common.{◌≡◌, ◌++◌, ℕ, if◌then◌else◌, Bool, true, false, List, [], ◌∷◌, map, nat_lt}
 use Rattle.std.proofs.Common.{Option, refl, ◌∙◌, ap, arith}
 use Rattle.std.proofs.lemmas.Bool.Decides.{nat_tests}
 use Rattle.rx_model.specs.declared.names.CallName.{CallName}
@@ -9,7 +9,7 @@ use Rattle.rx_rules.specs.CallLooks.{CallLooks, after_read, after_write}
 use Rattle.rx_rules.specs.Life.{after_end}
 use Rattle.rx_rules.specs.Looks.{CallRecord, Looks, on_call, on_looks}
 use Rattle.rx_rules.specs.Owing.{Owed, owed_for_done, owed_for_read}
-use Rattle.rx_rules.specs.Received.{Received, has_several, used_of}
+use Rattle.rx_rules.specs.Received.{Received, used_of}
 use Rattle.rx_rules.specs.Received as packets
 use Rattle.rx_rules.proofs.CallsLaws.{changed_if}
 use Rattle.rx_node.proofs.ChannelChanges.{channel_same}
@@ -48,9 +48,9 @@ write_nothing c l =
 read-same : (r : Received) → packets.after_read false [] r ≡ r
 read-same r = λ i. record r { read = nothing-behind r.read i }
 
-owed-same : (now : ℕ) (several : Bool) (n : ℕ) (owed : Option Owed) → owed_for_read now several n n owed ≡ owed
-owed-same now several n owed =
-    ap (λ (b : Bool). if b then owed_for_done now several owed else owed) (not-below n)
+owed-same : (now : ℕ) (prompt : Bool) (n : ℕ) (owed : Option Owed) → owed_for_read now prompt n n owed ≡ owed
+owed-same now prompt n owed =
+    ap (λ (b : Bool). if b then owed_for_done now prompt owed else owed) (not-below n)
   where
     not-below : (n : ℕ) → nat_lt n n ≡ false
     not-below n = grind (arith, nat_tests)
@@ -60,11 +60,11 @@ looks-same now k =
     (λ i. record k {
       received = read-same k.received i;
       owed_ack =
-          owed_for_read now (k.cwnd.prompt && has_several k.received) (used_of k.received)
+          owed_for_read now k.cwnd.prompt (used_of k.received)
           (used_of (read-same k.received i)) k.owed_ack;
     })
     ∙ ap (λ (o : Option Owed). record k { owed_ack = o }) (owed-same now
-    (k.cwnd.prompt && has_several k.received) (used_of k.received) k.owed_ack)
+    k.cwnd.prompt (used_of k.received) k.owed_ack)
 
 -- a read that gives no bytes and tells no end
 pub read_nothing : (c : CallName) (l : Looks) → read_done c false [] l ≡ l

@@ -1,5 +1,5 @@
 -- What a method of a node answers and changes. Public clauses cite this module.
-use Rattle.std.specs.Prelude.{◌≡◌, ◌∷◌, ℕ, ℤ, Bool, true, false, List, Option, Some, None, take}
+use Rattle.std.specs.Prelude.{◌≡◌, ◌∷◌, ℕ, ℤ, Bool, true, false, List, Option, Some, None, IfSome, take}
 use Rattle.rx_model.specs.declared.answers.Took.{Took}
 use Rattle.rx_model.specs.declared.answers.Took.TheVariants as tooks
 use Rattle.rx_model.specs.declared.event.Event.{Event}
@@ -7,7 +7,7 @@ use Rattle.rx_model.specs.declared.names.CallName.{CallName}
 use Rattle.rx_model.specs.declared.names.Host.{Host}
 use Rattle.rx_model.specs.Body.{Body}
 use Rattle.rx_model.specs.Body as bodies
-use Rattle.rx_model.specs.Names.{Channel, Connection, channel_of}
+use Rattle.rx_model.specs.Names.{Channel, Connection, channel_of, connection_of}
 use Rattle.rx_rules.specs.After.{is_ok_end, looks, served_code, stopped_all, told_code}
 use Rattle.rx_rules.specs.Classes.{Class}
 use Rattle.rx_rules.specs.Judging.{Facts}
@@ -15,7 +15,8 @@ use Rattle.rx_rules.specs.Life.{Life}
 use Rattle.rx_rules.specs.Looks.{CallRecord, Looks, call_at, conn_at, latest_name}
 use Rattle.rx_rules.specs.Rules.{Allowed, Legal}
 use Rattle.rx_law.proofs.Dims.{Dims}
-use Rattle.rx_node.specs.Mirrors.{IsChannel, Mirrors}
+use Rattle.rx_table.specs.Records.{place_of}
+use Rattle.rx_node.specs.Mirrors.{IsChannel, IsKey, Mirrors}
 use Rattle.rx_node.specs.Node.{NodeState, setup_of}
 use Rattle.rx_node.specs.declared.facts.Facts.{Facts as CodeFacts}
 
@@ -31,6 +32,12 @@ pub record IsOwn (class : List ℕ → Class) (n : NodeState) (l : Looks) (key :
 abbrev pub IsChannelAt : Looks → Option ℕ → Channel → Type 0
 IsChannelAt l (Some key) ch = IsChannel l key ch
 IsChannelAt l None ch = conn_at l ch.connection ≡ None
+
+-- what a look-up of a call's channel in the table of a node gives
+pub record IsFound (class : List ℕ → Class) (n : NodeState) (c : CallName) (channel : Option ℕ) : Type 0 where
+  pub key : IfSome channel (IsKey n)
+  pub at : (l : Looks) → Mirrors class n l → IsChannelAt l channel (channel_of c)
+  pub absent : channel ≡ None → place_of n.table (connection_of c) ≡ None
 
 -- whether a message is an ACK or an ACKALL
 abbrev pub is_acking : Body → Bool

@@ -18,6 +18,7 @@ ghost use Rattle.rx_node.specs.Kinds.{kind_of};
 ghost use Rattle.rx_node.specs.Mirrors.{IsChannel, IsKey, Mirrors, StepsNode};
 ghost use Rattle.rx_node.specs.Moments.{PlacesSame, SameChannel};
 ghost use Rattle.rx_node.specs.Node.{KeepsNode, KeepsSetup, setup_of};
+ghost use Rattle.rx_node.specs.Steps.{IsFound};
 
 use crate::kind::Kind;
 use crate::life::Life;
@@ -234,11 +235,12 @@ impl<C: Class> Node<C> {
 
     /// The place that may be used anew: that of the connection whose last use is the longest ago, of those without a
     /// live call that weren't used for 600,000 milliseconds.
-    pub fn idle(&self) -> Option<u32>
-        ensures longest { IfSome result (IsLongestIdle self.now.moment self.now.table) }
-        ensures none { IsNone result → (place : ℕ) → idle_since self.now.moment self.now.table place ≡ None }
+    pub fn idle(&mut self) -> Option<u32>
+        ensures longest { IfSome result (IsLongestIdle self.old.moment self.old.table) }
+        ensures none { IsNone result → (place : ℕ) → idle_since self.old.moment self.old.table place ≡ None }
+        ensures same { self.new ≡ self.old }
     {
-        self.table.idle(self.moment)
+        self.table.idle_now(self.moment)
     }
 
     /// Enters the connection of a call in the next place, and answers that place.
@@ -293,7 +295,7 @@ impl<C: Class> Node<C> {
         ensures channels { (q : ℕ) → SameChannel self.old self.new q }
         ensures same { KeepsNode self.old self.new }
     {
-        self.table.touch(place, self.moment);
+        self.table.touch_now(place, self.moment);
     }
 
     /// Whether the client of the connection at a place is proved.
@@ -323,6 +325,7 @@ impl<C: Class> Node<C> {
         ensures none { (l : Looks) → Mirrors C.class_of self.now l → c.now.chan < 4 →
             result ≡ None → rules.conn_at l (connection_of c.now) ≡ None }
         ensures absent { result ≡ None → c.now.chan < 4 → place_of self.now.table (connection_of c.now) ≡ None }
+        ensures found { c.now.chan < 4 → IsFound C.class_of self.now c.now result }
     {
         let place = self.table.find(c.host, c.epoch, c.cid)?;
         if c.chan as u32 >= CHANNELS {

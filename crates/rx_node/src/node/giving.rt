@@ -1,6 +1,6 @@
 //! What a node gives when it is polled.
 
-ghost use Rattle.std.specs.Prelude.{◌≡◌, ◌≤◌, ◌<◌, ◌%◌, ◌^◌, ℕ, suc, List, length, take, drop, Some, None, IfSome};
+ghost use Rattle.std.specs.Prelude.{◌≡◌, ◌≤◌, ◌<◌, ◌+◌, ◌*◌, ◌%◌, ◌^◌, ℕ, suc, List, length, take, drop, Some, None, IfSome};
 ghost use Rattle.std.specs.Prelude.{◌==◌, false, not, IsNone, IsSomeAnd};
 ghost use Rattle.std.specs.Prelude.{if◌then◌else◌, option_map, slice_get};
 ghost use Rattle.rx_model.specs.declared.event.Event.TheVariants as events;
@@ -10,7 +10,7 @@ ghost use Rattle.rx_model.specs.Names.{Channel};
 ghost use Rattle.rx_model.specs.Spelling.{made};
 ghost use Rattle.rx_model.specs.Strays.{stray_message};
 ghost use Rattle.rx_packet.specs.Seen.{message_with_head};
-ghost use Rattle.rx_due.specs.Cost.{AtMost};
+ghost use Rattle.rx_due.specs.Cost.{AtMost, AtMostForEntries};
 ghost use Rattle.rx_rules.specs.After.{counted};
 ghost use Rattle.rx_rules.specs.Items.{Item as RulesItem, channel_items, deaths, due as rules_due, items, message_on};
 ghost use Rattle.rx_rules.specs.Least.{least_by};
@@ -125,17 +125,18 @@ impl<C: Class> Node<C> {
         ensures rest { drop result.1 to.new ≡ drop result.1 to.old }
         ensures others { OthersSame self.old self.new due.now.key }
         ensures same { KeepsNode self.old self.new }
-        ensures steps_taken { AtMost 2 steps.old steps.new }
+        ensures steps_taken { (d : ℕ) → 2 * length self.old.table.conns + 1 < 2 ^ (d + 1) →
+            AtMost (8 * d + 10) steps.old steps.new }
     {
         let place = due.key / CHANNELS;
         let peer = self.link(place).peer;
-        let serial = self.count(place);
+        let serial = self.count(place, steps);
         let head = self.head(due.key, serial);
         (peer, self.give_item(due, &head, to, steps))
     }
 
     /// Counts a datagram that is given now on the connection at a place, and answers its serial.
-    fn count(&mut self, place: u32) -> u32
+    fn count<L: Ledger>(&mut self, place: u32, steps: &mut Steps<L>) -> u32
         requires { place < length self.old.table.conns }
         ensures serial { (l : Looks) (x : rules.ConnLooks) → Mirrors C.class_of self.old l
             → slice_get l.conns place ≡ Some x →
@@ -145,8 +146,9 @@ impl<C: Class> Node<C> {
         ensures active { (key end : ℕ) → IsActiveAt self.old key end → IsActiveAt self.new key end }
         ensures channels { (q : ℕ) → SameChannel self.old self.new q }
         ensures same { KeepsNode self.old self.new }
+        ensures steps_taken { AtMostForEntries (length self.old.table.conns) steps.old steps.new }
     {
-        self.table.touch(place, self.moment);
+        self.table.touch(place, self.moment, steps);
         self.table.serial(place)
     }
 

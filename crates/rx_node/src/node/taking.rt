@@ -18,7 +18,7 @@ ghost use Rattle.rx_node.specs.Lives.{life_of};
 ghost use Rattle.rx_node.specs.Mirrors.{IsActiveAt, IsChannel, IsKey, Mirrors, StepsAt};
 ghost use Rattle.rx_node.specs.Moments.{OthersSame, PlacesSame};
 ghost use Rattle.rx_node.specs.Node.{KeepsNode, setup_of};
-ghost use Rattle.rx_node.specs.Steps.{IsChannelAt, IsOwn, facts_seen, is_acking};
+ghost use Rattle.rx_node.specs.Steps.{IsChannelAt, IsFound, IsOwn, facts_seen, is_acking};
 ghost use Rattle.rx_node.specs.Steps as steps;
 
 use crate::facts::Facts;
@@ -301,14 +301,13 @@ impl<C: Class> Node<C> {
         self.table.seat_mut(key).owed_busy = Some(number);
     }
 
-    /// What decides the rows of a message's connection and channel.
-    pub fn facts(&self, c: &CallName, head: &Head, body: &Body<'_>) -> Facts
-        requires { c.now.chan < 4 }
+    /// What decides the rows of a message's connection and channel, by what a look-up of the channel gave.
+    pub fn facts(&self, channel: Option<u32>, c: &CallName, head: &Head, body: &Body<'_>) -> Facts
+        requires { IsFound C.class_of self.now c.now channel }
         ensures { (l : Looks) → Mirrors C.class_of self.now l → facts_seen result
             ≡ record (facts_of (setup_of C.class_of self.now) l c.now (message_of head.now body.now))
             { has_place = true } }
     {
-        let channel = self.channel(c);
         let number = self.number_on(channel);
         let life = self.life_on(channel);
         Facts {

@@ -15,7 +15,7 @@ serial-requires g c =
     let here : c.args.place < length c.self.inside.table.conns =
     subst (λ (n : NodeState). c.args.place < length n.table.conns) (sym c.self.view_is) c.requires in
     let same : length c.touch.new.self.conns ≡ length c.self.inside.table.conns =
-    ap (λ (t : Records). length t.conns) c.touch.ensures ∙ count in
+    ap (λ (t : Records). length t.conns) c.touch.ensures.updates ∙ count in
     omega arith
 
 pub invariant_of-self : goal.invariant_of-self
@@ -23,7 +23,7 @@ invariant_of-self g c =
     let i = c.self.invariant in
     let now = c.self.inside.moment in
     let like = more_alike c.self.inside.table c.args.place now in
-    rw (counted_table c.self.inside.table c.touch.new.self c.serial.new.self c.args.place now c.touch.ensures
+    rw (counted_table c.self.inside.table c.touch.new.self c.serial.new.self c.args.place now c.touch.ensures.updates
     c.serial.ensures.updates)
     (still_set_up g.C.Class.class_of _ _ like i.0, still_seated g.C.Class.class_of _ _ like i.1, i.2, i.3)
 
@@ -31,14 +31,14 @@ pub returns-clause-serial : goal.returns-clause-serial
 returns-clause-serial g c =
     rw (← c.self.view_is)
     (λ l x m there. serial_drawn g.C.Class.class_of _ l m c.args.place x there c.touch.new.self c.self.inside.moment
-    c.serial.result c.touch.ensures c.serial.ensures.drawn)
+    c.serial.result c.touch.ensures.updates c.serial.ensures.drawn)
 
 pub returns-clause-steps : goal.returns-clause-steps
 returns-clause-steps g c =
     let now = c.self.inside.moment in
     rw (
       ← c.self.view_is,
-      counted_table c.self.inside.table c.touch.new.self c.serial.new.self c.args.place now c.touch.ensures
+      counted_table c.self.inside.table c.touch.new.self c.serial.new.self c.args.place now c.touch.ensures.updates
           c.serial.ensures.updates,
     )
     (λ l x m there. mirrors_counted g.C.Class.class_of _ l m c.args.place x there)
@@ -48,7 +48,7 @@ returns-clause-active g c =
     let now = c.self.inside.moment in
     rw (
       ← c.self.view_is,
-      counted_table c.self.inside.table c.touch.new.self c.serial.new.self c.args.place now c.touch.ensures
+      counted_table c.self.inside.table c.touch.new.self c.serial.new.self c.args.place now c.touch.ensures.updates
           c.serial.ensures.updates,
     )
     (λ key end active. more_active _ c.args.place now key end active)
@@ -59,7 +59,7 @@ returns-clause-same g c =
     let like = more_alike c.self.inside.table c.args.place now in
     rw (
       ← c.self.view_is,
-      counted_table c.self.inside.table c.touch.new.self c.serial.new.self c.args.place now c.touch.ensures
+      counted_table c.self.inside.table c.touch.new.self c.serial.new.self c.args.place now c.touch.ensures.updates
           c.serial.ensures.updates,
     )
     (still_node g.C.Class.class_of _ _ like)
@@ -69,7 +69,7 @@ returns-clause-channels g c =
     let now = c.self.inside.moment in
     rw (
       ← c.self.view_is,
-      counted_table c.self.inside.table c.touch.new.self c.serial.new.self c.args.place now c.touch.ensures
+      counted_table c.self.inside.table c.touch.new.self c.serial.new.self c.args.place now c.touch.ensures.updates
           c.serial.ensures.updates,
     )
     (λ q. same_on_place _ c.args.place _ (λ r. refl) (λ r. refl) q)

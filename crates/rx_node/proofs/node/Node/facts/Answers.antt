@@ -6,7 +6,7 @@ use Rattle.rx_rules.specs.Life.{is_active, is_handled, is_live}
 use Rattle.rx_node.specs.Lives.{life_of}
 use Rattle.rx_node.specs.Node.{NodeState}
 use Rattle.rx_node.specs.Steps.{IsChannelAt}
-use Rattle.rx_node.proofs.FactsSeen.{channel_at_key, holds, holds_call, known_is}
+use Rattle.rx_node.proofs.FactsSeen.{holds, holds_call, known_is}
 use Rattle.rx_node.proofs.node.Node.facts.Goals as goal
 
 pub returns : goal.returns
@@ -15,10 +15,8 @@ returns g c = λ l m.
     let n : NodeState = c.args.self.now in
     let number : ℕ = c.args.head.now.number in
     let seq : ℕ = c.args.head.now.seq in
-    let at : IsChannelAt l c.channel-channel.result ch =
-    channel_at_key l ch c.channel-channel.result (c.channel-channel.ensures.channel l m c.requires)
-    (c.channel-channel.ensures.none l m c.requires) in
-    let known = c.is_some.ensures ∙ known_is g.C.Class.class_of n l ch c.channel-channel.result m at in
+    let at : IsChannelAt l c.args.channel ch = c.requires.at l m in
+    let known = c.is_some.ensures ∙ known_is g.C.Class.class_of n l ch c.args.channel m at in
     let latest = c.number_on-number.ensures l ch m at in
     let life = c.life_on-life.ensures l ch m at in
     let starts = c.can_start.ensures

@@ -1,4 +1,4 @@
-use Rattle.std.proofs.Common.{take}
+use Rattle.std.proofs.Common.{take, arith}
 use Rattle.rx_node.proofs.GivenDatagram.{gave_datagram}
 use Rattle.rx_node.proofs.SameChannels.{same_then}
 use Rattle.rx_node.proofs.node.Node.give.Goals as goal
@@ -13,3 +13,13 @@ returns-clause-gives g c =
 pub returns-clause-others : goal.returns-clause-others
 returns-clause-others g c =
     λ q apart. same_then _ _ _ q (c.count-serial.ensures.channels q) (c.give_item.ensures.others q apart)
+
+pub returns-clause-steps_taken : goal.returns-clause-steps_taken
+returns-clause-steps_taken g c =
+    let item = c.give_item.ensures.steps_taken in
+    λ d power. (
+    let count = c.count-serial.ensures.steps_taken d power in
+    record {
+      grows = omega (arith, count.grows, item.grows);
+      most = omega (arith, count.most, item.most);
+    })

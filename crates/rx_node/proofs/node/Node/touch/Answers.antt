@@ -10,22 +10,22 @@ invariant_of-self g c =
     let place = c.args.place in
     let now = c.self.inside.moment in
     let like = alike_on_place c.self.inside.table place (λ r. record r { last_use = now }) (λ r. refl) (λ r. refl) in
-    rw c.touch.ensures
+    rw c.touch_now.ensures
     (still_set_up g.C.Class.class_of _ _ like i.0, still_seated g.C.Class.class_of _ _ like i.1, i.2, i.3)
 
 pub returns-clause-steps : goal.returns-clause-steps
 returns-clause-steps g c =
-    rw (← c.self.view_is, c.touch.ensures) (λ l x m there. mirrors_used g.C.Class.class_of _ l m c.args.place x there)
+    rw (← c.self.view_is, c.touch_now.ensures) (λ l x m there. mirrors_used g.C.Class.class_of _ l m c.args.place x there)
 
 pub returns-clause-same : goal.returns-clause-same
 returns-clause-same g c =
     let place = c.args.place in
     let now = c.self.inside.moment in
     let like = alike_on_place c.self.inside.table place (λ r. record r { last_use = now }) (λ r. refl) (λ r. refl) in
-    rw (← c.self.view_is, c.touch.ensures) (still_node g.C.Class.class_of _ _ like)
+    rw (← c.self.view_is, c.touch_now.ensures) (still_node g.C.Class.class_of _ _ like)
 
 pub returns-clause-channels : goal.returns-clause-channels
 returns-clause-channels g c =
     let now = c.self.inside.moment in
-    rw (← c.self.view_is, c.touch.ensures)
+    rw (← c.self.view_is, c.touch_now.ensures)
     (λ q. same_on_place _ c.args.place (λ r. record r { last_use = now }) (λ r. refl) (λ r. refl) q)
