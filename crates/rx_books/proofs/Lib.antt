@@ -5,6 +5,7 @@ pub mod FirstOf
 pub mod LeastOf
 pub mod DueMoment
 pub mod PollSteps
+pub mod ProvedClients
 pub mod PollLeaves
 pub mod Polled
 pub mod SilentCalls

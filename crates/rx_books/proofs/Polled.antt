@@ -16,8 +16,9 @@ use Rattle.rx_rules.specs.Setup.{FitsSetup}
 use Rattle.rx_node.specs.Due.{AreDueAs, Gave, IsDueAs, unsilenced}
 use Rattle.rx_node.specs.Mirrors.{Mirrors, StepsNode}
 use Rattle.rx_node.specs.Node.{KeepsNode, NodeState, setup_of}
-use Rattle.rx_node.specs.Steps.{Dimmed, StandsNode}
+use Rattle.rx_node.specs.Steps.{StandsNode}
 use Rattle.rx_node.specs.declared.item.Due.{Due}
+use Rattle.rx_books.specs.Polled.{Polled}
 use Rattle.rx_books.proofs.PollLeaves.{begun, begun_mirrors, dimmed_begun, dimmed_item}
 use Rattle.rx_books.proofs.PollSteps.{Answered, mid_mirrors, next_later, next_none, next_now, none_silent}
 use Rattle.rx_books.proofs.PollSteps.{polled_item, polled_nothing, polled_stray}
@@ -97,15 +98,15 @@ module _ (class : List ℕ → Class) (old n z : NodeState) (fits : FitsSetup (s
 
   module _ (l : Looks) (m : Mirrors class old l) where
     -- where it gives nothing more
-    pub nothing_dimmed : Dimmed class z l
+    pub nothing_dimmed : Polled class z l
     nothing_dimmed =
-        subst (λ (y : NodeState). Dimmed class y l) (sym is) (dimmed_begun class n (drop 1 n.strays) l (steps l m) refl)
+        subst (λ (y : NodeState). Polled class y l) (sym is) (dimmed_begun class n (drop 1 n.strays) l (steps l m) refl)
 
     -- where it gives an item
     pub item_dimmed : (due : Due) → IsFirstDue class z (Some due) → (new : NodeState) (to : Host) (bytes : List ℕ)
-        → Gives class z new due to bytes → Dimmed class new l
+        → Gives class z new due to bytes → Polled class new l
     item_dimmed due first new to bytes gives =
-        subst (λ (y : NodeState). IsFirstDue class y (Some due) → Gives class y new due to bytes → Dimmed class new l)
+        subst (λ (y : NodeState). IsFirstDue class y (Some due) → Gives class y new due to bytes → Polled class new l)
         (sym is)
         (λ least given. (
         let mid_is = begun_mirrors class n (drop 1 n.strays) l (steps l m) refl in

@@ -8,5 +8,5 @@ mod books;
 mod node;
 mod silence;
 
-pub use node::Node;
+pub use node::{Node, is_response};
 pub use rx_node::{Facts, Kind, Life, Link, Turn, is_data, named};

@@ -5,13 +5,14 @@ ghost use Rattle.rx_rules.specs.Setup.{FitsSetup};
 ghost use Rattle.rx_node.specs.Kinds.{kind_of};
 ghost use Rattle.rx_node.specs.Mirrors.{Mirrors};
 ghost use Rattle.rx_node.specs.Node.{KeepsNode, setup_of};
-ghost use Rattle.rx_node.specs.Steps.{AnswersNode, Dimmed, given_count, given_from};
+ghost use Rattle.rx_node.specs.Steps.{AnswersNode, given_count, given_from};
 ghost use Rattle.rx_model.specs.declared.wire.TheConstants.{DATAGRAM_BYTES};
 ghost use Rattle.rx_rules.specs.Items.{deaths, due as rules_due, items};
 ghost use Rattle.rx_rules.specs.Least.{least_by};
 ghost use Rattle.rx_node.specs.Due.{AreDueAs, CanGive, lesser_of, unsilenced};
 ghost use Rattle.rx_model.specs.declared.event.Event.TheVariants as events;
 ghost use Rattle.rx_books.specs.Costs.{AtMostForPoll};
+ghost use Rattle.rx_books.specs.Polled.{Polled};
 
 use crate::books::Books;
 use crate::silence::end_silent;
@@ -24,8 +25,11 @@ use std::alloc::{AllocError, Global};
 use std::marker::Model;
 use std::sync::ledger::Ledger;
 
+mod accepting;
 mod changes;
 mod views;
+
+pub use changes::is_response;
 
 /// A node, with its books. What is said of it is said of the node that it holds; the books have of each channel what
 /// that node says of it.
@@ -78,7 +82,7 @@ impl<C: Class> Node<C> {
     pub fn poll<L: Ledger>(&mut self, to: &mut [u8], steps: &mut Steps<L>) -> Option<(Host, usize)>
         requires { DATAGRAM_BYTES ≤ length to.old }
         ensures answered { AnswersNode C.class_of self.old self.new (events.Polled (given_from result to.new)) }
-        ensures dimmed { (l : Looks) → Mirrors C.class_of self.old l → Dimmed C.class_of self.new l }
+        ensures dimmed { (l : Looks) → Mirrors C.class_of self.old l → Polled C.class_of self.new l }
         ensures rest { drop (given_count result) to.new ≡ drop (given_count result) to.old }
         ensures same { KeepsNode self.old self.new }
         ensures steps { (l : Looks) → Mirrors C.class_of self.old l → AtMostForPoll l steps.old steps.new }

@@ -2,9 +2,10 @@
 use Rattle.std.proofs.Common.{◌≡◌, ◌<◌, ◌&&◌, ◌||◌, ◌==◌, ◌/◌, ℕ, not, cond, if◌then◌else◌, Bool, true, false, List, []}
 use Rattle.std.proofs.Common.{◌∷◌}
 use Rattle.std.proofs.Common.{filter, Option, Some, None, option_map, refl, ◌∙◌, ap, sym, subst}
-use Rattle.std.specs.Prelude.{option_and_then}
+use Rattle.std.specs.Prelude.{option_and_then, slice_set}
 use Rattle.std.specs.List.{cons_option, filter_map, find}
 use Rattle.std.proofs.lemmas.Bool.{false≢true}
+use Rattle.rx_model.specs.declared.event.Event.{Event}
 use Rattle.rx_model.specs.declared.event.Event.TheVariants as events
 use Rattle.rx_model.specs.declared.names.CallName.{CallName}
 use Rattle.rx_model.specs.Names.{Channel, connection_of}
@@ -16,6 +17,7 @@ use Rattle.rx_rules.specs.Life as lives
 use Rattle.rx_rules.specs.Looks.{CallRecord, Looks, is_call, is_proved, latest, latest_name, on_life}
 use Rattle.rx_rules.specs.Rules.{accept_answer, can_enter}
 use Rattle.rx_rules.specs.Setup.{Setup}
+use Rattle.rx_rules.proofs.EveryLaws.{Every}
 use Rattle.rx_law.proofs.Dims.{dims_life}
 use Rattle.rx_law.proofs.LifeFalls.{accept_falls}
 use Rattle.rx_node.specs.Mirrors.{IsChannel, IsKey, Mirrors}
@@ -23,11 +25,14 @@ use Rattle.rx_node.specs.Node.{KeepsNode, NodeState, setup_of}
 use Rattle.rx_node.proofs.ChannelSteps.{latest_changed}
 use Rattle.rx_node.proofs.OwedItems.{HasChannel, has_channel}
 use Rattle.rx_server.specs.Handling.{IsFirst, enters_at, passes}
-use Rattle.rx_server.specs.Server.{Answered, FirstsStand, IsServing, ServerState, Serves, waits, waits_at}
+use Rattle.rx_queue.specs.Queue.{QueueState, is_ready}
+use Rattle.rx_server.specs.Server.{Answered, FirstsStand, IsServing, ReadyStand, ServerState, Serves, waits, waits_at}
 use Rattle.rx_server.proofs.EnteringCalls.{enters_is, waits_is}
 use Rattle.rx_server.proofs.FirstsLaws.{firsts_without}
 use Rattle.rx_server.proofs.Quiet.{served_allows}
-use Rattle.rx_server.proofs.Serving.{answered_by, parts_stay, serves_quiet, serving_without, setup_by}
+use Rattle.rx_server.proofs.ReadyLaws.{ready_without}
+use Rattle.rx_server.proofs.Serving.{answered_by, parts_stay, role_stays, serves_quiet, serving_with, setup_by}
+use Rattle.rx_server.proofs.Serving.{there_without}
 
 -- ---- lists
 
@@ -129,9 +134,10 @@ accepted_not l key ch at =
     of None = refl
     of (Some k) = accepted-not k.life
 
-module _ (class : List ℕ → Class) (sv : ServerState) (new : NodeState) (key : ℕ) (firsts : List ℕ)
+module _ (class : List ℕ → Class) (sv : ServerState) (new : NodeState) (key : ℕ) (firsts : QueueState)
     (kept : KeepsNode sv.node new)
-    (is_key : IsKey sv.node key) (without : firsts ≡ filter (λ k. not (k == key)) sv.firsts)
+    (is_key : IsKey sv.node key) (without : firsts.order ≡ filter (λ k. not (k == key)) sv.firsts.order)
+    (cleared : firsts.ready ≡ slice_set sv.firsts.ready key None)
     (steps : (l : Looks) (ch : Channel) → Mirrors class sv.node l → IsChannel l key ch
     → Mirrors class new (on_life (latest_name l ch) after_accept l)) where
   abbrev made : ServerState
@@ -140,15 +146,18 @@ module _ (class : List ℕ → Class) (sv : ServerState) (new : NodeState) (key 
   accepted-serves : (l : Looks) (ch : Channel) → IsChannel l key ch → Serves class sv l
       → Serves class made (on_life (latest_name l ch) after_accept l)
   accepted-serves l ch at serves =
-      let quiet = serves_quiet class sv new l (on_life (latest_name l ch) after_accept l) kept.kind
-      (dims_life (latest_name l ch) after_accept l accept_falls) (record { firsts = refl; entered = refl })
+      let quiet = serves_quiet class sv new l (on_life (latest_name l ch) after_accept l) (role_stays sv.node new kept)
+      (dims_life (latest_name l ch) after_accept l accept_falls)
+      (record { firsts = refl; entered = refl; proved = refl })
       (steps l ch serves.mirrors at) serves in
       record {
         mirrors = quiet.mirrors;
         nonce = quiet.nonce;
         firsts = subst (λ (keys : List ℕ). FirstsStand keys (on_life (latest_name l ch) after_accept l)) (sym without)
-            (firsts_without sv.firsts key (on_life (latest_name l ch) after_accept l) (accepted_not l key ch at)
+            (firsts_without sv.firsts.order key (on_life (latest_name l ch) after_accept l) (accepted_not l key ch at)
             quiet.firsts);
+        ready = ready_without (class new.secret).challenges sv.firsts firsts
+            (on_life (latest_name l ch) after_accept l) key without cleared quiet.ready;
       }
 
   channel-of : (l : Looks) → Serves class sv l → HasChannel l key
@@ -156,7 +165,7 @@ module _ (class : List ℕ → Class) (sv : ServerState) (new : NodeState) (key 
 
   -- the call of that channel is given to a handler
   pub accepted_answers : (c : CallName) → IsServing class sv
-      → ((l : Looks) → Serves class sv l → IsFirst (setup_of class sv.node) l sv.firsts (Some key))
+      → ((l : Looks) → Serves class sv l → IsFirst (setup_of class sv.node) l sv.firsts.order (Some key))
       → ((l : Looks) (ch : Channel) → Mirrors class sv.node l → IsChannel l key ch → c ≡ latest_name l ch)
       → Answered class sv made (events.Accepted (Some c))
   accepted_answers c serving first named =
@@ -168,7 +177,7 @@ module _ (class : List ℕ → Class) (sv : ServerState) (new : NodeState) (key 
       let name = named l its.channel stands.serves.mirrors its.at in (
         served_allows sv class l (events.Accepted (Some c)) serving.server
             (ap (λ (d : CallName). Some d) name
-            ∙ accepts_its (setup_of class sv.node) l sv.firsts key its.channel its.at stands.serves.firsts
+            ∙ accepts_its (setup_of class sv.node) l sv.firsts.order key its.channel its.at stands.serves.firsts
             (first l stands.serves)),
         subst (λ (d : CallName). Serves class made (on_life d after_accept l)) (sym name)
             (accepted-serves l its.channel its.at stands.serves),
@@ -178,23 +187,70 @@ module _ (class : List ℕ → Class) (sv : ServerState) (new : NodeState) (key 
   pub accepted_serving : IsServing class sv → IsServing class made
   accepted_serving serving =
       let its = channel-of serving.looks serving.serves in
-      let m : Looks = on_life (latest_name serving.looks its.channel) after_accept serving.looks in
-      subst (λ (keys : List ℕ). IsServing class (record sv { node = new; firsts = keys })) (sym without)
-      (serving_without class sv new m key (parts_stay sv.node new kept)
-      (subst (λ (keys : List ℕ). Serves class (record sv { node = new; firsts = keys }) m) without
-      (accepted-serves serving.looks its.channel its.at serving.serves)) serving)
+      serving_with class sv new (on_life (latest_name serving.looks its.channel) after_accept serving.looks) firsts
+      (parts_stay sv.node new kept) (there_without sv.node key sv.firsts.order firsts.order without serving.there)
+      (accepted-serves serving.looks its.channel its.at serving.serves) serving
 
 -- ---- none may be
 
 -- the answer is none
 pub accepted_none : (class : List ℕ → Class) (sv : ServerState) → IsServing class sv
-    → ((l : Looks) → Serves class sv l → IsFirst (setup_of class sv.node) l sv.firsts None)
+    → ((l : Looks) → Serves class sv l → IsFirst (setup_of class sv.node) l sv.firsts.order None)
     → Answered class sv sv (events.Accepted None)
 accepted_none class sv serving first =
     answered_by class sv sv (events.Accepted None) refl
     (λ h stands. (
     let l : Looks = looks (setup_of class sv.node) h in (
       served_allows sv class l (events.Accepted None) serving.server
-          (accepts_first (setup_of class sv.node) l sv.firsts None stands.serves.firsts (first l stands.serves)),
+          (accepts_first (setup_of class sv.node) l sv.firsts.order None stands.serves.firsts (first l stands.serves)),
       stands.serves,
     )))
+
+in-order : (n : NodeState) (q : QueueState) (keys : List ℕ) (key : ℕ) → Every (IsKey n) keys
+    → find (is_ready q) keys ≡ Some key → IsKey n key
+in-order n q [] key all is = absurd (cc (is))
+in-order n q (k ∷ keys) key all is = of (is_ready q k) is (λ rest. in-order n q keys key all.1 rest)
+  where
+    of : (b : Bool) → cond b (Some k) (find (is_ready q) keys) ≡ Some key
+        → (find (is_ready q) keys ≡ Some key → IsKey n key) → IsKey n key
+    of true own rest = (let same : k ≡ key = cc (own) in subst (λ (j : ℕ). IsKey n j) same all.0)
+    of false found rest = rest found
+
+-- the first that is ready of channels that are there is there
+pub found_there : (n : NodeState) (q : QueueState) (key : ℕ) → Every (IsKey n) q.order
+    → find (is_ready q) q.order ≡ Some key → IsKey n key
+found_there n q key there found = in-order n q q.order key there found
+
+-- ---- some are held
+
+module _ (class : List ℕ → Class) (sv : ServerState) (firsts : QueueState) (order : firsts.order ≡ sv.firsts.order)
+    (stands : (l : Looks) → Mirrors class sv.node l → ReadyStand (class sv.node.secret).challenges sv.firsts l
+    → ReadyStand (class sv.node.secret).challenges firsts l) where
+  abbrev holding : ServerState
+  holding = record sv { firsts = firsts }
+
+  held-serves : (l : Looks) → Serves class sv l → Serves class holding l
+  held-serves l serves =
+      record {
+        mirrors = serves.mirrors;
+        nonce = serves.nonce;
+        firsts = subst (λ (keys : List ℕ). FirstsStand keys l) (sym order) serves.firsts;
+        ready = stands l serves.mirrors serves.ready;
+      }
+
+  -- it serves on
+  pub held_serving : IsServing class sv → IsServing class holding
+  held_serving is =
+      record {
+        server = is.server;
+        fits = is.fits;
+        looks = is.looks;
+        serves = held-serves is.looks is.serves;
+        there = subst (λ (keys : List ℕ). Every (IsKey sv.node) keys) (sym order) is.there;
+      }
+
+  -- and answers what it answers then
+  pub held_answers : (new : ServerState) (e : Event) → Answered class holding new e → Answered class sv new e
+  held_answers new e answers h stood =
+      answers h
+      (record { legal = stood.legal; serves = held-serves (looks (setup_of class sv.node) h) stood.serves })

@@ -19,9 +19,10 @@ use Rattle.rx_law.proofs.Places.{there-entered}
 use Rattle.rx_node.specs.Mirrors.{IsChannel, IsKey, Mirrors}
 use Rattle.rx_node.specs.Node.{NodeState, setup_of}
 use Rattle.rx_node.specs.declared.link.Link.{Link}
-use Rattle.rx_server.specs.Server.{IsServerOf, IsServing, ServerState, Serves}
+use Rattle.rx_server.specs.Server.{IsServerOf, IsServing, ReadyStand, ServerState, Serves}
 use Rattle.rx_server.specs.Taking.{Entered, IsReady}
-use Rattle.rx_server.proofs.PlacedFirsts.{firsts_entered, firsts_replaced}
+use Rattle.rx_server.proofs.PlacedFirsts.{firsts_entered, firsts_replaced, stand_entered, stand_replaced}
+use Rattle.rx_server.proofs.Serving.{SameRole, challenges_by}
 
 -- the nonce of the next connection
 next-nonce : (kind : Kind) (service nonce k : ℕ) → IsServerOf kind service → nonce ≡ nonce_of kind k
@@ -31,7 +32,7 @@ next-nonce (Client host epoch) own nonce k is same = absurd is
 
 module _ (class : List ℕ → Class) (sv : ServerState) (new : NodeState) (l : Looks) (x : Connection)
     (server : IsServerOf sv.node.kind sv.service) (serves : Serves class sv l) (absent : conn_at l x ≡ None)
-    (kind : new.kind ≡ sv.node.kind) where
+    (role : SameRole sv.node new) where
   abbrev s : Setup
   s = setup_of class sv.node
 
@@ -67,7 +68,11 @@ module _ (class : List ℕ → Class) (sv : ServerState) (new : NodeState) (l : 
   nonce-made : (o : Option ConnLooks) → next.nonce ≡ nonce_of new.kind (placed fresh o l).entered
   nonce-made o =
       next-nonce sv.node.kind sv.service sv.nonce l.entered server serves.nonce
-      ∙ (λ i. nonce_of (sym kind i) (sym (entered-of o) i))
+      ∙ (λ i. nonce_of (sym role.kind i) (sym (entered-of o) i))
+
+  still-ready : (m : Looks) → ReadyStand (class sv.node.secret).challenges sv.firsts m
+      → ReadyStand (class new.secret).challenges sv.firsts m
+  still-ready m = subst (λ (b : Bool). ReadyStand b sv.firsts m) (sym (challenges_by class sv.node new role))
 
   -- in the next place
   pub entered_next : (link : Link) → link ≡ record { peer = x.host; service = sv.service; first = 1 }
@@ -84,7 +89,10 @@ module _ (class : List ℕ → Class) (sv : ServerState) (new : NodeState) (l : 
                   → Mirrors class new (placed (fresh_conn x k.peer k.service k.first l) None l)) linked steps orderly;
               nonce = nonce-made None;
               firsts = firsts_entered s l serves.mirrors.orderly serves.mirrors.numbered x x.host sv.service 1 absent
-                  sv.firsts serves.firsts;
+                  sv.firsts.order serves.firsts;
+              ready = still-ready (placed fresh None l)
+                  (stand_entered s l serves.mirrors.orderly serves.mirrors.numbered x x.host sv.service 1 absent
+                  (class sv.node.secret).challenges sv.firsts serves.ready);
             });
       }
     where
@@ -118,7 +126,11 @@ module _ (class : List ℕ → Class) (sv : ServerState) (new : NodeState) (l : 
               nonce = nonce-made (Some old);
               firsts = firsts_replaced s l serves.mirrors.orderly serves.mirrors.numbered x x.host
                   sv.service 1 old place
-                  here was-idle orderly sv.firsts serves.firsts;
+                  here was-idle orderly sv.firsts.order serves.firsts;
+              ready = still-ready (placed fresh (Some old) l)
+                  (stand_replaced s l serves.mirrors.orderly serves.mirrors.numbered x x.host
+                  sv.service 1 old place
+                  here was-idle orderly (class sv.node.secret).challenges sv.firsts serves.ready);
             });
       }
     where
@@ -151,8 +163,7 @@ serving_entered class sv new x i kind limits more entered =
       fits = subst FitsLimits (sym limits) i.fits;
       looks = with_conn (setup_of class sv.node) sv.node.kind x i.looks;
       serves = entered.serves;
-      apart = i.apart;
-      there = every sv.firsts i.there;
+      there = every sv.firsts.order i.there;
     }
   where
     every : (keys : List ℕ) → Every (IsKey sv.node) keys → Every (IsKey new) keys

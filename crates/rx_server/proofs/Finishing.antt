@@ -44,7 +44,7 @@ use Rattle.rx_node.proofs.KeptKeys.{key_on_channel, kept_setup}
 use Rattle.rx_server.specs.Handling.{IsFound, MayFinish}
 use Rattle.rx_server.specs.Server.{IsServerOf, IsServing, ServerState, Serves}
 use Rattle.rx_server.proofs.RestLaws.{finish_rests}
-use Rattle.rx_server.proofs.Serving.{parts_stay, serves_quiet, serving_by}
+use Rattle.rx_server.proofs.Serving.{SameRole, parts_stay, role_both, serves_quiet, serving_by}
 
 -- ---- its kind and its code
 
@@ -193,10 +193,10 @@ module _ (class : List ℕ → Class) (old mid new : NodeState) (key : ℕ) (l :
 
 -- what it serves then
 pub ended_serves : (class : List ℕ → Class) (sv : ServerState) (new : NodeState) (l : Looks) (c : CallName) (code : ℤ)
-    → new.kind ≡ sv.node.kind → Mirrors class new (finish_done c code done l) → Serves class sv l
+    → SameRole sv.node new → Mirrors class new (finish_done c code done l) → Serves class sv l
     → Serves class (record sv { node = new }) (finish_done c code done l)
-ended_serves class sv new l c code kind mirrors serves =
-    serves_quiet class sv new l (finish_done c code done l) kind (finish_dims c code done l)
+ended_serves class sv new l c code role mirrors serves =
+    serves_quiet class sv new l (finish_done c code done l) role (finish_dims c code done l)
     (finish_rests c code done l)
     mirrors serves
 
@@ -212,7 +212,7 @@ module _ (class : List ℕ → Class) (sv : ServerState) (mid new : NodeState) (
       → (l : Looks) (c : CallName) → Serves class sv l → IsFound l c key lives.Accepted
       → done ≡ served_finish (call_at l c) code → Serves class (record sv { node = new }) (finish_done c code done l)
   well_serves is server turned shut l c serves found may =
-      ended_serves class sv new l c code (same.kind ∙ kept.kind)
+      ended_serves class sv new l c code (role_both sv.node mid new kept same)
       (subst (λ (z : ℤ). Mirrors class new (finish_done c z done l)) (sym is)
       (ended_well class sv.node mid new key l c found serves.mirrors (server_kind sv.node.kind sv.service server)
       kept turned
@@ -227,7 +227,7 @@ module _ (class : List ℕ → Class) (sv : ServerState) (mid new : NodeState) (
       → (l : Looks) (c : CallName) → Serves class sv l → IsFound l c key lives.Accepted
       → Serves class (record sv { node = new }) (finish_done c code done l)
   ill_serves other owed turned l c serves found =
-      ended_serves class sv new l c code (same.kind ∙ kept.kind)
+      ended_serves class sv new l c code (role_both sv.node mid new kept same)
       (ended_ill class sv.node mid new key l c found serves.mirrors code other owed turned) serves
 
 -- it serves on

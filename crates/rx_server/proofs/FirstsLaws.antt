@@ -180,8 +180,8 @@ module _ (l m : Looks) (dims : Dims l m) where
   pub conn_pair : (key : ℕ) → Both Same (slice_get l.conns (key / 4)) (slice_get m.conns (key / 4))
   conn_pair key = pairs_at Same l.conns m.conns (key / 4) dims.conns
 
-  waits-at : (key : ℕ) → waits_at m key ≡ passing (waits m) (waits_at l key)
-  waits-at key = of (slice_get l.conns (key / 4)) (slice_get m.conns (key / 4)) (conn_pair key)
+  pub waits_behind : (key : ℕ) → waits_at m key ≡ passing (waits m) (waits_at l key)
+  waits_behind key = of (slice_get l.conns (key / 4)) (slice_get m.conns (key / 4)) (conn_pair key)
     where
       of : (o q : Option ConnLooks) → Both Same o q
           → option_and_then (λ x. waits_on m (channel_in x (key % 4))) q
@@ -210,7 +210,7 @@ module _ (l m : Looks) (dims : Dims l m) where
   pub firsts_dims : (firsts : List ℕ) → m.firsts ≡ l.firsts → FirstsStand firsts l → FirstsStand firsts m
   firsts_dims firsts same f =
       record {
-        order = mapped_alike (waits_at m) (λ key. passing (waits m) (waits_at l key)) firsts waits-at
+        order = mapped_alike (waits_at m) (λ key. passing (waits m) (waits_at l key)) firsts waits_behind
             ∙ mapped_passing (waits m) (waits_at l) firsts
             ∙ ap (filter (waits m)) f.order
             ∙ filter_stronger (waits l) (waits m) l.firsts (λ c yes. waits_stay l m c dims yes)
@@ -341,9 +341,10 @@ module _ (s : Setup) (c : CallName) (key : ℕ) (l : Looks) (at : IsChannel l ke
       let one : k ≡ key = omega arith in
       false≢true (sym other ∙ ap (λ (n : ℕ). n == key) one ∙ number_itself key)))
 
-  at-alike : (k : ℕ) → (k == key) ≡ false
+  -- so that every other channel says the same
+  pub at_alike : (k : ℕ) → (k == key) ≡ false
       → (waits_at made k ≡ waits_at l k) × (lacks_at made k ≡ lacks_at l k)
-  at-alike k other = of (slice_get l.conns (k / 4)) refl
+  at_alike k other = of (slice_get l.conns (k / 4)) refl
     where
       place : slice_get made.conns (k / 4) ≡ option_map (conn_if (connection_of c) change) (slice_get l.conns (k / 4))
       place = slice_get-map (conn_if (connection_of c) change) l.conns (k / 4)
@@ -398,8 +399,8 @@ module _ (s : Setup) (c : CallName) (key : ℕ) (l : Looks) (at : IsChannel l ke
   pub firsts_started : (firsts : List ℕ) → Every (λ k. (k == key) ≡ false) firsts → FirstsStand firsts l
       → FirstsStand firsts made
   firsts_started firsts others f =
-      firsts_alike firsts l made (every-then _ _ firsts (λ k other. (at-alike k other).0) others)
-      (every-then _ _ firsts (λ k other. (at-alike k other).1) others)
+      firsts_alike firsts l made (every-then _ _ firsts (λ k other. (at_alike k other).0) others)
+      (every-then _ _ firsts (λ k other. (at_alike k other).1) others)
       (filter_both (λ d. not (same_name d c)) (waits made) (waits l) l.firsts still-waits) f
     where
       every-then : (P Q : ℕ → Type 0) (keys : List ℕ) → ((k : ℕ) → P k → Q k) → Every P keys → Every Q keys

@@ -24,6 +24,7 @@ use Rattle.rx_node.specs.Node.{KeepsNode, NodeState}
 use Rattle.rx_node.proofs.IdleEvents.{read_nothing}
 use Rattle.rx_server.specs.Handling.{IsFound}
 use Rattle.rx_server.specs.Server.{ServerState, Serves, handler_count}
+use Rattle.rx_server.proofs.RestLaws.{read_rests}
 use Rattle.rx_server.proofs.Quiet.{Quiet}
 use Rattle.rx_server.proofs.Serving.{SameParts, parts_stay}
 
@@ -98,7 +99,8 @@ module _ (class : List ℕ → Class) (sv : ServerState) (c : CallName) (max : �
             (steps l (channel_of c) serves.mirrors (found l serves).channel);
         dims = λ l. read_dims c (is_end (readers.Server (served_read_got got)))
             (take (handler_count (served_read_got got)) to) l;
-        rests = λ l. record { firsts = refl; entered = refl };
+        rests = λ l. read_rests c (is_end (readers.Server (served_read_got got)))
+            (take (handler_count (served_read_got got)) to) l;
       }
     where
       allows : (l : Looks) → Serves class sv l
@@ -122,7 +124,7 @@ module _ (class : List ℕ → Class) (sv : ServerState) (c : CallName) (max : �
         mirrors = λ l serves. subst (λ (m : Looks). Mirrors class sv.node m)
             (sym (ap (λ (end : Bool). read_done c end [] l) none ∙ read_nothing c l)) serves.mirrors;
         dims = λ l. read_dims c (is_end (readers.Server got)) [] l;
-        rests = λ l. record { firsts = refl; entered = refl };
+        rests = λ l. read_rests c (is_end (readers.Server got)) [] l;
       }
 
   -- of one that broke

@@ -1,4 +1,6 @@
 pub mod FirstsLaws
+pub mod ReadyLaws
+pub mod ReadyStarts
 pub mod PlacedFirsts
 pub mod RowLaws
 pub mod TakingLaws
@@ -8,6 +10,7 @@ pub mod Quiet
 pub mod PollServes
 pub mod EnteringCalls
 pub mod Accepting
+pub mod AcceptCosts
 pub mod Handling
 pub mod Finishing
 pub mod FinishAnswers
@@ -17,5 +20,6 @@ pub mod OpeningSteps
 pub mod TurnedRows
 pub mod TurnedSteps
 pub mod LiveSteps
+pub mod TakenLive
 pub mod OwnSteps
 pub mod MessageSteps

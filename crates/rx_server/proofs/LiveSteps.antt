@@ -3,6 +3,7 @@ use Rattle.std.proofs.Common.{◌≡◌, ◌&&◌, ◌||◌, ◌==◌, ◌+◌, 
 use Rattle.std.proofs.Common.{nat_lt, is_some, Bool, true, false, List, [], ◌∷◌}
 use Rattle.std.proofs.Common.{Option, Some, None, option_map, refl, ◌∙◌, ap, sym, subst, arith}
 use Rattle.std.specs.Prelude.{option_and_then, slice_get, unwrap_or}
+use Rattle.std.specs.List.{list_any}
 use Rattle.std.proofs.lemmas.Bool.{false≢true}
 use Rattle.std.proofs.lemmas.Bool.Decides.{nat_tests}
 use Rattle.rx_model.specs.declared.answers.Took.{Took}
@@ -13,8 +14,7 @@ use Rattle.rx_model.specs.Body as bodies
 use Rattle.rx_model.specs.Message.{Message}
 use Rattle.rx_model.specs.Names.{Connection, channel_of, connection_of, same_name}
 use Rattle.rx_model.proofs.NameLaws.{neither, refuted, same_number}
-use Rattle.rx_pool.specs.Pool.{has}
-use Rattle.rx_rules.specs.After.{taken_at, taken_data, taken_with, with_first}
+use Rattle.rx_rules.specs.After.{taken_at, taken_data, taken_heard, taken_with, with_first}
 use Rattle.rx_rules.specs.CallLooks.{NodeView, after_chunk, after_taken, arrival, call_row, found, freed}
 use Rattle.rx_rules.specs.CallLooks.{packet_of}
 use Rattle.rx_rules.specs.Classes.{Class}
@@ -22,7 +22,7 @@ use Rattle.rx_rules.specs.Judging.{live_row, opened}
 use Rattle.rx_rules.specs.Life.{Life, is_active, is_live}
 use Rattle.rx_rules.specs.Life as lives
 use Rattle.rx_rules.specs.Looks.{CallRecord, ConnLooks, Looks, call_at, channel_at, is_call, is_proved}
-use Rattle.rx_rules.specs.Looks.{latest_name, on_channel}
+use Rattle.rx_rules.specs.Looks.{latest_name, on_channel, on_conn}
 use Rattle.rx_rules.specs.Received.{Arrival, arrival_row, packet_at}
 use Rattle.rx_rules.specs.Records.{started_later}
 use Rattle.rx_rules.specs.Setup.{Setup, is_client, nonce_of}
@@ -35,11 +35,15 @@ use Rattle.rx_law.proofs.DimsTaken.{data_dims, with_dims}
 use Rattle.rx_law.proofs.Events.{call-by}
 use Rattle.rx_node.specs.Mirrors.{IsChannel, Mirrors, channel_in}
 use Rattle.rx_node.specs.Node.{NodeState, setup_of}
-use Rattle.rx_server.specs.Server.{FirstsStand, ServerState, Serves, lacks_at, lacks_on, waits, waits_at, waits_on}
-use Rattle.rx_server.specs.Taking.{keeps_first}
+use Rattle.rx_node.specs.Steps.{is_response}
+use Rattle.rx_queue.specs.Queue.{QueueState, is_listed, is_ready}
+use Rattle.rx_server.specs.Server.{FirstsStand, ReadyStand, ServerState, Serves, admits_at, lacks_at, lacks_on, waits}
+use Rattle.rx_server.specs.Server.{waits_at, waits_on}
+use Rattle.rx_server.specs.Taking.{keeps_first, proves_client}
 use Rattle.rx_server.proofs.FirstsLaws.{Both, conn_pair, firsts_behind, firsts_dims, name_stays, passing}
 use Rattle.rx_server.proofs.RestLaws.{Rests, data_rests, with_rests}
-use Rattle.rx_server.proofs.Serving.{serves_quiet}
+use Rattle.rx_server.proofs.ReadyLaws.{falls_proved, ready_behind, ready_dims, ready_place}
+use Rattle.rx_server.proofs.Serving.{SameRole, challenges_by, serves_quiet}
 
 -- ---- its packet 1 is kept once
 
@@ -102,10 +106,10 @@ module _ (s : Setup) (l : Looks) (c : CallName) (k : CallRecord) (m : Message) (
       not-above : nat_lt (channel_at l (channel_of c)).number c.number ≡ false
       not-above = (let is = number in grind (arith, nat_tests))
 
-  -- one whose packet 1 wasn't kept now
-  pub live_dims : (got : Took) → keeps_first got m.seq ≡ false
+  -- one whose packet 1 wasn't kept now, and whose client wasn't proved
+  pub live_dims : (got : Took) → keeps_first got m.seq ≡ false → proves_client got m.body ≡ false
       → Dims l (taken_with s got c m l) × Rests l (taken_with s got c m l)
-  live_dims tooks.Kept other =
+  live_dims tooks.Kept other none =
       subst (λ (q : Looks). Dims l (taken_data s tooks.Kept c m q) × Rests l (taken_data s tooks.Kept c m q))
       (sym opened-own) (
         data_dims s tooks.Kept c m l,
@@ -113,15 +117,17 @@ module _ (s : Setup) (l : Looks) (c : CallName) (k : CallRecord) (m : Message) (
             record {
               firsts = p.firsts ∙ ap (λ (b : Bool). if b then l.firsts ++ c ∷ [] else l.firsts) other;
               entered = p.entered;
+              proved = p.proved;
             }),
       )
-  live_dims tooks.NoSlot other =
+  live_dims tooks.NoSlot other none =
       subst (λ (q : Looks). Dims l (taken_data s tooks.NoSlot c m q) × Rests l (taken_data s tooks.NoSlot c m q))
       (sym opened-own) (
         data_dims s tooks.NoSlot c m l,
-        (let p = data_rests s tooks.NoSlot c m l in record { firsts = p.firsts; entered = p.entered }),
+        (let p = data_rests s tooks.NoSlot c m l in
+            record { firsts = p.firsts; entered = p.entered; proved = p.proved }),
       )
-  live_dims got other = (with_dims s got c m l refl, with_rests s got c m l refl)
+  live_dims got other none = (with_dims s got c m l refl, with_rests s got c m l refl none)
 
   -- its call lacked packet 1
   module _ (row : live_row s l k m m.body ≡ tooks.Kept) (first : m.seq ≡ 1) where
@@ -151,10 +157,10 @@ module _ (s : Setup) (l : Looks) (c : CallName) (k : CallRecord) (m : Message) (
         ∙ (λ i. live i && not (no-first i))
 
     -- so that its channel isn't listed
-    pub not_listed : (firsts : List ℕ) → FirstsStand firsts l → has key firsts ≡ false
+    pub not_listed : (firsts : List ℕ) → FirstsStand firsts l → list_any (λ j. j == key) firsts ≡ false
     not_listed firsts f = each firsts f.kept
       where
-        each : (ks : List ℕ) → Every (λ j. lacks_at l j ≡ false) ks → has key ks ≡ false
+        each : (ks : List ℕ) → Every (λ j. lacks_at l j ≡ false) ks → list_any (λ j. j == key) ks ≡ false
         each [] all = refl
         each (j ∷ ks) all =
             (λ i. (refuted (j == key)
@@ -257,16 +263,17 @@ keeps-first _ seq is = absurd (cc (is))
 
 module _ (class : List ℕ → Class) (sv : ServerState) (new : NodeState) (l : Looks) (c : CallName) (k : CallRecord)
     (m : Message) (key : ℕ) (at : IsChannel l key (channel_of c)) (name : latest_name l (channel_of c) ≡ c)
-    (there : call_at l c ≡ Some k) (live : is_live k.life ≡ true) (got : Took) (kind : new.kind ≡ sv.node.kind)
+    (there : call_at l c ≡ Some k) (live : is_live k.life ≡ true) (got : Took) (role : SameRole sv.node new)
     (mirrors : Mirrors class new (taken_with (setup_of class sv.node) got c m l)) (serves : Serves class sv l) where
   abbrev s : Setup
   s = setup_of class sv.node
 
   -- it goes on with the channels that were listed
-  pub serves_live : keeps_first got m.seq ≡ false → Serves class (record sv { node = new }) (taken_with s got c m l)
-  serves_live other =
-      (let both = live_dims s l c k m key at name there live got other in
-      serves_quiet class sv new l (taken_with s got c m l) kind both.0 both.1 mirrors serves)
+  pub serves_live : keeps_first got m.seq ≡ false → proves_client got m.body ≡ false
+      → Serves class (record sv { node = new }) (taken_with s got c m l)
+  serves_live other none =
+      (let both = live_dims s l c k m key at name there live got other none in
+      serves_quiet class sv new l (taken_with s got c m l) role both.0 both.1 mirrors serves)
 
   module _ (row : got ≡ live_row s l k m m.body) (first : keeps_first got m.seq ≡ true) where
     kept : (got ≡ tooks.Kept) × (m.seq ≡ 1)
@@ -281,21 +288,87 @@ module _ (class : List ℕ → Class) (sv : ServerState) (new : NodeState) (l : 
         ∙ ap (taken_data s tooks.Kept c m) (opened-own s l c k m key at name there live)
 
     -- a channel is listed once
-    pub new_channel : has key sv.firsts ≡ false
-    new_channel = not_listed s l c k m key at name there live here kept.1 sv.firsts serves.firsts
+    pub new_channel : is_listed sv.firsts key ≡ false
+    new_channel = not_listed s l c k m key at name there live here kept.1 sv.firsts.order serves.firsts
 
-    -- or with its own behind them
-    pub serves_first : Serves class (record sv { node = new; firsts = sv.firsts ++ key ∷ [] }) (taken_with s got c m l)
-    serves_first =
+    -- or with its own behind them, ready where its calls may be given to a handler
+    pub serves_first : (firsts : QueueState) → firsts.order ≡ sv.firsts.order ++ key ∷ []
+        → ((q : ℕ) → is_ready sv.firsts q ≡ true → is_ready firsts q ≡ true)
+        → (admits_at (class new.secret).challenges (taken_with s got c m l) key ≡ true → is_ready firsts key ≡ true)
+        → Serves class (record sv { node = new; firsts = firsts }) (taken_with s got c m l)
+    serves_first firsts order keeps own =
         record {
           mirrors = mirrors;
-          nonce = serves.nonce ∙ (λ i. nonce_of (sym kind i) (sym entered i));
-          firsts = subst (λ (q : Looks). FirstsStand (sv.firsts ++ key ∷ []) q) (sym is-after)
-              (listed s l c k m key at name there live here kept.1 sv.firsts serves.firsts);
+          nonce = serves.nonce ∙ (λ i. nonce_of (sym role.kind i) (sym entered i));
+          firsts = subst (λ (keys : List ℕ). FirstsStand keys (taken_with s got c m l)) (sym order)
+              (subst (λ (q : Looks). FirstsStand (sv.firsts.order ++ key ∷ []) q) (sym is-after)
+              (listed s l c k m key at name there live here kept.1 sv.firsts.order serves.firsts));
+          ready = ready_behind (class new.secret).challenges sv.firsts firsts (taken_with s got c m l) key order keeps own
+              (subst (λ (b : Bool). ReadyStand b sv.firsts (taken_with s got c m l))
+              (sym (challenges_by class sv.node new role))
+              (subst (λ (q : Looks). ReadyStand (class sv.node.secret).challenges sv.firsts q) (sym is-after)
+              (ready_dims (class sv.node.secret).challenges sv.firsts l (taken_data s tooks.Kept c m l)
+              (data_dims s tooks.Kept c m l) (data_rests s tooks.Kept c m l).proved serves.ready)));
         }
       where
         entered : (taken_with s got c m l).entered ≡ l.entered
         entered = ap (λ (q : Looks). q.entered) is-after ∙ (data_rests s tooks.Kept c m l).entered
+
+  -- ---- its client is proved
+
+  proves-heard : (took : Took) (body : Body) → proves_client took body ≡ true
+      → (took ≡ tooks.Heard) × ((bytes : List ℕ) × (body ≡ bodies.Response bytes))
+  proves-heard tooks.Heard body is = (refl, of body is)
+    where
+      of : (b : Body) → is_response b ≡ true → (bytes : List ℕ) × (b ≡ bodies.Response bytes)
+      of (bodies.Response bytes) is = (bytes, refl)
+      of (bodies.Chunk payload) is = absurd (cc (is))
+      of bodies.Busy is = absurd (cc (is))
+      of (bodies.Ack a) is = absurd (cc (is))
+      of (bodies.Abort code) is = absurd (cc (is))
+      of bodies.AckAll is = absurd (cc (is))
+      of (bodies.Challenge bytes) is = absurd (cc (is))
+  proves-heard _ body is = absurd (cc (is))
+
+  module _ (proves : proves_client got m.body ≡ true) where
+    said : (got ≡ tooks.Heard) × ((bytes : List ℕ) × (m.body ≡ bodies.Response bytes))
+    said = proves-heard got m.body proves
+
+    abbrev proving : ConnLooks → ConnLooks
+    proving r = record r { proved = true }
+
+    abbrev behind : Looks
+    behind = on_conn (connection_of c) proving (taken_at s tooks.Heard c m l)
+
+    heard-is : taken_with s tooks.Heard c m l ≡ behind
+    heard-is = ap (λ (b : Body). taken_heard s c b (taken_at s tooks.Heard c m l)) said.1.1
+
+    is-behind : taken_with s got c m l ≡ behind
+    is-behind = ap (λ (t : Took). taken_with s t c m l) said.0 ∙ heard-is
+
+    dims-behind : Dims l behind
+    dims-behind = subst (λ (q : Looks). Dims l q) heard-is (with_dims s tooks.Heard c m l refl)
+
+    -- the channels of its connection are ready then
+    pub serves_proved : (firsts : QueueState) → firsts.order ≡ sv.firsts.order
+        → ((q : ℕ) → is_ready sv.firsts q ≡ true → is_ready firsts q ≡ true)
+        → ((q : ℕ) → q / 4 ≡ key / 4 → is_listed sv.firsts q ≡ true → is_ready firsts q ≡ true)
+        → Serves class (record sv { node = new; firsts = firsts }) (taken_with s got c m l)
+    serves_proved firsts order keeps own =
+        record {
+          mirrors = mirrors;
+          nonce = serves.nonce
+              ∙ (λ i. nonce_of (sym role.kind i) (sym (ap (λ (q : Looks). q.entered) is-behind) i));
+          firsts = subst (λ (keys : List ℕ). FirstsStand keys (taken_with s got c m l)) (sym order)
+              (subst (λ (q : Looks). FirstsStand sv.firsts.order q) (sym is-behind)
+              (firsts_dims l behind dims-behind sv.firsts.order refl serves.firsts));
+          ready = subst (λ (b : Bool). ReadyStand b firsts (taken_with s got c m l))
+              (sym (challenges_by class sv.node new role))
+              (subst (λ (q : Looks). ReadyStand (class sv.node.secret).challenges firsts q) (sym is-behind)
+              (ready_place (class sv.node.secret).challenges sv.firsts firsts l behind (key / 4) order keeps own
+              (falls_proved (class sv.node.secret).challenges l behind c key proving dims-behind refl s
+              serves.mirrors.orderly at) serves.ready));
+        }
 
 -- ---- a call that is active
 

@@ -26,7 +26,7 @@ use Rattle.rx_node.specs.Node.{NodeState, setup_of}
 use Rattle.rx_server.specs.Server.{Answered, IsServerOf, ServerState, Serves}
 use Rattle.rx_server.specs.Taking.{Takes}
 use Rattle.rx_server.specs.Turned.{Judges, strays}
-use Rattle.rx_server.proofs.Serving.{answered_by, serves_quiet}
+use Rattle.rx_server.proofs.Serving.{SameRole, answered_by, serves_quiet}
 
 -- ---- a row in front
 
@@ -52,12 +52,12 @@ turned_stray _ from m l is = absurd (cc (is))
 
 -- the server behind it
 pub serves_stray : (class : List ℕ → Class) (sv : ServerState) (new : NodeState) (l : Looks) (from : Host) (m : Message)
-    → new.kind ≡ sv.node.kind → Mirrors class new (with_stray from m l) → Serves class sv l
+    → SameRole sv.node new → Mirrors class new (with_stray from m l) → Serves class sv l
     → Serves class (record sv { node = new }) (with_stray from m l)
-serves_stray class sv new l from m kind mirrors serves =
+serves_stray class sv new l from m role mirrors serves =
     (let same = dims_refl l in
-    serves_quiet class sv new l (with_stray from m l) kind (record { calls = same.calls; conns = same.conns })
-    (record { firsts = refl; entered = refl }) mirrors serves)
+    serves_quiet class sv new l (with_stray from m l) role (record { calls = same.calls; conns = same.conns })
+    (record { firsts = refl; entered = refl; proved = refl }) mirrors serves)
 
 -- ---- a message
 
@@ -103,12 +103,12 @@ module _ (class : List ℕ → Class) (old new : ServerState) (l : Looks) (from 
 -- where the row owes one
 pub serves_turned : (class : List ℕ → Class) (sv : ServerState) (new : NodeState) (l : Looks)
     (from : Host) (m : Message)
-    (row : Took) → strays row m.body ≡ true → new.kind ≡ sv.node.kind → Mirrors class new (with_stray from m l)
+    (row : Took) → strays row m.body ≡ true → SameRole sv.node new → Mirrors class new (with_stray from m l)
     → Serves class sv l
     → Serves class (record sv { node = new }) (turned_away row from m l)
-serves_turned class sv new l from m row owes kind mirrors serves =
+serves_turned class sv new l from m row owes role mirrors serves =
     subst (λ (q : Looks). Serves class (record sv { node = new }) q) (turned_stray row from m l owes)
-    (serves_stray class sv new l from m kind mirrors serves)
+    (serves_stray class sv new l from m role mirrors serves)
 
 -- ---- a datagram
 

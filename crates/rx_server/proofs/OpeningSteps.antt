@@ -2,7 +2,7 @@
 use Rattle.std.proofs.Common.{◌≡◌, ◌<◌, ◌==◌, ◌%◌, ℕ, not, nat_lt, if◌then◌else◌, is_some, Bool, true, false, List}
 use Rattle.std.proofs.Common.{[], ◌∷◌, filter}
 use Rattle.std.proofs.Common.{Option, Some, None, refl, ◌∙◌, ap, sym, subst, arith}
-use Rattle.std.specs.Prelude.{option_and_then}
+use Rattle.std.specs.Prelude.{option_and_then, slice_set}
 use Rattle.std.proofs.lemmas.Bool.Decides.{nat_tests}
 use Rattle.rx_model.specs.declared.names.CallName.{CallName}
 use Rattle.rx_model.specs.Names.{Channel}
@@ -24,10 +24,14 @@ use Rattle.rx_table.specs.declared.seat.Seat.{Seat}
 use Rattle.rx_table.specs.Records.{seat_at}
 use Rattle.rx_node.specs.Mirrors.{IsChannel, Mirrors, channel_in}
 use Rattle.rx_node.specs.Node.{NodeState, setup_of}
-use Rattle.rx_server.specs.Server.{ServerState, Serves, waits_at, waits_on}
+use Rattle.rx_queue.specs.Queue.{QueueState}
+use Rattle.rx_server.specs.Server.{FirstsStand, ReadyStand, ServerState, Serves, waits_at, waits_on}
 use Rattle.rx_server.specs.Taking.{Opening}
 use Rattle.rx_server.proofs.FirstsLaws.{firsts_dims, firsts_started, firsts_without}
 use Rattle.rx_server.proofs.PlacedFirsts.{dead_channel}
+use Rattle.rx_server.proofs.ReadyLaws.{ready_dims, ready_without}
+use Rattle.rx_server.proofs.ReadyStarts.{ready_started}
+use Rattle.rx_server.proofs.Serving.{SameRole, challenges_by}
 
 module _ (class : List ℕ → Class) (sv : ServerState) (l : Looks) (ch : Channel) (key number : ℕ)
     (serves : Serves class sv l) (at : IsChannel l key ch)
@@ -97,19 +101,27 @@ module _ (class : List ℕ → Class) (sv : ServerState) (l : Looks) (ch : Chann
       ∙ ap (waits_on ended) (sym at.is) ∙ (dead_channel ended ch dead).0
 
   -- the server serves the start
-  pub serves_made : (n : NodeState) → n.kind ≡ sv.node.kind → Mirrors class n made
-      → Serves class (record sv { node = n; firsts = filter (λ k. not (k == key)) sv.firsts }) made
-  serves_made n kind mirrors =
+  pub serves_made : (n : NodeState) (firsts : QueueState) → SameRole sv.node n
+      → firsts.order ≡ filter (λ k. not (k == key)) sv.firsts.order → firsts.ready ≡ slice_set sv.firsts.ready key None
+      → Mirrors class n made → Serves class (record sv { node = n; firsts = firsts }) made
+  serves_made n firsts role without cleared mirrors =
+      let dims = dims_life (latest_name l ch) after_later l later_falls in
+      let there : IsChannel ended key ch = record { conn = at.conn; there = at.there; is = at.is } in
+      let orderly = orderly_dims s l ended dims serves.mirrors.orderly in
+      let high = above (channel_at l ch).number opening.above in
+      let rest : List ℕ = filter (λ k. not (k == key)) sv.firsts.order in
       record {
         mirrors = mirrors;
-        nonce = serves.nonce ∙ ap (λ (k : _). nonce_of k l.entered) (sym kind);
-        firsts =
-            (let dims = dims_life (latest_name l ch) after_later l later_falls in
-            let there : IsChannel ended key ch = record { conn = at.conn; there = at.there; is = at.is } in
-            firsts_started s c key ended there (orderly_dims s l ended dims serves.mirrors.orderly)
-            (above (channel_at l ch).number opening.above) (filter (λ k. not (k == key)) sv.firsts) (others sv.firsts)
-            (firsts_without sv.firsts key ended silent
-            (firsts_dims l ended dims sv.firsts refl serves.firsts)));
+        nonce = serves.nonce ∙ ap (λ (k : _). nonce_of k l.entered) (sym role.kind);
+        firsts = subst (λ (keys : List ℕ). FirstsStand keys made) (sym without)
+            (firsts_started s c key ended there orderly high rest (others sv.firsts.order)
+            (firsts_without sv.firsts.order key ended silent
+            (firsts_dims l ended dims sv.firsts.order refl serves.firsts)));
+        ready = subst (λ (b : Bool). ReadyStand b firsts made) (sym (challenges_by class sv.node n role))
+            (ready_started s c key ended there orderly high (class sv.node.secret).challenges firsts
+            (subst (λ (keys : List ℕ). Every (λ k. (k == key) ≡ false) keys) (sym without) (others sv.firsts.order))
+            (ready_without (class sv.node.secret).challenges sv.firsts firsts ended key without cleared
+            (ready_dims (class sv.node.secret).challenges sv.firsts l ended dims refl serves.ready)));
       }
     where
       above : (n : ℕ) → nat_lt n number ≡ true → n < number

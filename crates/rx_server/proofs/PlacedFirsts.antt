@@ -1,5 +1,5 @@
 -- The channels of calls whose packet 1 was kept, where a connection is entered.
-use Rattle.std.proofs.Common.{◌≡◌, ◌<◌, ◌&&◌, ◌/◌, ◌%◌, ℕ, zero, suc, if◌then◌else◌, not, Bool, true, false}
+use Rattle.std.proofs.Common.{◌≡◌, ◌<◌, ◌&&◌, ◌/◌, ◌%◌, ℕ, zero, suc, if◌then◌else◌, is_some, not, Bool, true, false}
 use Rattle.std.proofs.Common.{List, [], ◌∷◌, ◌++◌}
 use Rattle.std.proofs.Common.{map, nat_le, Option, Some, None, option_map, refl, ◌∙◌, ap, sym, arith}
 use Rattle.std.specs.Prelude.{◌-◌, option_and_then, slice_get, unwrap_or}
@@ -22,13 +22,11 @@ use Rattle.rx_rules.proofs.FindLaws.{find-before, find-last}
 use Rattle.rx_law.proofs.Orderly.{Orderly}
 use Rattle.rx_law.proofs.Dims.{has_first}
 use Rattle.rx_node.specs.Mirrors.{channel_in}
-use Rattle.rx_server.specs.Server.{FirstsStand, lacks_at, lacks_on, waits, waits_at, waits_on}
+use Rattle.rx_queue.specs.Queue.{QueueState}
+use Rattle.rx_server.specs.Server.{FirstsStand, ReadyStand, lacks_at, lacks_on, waits, waits_at, waits_on}
 use Rattle.rx_node.proofs.ChannelSteps.{channel_of_record, conn_there}
 use Rattle.rx_server.proofs.FirstsLaws.{firsts_alike, on_alike, waits_lives}
-
-every-all : (P : ℕ → Type 0) (keys : List ℕ) → ((k : ℕ) → P k) → Every P keys
-every-all P [] gives = tt
-every-all P (k ∷ keys) gives = (gives k, every-all P keys gives)
+use Rattle.rx_server.proofs.ReadyLaws.{FallsAt, admits_there, every_all, ready_alike, waits_there}
 
 fresh-number : (n : ℕ) → n < 4 → (x : Connection)
     → unwrap_or (slice_get (map (λ ch. fresh_channel 0) (channels_of x)) n) (fresh_channel 0) ≡ fresh_channel 0
@@ -164,8 +162,22 @@ module _ (s : Setup) (l : Looks) (o : Orderly s l) (numbered : (c : CallName) �
     -- the channels that are listed stay listed
     pub firsts_entered : (firsts : List ℕ) → FirstsStand firsts l → FirstsStand firsts more
     firsts_entered firsts f =
-        firsts_alike firsts l more (every-all _ firsts (λ k. (more-at k).0)) (every-all _ firsts (λ k. (more-at k).1))
+        firsts_alike firsts l more (every_all _ firsts (λ k. (more-at k).0)) (every_all _ firsts (λ k. (more-at k).1))
         refl f
+
+    -- and ready
+    pub stand_entered : (b : Bool) (q : QueueState) → ReadyStand b q l → ReadyStand b q more
+    stand_entered b q =
+        ready_alike b q l more
+        (every_all (FallsAt b l more) q.order
+        (λ k waiting admitted. (
+        let before : is_some (waits_at l k) ≡ true =
+        ap (λ (w : Option CallName). is_some w) (sym (more-at k).0) ∙ waiting in
+        let own = waits_there l k before in (
+          before,
+          admits_there b l k own.0 own.1
+              ∙ sym (admits_there b more k own.0 (at-place l.conns (k / 4) own.0 own.1)) ∙ admitted,
+        ))))
 
   -- ---- in the place of one that is idle
 
@@ -234,6 +246,33 @@ module _ (s : Setup) (l : Looks) (o : Orderly s l) (numbered : (c : CallName) �
     -- the channels that are listed stay listed
     pub firsts_replaced : (firsts : List ℕ) → FirstsStand firsts l → FirstsStand firsts other
     firsts_replaced firsts f =
-        firsts_alike firsts l other (every-all _ firsts (λ k. (other-at k).0))
-        (every-all _ firsts (λ k. (other-at k).1))
+        firsts_alike firsts l other (every_all _ firsts (λ k. (other-at k).0))
+        (every_all _ firsts (λ k. (other-at k).1))
         refl f
+
+    none-waits : (key : ℕ) (r : ConnLooks) → slice_get l.conns (key / 4) ≡ Some r
+        → same_connection r.connection old.connection ≡ true → waits_at l key ≡ None
+    none-waits key r is own =
+        ap (waits_in l key) is
+        ∙ (dead_channel l (channel_in r (key % 4))
+        (ap (λ (y : Connection). is_call (λ k. is_live k.life) (latest l (record { connection = y; chan = key % 4 })))
+        (connection_is r.connection old.connection own)
+        ∙ none-live l old.connection (key % 4) (omega arith) none-lives)).0
+
+    -- and ready
+    pub stand_replaced : (b : Bool) (q : QueueState) → ReadyStand b q l → ReadyStand b q other
+    stand_replaced b q =
+        ready_alike b q l other
+        (every_all (FallsAt b l other) q.order
+        (λ k waiting admitted. (
+        let before : is_some (waits_at l k) ≡ true =
+        ap (λ (w : Option CallName). is_some w) (sym (other-at k).0) ∙ waiting in
+        let own = waits_there l k before in
+        let r : ConnLooks = own.0 in
+        let apart : same_connection r.connection old.connection ≡ false =
+        refuted (same_connection r.connection old.connection)
+        (λ same. false≢true (sym (ap (λ (w : Option CallName). is_some w) (none-waits k r own.1 same)) ∙ before)) in
+        let there : slice_get other.conns (k / 4) ≡ Some r =
+        slice_get-map instead l.conns (k / 4) ∙ ap (option_map instead) own.1
+        ∙ ap (λ (t : Bool). Some (if t then new else r)) apart in
+        (before, admits_there b l k r own.1 ∙ sym (admits_there b other k r there) ∙ admitted))))

@@ -9,10 +9,11 @@ use Rattle.rx_rules.specs.Setup.{Setup}
 use Rattle.rx_law.proofs.DimsEvents.{polled_dims}
 use Rattle.rx_node.specs.Mirrors.{Mirrors}
 use Rattle.rx_node.specs.Node.{KeepsNode, NodeState, setup_of}
-use Rattle.rx_node.specs.Steps.{AnswersNode, Dimmed}
+use Rattle.rx_node.specs.Steps.{AnswersNode}
+use Rattle.rx_books.specs.Polled.{Polled}
 use Rattle.rx_server.specs.Server.{Answered, IsServing, ServerState, Serves}
 use Rattle.rx_server.proofs.RestLaws.{polled_rests}
-use Rattle.rx_server.proofs.Serving.{parts_stay, serves_quiet, serving_by, setup_by}
+use Rattle.rx_server.proofs.Serving.{parts_stay, role_stays, serves_quiet, serving_by, setup_by}
 
 module _ (class : List ℕ → Class) (sv : ServerState) (new : NodeState) (kept : KeepsNode sv.node new) where
   -- what the node answers the server does
@@ -36,15 +37,16 @@ module _ (class : List ℕ → Class) (sv : ServerState) (new : NodeState) (kept
       serves : Mirrors class new (after (setup_of class sv.node) (events.Polled got) l)
           → Serves class (record sv { node = new }) (after (setup_of class sv.node) (events.Polled got) l)
       serves mirrors =
-          serves_quiet class sv new l (after (setup_of class sv.node) (events.Polled got) l) kept.kind
+          serves_quiet class sv new l (after (setup_of class sv.node) (events.Polled got) l) (role_stays sv.node new kept)
           (polled_dims (setup_of class sv.node) got l) (polled_rests (setup_of class sv.node) got l)
           mirrors stands.serves
 
   -- it serves on
-  pub poll_serving : ((l : Looks) → Mirrors class sv.node l → Dimmed class new l) → IsServing class sv
+  pub poll_serving : ((l : Looks) → Mirrors class sv.node l → Polled class new l) → IsServing class sv
       → IsServing class (record sv { node = new })
-  poll_serving dimmed is =
-      (let d = dimmed is.looks is.serves.mirrors in
+  poll_serving polled is =
+      (let p = polled is.looks is.serves.mirrors in
+      let d = p.dimmed in
       serving_by class sv new d.behind (parts_stay sv.node new kept)
-      (serves_quiet class sv new is.looks d.behind kept.kind d.dims (record { firsts = d.firsts; entered = d.entered })
-      d.mirrors is.serves) is)
+      (serves_quiet class sv new is.looks d.behind (role_stays sv.node new kept) d.dims
+      (record { firsts = d.firsts; entered = d.entered; proved = p.proved }) d.mirrors is.serves) is)

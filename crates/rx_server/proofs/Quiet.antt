@@ -11,7 +11,7 @@ use Rattle.rx_node.specs.Mirrors.{Mirrors}
 use Rattle.rx_node.specs.Node.{NodeState, setup_of}
 use Rattle.rx_server.specs.Server.{Answered, IsServerOf, IsServing, ServerState, Serves}
 use Rattle.rx_server.proofs.RestLaws.{Rests}
-use Rattle.rx_server.proofs.Serving.{SameParts, answered_by, serves_quiet, serving_by, setup_by}
+use Rattle.rx_server.proofs.Serving.{SameParts, answered_by, role_of, serves_quiet, serving_by, setup_by}
 
 -- ---- what it may answer
 
@@ -39,7 +39,7 @@ module _ (class : List ℕ → Class) (sv : ServerState) (new : NodeState) (e : 
   pub quiet_serves : (l : Looks) → Serves class sv l
       → Serves class (record sv { node = new }) (after (setup_of class sv.node) e l)
   quiet_serves l serves =
-      serves_quiet class sv new l (after (setup_of class sv.node) e l) quiet.parts.kind (quiet.dims l) (quiet.rests l)
+      serves_quiet class sv new l (after (setup_of class sv.node) e l) (role_of sv.node new quiet.parts) (quiet.dims l) (quiet.rests l)
       (quiet.mirrors l serves) serves
 
   -- its answer

@@ -1,5 +1,5 @@
 -- A server behind a change of its node.
-use Rattle.std.proofs.Common.{◌≡◌, ◌<◌, ◌≤◌, ◌/◌, ◌==◌, ◌||◌, ◌*◌, ◌++◌, ℕ, ℤ, if◌then◌else◌, not, filter, Bool, true}
+use Rattle.std.proofs.Common.{◌≡◌, ◌<◌, ◌≤◌, ◌+◌, ◌/◌, ◌==◌, ◌||◌, ◌*◌, ◌++◌, ℕ, ℤ, if◌then◌else◌, not, filter, Bool, true}
 use Rattle.std.proofs.Common.{false, List, [], ◌∷◌, length, map, Some, None, refl, ◌∙◌, ap, sym, subst, arith}
 use Rattle.std.specs.Prelude.{slice_get}
 use Rattle.std.proofs.lemmas.List.{length-append, length-map}
@@ -21,15 +21,15 @@ use Rattle.rx_rules.proofs.FindLaws.{list_any-none}
 use Rattle.rx_law.proofs.Differ.{every_other}
 use Rattle.rx_law.proofs.DimsTaken.{used_dims, with_dims}
 use Rattle.rx_law.proofs.Dims.{Dims}
-use Rattle.rx_pool.specs.Pool.{AllBelow, HasNoRepeat, has}
-use Rattle.rx_pool.proofs.Numbers.{few, no_repeat_push}
-use Rattle.rx_model.proofs.NameLaws.{neither}
+use Rattle.rx_queue.specs.Queue.{QueueState}
 use Rattle.rx_table.specs.Records.{ConnRecord}
 use Rattle.rx_node.specs.Mirrors.{IsChannel, IsKey, Mirrors}
 use Rattle.rx_node.proofs.EndingSteps.{channel_after}
-use Rattle.rx_node.specs.Node.{KeepsNode, NodeState, setup_of}
-use Rattle.rx_server.specs.Server.{Answered, IsServerOf, IsServing, ServerState, Serves, Stands}
+use Rattle.rx_node.specs.Node.{KeepsNode, KeepsSetup, NodeState, setup_of}
+use Rattle.rx_books.proofs.ProvedClients.{proofs_conn}
+use Rattle.rx_server.specs.Server.{Answered, IsServerOf, IsServing, ReadyStand, ServerState, Serves, Stands}
 use Rattle.rx_server.proofs.FirstsLaws.{firsts_dims}
+use Rattle.rx_server.proofs.ReadyLaws.{ready_dims}
 use Rattle.rx_server.proofs.RestLaws.{Rests, with_rests}
 
 -- ---- its setup
@@ -54,6 +54,30 @@ parts_stay old new same =
           ∙ ap (λ (xs : List Connection). length xs) same.names
           ∙ length-map old.table.conns (λ (r : ConnRecord). r.connection);
     }
+
+-- a node of the same kind and class
+pub record SameRole (old new : NodeState) : Type 0 where
+  pub kind : new.kind ≡ old.kind
+  pub secret : new.secret ≡ old.secret
+
+pub role_of : (old new : NodeState) → SameParts old new → SameRole old new
+role_of old new same = record { kind = same.kind; secret = same.secret }
+
+pub role_stays : (old new : NodeState) → KeepsNode old new → SameRole old new
+role_stays old new same = record { kind = same.kind; secret = same.secret }
+
+pub setup_role : (old new : NodeState) → KeepsSetup old new → SameRole old new
+setup_role old new same = record { kind = same.kind; secret = same.secret }
+
+-- one change behind another
+pub role_both : (old mid new : NodeState) → KeepsNode old mid → KeepsNode mid new → SameRole old new
+role_both old mid new first second =
+    record { kind = second.kind ∙ first.kind; secret = second.secret ∙ first.secret }
+
+-- whether its class challenges
+pub challenges_by : (class : List ℕ → Class) (old new : NodeState) → SameRole old new
+    → (class new.secret).challenges ≡ (class old.secret).challenges
+challenges_by class old new same = ap (λ (secret : List ℕ). (class secret).challenges) same.secret
 
 -- one change behind another
 pub parts_trans : (old mid new : NodeState) → SameParts old mid → SameParts mid new → SameParts old new
@@ -84,14 +108,16 @@ keys_by old new keys same all = subst (λ (n : ℕ). Every (λ key. key / 4 < n)
 -- ---- what it serves
 
 -- a change that brings no call to life, enters none and keeps no packet 1
-pub serves_quiet : (class : List ℕ → Class) (sv : ServerState) (new : NodeState) (l m : Looks) → new.kind ≡ sv.node.kind
+pub serves_quiet : (class : List ℕ → Class) (sv : ServerState) (new : NodeState) (l m : Looks) → SameRole sv.node new
     → Dims l m → Rests l m → Mirrors class new m → Serves class sv l
     → Serves class (record sv { node = new }) m
-serves_quiet class sv new l m kind dims rests mirrors serves =
+serves_quiet class sv new l m role dims rests mirrors serves =
     record {
       mirrors = mirrors;
-      nonce = serves.nonce ∙ (λ i. nonce_of (sym kind i) (sym rests.entered i));
-      firsts = firsts_dims l m dims sv.firsts rests.firsts serves.firsts;
+      nonce = serves.nonce ∙ (λ i. nonce_of (sym role.kind i) (sym rests.entered i));
+      firsts = firsts_dims l m dims sv.firsts.order rests.firsts serves.firsts;
+      ready = subst (λ (b : Bool). ReadyStand b sv.firsts m) (sym (challenges_by class sv.node new role))
+          (ready_dims (class sv.node.secret).challenges sv.firsts l m dims rests.proved serves.ready);
     }
 
 -- it serves on
@@ -103,8 +129,7 @@ serving_by class sv new m same serves is =
       fits = subst FitsLimits (sym same.limits) is.fits;
       looks = m;
       serves = serves;
-      apart = is.apart;
-      there = keys_by sv.node new sv.firsts same is.there;
+      there = keys_by sv.node new sv.firsts.order same is.there;
     }
 
 -- ---- histories
@@ -150,12 +175,16 @@ own-conn l key c at = sym (ap (λ (d : Channel). d.connection) at.is)
 
 -- one that is known is used now
 pub serves_used : (class : List ℕ → Class) (sv : ServerState) (new : NodeState) (l : Looks) (key : ℕ) (c : CallName)
-    → IsChannel l key (channel_of c) → new.kind ≡ sv.node.kind
+    → IsChannel l key (channel_of c) → SameRole sv.node new
     → ((r : ConnLooks) → slice_get l.conns (key / 4) ≡ Some r → Mirrors class new (used r.connection l))
     → Serves class sv l → Serves class (record sv { node = new }) (used (connection_of c) l)
-serves_used class sv new l key c at kind steps serves =
-    serves_quiet class sv new l (used (connection_of c) l) kind (used_dims (connection_of c) l)
-    (record { firsts = refl; entered = refl })
+serves_used class sv new l key c at role steps serves =
+    serves_quiet class sv new l (used (connection_of c) l) role (used_dims (connection_of c) l)
+    (record {
+      firsts = refl;
+      entered = refl;
+      proved = proofs_conn (connection_of c) (λ r. record r { last_use = l.now }) l (λ r. refl);
+    })
     (subst (λ (x : Connection). Mirrors class new (used x l)) (own-conn l key c at) (steps at.conn at.there)) serves
 
 -- and its channel keeps its key
@@ -183,78 +212,47 @@ aborting c code =
 
 -- behind it no further call lives
 pub serves_stopped : (class : List ℕ → Class) (sv : ServerState) (new : NodeState) (l : Looks) (ch : Channel) (code : ℤ)
-    → new.kind ≡ sv.node.kind → Mirrors class new (stopped_all ch.connection code l) → Serves class sv l
+    → SameRole sv.node new → Mirrors class new (stopped_all ch.connection code l) → Serves class sv l
     → Serves class (record sv { node = new }) (stopped_all ch.connection code l)
-serves_stopped class sv new l ch code kind mirrors serves =
+serves_stopped class sv new l ch code role mirrors serves =
     (let c = call_named ch 0 in
-    serves_quiet class sv new l (stopped_all ch.connection code l) kind
+    serves_quiet class sv new l (stopped_all ch.connection code l) role
     (with_dims (setup_of class sv.node) tooks.Stopped c (aborting c code) l refl)
-    (with_rests (setup_of class sv.node) tooks.Stopped c (aborting c code) l refl) mirrors serves)
+    (with_rests (setup_of class sv.node) tooks.Stopped c (aborting c code) l refl refl) mirrors serves)
 
--- ---- a channel is listed no longer
+-- there is room for each key
+pub key_room : (class : List ℕ → Class) (sv : ServerState) → IsServing class sv
+    → 4 * sv.node.limits.conns ≤ length sv.firsts.ready → (key : ℕ) → IsKey sv.node key
+    → 4 * (key / 4) + 3 < length sv.firsts.ready
+key_room class sv is room key its =
+    (let conns = is.serves.mirrors.conns.conns in
+    let few = is.serves.mirrors.orderly.conns.few in
+    omega (arith, conns, few, room, its))
 
-has-filter : (x : ℕ) (p : ℕ → Bool) (xs : List ℕ) → has x xs ≡ false → has x (filter p xs) ≡ false
-has-filter x p [] is = refl
-has-filter x p (y ∷ ys) is =
-    let t = neither _ (has x ys) is in
-    let rest = has-filter x p ys t.1 in
-    (elim (p y) as (λ b. has x (if b then y ∷ filter p ys else filter p ys) ≡ false) [
-      | true ↦ (λ i. t.0 i || rest i)
-      | false ↦ rest
-    ])
+-- ---- the channels that are listed change
 
-no-repeat-filter : (p : ℕ → Bool) (xs : List ℕ) → HasNoRepeat xs → HasNoRepeat (filter p xs)
-no-repeat-filter p [] is = tt
-no-repeat-filter p (y ∷ ys) is =
-    let rest = no-repeat-filter p ys is.1 in
-    (elim (p y) as (λ b. HasNoRepeat (if b then y ∷ filter p ys else filter p ys)) [
-      | true ↦ (has-filter y p ys is.0, rest)
-      | false ↦ rest
-    ])
-
--- it serves on without it
-pub serving_without : (class : List ℕ → Class) (sv : ServerState) (new : NodeState) (m : Looks) (key : ℕ)
-    → SameParts sv.node new
-    → Serves class (record sv { node = new; firsts = filter (λ k. not (k == key)) sv.firsts }) m → IsServing class sv
-    → IsServing class (record sv { node = new; firsts = filter (λ k. not (k == key)) sv.firsts })
-serving_without class sv new m key same serves is =
+-- it serves on with those of them that are there
+pub serving_with : (class : List ℕ → Class) (sv : ServerState) (new : NodeState) (m : Looks) (firsts : QueueState)
+    → SameParts sv.node new → Every (IsKey sv.node) firsts.order
+    → Serves class (record sv { node = new; firsts = firsts }) m → IsServing class sv
+    → IsServing class (record sv { node = new; firsts = firsts })
+serving_with class sv new m firsts same there serves is =
     record {
       server = subst (λ (k : Kind). IsServerOf k sv.service) (sym same.kind) is.server;
       fits = subst FitsLimits (sym same.limits) is.fits;
       looks = m;
       serves = serves;
-      apart = no-repeat-filter (λ k. not (k == key)) sv.firsts is.apart;
-      there = every-filter (IsKey new) (λ k. not (k == key)) sv.firsts (keys_by sv.node new sv.firsts same is.there);
+      there = keys_by sv.node new firsts.order same there;
     }
 
--- ---- a further channel is listed
+-- where one goes they are
+pub there_without : (n : NodeState) (key : ℕ) (order made : List ℕ) → made ≡ filter (λ k. not (k == key)) order
+    → Every (IsKey n) order → Every (IsKey n) made
+there_without n key order made is there =
+    subst (λ (ks : List ℕ). Every (IsKey n) ks) (sym is) (every-filter (IsKey n) (λ k. not (k == key)) order there)
 
-below-four : (n : NodeState) (conns : ℕ) (keys : List ℕ) → length n.table.conns ≤ conns → Every (IsKey n) keys
-    → AllBelow (4 * conns) keys
-below-four n conns [] few all = tt
-below-four n conns (key ∷ keys) few all = ((let low = all.0 in omega arith), below-four n conns keys few all.1)
-
--- there is room for it
-pub room_listed : (n : NodeState) (conns capacity key : ℕ) (firsts : List ℕ) → length n.table.conns ≤ conns
-    → 4 * conns ≤ capacity → HasNoRepeat firsts → Every (IsKey n) firsts → has key firsts ≡ false → IsKey n key
-    → length firsts < capacity
-room_listed n conns capacity key firsts low room apart there fresh is =
-    (let all = few (4 * conns) (firsts ++ key ∷ []) (no_repeat_push key firsts apart fresh)
-    (below-four n conns (firsts ++ key ∷ []) low (every-append (IsKey n) firsts (key ∷ []) there (is, tt))) in
-    let more = length-append firsts (key ∷ []) in omega arith)
-
--- it serves on with it
-pub serving_listed : (class : List ℕ → Class) (sv : ServerState) (new : NodeState) (m : Looks) (key : ℕ)
-    → SameParts sv.node new → has key sv.firsts ≡ false → IsKey sv.node key
-    → Serves class (record sv { node = new; firsts = sv.firsts ++ key ∷ [] }) m → IsServing class sv
-    → IsServing class (record sv { node = new; firsts = sv.firsts ++ key ∷ [] })
-serving_listed class sv new m key same fresh is serves i =
-    record {
-      server = subst (λ (k : Kind). IsServerOf k sv.service) (sym same.kind) i.server;
-      fits = subst FitsLimits (sym same.limits) i.fits;
-      looks = m;
-      serves = serves;
-      apart = no_repeat_push key sv.firsts i.apart fresh;
-      there = keys_by sv.node new (sv.firsts ++ key ∷ []) same
-          (every-append (IsKey sv.node) sv.firsts (key ∷ []) i.there (is, tt));
-    }
+-- where one comes that is there
+pub there_behind : (n : NodeState) (key : ℕ) (order made : List ℕ) → made ≡ order ++ key ∷ [] → Every (IsKey n) order
+    → IsKey n key → Every (IsKey n) made
+there_behind n key order made is there own =
+    subst (λ (ks : List ℕ). Every (IsKey n) ks) (sym is) (every-append (IsKey n) order (key ∷ []) there (own, tt))

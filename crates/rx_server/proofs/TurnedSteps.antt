@@ -30,8 +30,8 @@ use Rattle.rx_server.specs.Taking.{HasNoPlace, RowIs, Takes}
 use Rattle.rx_node.specs.Steps.{stopped_by}
 use Rattle.rx_server.specs.Turned.{turned_of}
 use Rattle.rx_server.specs.declared.server.taking.Turned.TheVariants as turns
-use Rattle.rx_server.proofs.RestLaws.{with_rests}
-use Rattle.rx_server.proofs.Serving.{aborting, serves_quiet, serves_unused}
+use Rattle.rx_server.proofs.RestLaws.{rests_channel, with_rests}
+use Rattle.rx_server.proofs.Serving.{SameRole, aborting, serves_quiet, serves_unused}
 use Rattle.rx_server.proofs.TurnedRows.{IsPlain, Says, row_no_place, row_plain, row_says}
 
 -- a server of a service is a server
@@ -41,21 +41,20 @@ is_server (Client host epoch) n is = is
 
 -- what a channel owes changes
 pub serves_owing : (class : List ℕ → Class) (sv : ServerState) (new : NodeState) (l : Looks) (ch : Channel)
-    (f : ChannelLooks → ChannelLooks) → ((q : ChannelLooks) → (f q).number ≡ q.number) → new.kind ≡ sv.node.kind
+    (f : ChannelLooks → ChannelLooks) → ((q : ChannelLooks) → (f q).number ≡ q.number) → SameRole sv.node new
     → Mirrors class new (on_channel ch f l) → Serves class sv l
     → Serves class (record sv { node = new }) (on_channel ch f l)
-serves_owing class sv new l ch f keeps kind mirrors serves =
-    serves_quiet class sv new l (on_channel ch f l) kind (dims_channel ch f l keeps)
-    (record { firsts = refl; entered = refl }) mirrors serves
+serves_owing class sv new l ch f keeps role mirrors serves =
+    serves_quiet class sv new l (on_channel ch f l) role (dims_channel ch f l keeps) (rests_channel ch f l) mirrors serves
 
 -- the life of a call falls
 pub serves_life : (class : List ℕ → Class) (sv : ServerState) (new : NodeState) (l : Looks) (c : CallName)
-    (f : Life → Life) → ((x : Life) → Falls x (f x)) → new.kind ≡ sv.node.kind → Mirrors class new (on_life c f l)
+    (f : Life → Life) → ((x : Life) → Falls x (f x)) → SameRole sv.node new → Mirrors class new (on_life c f l)
     → Serves class sv l
     → Serves class (record sv { node = new }) (on_life c f l)
-serves_life class sv new l c f falls kind mirrors serves =
-    serves_quiet class sv new l (on_life c f l) kind (dims_life c f l falls) (record { firsts = refl; entered = refl })
-    mirrors serves
+serves_life class sv new l c f falls role mirrors serves =
+    serves_quiet class sv new l (on_life c f l) role (dims_life c f l falls)
+    (record { firsts = refl; entered = refl; proved = refl }) mirrors serves
 
 -- there is no place for its connection
 pub takes_full : (class : List ℕ → Class) (old new : ServerState) (l : Looks) (c : CallName) (m : Message) (row : Took)
@@ -165,15 +164,15 @@ takes_over class old new l c m body server said number rows serves =
 -- what a channel owes again
 pub serves_again : (class : List ℕ → Class) (sv : ServerState) (new : NodeState) (l : Looks)
     (ch : Channel) (body : Body)
-    → new.kind ≡ sv.node.kind
+    → SameRole sv.node new
     → Mirrors class new (taken_over (latest_name l ch) body (latest l ch) l) → Serves class sv l
     → Serves class (record sv { node = new }) (taken_over (latest_name l ch) body (latest l ch) l)
-serves_again class sv new l ch body kind mirrors serves =
+serves_again class sv new l ch body role mirrors serves =
     (let m : Message = record (aborting (latest_name l ch) (pos 0)) { body = body } in
     let s = setup_of class sv.node in
-    serves_quiet class sv new l (taken_over (latest_name l ch) body (latest l ch) l) kind
-    (with_dims s tooks.Over (latest_name l ch) m l refl) (with_rests s tooks.Over (latest_name l ch) m l refl) mirrors
-    serves)
+    serves_quiet class sv new l (taken_over (latest_name l ch) body (latest l ch) l) role
+    (with_dims s tooks.Over (latest_name l ch) m l refl) (with_rests s tooks.Over (latest_name l ch) m l refl refl)
+    mirrors serves)
 
 -- ---- which row it is
 

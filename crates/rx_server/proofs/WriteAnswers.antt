@@ -76,7 +76,7 @@ module _ (class : List ℕ → Class) (sv : ServerState) (c : CallName) where
             subst (λ (d : CallName). Mirrors class new (on_looks d (after_write (take got bytes)) l)) f.latest
             (steps l (channel_of c) serves.mirrors f.channel));
         dims = λ l. dims_looks c (after_write (take got bytes)) l (λ k is. is);
-        rests = λ l. record { firsts = refl; entered = refl };
+        rests = λ l. record { firsts = refl; entered = refl; proved = refl };
       }
     where
       s : Setup
@@ -104,7 +104,7 @@ module _ (class : List ℕ → Class) (sv : ServerState) (c : CallName) where
         allowed = λ l serves. (answers l serves, no_bytes, refl);
         mirrors = λ l serves. subst (λ (m : Looks). Mirrors class sv.node m) (sym (write_nothing c l)) serves.mirrors;
         dims = λ l. dims_looks c (after_write []) l (λ k is. is);
-        rests = λ l. record { firsts = refl; entered = refl };
+        rests = λ l. record { firsts = refl; entered = refl; proved = refl };
       }
 
   -- since the request wasn't read to its end

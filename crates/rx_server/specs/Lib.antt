@@ -2,3 +2,4 @@ pub mod Server
 pub mod Taking
 pub mod Handling
 pub mod Turned
+pub mod Accepting

@@ -1,6 +1,6 @@
 -- What a contract sees of a server, and for which histories it stands. Public clauses cite this module.
-use Rattle.std.specs.Prelude.{◌≡◌, ◌&&◌, ◌/◌, ◌%◌, not, if◌then◌else◌, ℕ, Bool, false, List, ◌∷◌, filter}
-use Rattle.std.specs.Prelude.{Option, Some, None, option_map, option_and_then, slice_get, unwrap_or}
+use Rattle.std.specs.Prelude.{◌≡◌, ◌&&◌, ◌||◌, ◌/◌, ◌%◌, not, if◌then◌else◌, ℕ, Bool, true, false, List, ◌∷◌, filter}
+use Rattle.std.specs.Prelude.{Option, Some, None, is_some, option_map, option_and_then, slice_get, unwrap_or}
 use Rattle.std.specs.List.{filter_map}
 use Rattle.rx_model.specs.declared.answers.ServeRead.{ServeRead}
 use Rattle.rx_model.specs.declared.answers.ServeRead.TheVariants as reads
@@ -15,18 +15,19 @@ use Rattle.rx_rules.specs.Rules.{Allowed, Legal}
 use Rattle.rx_rules.specs.Setup.{Kind, Server, Client, FitsLimits, nonce_of}
 use Rattle.rx_law.proofs.Dims.{has_first}
 use Rattle.rx_rules.proofs.EveryLaws.{Every}
-use Rattle.rx_pool.specs.Pool.{HasNoRepeat}
+use Rattle.rx_queue.specs.Queue.{QueueState, is_ready}
 use Rattle.rx_table.specs.declared.seat.TheConstants.{CHANNELS}
 use Rattle.rx_node.specs.Mirrors.{IsKey, Mirrors, channel_in}
 use Rattle.rx_node.specs.Node.{NodeState, setup_of}
+use Rattle.rx_books.specs.Polled.{proofs_of}
 
 -- what both ends share; its service; the nonce of the next connection; the channels of calls whose packet 1 was kept,
--- in that order
+-- in that order, and which of them are ready
 pub record ServerState : Type 0 where
   pub node : NodeState
   pub service : ℕ
   pub nonce : ℕ
-  pub firsts : List ℕ
+  pub firsts : QueueState
 
 -- ---- the calls that wait
 
@@ -58,13 +59,29 @@ pub record FirstsStand (firsts : List ℕ) (l : Looks) : Type 0 where
   pub order : filter_map (waits_at l) firsts ≡ filter (waits l) l.firsts
   pub kept : Every (λ key. lacks_at l key ≡ false) firsts
 
+-- ---- those of them that are ready
+
+-- the calls of a channel may be given to a handler: its client is proved, or the class doesn't challenge
+abbrev pub admits_at : Bool → Looks → ℕ → Bool
+admits_at challenges l key = not challenges || unwrap_or (slice_get (proofs_of l) (key / CHANNELS)) false
+
+-- a channel whose call waits and may be given to a handler is ready
+abbrev pub IsReadyAt : Bool → QueueState → Looks → ℕ → Type 0
+IsReadyAt challenges q l key =
+    is_some (waits_at l key) ≡ true → admits_at challenges l key ≡ true → is_ready q key ≡ true
+
+-- each one that is listed
+abbrev pub ReadyStand : Bool → QueueState → Looks → Type 0
+ReadyStand challenges q l = Every (IsReadyAt challenges q l) q.order
+
 -- ---- a server
 
 -- each part of a server says what the look-ups say
 pub record Serves (class : List ℕ → Class) (sv : ServerState) (l : Looks) : Type 0 where
   pub mirrors : Mirrors class sv.node l
   pub nonce : sv.nonce ≡ nonce_of sv.node.kind l.entered
-  pub firsts : FirstsStand sv.firsts l
+  pub firsts : FirstsStand sv.firsts.order l
+  pub ready : ReadyStand (class sv.node.secret).challenges sv.firsts l
 
 -- a legal history whose look-ups it serves
 pub record Stands (class : List ℕ → Class) (sv : ServerState) (h : List Event) : Type 0 where
@@ -83,15 +100,14 @@ abbrev pub IsServerOf : Kind → ℕ → Type 0
 IsServerOf (Server service nonces) n = service ≡ n
 IsServerOf (Client host epoch) n = ⊥
 
--- what a server keeps true: its limits are in range; there are look-ups that it serves; each channel is listed once,
--- and is there
+-- what a server keeps true: its limits are in range; there are look-ups that it serves; each channel that is listed is
+-- there
 pub record IsServing (class : List ℕ → Class) (sv : ServerState) : Type 0 where
   pub server : IsServerOf sv.node.kind sv.service
   pub fits : FitsLimits sv.node.limits
   pub looks : Looks
   pub serves : Serves class sv looks
-  pub apart : HasNoRepeat sv.firsts
-  pub there : Every (IsKey sv.node) sv.firsts
+  pub there : Every (IsKey sv.node) sv.firsts.order
 
 -- ---- what a private method changes
 

@@ -4,6 +4,7 @@ use Rattle.std.specs.Prelude.{if◌then◌else◌, not, ◌&&◌}
 use Rattle.rx_model.specs.declared.answers.Took.{Took}
 use Rattle.rx_model.specs.declared.answers.Took.TheVariants as tooks
 use Rattle.rx_model.specs.declared.names.CallName.{CallName}
+use Rattle.rx_model.specs.Body.{Body}
 use Rattle.rx_model.specs.Message.{Message}
 use Rattle.rx_model.specs.Names.{Channel, Connection, channel_of, connection_of}
 use Rattle.rx_rules.specs.After.{prepared, taken_with}
@@ -16,6 +17,7 @@ use Rattle.rx_rules.specs.Setup.{Setup}
 use Rattle.rx_law.proofs.OrderlyOpens.{Opens}
 use Rattle.rx_node.specs.Mirrors.{IsChannel}
 use Rattle.rx_node.specs.Node.{setup_of}
+use Rattle.rx_node.specs.Steps.{is_response}
 use Rattle.rx_server.specs.Server.{ServerState, Serves}
 
 -- the rows of a message with a higher number than its channel's
@@ -84,6 +86,11 @@ pub record TakesLive (class : List ℕ → Class) (old new : ServerState) (l : L
 abbrev pub keeps_first : Took → ℕ → Bool
 keeps_first tooks.Kept seq = seq == 1
 keeps_first _ seq = false
+
+-- a client is proved: a RESPONSE is right
+abbrev pub proves_client : Took → Body → Bool
+proves_client tooks.Heard body = is_response body
+proves_client _ body = false
 
 -- a call with this number may start on the channel with a key
 pub record OpensSome (class : List ℕ → Class) (sv : ServerState) (key number : ℕ) : Type 0 where

@@ -16,6 +16,7 @@ use rx_books::{Kind, Node};
 use rx_class::Class;
 use rx_due::Steps;
 use rx_model::{Host, Limits};
+use rx_queue::Queue;
 use rx_table::CHANNELS;
 use std::alloc::{AllocError, Global};
 use std::marker::Model;
@@ -24,6 +25,7 @@ use std::sync::ledger::Ledger;
 mod handling;
 mod promises;
 mod taking;
+mod waiting;
 
 /// A server of one service. A call of it takes no memory once it was made.
 #[derive(Drop)]
@@ -32,22 +34,23 @@ pub struct Server<C: Class> {
     service: u16,
     /// The nonce of the next connection that it enters.
     nonce: u64,
-    /// The channels of calls whose packet 1 was kept, in the order of its keeping: all that wait are among them.
-    firsts: Vec<u32>,
+    /// The channels of calls whose packet 1 was kept, in the order of its keeping: all that wait are among them, and
+    /// those of them that may be given to a handler are ready.
+    firsts: Queue,
 }
 
 impl<C: Class> Model for Server<C> {
-    ghost use Rattle.std.specs.Prelude.{◌≡◌, ◌≤◌, ◌*◌, vec_capacity};
+    ghost use Rattle.std.specs.Prelude.{◌≡◌, ◌≤◌, ◌*◌, length};
     ghost use Rattle.rx_server.specs.Server.{IsServing, ServerState};
     ghost use Rattle.rx_table.specs.declared.seat.TheConstants.{CHANNELS};
 
     ghost Value = { ServerState };
 
-    ghost view = { λ s. record { node = s.node; service = s.service; nonce = s.nonce; firsts = s.firsts.items } };
+    ghost view = { λ s. record { node = s.node; service = s.service; nonce = s.nonce; firsts = s.firsts } };
 
     ghost invariant = { λ s.
-        IsServing C.class_of (record { node = s.node; service = s.service; nonce = s.nonce; firsts = s.firsts.items })
-        × (CHANNELS * s.node.limits.conns ≤ vec_capacity s.firsts) };
+        IsServing C.class_of (record { node = s.node; service = s.service; nonce = s.nonce; firsts = s.firsts })
+        × (CHANNELS * s.node.limits.conns ≤ length s.firsts.ready) };
 }
 
 impl<C: Class> Server<C> {
@@ -115,7 +118,7 @@ impl<C: Class> Server<C> {
             prompt,
             class,
         )?;
-        let firsts = Vec::with_capacity(alloc, CHANNELS as usize * limits.conns as usize)?;
+        let firsts = Queue::make(alloc, CHANNELS * limits.conns)?;
         Ok(Server {
             node,
             service,

@@ -267,7 +267,7 @@ impl<C: Class> Node<C> {
 }
 
 /// Whether it is a RESPONSE.
-fn is_response(body: &Body<'_>) -> bool
+pub fn is_response(body: &Body<'_>) -> bool
     ensures { result ≡ steps.is_response (body_of body.now) }
 {
     match body {

@@ -1,6 +1,6 @@
 //! Calls and their handlers.
 
-ghost use Rattle.std.specs.Prelude.{◌≡◌, ◌<◌, IfSome, Ok, length, take, drop};
+ghost use Rattle.std.specs.Prelude.{◌≡◌, ◌<◌, Ok, length, take, drop};
 ghost use Rattle.rx_model.specs.declared.answers.ReadGot.TheVariants as readers;
 ghost use Rattle.rx_model.specs.declared.answers.WroteGot.TheVariants as writers;
 ghost use Rattle.rx_model.specs.declared.event.Event.TheVariants as events;
@@ -8,17 +8,21 @@ ghost use Rattle.rx_rules.specs.After.{finish_done};
 ghost use Rattle.rx_rules.specs.Life as lives;
 ghost use Rattle.rx_rules.specs.Looks.{Looks, call_at};
 ghost use Rattle.rx_rules.specs.Rules.{served_finish, served_read_got};
-ghost use Rattle.rx_node.specs.Mirrors.{IsActiveAt, IsKey};
+ghost use Rattle.rx_node.specs.Mirrors.{IsActiveAt};
 ghost use Rattle.rx_node.specs.Node.{setup_of};
-ghost use Rattle.rx_server.specs.Handling.{Finds, IsFirst, IsFound, IsHandledAt, MayFinish, enters_at};
+ghost use Rattle.rx_server.specs.Accepting.{AtMostForAccept};
+ghost use Rattle.rx_server.specs.Handling.{Finds, IsFound, IsHandledAt, MayFinish};
 ghost use Rattle.rx_server.specs.Server.{Answered, SameSetup, Serves, handler_count};
 ghost use Rattle.rx_events.specs.Events.{written_count};
 
 use crate::server::Server;
+use crate::server::waiting::next_waiting;
 use rx_books::{Life, Turn};
 use rx_class::Class;
+use rx_due::Steps;
 use rx_model::{CallName, CallRead, ServeRead, ServeRefused};
-use rx_table::CHANNELS;
+use std::marker::Brand;
+use std::sync::ledger::{Blank, Ledger};
 
 /// What a handler finds of a call.
 enum Handled {
@@ -36,35 +40,33 @@ impl<C: Class> Server<C> {
         ensures answered { Answered C.class_of self.old self.new (events.Accepted result) }
         ensures setup { setup_of C.class_of self.new.node ≡ setup_of C.class_of self.old.node }
     {
-        let key = self.next_waiting()?;
+        self.accept_counted::<Brand>(Blank::new(1))
+    }
+
+    fn accept_counted<L: Ledger>(&mut self, blank: Blank) -> Option<CallName>
+        requires name { blank.name ≡ L.name }
+        requires parts { blank.parts ≡ L.parts }
+        requires counts { 0 < blank.parts }
+        ensures answered { Answered C.class_of self.old self.new (events.Accepted result) }
+        ensures setup { setup_of C.class_of self.new.node ≡ setup_of C.class_of self.old.node }
+    {
+        let mut steps = Steps::<L>::new(blank);
+        self.accept_within(&mut steps)
+    }
+
+    /// The same, by counted steps: how many it takes has to do with how many channels are no longer ready behind it, and
+    /// not with how many calls there are.
+    pub fn accept_within<L: Ledger>(&mut self, steps: &mut Steps<L>) -> Option<CallName>
+        ensures answered { Answered C.class_of self.old self.new (events.Accepted result) }
+        ensures setup { setup_of C.class_of self.new.node ≡ setup_of C.class_of self.old.node }
+        ensures steps { AtMostForAccept self.old self.new steps.old steps.new }
+    {
+        self.firsts.each_came();
+        let key = next_waiting(&mut self.firsts, &self.node, steps)?;
         let c = self.node.latest(key);
-        self.node.turn(key, Turn::Accept);
-        self.firsts.retain(|first| *first != key);
+        self.node.accept(key, steps);
+        self.firsts.remove(key, steps);
         Some(c)
-    }
-
-    /// The channel of that call.
-    fn next_waiting(&self) -> Option<u32>
-        ensures key { IfSome result (IsKey self.now.node) }
-        ensures first { (l : Looks) → Serves C.class_of self.now l →
-            IsFirst (setup_of C.class_of self.now.node) l self.now.firsts result }
-    {
-        for key in self.firsts.iter() {
-            if self.can_enter(*key) {
-                return Some(*key);
-            }
-        }
-        None
-    }
-
-    /// Whether the call of a channel waits, and its client is proved where the class challenges.
-    fn can_enter(&self, key: u32) -> bool
-        requires { IsKey self.now.node key }
-        ensures { (l : Looks) → Serves C.class_of self.now l →
-            result ≡ enters_at (setup_of C.class_of self.now.node) l key }
-    {
-        let waits = self.node.life(key) == Some(Life::Waiting);
-        waits && (!self.node.class().challenges() || self.node.proved(key / CHANNELS))
     }
 
     /// Reads the next bytes of the request of a call, as many as fit.

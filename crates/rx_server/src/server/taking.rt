@@ -15,12 +15,13 @@ ghost use Rattle.rx_server.specs.Server.{Answered, SameSetup, Serves, StepsServe
 ghost use Rattle.rx_rules.specs.After.{turned_away};
 ghost use Rattle.rx_server.specs.Turned.{Judges, strays, turned_of};
 ghost use Rattle.rx_server.specs.Taking.{Entered, HasNoPlace, IsReady, Opening, OpensSome, OwnsSome, Passes, RowIs};
-ghost use Rattle.rx_server.specs.Taking.{IsOwnActive, Takes, TakesLive, keeps_first};
+ghost use Rattle.rx_server.specs.Taking.{IsOwnActive, Takes, TakesLive, keeps_first, proves_client};
 ghost use Rattle.rx_node.specs.Steps.{stopped_by};
 
 use crate::rows::{outer_row, server_row};
 use crate::server::Server;
-use rx_books::{Life, Link, Turn, is_data, named};
+use crate::server::waiting::{admit_place, list_behind};
+use rx_books::{Life, Link, Turn, is_data, is_response, named};
 use rx_class::Class;
 use rx_model::wire::RX_CALL_DEAD;
 use rx_model::{CallName, Host, Took};
@@ -239,7 +240,8 @@ impl<C: Class> Server<C> {
         self.take_live(key, c, head, body)
     }
 
-    /// A message for its channel's live call. A call whose packet 1 is kept waits behind those before it.
+    /// A message for its channel's live call. A call whose packet 1 is kept waits behind those before it; those of a client
+    /// that is proved by it may be given to a handler.
     fn take_live(&mut self, key: u32, c: &CallName, head: &Head, body: &Body<'_>) -> Took
         requires key { IsKey self.old.node key }
         requires size { FitsDatagram (body_of body.now) }
@@ -254,7 +256,11 @@ impl<C: Class> Server<C> {
         };
         let took = self.node.take(key, end, c, head, body);
         if is_first(took, head.seq) {
-            self.firsts.push_reserved(key);
+            list_behind(&mut self.firsts, &self.node, key);
+            return took;
+        }
+        if proves(took, body) {
+            admit_place(&mut self.firsts, key / CHANNELS);
             return took;
         }
         took
@@ -355,7 +361,7 @@ impl<C: Class> Server<C> {
         ensures same { SameSetup C.class_of self.old self.new }
     {
         self.node.turn(key, Turn::Later);
-        self.firsts.retain(|first| *first != key);
+        self.firsts.remove_now(key);
         self.node.start(key, number, Life::Waiting);
     }
 }
@@ -378,6 +384,30 @@ fn is_first(took: Took, seq: u32) -> bool
         | Took::Clash
         | Took::NoSlot
         | Took::Heard
+        | Took::Unserved
+        | Took::Foreign
+        | Took::Bad(_) => false,
+    }
+}
+
+/// Whether a client is proved by it: a right RESPONSE.
+fn proves(took: Took, body: &Body<'_>) -> bool
+    ensures { result ≡ proves_client took (body_of body.now) }
+{
+    match took {
+        Took::Heard => is_response(body),
+        Took::Strange
+        | Took::Full
+        | Took::Stopped
+        | Took::Old
+        | Took::Busy
+        | Took::NoRoom
+        | Took::Over
+        | Took::Kept
+        | Took::Repeat
+        | Took::Beyond
+        | Took::Clash
+        | Took::NoSlot
         | Took::Unserved
         | Took::Foreign
         | Took::Bad(_) => false,

@@ -1,5 +1,4 @@
 use Rattle.std.proofs.Common.{◌≡◌, ◌≤◌, ◌<◌, ◌^◌, ◌*◌, ℕ, List, ap, refl, sym, subst, length}
-use Rattle.std.specs.Vec.{vec_capacity}
 use Rattle.rx_model.specs.declared.event.Event.TheVariants as events
 use Rattle.rx_rules.specs.Classes.{Class}
 use Rattle.rx_law.proofs.Dims.{dims_refl}
@@ -29,7 +28,7 @@ quiet class sv new now later within is steps =
       allowed = λ l serves. (subst (λ (n : ℕ). n ≤ now) serves.mirrors.now later, within);
       mirrors = λ l serves. steps l serves.mirrors;
       dims = λ l. (let stays = dims_refl l in record { calls = stays.calls; conns = stays.conns });
-      rests = λ l. record { firsts = refl; entered = refl };
+      rests = λ l. record { firsts = refl; entered = refl; proved = refl };
     }
 
 pub invariant_of-self : goal.invariant_of-self
@@ -38,7 +37,7 @@ invariant_of-self g c =
     (subst (λ (sv : ServerState). sv.node.moment ≤ c.args.now) (sym c.self.view_is) c.requires.later) c.requires.now
     c.clock.ensures.updates c.clock.ensures.steps in (
       quiet_serving g.C.Class.class_of _ c.clock.new.self (events.Clocked c.args.now) its c.self.invariant.0,
-      subst (λ (n : NodeState). 4 * n.limits.conns ≤ vec_capacity c.self.inside.firsts) (sym c.clock.ensures.updates)
+      subst (λ (n : NodeState). 4 * n.limits.conns ≤ length c.self.inside.firsts.ready) (sym c.clock.ensures.updates)
           c.self.invariant.1,
     )
 

@@ -1,11 +1,11 @@
 use Rattle.std.proofs.Common.{◌≡◌, ◌≤◌, ◌*◌, None, length, sym, subst, arith}
-use Rattle.std.specs.Vec.{vec_capacity}
 use Rattle.rx_model.specs.declared.names.Limits.{Limits}
 use Rattle.rx_model.specs.Names.{connection_of}
 use Rattle.rx_table.specs.Records.{IsLongestIdle, place_of}
 use Rattle.rx_node.proofs.IdleSteps.{longest_is, unknown_at}
 use Rattle.rx_server.specs.Server.{ServerState}
 use Rattle.rx_server.proofs.Entering.{entered_instead, serving_entered}
+use Rattle.rx_server.proofs.Serving.{setup_role}
 use Rattle.rx_server.proofs.server.Server.enter_instead.Goals as goal
 
 pub invariant_of-self : goal.invariant_of-self
@@ -24,11 +24,11 @@ invariant_of-self g c =
     let old = longest_is g.C.Class.class_of _ i.looks i.serves.mirrors place idle in (
       serving_entered g.C.Class.class_of _ _ x i kept.kind kept.limits (omega (arith, c.replace.ensures.conns))
           (entered_instead g.C.Class.class_of _ _ i.looks x i.server i.serves
-          (unknown_at g.C.Class.class_of _ i.looks i.serves.mirrors x none) kept.kind c.link-link.result
+          (unknown_at g.C.Class.class_of _ i.looks i.serves.mirrors x none) (setup_role _ _ kept) c.link-link.result
           linked place old.0
           full old.1 old.2 (λ orderly. c.replace.ensures.steps i.looks old.0 i.serves.mirrors old.1
           i.serves.nonce orderly)),
-      subst (λ (k : Limits). 4 * k.conns ≤ vec_capacity c.self.inside.firsts) (sym kept.limits) c.self.invariant.1,
+      subst (λ (k : Limits). 4 * k.conns ≤ length c.self.inside.firsts.ready) (sym kept.limits) c.self.invariant.1,
     )
 
 pub returns-clause-entered : goal.returns-clause-entered
@@ -48,5 +48,5 @@ returns-clause-entered g c =
     (λ l serves. (
     let old = longest_is g.C.Class.class_of _ l serves.mirrors place idle in
     entered_instead g.C.Class.class_of _ _ l x i.server serves
-    (unknown_at g.C.Class.class_of _ l serves.mirrors x none) kept.kind c.link-link.result linked place old.0 full
+    (unknown_at g.C.Class.class_of _ l serves.mirrors x none) (setup_role _ _ kept) c.link-link.result linked place old.0 full
     old.1 old.2 (λ orderly. c.replace.ensures.steps l old.0 serves.mirrors old.1 serves.nonce orderly)))

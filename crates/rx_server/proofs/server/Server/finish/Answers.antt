@@ -1,5 +1,4 @@
-use Rattle.std.proofs.Common.{rules, ◌≡◌, ◌≤◌, ◌*◌, ◌||◌, ◌∙◌, not, true, ap, sym, subst, w32, to_z, of_z}
-use Rattle.std.specs.Vec.{vec_capacity}
+use Rattle.std.proofs.Common.{rules, ◌≡◌, ◌≤◌, ◌*◌, ◌||◌, ◌∙◌, not, true, ap, sym, subst, w32, to_z, of_z, length}
 use Rattle.std.proofs.lemmas.Int.{to_z-of_z}
 use Rattle.rx_model.specs.declared.names.Limits.{Limits}
 use Rattle.rx_model.specs.Names.{channel_of}
@@ -70,7 +69,7 @@ invariant_of-self g c =
           (finish_broken g.C.Class.class_of _ c.args.c.now c.in-Broken.key c.args.code
           (fits_code c.args.code c.ranges.code)
           c.turn.new.self c.in-Broken.told c.turn.ensures.same found c.turn.ensures.steps) c.self.invariant.0,
-      subst (λ (limits : Limits). 4 * limits.conns ≤ vec_capacity c.self.inside.firsts) (sym c.turn.ensures.same.limits)
+      subst (λ (limits : Limits). 4 * limits.conns ≤ length c.self.inside.firsts.ready) (sym c.turn.ensures.same.limits)
           c.self.invariant.1,
     )
 

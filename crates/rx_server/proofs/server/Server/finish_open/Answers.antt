@@ -1,5 +1,4 @@
-use Rattle.std.proofs.Common.{◌≡◌, ◌≤◌, ◌*◌, ℤ, pos, Some, refl, sym, subst, w32, to_z, of_z}
-use Rattle.std.specs.Vec.{vec_capacity}
+use Rattle.std.proofs.Common.{◌≡◌, ◌≤◌, ◌*◌, ℤ, pos, Some, refl, sym, subst, w32, to_z, of_z, length}
 use Rattle.std.proofs.lemmas.Int.{to_z-of_z}
 use Rattle.rx_model.specs.declared.names.Limits.{Limits}
 use Rattle.rx_model.specs.Names.{Channel, channel_of}
@@ -65,7 +64,7 @@ invariant_of-self g c =
           (well_serves g.C.Class.class_of _ c.turn.new.self c.shut.new.self c.args.key c.args.code c.turn.ensures.same
           c.shut.ensures.same (code_zero c.args.code c.ranges.code c.if-code-eq0.true) c.self.invariant.0.server
           c.turn.ensures.steps c.shut.ensures.steps) c.self.invariant.0,
-      subst (λ (limits : Limits). 4 * limits.conns ≤ vec_capacity c.self.inside.firsts) (sym kept.limits)
+      subst (λ (limits : Limits). 4 * limits.conns ≤ length c.self.inside.firsts.ready) (sym kept.limits)
           c.self.invariant.1,
     )
 
@@ -111,7 +110,7 @@ invariant_of-self-2 g c =
           c.owe_abort.ensures.same c.turn-2.ensures.same (code_other c.args.code c.if-code-eq0.false) owed
           turned l name serves
           found) c.self.invariant.0,
-      subst (λ (limits : Limits). 4 * limits.conns ≤ vec_capacity c.self.inside.firsts) (sym kept.limits)
+      subst (λ (limits : Limits). 4 * limits.conns ≤ length c.self.inside.firsts.ready) (sym kept.limits)
           c.self.invariant.1,
     )
 

@@ -1,6 +1,4 @@
-use Rattle.std.proofs.Common.{rules, ◌≡◌, ◌≤◌, ◌<◌, ◌==◌, ◌*◌, ℕ, not, List, sym, subst, filter}
-use Rattle.std.proofs.lemmas.Fn.{filter_same}
-use Rattle.std.specs.Vec.{vec_capacity}
+use Rattle.std.proofs.Common.{◌≡◌, ◌≤◌, ◌<◌, ◌*◌, ◌∙◌, ℕ, List, Option, None, ap, sym, subst, length}
 use Rattle.rx_model.specs.declared.names.Limits.{Limits}
 use Rattle.rx_model.specs.Names.{Channel}
 use Rattle.rx_rules.specs.Life.{after_later}
@@ -12,9 +10,10 @@ use Rattle.rx_law.proofs.Orderly.{Orderly}
 use Rattle.rx_law.proofs.RoomStarts.{RoomyAt}
 use Rattle.rx_node.specs.Mirrors.{IsChannel, Mirrors}
 use Rattle.rx_node.specs.Node.{setup_of}
-use Rattle.rx_server.specs.Server.{IsServing, ServerState, Serves}
+use Rattle.rx_server.specs.Server.{ServerState, Serves}
 use Rattle.rx_server.specs.Taking.{Opening, OpensSome}
-use Rattle.rx_server.proofs.Serving.{parts_stay, parts_trans, serving_without, setup_by}
+use Rattle.rx_queue.proofs.Renumbering.{length_set}
+use Rattle.rx_server.proofs.Serving.{parts_stay, parts_trans, role_of, serving_with, setup_by, there_without}
 use Rattle.rx_server.proofs.OpeningSteps.{orderly_made, roomy_made, room_free, seat_free, serves_made}
 use Rattle.rx_server.proofs.server.Server.open.Goals as goal
 
@@ -36,16 +35,12 @@ start-requires-clause-room g c =
     (room_free g.C.Class.class_of _ it.looks it.channel c.args.key c.args.number it.serves it.at it.opening _
     (c.turn.ensures.steps it.looks it.channel it.serves.mirrors it.at))
 
-retained : (g : _) (c : goal.After-start g)
-    → c.retain.new.self.items ≡ filter (λ k. not (k == c.args.key)) c.self.inside.firsts.items
-retained g c = filter_same _ _ _ (λ x b f' k. search rules) _ _ c.retain.ensures.filtered
-
 started-mirrors : (g : _) (c : goal.After-start g) (l : Looks) (ch : Channel)
     → (serves : Serves g.C.Class.class_of (record {
       node = c.self.inside.node;
       service = c.self.inside.service;
       nonce = c.self.inside.nonce;
-      firsts = c.self.inside.firsts.items;
+      firsts = c.self.inside.firsts;
     }) l) → (at : IsChannel l c.args.key ch)
     → Opening (setup_of g.C.Class.class_of c.self.inside.node) l ch c.args.number
     → Mirrors g.C.Class.class_of c.start.new.self
@@ -70,21 +65,19 @@ invariant_of-self g c =
     let first = parts_stay _ _ c.turn.ensures.same in
     let second = parts_stay _ _ c.start.ensures.same in
     let same = parts_trans _ _ _ first second in
+    let firsts = c.remove_now.new.self in
     let it = subst (λ (sv : ServerState). OpensSome g.C.Class.class_of sv c.args.key c.args.number) (sym c.self.view_is)
     c.requires.opens in (
-      subst (λ (ks : List ℕ). IsServing class (record {
-        node = c.start.new.self;
-        service = c.self.inside.service;
-        nonce = c.self.inside.nonce;
-        firsts = ks;
-      })) (sym (retained g c))
-          (serving_without class _ c.start.new.self _ c.args.key same
+      serving_with class _ c.start.new.self _ firsts same
+          (there_without c.self.inside.node c.args.key c.self.inside.firsts.order firsts.order c.remove_now.ensures.order
+          i.there)
           (serves_made class _ it.looks it.channel c.args.key c.args.number it.serves it.at it.opening
-          c.start.new.self same.kind
-          (started-mirrors g c it.looks it.channel it.serves it.at it.opening)) i),
-      subst (λ (n : ℕ). 4 * c.start.new.self.limits.conns ≤ n) (sym c.retain.ensures.capacity)
-          (subst (λ (k : Limits). 4 * k.conns ≤ vec_capacity c.self.inside.firsts) (sym same.limits)
-          c.self.invariant.1),
+          c.start.new.self firsts (role_of _ _ same) c.remove_now.ensures.order c.remove_now.ensures.ready
+          (started-mirrors g c it.looks it.channel it.serves it.at it.opening)) i,
+      subst (λ (k : Limits). 4 * k.conns ≤ length firsts.ready) (sym same.limits)
+          (subst (λ (n : ℕ). 4 * c.self.inside.node.limits.conns ≤ n)
+          (sym (ap (λ (r : List (Option ℕ)). length r) c.remove_now.ensures.ready
+          ∙ length_set c.self.inside.firsts.ready c.args.key None)) c.self.invariant.1),
     )
 
 pub returns-clause-steps : goal.returns-clause-steps
@@ -97,6 +90,6 @@ returns-clause-steps g c =
     let inner = subst (λ (sv : ServerState). Serves class sv l) (sym c.self.view_is) serves in
     let mine = subst (λ (sv : ServerState). Opening (setup_of class sv.node) l ch c.args.number) (sym c.self.view_is)
     opening in
-    rw (← c.self.view_is, retained g c)
-    (serves_made class _ l ch c.args.key c.args.number inner at mine c.start.new.self same.kind
-    (started-mirrors g c l ch inner at mine)))
+    rw (← c.self.view_is)
+    (serves_made class _ l ch c.args.key c.args.number inner at mine c.start.new.self c.remove_now.new.self
+    (role_of _ _ same) c.remove_now.ensures.order c.remove_now.ensures.ready (started-mirrors g c l ch inner at mine)))

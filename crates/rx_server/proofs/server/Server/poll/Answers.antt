@@ -1,5 +1,4 @@
-use Rattle.std.proofs.Common.{◌≤◌, ◌*◌, sym, subst}
-use Rattle.std.specs.Vec.{vec_capacity}
+use Rattle.std.proofs.Common.{◌≤◌, ◌*◌, sym, subst, length}
 use Rattle.rx_node.specs.Steps.{given_from}
 use Rattle.rx_model.specs.declared.names.Limits.{Limits}
 use Rattle.rx_server.proofs.PollServes.{poll_answers, poll_serving}
@@ -8,7 +7,7 @@ use Rattle.rx_server.proofs.server.Server.poll.Goals as goal
 pub invariant_of-self : goal.invariant_of-self
 invariant_of-self g c = (
   poll_serving g.C.Class.class_of _ c.poll.new.self c.poll.ensures.same c.poll.ensures.dimmed c.self.invariant.0,
-  subst (λ (limits : Limits). 4 * limits.conns ≤ vec_capacity c.self.inside.firsts) (sym c.poll.ensures.same.limits)
+  subst (λ (limits : Limits). 4 * limits.conns ≤ length c.self.inside.firsts.ready) (sym c.poll.ensures.same.limits)
       c.self.invariant.1,
 )
 

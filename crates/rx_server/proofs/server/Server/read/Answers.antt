@@ -1,5 +1,4 @@
 use Rattle.std.proofs.Common.{rules, to_z, of_z, w32, ◌≡◌, ◌≤◌, ◌*◌, length, sym, subst}
-use Rattle.std.specs.Vec.{vec_capacity}
 use Rattle.rx_model.specs.declared.names.Limits.{Limits}
 use Rattle.rx_rules.specs.Life as lives
 use Rattle.rx_rules.specs.Looks.{Looks}
@@ -20,7 +19,7 @@ invariant_of-self g c =
     c.read.new.self c.in-Open.key
     c.read.result c.read.new.to c.read.ensures.same found c.read.ensures.answered c.read.ensures.steps in (
       quiet_serving g.C.Class.class_of _ c.read.new.self _ quiet c.self.invariant.0,
-      subst (λ (limits : Limits). 4 * limits.conns ≤ vec_capacity c.self.inside.firsts) (sym c.read.ensures.same.limits)
+      subst (λ (limits : Limits). 4 * limits.conns ≤ length c.self.inside.firsts.ready) (sym c.read.ensures.same.limits)
           c.self.invariant.1,
     )
 

@@ -1,4 +1,4 @@
-use Rattle.std.proofs.Common.{◌≤◌, ◌∙◌, sym, subst}
+use Rattle.std.proofs.Common.{◌≤◌, ◌∙◌, sym, subst, length}
 use Rattle.rx_model.specs.declared.wire.TheConstants.{LAST_SEQ}
 use Rattle.rx_model.specs.Names.{channel_of, connection_of}
 use Rattle.rx_packet.specs.Seen.{message_of}
@@ -32,7 +32,7 @@ open-requires-clause-opens g c =
       node = c.self.inside.node;
       service = c.self.inside.service;
       nonce = c.self.inside.nonce;
-      firsts = c.self.inside.firsts.items;
+      firsts = c.self.inside.firsts;
     }) i.fits) in
     let l = i.looks in
     let serves = subst (λ (sv : ServerState). Serves class sv l) c.self.view_is i.serves in
@@ -60,7 +60,7 @@ take_live-requires-clause-own g c =
       node = c.self.inside.node;
       service = c.self.inside.service;
       nonce = c.self.inside.nonce;
-      firsts = c.self.inside.firsts.items;
+      firsts = c.self.inside.firsts;
     }) i.fits) in
     let l = i.looks in
     let serves = subst (λ (sv : ServerState). Serves class sv l) c.self.view_is i.serves in
@@ -92,7 +92,7 @@ returns-then-is_above-clause-takes g c =
       node = c.self.inside.node;
       service = c.self.inside.service;
       nonce = c.self.inside.nonce;
-      firsts = c.self.inside.firsts.items;
+      firsts = c.self.inside.firsts;
     }) i.fits) in
     let m = message_of c.args.head.now c.args.body.now in
     let s = setup_of class c.args.self.now.node in
@@ -126,7 +126,7 @@ take_live-requires-2-clause-own g c =
       node = c.self.inside.node;
       service = c.self.inside.service;
       nonce = c.self.inside.nonce;
-      firsts = c.self.inside.firsts.items;
+      firsts = c.self.inside.firsts;
     }) i.fits) in
     let l = i.looks in
     let serves = subst (λ (sv : ServerState). Serves class sv l) c.self.view_is i.serves in
@@ -156,7 +156,7 @@ returns-clause-takes g c =
       node = c.self.inside.node;
       service = c.self.inside.service;
       nonce = c.self.inside.nonce;
-      firsts = c.self.inside.firsts.items;
+      firsts = c.self.inside.firsts;
     }) i.fits) in
     let m = message_of c.args.head.now c.args.body.now in
     let s = setup_of class c.args.self.now.node in

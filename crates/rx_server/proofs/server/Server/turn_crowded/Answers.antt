@@ -1,5 +1,4 @@
-use Rattle.std.proofs.Common.{◌≤◌, ◌<◌, ◌*◌, ◌/◌, ℕ, refl, sym, subst}
-use Rattle.std.specs.Vec.{vec_capacity}
+use Rattle.std.proofs.Common.{◌≤◌, ◌<◌, ◌*◌, ◌/◌, ℕ, refl, sym, subst, length}
 use Rattle.rx_model.specs.declared.answers.Took.TheVariants as tooks
 use Rattle.rx_model.specs.declared.names.Limits.{Limits}
 use Rattle.rx_model.specs.Names.{Channel, channel_of, connection_of}
@@ -11,7 +10,7 @@ use Rattle.rx_node.specs.Mirrors.{IsChannel, IsKey}
 use Rattle.rx_node.specs.Node.{setup_of}
 use Rattle.rx_node.proofs.OwedItems.{has_channel}
 use Rattle.rx_server.specs.Server.{ServerState, Serves}
-use Rattle.rx_server.proofs.Serving.{parts_stay, serving_by}
+use Rattle.rx_server.proofs.Serving.{parts_stay, role_stays, serving_by}
 use Rattle.rx_server.proofs.TurnedRows.{row_waits}
 use Rattle.rx_server.proofs.TurnedSteps.{is_server, serves_owing, takes_full}
 use Rattle.rx_server.proofs.server.Server.turn_crowded.Goals as goal
@@ -29,17 +28,17 @@ behind : (g : _) (c : goal.After-owe_busy g) (l : Looks) (ch : Channel)
       node = c.self-2.inside.node;
       service = c.self-2.inside.service;
       nonce = c.self-2.inside.nonce;
-      firsts = c.self-2.inside.firsts.items;
+      firsts = c.self-2.inside.firsts;
     }) l → IsChannel l c.in-Some.key ch
     → Serves g.C.Class.class_of (record {
       node = c.owe_busy.new.self;
       service = c.self-2.inside.service;
       nonce = c.self-2.inside.nonce;
-      firsts = c.self-2.inside.firsts.items;
+      firsts = c.self-2.inside.firsts;
     }) (on_channel ch (owing_busy c.args.c.now.number) l)
 behind g c l ch serves at =
     serves_owing g.C.Class.class_of _ c.owe_busy.new.self l ch (owing_busy c.args.c.now.number) (λ q. refl)
-    c.owe_busy.ensures.same.kind (c.owe_busy.ensures.steps l ch serves.mirrors at) serves
+    (role_stays _ _ c.owe_busy.ensures.same) (c.owe_busy.ensures.steps l ch serves.mirrors at) serves
 
 pub invariant_of-self : goal.invariant_of-self
 invariant_of-self g c =
@@ -49,7 +48,7 @@ invariant_of-self g c =
     let it = has_channel i.looks c.in-Some.key
     (subst (λ (n : ℕ). c.in-Some.key / 4 < n) i.serves.mirrors.conns.conns key) in (
       serving_by g.C.Class.class_of _ _ _ same (behind g c i.looks it.channel i.serves it.at) i,
-      subst (λ (k : Limits). 4 * k.conns ≤ vec_capacity c.self-2.inside.firsts) (sym same.limits) c.self-2.invariant.1,
+      subst (λ (k : Limits). 4 * k.conns ≤ length c.self-2.inside.firsts.ready) (sym same.limits) c.self-2.invariant.1,
     )
 
 pub returns-clause-takes : goal.returns-clause-takes

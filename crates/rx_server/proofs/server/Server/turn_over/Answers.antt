@@ -1,6 +1,5 @@
-use Rattle.std.proofs.Common.{◌≤◌, ◌<◌, ◌*◌, ◌/◌, ℕ, Option, is_some, ap, ◌∙◌, sym, subst}
+use Rattle.std.proofs.Common.{◌≤◌, ◌<◌, ◌*◌, ◌/◌, ℕ, Option, is_some, ap, ◌∙◌, sym, subst, length}
 use Rattle.std.proofs.lemmas.Bool.{false≢true}
-use Rattle.std.specs.Vec.{vec_capacity}
 use Rattle.rx_model.specs.declared.answers.Took.TheVariants as tooks
 use Rattle.rx_model.specs.declared.names.Limits.{Limits}
 use Rattle.rx_model.specs.Names.{channel_of, connection_of}
@@ -12,7 +11,7 @@ use Rattle.rx_node.specs.Mirrors.{IsKey}
 use Rattle.rx_node.specs.Node.{setup_of}
 use Rattle.rx_node.proofs.OwedItems.{has_channel}
 use Rattle.rx_server.specs.Server.{ServerState, Serves}
-use Rattle.rx_server.proofs.Serving.{parts_stay, serving_by}
+use Rattle.rx_server.proofs.Serving.{parts_stay, role_of, serving_by}
 use Rattle.rx_server.proofs.TurnedRows.{known_plain}
 use Rattle.rx_server.proofs.TurnedSteps.{is_server, serves_again, takes_over}
 use Rattle.rx_server.proofs.server.Server.turn_over.Goals as goal
@@ -32,9 +31,9 @@ invariant_of-self g c =
     let it = has_channel i.looks c.in-Some.key
     (subst (λ (n : ℕ). c.in-Some.key / 4 < n) i.serves.mirrors.conns.conns key) in (
       serving_by g.C.Class.class_of _ _ _ same
-          (serves_again g.C.Class.class_of _ c.owe_again.new.self i.looks it.channel (body_of c.args.body.now) same.kind
+          (serves_again g.C.Class.class_of _ c.owe_again.new.self i.looks it.channel (body_of c.args.body.now) (role_of _ _ same)
           (c.owe_again.ensures.steps i.looks it.channel i.serves.mirrors it.at) i.serves) i,
-      subst (λ (k : Limits). 4 * k.conns ≤ vec_capacity c.self-2.inside.firsts) (sym same.limits) c.self-2.invariant.1,
+      subst (λ (k : Limits). 4 * k.conns ≤ length c.self-2.inside.firsts.ready) (sym same.limits) c.self-2.invariant.1,
     )
 
 pub returns-clause-takes : goal.returns-clause-takes
@@ -48,5 +47,5 @@ returns-clause-takes g c =
     let inner = subst (λ (sv : ServerState). Serves g.C.Class.class_of sv after) (sym c.self-2.view_is)
     (c.touched.ensures.steps l serves) in
     takes_over g.C.Class.class_of _ _ l c.args.c.now m (body_of c.args.body.now) server said number rows
-    (serves_again g.C.Class.class_of _ c.owe_again.new.self after d (body_of c.args.body.now) same.kind
+    (serves_again g.C.Class.class_of _ c.owe_again.new.self after d (body_of c.args.body.now) (role_of _ _ same)
     (c.owe_again.ensures.steps after d inner.mirrors (c.in-Some.ensures.channel l serves)) inner))

@@ -1,5 +1,4 @@
 use Rattle.std.proofs.Common.{rules, ◌≡◌, ◌≤◌, ◌*◌, ◌∙◌, length, sym, subst, w32, to_z, of_z}
-use Rattle.std.specs.Vec.{vec_capacity}
 use Rattle.rx_model.specs.declared.names.Limits.{Limits}
 use Rattle.rx_model.specs.Names.{channel_of}
 use Rattle.rx_rules.specs.Life as lives
@@ -52,7 +51,7 @@ invariant_of-self g c =
     (λ l ch k m at its. sym c.if-not-all_read.false ∙ c.all_read.ensures l ch k m at its) c.write.ensures.answered
     c.write.ensures.steps in (
       quiet_serving g.C.Class.class_of _ c.write.new.self _ quiet c.self.invariant.0,
-      subst (λ (limits : Limits). 4 * limits.conns ≤ vec_capacity c.self.inside.firsts)
+      subst (λ (limits : Limits). 4 * limits.conns ≤ length c.self.inside.firsts.ready)
           (sym c.write.ensures.same.limits)
           c.self.invariant.1,
     )
