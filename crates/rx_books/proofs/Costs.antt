@@ -14,7 +14,7 @@ use Rattle.rx_books.specs.Books.{BooksState, HasEntries, IsBooked}
 use Rattle.rx_books.specs.Costs.{AtMostForPoll, silent_count}
 use Rattle.rx_books.proofs.ChannelMoments.{silence_key}
 use Rattle.rx_books.proofs.LeastOf.{rank_key}
-use Rattle.rx_books.proofs.Noted.{few_entries}
+use Rattle.rx_table.proofs.Noted.{few_entries}
 
 -- no key past those of the channels has a moment
 past : (n : NodeState) (book : List (Option ℕ)) → ((key moment : ℕ) → moment_of book key ≡ Some moment → IsKey n key)
@@ -52,7 +52,7 @@ noted_cost n z b e conns same kept was is before after most d power =
 -- what silent calls cost, and what is given then, is no more than a poll may cost
 pub poll_cost : (l : Looks) (a b c : ℕ)
     → ((d : ℕ) → 2 * (4 * length l.conns) + 1 < 2 ^ (d + 1) → AtMost (silent_count l * (16 * d + 21) + 1) a b)
-    → ((d : ℕ) → 2 * (4 * length l.conns) + 1 < 2 ^ (d + 1) → AtMost (16 * d + 22) b c) → AtMostForPoll l a c
+    → ((d : ℕ) → 2 * (4 * length l.conns) + 1 < 2 ^ (d + 1) → AtMost (24 * d + 30) b c) → AtMostForPoll l a c
 poll_cost l a b c before then_ =
     λ d power. (
     let one = before d power in

@@ -1,5 +1,5 @@
 -- What a client reads of its call by what it finds of it.
-use Rattle.std.proofs.Common.{◌≡◌, ◌++◌, ◌&&◌, ℕ, if◌then◌else◌, Bool, true, false, List, [], ◌∷◌, nat_lt}
+use Rattle.std.proofs.Common.{◌≡◌, ◌++◌, ℕ, if◌then◌else◌, Bool, true, false, List, [], ◌∷◌, nat_lt}
 use Rattle.std.proofs.Common.{Option, Some, None, refl, ◌∙◌, ap, sym, subst, arith}
 use Rattle.std.proofs.lemmas.Bool.Decides.{nat_tests}
 use Rattle.rx_model.specs.declared.answers.Asked.{Asked}
@@ -16,7 +16,7 @@ use Rattle.rx_rules.specs.Life.{Life, after_end, is_calling}
 use Rattle.rx_rules.specs.Life as lives
 use Rattle.rx_rules.specs.Looks.{CallRecord, Looks, call_at, is_call, on_channel, on_life, on_looks}
 use Rattle.rx_rules.specs.Owing.{Owed, owed_for_done, owed_for_read}
-use Rattle.rx_rules.specs.Received.{Received, has_several, used_of}
+use Rattle.rx_rules.specs.Received.{Received, used_of}
 use Rattle.rx_rules.specs.Received as packets
 use Rattle.rx_rules.specs.Rules.{asked_of, client_read, client_read_by, client_read_got, end_answer}
 use Rattle.rx_law.proofs.Differ.{Differ, by_name}
@@ -93,9 +93,9 @@ read-behind (x ∷ xs) = ap (λ (ys : List ℕ). x ∷ ys) (read-behind xs)
 received-same : (r : Received) → r.ended ≡ true → packets.after_read true [] r ≡ r
 received-same r ended = λ i. record r { read = read-behind r.read i; ended = sym ended i }
 
-owed-same : (now : ℕ) (several : Bool) (n : ℕ) (owed : Option Owed) → owed_for_read now several n n owed ≡ owed
-owed-same now several n owed =
-    ap (λ (b : Bool). if b then owed_for_done now several owed else owed) (not-below n)
+owed-same : (now : ℕ) (prompt : Bool) (n : ℕ) (owed : Option Owed) → owed_for_read now prompt n n owed ≡ owed
+owed-same now prompt n owed =
+    ap (λ (b : Bool). if b then owed_for_done now prompt owed else owed) (not-below n)
   where
     not-below : (n : ℕ) → nat_lt n n ≡ false
     not-below n = grind (arith, nat_tests)
@@ -105,11 +105,11 @@ looks-same now k ended =
     (λ i. record k {
       received = received-same k.received ended i;
       owed_ack =
-          owed_for_read now (k.cwnd.prompt && has_several k.received) (used_of k.received)
+          owed_for_read now k.cwnd.prompt (used_of k.received)
           (used_of (received-same k.received ended i)) k.owed_ack;
     })
     ∙ ap (λ (o : Option Owed). record k { owed_ack = o }) (owed-same now
-    (k.cwnd.prompt && has_several k.received) (used_of k.received) k.owed_ack)
+    k.cwnd.prompt (used_of k.received) k.owed_ack)
 
 pub read_again : (l : Looks) (c : CallName) (k : CallRecord) → Differ by_name l.calls → call_at l c ≡ Some k
     → k.life ≡ lives.Ended ends.Ok → k.looks.received.ended ≡ true → read_done c true [] l ≡ l

@@ -68,7 +68,7 @@ fn make_at_once<L: Ledger>(
 }
 
 /// Starts a call, whose request is a number.
-fn start(joined: &mut Joined, cid: u32, number: u32) -> Option<CallName> {
+pub fn start(joined: &mut Joined, cid: u32, number: u32) -> Option<CallName> {
     let c = joined.client.call(cid).ok()?;
     joined.client.write(&c, &number.to_be_bytes()).ok()?;
     joined.client.shut(&c).ok()?;

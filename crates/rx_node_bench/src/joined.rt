@@ -25,7 +25,10 @@ pub const CLIENT: Host = Host {
 pub const SERVICE: u16 = 1;
 
 /// The most idle connections.
-pub const MAX_IDLE: u32 = 65_535;
+pub const MAX_IDLE: u32 = 60_000;
+
+/// The most connections on which a call lives beside those that are made.
+pub const MAX_LIVE: u32 = 4000;
 
 /// The most datagrams that a node gives at a time.
 const MOST_GIVEN: u32 = 4096;
@@ -45,14 +48,15 @@ pub struct Joined {
 }
 
 impl Joined {
-    /// Nodes with room for so many idle connections and one more.
-    pub fn make(alloc: Global, idle: u32) -> Result<Joined, AllocError>
-        requires { idle ≤ 65535 }
+    /// Nodes with room for so many idle connections, as many on which a call lives, and one more.
+    pub fn make(alloc: Global, idle: u32, live: u32) -> Result<Joined, AllocError>
+        requires idle { idle ≤ 60000 }
+        requires live { live ≤ 4000 }
     {
         let limits = Limits {
-            conns: idle + 1,
-            calls: DEFAULT_CALLS,
-            slots: DEFAULT_SLOTS,
+            conns: idle + live + 1,
+            calls: DEFAULT_CALLS + live,
+            slots: DEFAULT_SLOTS + live,
             window: DEFAULT_WINDOW,
         };
         Ok(Joined {

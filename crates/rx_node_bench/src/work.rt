@@ -1,7 +1,7 @@
 ghost use Rattle.std.specs.Prelude.{◌≡◌, ◌<◌};
 
-use crate::calls::{Counts, make_calls};
-use crate::joined::{Joined, MAX_IDLE, SERVER, SERVICE};
+use crate::calls::{Counts, make_calls, start};
+use crate::joined::{Joined, MAX_IDLE, MAX_LIVE, SERVER, SERVICE};
 use crate::streams::make_streams;
 use rx_due::Steps;
 use std::alloc::{AllocError, Global};
@@ -18,6 +18,8 @@ pub struct Work {
     pub bytes: u64,
     /// How many connections idle beside the one in use.
     pub idle: u32,
+    /// On how many more a call lives.
+    pub live: u32,
 }
 
 /// What was done.
@@ -42,11 +44,12 @@ pub fn measured<L: Ledger>(
     requires some { 0 < blank.parts }
 {
     let mut steps = Steps::<L>::new(blank);
-    if work.idle > MAX_IDLE {
+    if work.idle > MAX_IDLE || work.live > MAX_LIVE {
         return Ok(None);
     }
-    let mut joined = Joined::make(alloc, work.idle)?;
+    let mut joined = Joined::make(alloc, work.idle, work.live)?;
     let idled = idle(&mut joined, work.idle, &mut steps);
+    live(&mut joined, work.live, &mut steps);
     let Ok(cid) = joined.client.connect(SERVER, SERVICE, 1) else {
         return Ok(None);
     };
@@ -79,4 +82,15 @@ fn idle<L: Ledger>(joined: &mut Joined, conns: u32, steps: &mut Steps<L>) -> Cou
         }
     }
     counts
+}
+
+/// Makes so many connections with a call on each, which a handler takes and leaves as it is.
+fn live<L: Ledger>(joined: &mut Joined, conns: u32, steps: &mut Steps<L>) {
+    for number in 0..conns {
+        if let Ok(cid) = joined.client.connect(SERVER, SERVICE, 1) {
+            let _call = start(joined, cid, number);
+            joined.client_gives(steps);
+            let _handled = joined.server.accept();
+        }
+    }
 }

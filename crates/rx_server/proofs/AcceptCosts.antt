@@ -11,7 +11,7 @@ use Rattle.rx_queue.specs.Queue.{QueueState, is_listed, is_ready}
 use Rattle.rx_queue.proofs.Renumbering.{entries_less}
 use Rattle.rx_node.specs.Mirrors.{IsKey}
 use Rattle.rx_node.specs.Node.{NodeState}
-use Rattle.rx_books.proofs.Noted.{few_entries}
+use Rattle.rx_table.proofs.Noted.{few_entries}
 use Rattle.rx_server.specs.Accepting.{AtMostForAccept, Paid, ready_count}
 use Rattle.rx_server.specs.Server.{ServerState}
 

@@ -23,3 +23,4 @@ pub mod LiveSteps
 pub mod TakenLive
 pub mod OwnSteps
 pub mod MessageSteps
+pub mod FoundChannels

@@ -1,6 +1,6 @@
 //! What changes a node: each method notes the channels that it changes.
 
-ghost use Rattle.std.specs.Prelude.{◌≡◌, ◌≤◌, ◌<◌, ◌+◌, ◌/◌, ◌^◌, ◌++◌, ◌∷◌, [], ℕ, Some, None, length, slice_get, Option, take, drop, min, true, option_map};
+ghost use Rattle.std.specs.Prelude.{◌≡◌, ◌≤◌, ◌<◌, ◌+◌, ◌/◌, ◌^◌, ◌++◌, ◌∷◌, [], ℕ, Some, None, length, slice_get, Option, take, drop, min, true, option_map, IfSome, IsNone};
 ghost use Rattle.rx_model.specs.Names.{connection_of, Channel};
 ghost use Rattle.rx_model.specs.Strays.{last_of, stray_of as rules_stray_of};
 ghost use Rattle.rx_packet.specs.Seen.{message_with_head, body_of, message_of};
@@ -9,7 +9,7 @@ ghost use Rattle.rx_rules.specs.Records.{fresh_conn, placed, used, started};
 ghost use Rattle.rx_rules.specs.Life.{after_code, is_active};
 ghost use Rattle.rx_rules.specs.Setup.{nonce_of, is_client};
 ghost use Rattle.rx_law.proofs.Orderly.{Orderly};
-ghost use Rattle.rx_table.specs.Records.{IsLongestIdle, place_of, seat_at};
+ghost use Rattle.rx_table.specs.Records.{IsLongestIdle, idle_since, place_of, seat_at};
 ghost use Rattle.rx_node.specs.Mirrors.{IsChannel, IsKey, Mirrors, StepsNode, IsActiveAt, StepsAt};
 ghost use Rattle.rx_node.specs.Node.{KeepsNode, KeepsSetup, setup_of, is_active_life, life_at};
 ghost use Rattle.rx_rules.specs.After.{read_done, stopped_all, owing_abort, owing_busy, taken_over, taken_with};
@@ -84,6 +84,16 @@ impl<C: Class> Node<C> {
     {
         self.core.replace(place, c, link, nonce);
         self.books.refresh_place(&self.core, place);
+    }
+
+    /// The place that may be used anew: that of the connection whose last use is the longest ago, of those without a
+    /// live call that weren't used for 600,000 milliseconds.
+    pub fn idle(&mut self) -> Option<u32>
+        ensures longest { IfSome result (IsLongestIdle self.old.moment self.old.table) }
+        ensures none { IsNone result → (place : ℕ) → idle_since self.old.moment self.old.table place ≡ None }
+        ensures same { self.new ≡ self.old }
+    {
+        self.core.idle()
     }
 
     /// The connection at a place is used now.

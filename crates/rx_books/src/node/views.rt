@@ -1,6 +1,6 @@
 //! What a node answers of what it keeps.
 
-ghost use Rattle.std.specs.Prelude.{◌≡◌, ◌≤◌, ◌<◌, ◌/◌, ℕ, Some, None, length, slice_get, IfSome, IsNone, IsSomeAnd, false, Option, true, is_some, option_map};
+ghost use Rattle.std.specs.Prelude.{◌≡◌, ◌≤◌, ◌<◌, ◌/◌, ℕ, Some, None, length, slice_get, IfSome, IsSomeAnd, false, Option, true, is_some, option_map};
 ghost use Rattle.rx_model.specs.Names.{channel_of, connection_of, Channel};
 ghost use Rattle.rx_packet.specs.Seen.{message_of};
 ghost use Rattle.rx_rules.specs.Looks.{Looks, CallRecord, is_call, latest, latest_name};
@@ -8,14 +8,14 @@ ghost use Rattle.rx_rules.specs.Records.{used};
 ghost use Rattle.rx_rules.specs.Life.{is_live, is_active};
 ghost use Rattle.rx_rules.specs.Rules.{own_call};
 ghost use Rattle.rx_rules.specs.Setup.{is_client};
-ghost use Rattle.rx_table.specs.Records.{IsLongestIdle, idle_since, place_of, record_at, seat_at};
+ghost use Rattle.rx_table.specs.Records.{place_of, record_at, seat_at};
 ghost use Rattle.rx_node.specs.Kinds.{kind_of};
 ghost use Rattle.rx_node.specs.Mirrors.{IsChannel, IsKey, Mirrors, IsActiveAt};
 ghost use Rattle.rx_node.specs.Node.{setup_of, life_at};
 ghost use Rattle.rx_ends.specs.Ends.{IsUnshut};
 ghost use Rattle.rx_node.specs.Lives.{is_of, life_of};
 ghost use Rattle.rx_rules.specs.Judging.{facts_of};
-ghost use Rattle.rx_node.specs.Steps.{facts_seen};
+ghost use Rattle.rx_node.specs.Steps.{IsFound, facts_seen};
 ghost use Rattle.rx_rules.specs.Looks as rules;
 
 use crate::node::Node;
@@ -85,15 +85,6 @@ impl<C: Class> Node<C> {
         self.core.link(place)
     }
 
-    /// The place that may be used anew: that of the connection whose last use is the longest ago, of those without a
-    /// live call that weren't used for 600,000 milliseconds.
-    pub fn idle(&self) -> Option<u32>
-        ensures longest { IfSome result (IsLongestIdle self.now.moment self.now.table) }
-        ensures none { IsNone result → (place : ℕ) → idle_since self.now.moment self.now.table place ≡ None }
-    {
-        self.core.idle()
-    }
-
     /// Whether the client of the connection at a place is proved.
     pub fn proved(&self, place: u32) -> bool
         requires { place < length self.now.table.conns }
@@ -119,6 +110,7 @@ impl<C: Class> Node<C> {
         ensures none { (l : Looks) → Mirrors C.class_of self.now l → c.now.chan < 4 →
             result ≡ None → rules.conn_at l (connection_of c.now) ≡ None }
         ensures absent { result ≡ None → c.now.chan < 4 → place_of self.now.table (connection_of c.now) ≡ None }
+        ensures found { c.now.chan < 4 → IsFound C.class_of self.now c.now result }
     {
         self.core.channel(c)
     }
@@ -186,13 +178,19 @@ impl<C: Class> Node<C> {
         self.core.all_read(key, end)
     }
 
-    /// What decides the rows of a message's connection and channel.
-    pub fn facts(&self, c: &CallName, head: &Head, body: &Body<'_>) -> Facts
-        requires { c.now.chan < 4 }
+    /// What decides the rows of a message's connection and channel, by what a look-up of the channel gave.
+    pub fn facts(
+        &self,
+        channel: Option<u32>,
+        c: &CallName,
+        head: &Head,
+        body: &Body<'_>,
+    ) -> Facts
+        requires { IsFound C.class_of self.now c.now channel }
         ensures { (l : Looks) → Mirrors C.class_of self.now l → facts_seen result
             ≡ record (facts_of (setup_of C.class_of self.now) l c.now (message_of head.now body.now))
             { has_place = true } }
     {
-        self.core.facts(c, head, body)
+        self.core.facts(channel, c, head, body)
     }
 }

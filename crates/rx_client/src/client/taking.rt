@@ -112,7 +112,7 @@ fn take_named<C: Class>(
         TakesNamed C.class_of node.old node.new l c.now (message_of head.now body.now) result }
     ensures same { KeepsNode node.old node.new }
 {
-    let facts = node.facts(c, head, body);
+    let facts = node.facts(Some(key), c, head, body);
     node.touch(key / CHANNELS);
     match client_row(&facts) {
         Some(row) => {

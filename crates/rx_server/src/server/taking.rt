@@ -16,7 +16,7 @@ ghost use Rattle.rx_rules.specs.After.{turned_away};
 ghost use Rattle.rx_server.specs.Turned.{Judges, strays, turned_of};
 ghost use Rattle.rx_server.specs.Taking.{Entered, HasNoPlace, IsReady, Opening, OpensSome, OwnsSome, Passes, RowIs};
 ghost use Rattle.rx_server.specs.Taking.{IsOwnActive, Takes, TakesLive, keeps_first, proves_client};
-ghost use Rattle.rx_node.specs.Steps.{stopped_by};
+ghost use Rattle.rx_node.specs.Steps.{IsFound, stopped_by};
 
 use crate::rows::{outer_row, server_row};
 use crate::server::Server;
@@ -78,16 +78,18 @@ impl<C: Class> Server<C> {
             Takes C.class_of self.old self.new l c.now (message_of head.now body.now) result }
         ensures same { SameSetup C.class_of self.old self.new }
     {
-        let facts = self.node.facts(c, head, body);
+        let channel = self.node.channel(c);
+        let facts = self.node.facts(channel, c, head, body);
         match server_row(&facts) {
-            Some(row) => self.turn_away(row, c, body),
-            None => self.take_own(facts.is_above, c, head, body),
+            Some(row) => self.turn_away(row, channel, c, body),
+            None => self.take_own(facts.is_above, channel, c, head, body),
         }
     }
 
     /// A message that a row of its connection or its channel answers, so that it reaches no live call.
-    fn turn_away(&mut self, row: Took, c: &CallName, body: &Body<'_>) -> Took
+    fn turn_away(&mut self, row: Took, channel: Option<u32>, c: &CallName, body: &Body<'_>) -> Took
         requires chan { c.now.chan < 4 }
+        requires found { IsFound C.class_of self.old.node c.now channel }
         requires cid { c.now.cid + 3 < 2 ^ 32 }
         ensures takes { (l : Looks) (m : Message) → Serves C.class_of self.old l →
             m.body ≡ body_of body.now → m.number ≡ c.now.number →
@@ -97,20 +99,21 @@ impl<C: Class> Server<C> {
     {
         let _ = &self.node;
         match turn_of(row) {
-            Turned::Crowded => self.turn_crowded(c),
-            Turned::Busy => self.turn_busy(c),
-            Turned::Stopped => self.turn_stopped(c, body),
-            Turned::Over => self.turn_over(c, body),
+            Turned::Crowded => self.turn_crowded(channel, c),
+            Turned::Busy => self.turn_busy(channel, c),
+            Turned::Stopped => self.turn_stopped(channel, c, body),
+            Turned::Over => self.turn_over(channel, c, body),
             Turned::Aside => {
-                self.touched(c);
+                self.touched(channel, c);
                 row
             }
         }
     }
 
     /// An ABORT without a call number reaches each call of its connection.
-    fn turn_stopped(&mut self, c: &CallName, body: &Body<'_>) -> Took
-        requires { c.now.chan < 4 }
+    fn turn_stopped(&mut self, channel: Option<u32>, c: &CallName, body: &Body<'_>) -> Took
+        requires chan { c.now.chan < 4 }
+        requires found { IsFound C.class_of self.old.node c.now channel }
         ensures takes { (l : Looks) (m : Message) → Serves C.class_of self.old l →
             m.body ≡ body_of body.now → m.number ≡ c.now.number →
             RowIs (setup_of C.class_of self.old.node) l c.now m tooks.Stopped →
@@ -118,7 +121,7 @@ impl<C: Class> Server<C> {
         ensures same { SameSetup C.class_of self.old self.new }
     {
         let _ = &self.node;
-        let Some(key) = self.touched(c) else {
+        let Some(key) = self.touched(channel, c) else {
             return Took::Stopped;
         };
         self.stop_all(key, body);
@@ -126,8 +129,9 @@ impl<C: Class> Server<C> {
     }
 
     /// A message for a call that ended has its channel owe again what it was told.
-    fn turn_over(&mut self, c: &CallName, body: &Body<'_>) -> Took
-        requires { c.now.chan < 4 }
+    fn turn_over(&mut self, channel: Option<u32>, c: &CallName, body: &Body<'_>) -> Took
+        requires chan { c.now.chan < 4 }
+        requires found { IsFound C.class_of self.old.node c.now channel }
         ensures takes { (l : Looks) (m : Message) → Serves C.class_of self.old l →
             m.body ≡ body_of body.now → m.number ≡ c.now.number →
             RowIs (setup_of C.class_of self.old.node) l c.now m tooks.Over →
@@ -135,16 +139,17 @@ impl<C: Class> Server<C> {
         ensures same { SameSetup C.class_of self.old self.new }
     {
         let _ = &self.node;
-        let Some(key) = self.touched(c) else {
+        let Some(key) = self.touched(channel, c) else {
             return Took::Over;
         };
         self.node.owe_again(key, body);
         Took::Over
     }
 
-    /// The connection of a call is used, where it is known: the key of the call's channel.
-    fn touched(&mut self, c: &CallName) -> Option<u32>
-        requires { c.now.chan < 4 }
+    /// The connection of a call is used, where it is known by a look-up of the call's channel: the key of that.
+    fn touched(&mut self, channel: Option<u32>, c: &CallName) -> Option<u32>
+        requires chan { c.now.chan < 4 }
+        requires found { IsFound C.class_of self.old.node c.now channel }
         ensures key { IfSome result (IsKey self.new.node) }
         ensures steps { StepsServer C.class_of self.old self.new (used (connection_of c.now)) }
         ensures channel { (l : Looks) → Serves C.class_of self.old l →
@@ -157,7 +162,7 @@ impl<C: Class> Server<C> {
         ensures stays { result ≡ None → self.new ≡ self.old }
         ensures same { SameSetup C.class_of self.old self.new }
     {
-        let key = self.node.channel(c)?;
+        let key = channel?;
         self.node.touch(key / CHANNELS);
         Some(key)
     }
@@ -181,8 +186,9 @@ impl<C: Class> Server<C> {
     }
 
     /// A call for which there is no room owes a BUSY.
-    fn turn_crowded(&mut self, c: &CallName) -> Took
+    fn turn_crowded(&mut self, channel: Option<u32>, c: &CallName) -> Took
         requires chan { c.now.chan < 4 }
+        requires found { IsFound C.class_of self.old.node c.now channel }
         requires cid { c.now.cid + 3 < 2 ^ 32 }
         ensures takes { (l : Looks) (m : Message) → Serves C.class_of self.old l → m.number ≡ c.now.number →
             RowIs (setup_of C.class_of self.old.node) l c.now m tooks.NoRoom →
@@ -190,7 +196,7 @@ impl<C: Class> Server<C> {
         ensures same { SameSetup C.class_of self.old self.new }
     {
         let _ = &self.node;
-        let Some(key) = self.ready(c) else {
+        let Some(key) = self.ready(channel, c) else {
             return Took::Full;
         };
         self.node.owe_busy(key, c.number);
@@ -198,8 +204,9 @@ impl<C: Class> Server<C> {
     }
 
     /// A call on a channel whose call has its handler at work owes a BUSY, and that one breaks.
-    fn turn_busy(&mut self, c: &CallName) -> Took
+    fn turn_busy(&mut self, channel: Option<u32>, c: &CallName) -> Took
         requires chan { c.now.chan < 4 }
+        requires found { IsFound C.class_of self.old.node c.now channel }
         requires cid { c.now.cid + 3 < 2 ^ 32 }
         ensures takes { (l : Looks) (m : Message) → Serves C.class_of self.old l → m.number ≡ c.now.number →
             RowIs (setup_of C.class_of self.old.node) l c.now m tooks.Busy →
@@ -207,7 +214,7 @@ impl<C: Class> Server<C> {
         ensures same { SameSetup C.class_of self.old self.new }
     {
         let _ = &self.node;
-        let Some(key) = self.ready(c) else {
+        let Some(key) = self.ready(channel, c) else {
             return Took::Full;
         };
         self.node.turn(key, Turn::Code(RX_CALL_DEAD));
@@ -216,8 +223,9 @@ impl<C: Class> Server<C> {
     }
 
     /// A message for its channel's live call, or a data packet of a call with a higher number, which starts.
-    fn take_own(&mut self, is_above: bool, c: &CallName, head: &Head, body: &Body<'_>) -> Took
+    fn take_own(&mut self, is_above: bool, channel: Option<u32>, c: &CallName, head: &Head, body: &Body<'_>) -> Took
         requires chan { c.now.chan < 4 }
+        requires found { IsFound C.class_of self.old.node c.now channel }
         requires cid { c.now.cid + 3 < 2 ^ 32 }
         requires number { c.now.number ≡ head.now.number }
         requires size { FitsDatagram (body_of body.now) }
@@ -230,7 +238,7 @@ impl<C: Class> Server<C> {
         ensures same { SameSetup C.class_of self.old self.new }
     {
         let _ = &self.node;
-        let Some(key) = self.ready(c) else {
+        let Some(key) = self.ready(channel, c) else {
             return Took::Full;
         };
         if is_above {
@@ -268,8 +276,9 @@ impl<C: Class> Server<C> {
 
     /// The key of a call's channel, whose connection is used and was entered where it wasn't known; none where there is
     /// no place for it.
-    fn ready(&mut self, c: &CallName) -> Option<u32>
+    fn ready(&mut self, channel: Option<u32>, c: &CallName) -> Option<u32>
         requires chan { c.now.chan < 4 }
+        requires found { IsFound C.class_of self.old.node c.now channel }
         requires cid { c.now.cid + 3 < 2 ^ 32 }
         ensures key { IfSome result (IsKey self.new.node) }
         ensures ready { (l : Looks) → Serves C.class_of self.old l →
@@ -280,11 +289,12 @@ impl<C: Class> Server<C> {
         ensures same { SameSetup C.class_of self.old self.new }
     {
         let _ = &self.node;
-        if let Some(key) = self.touched(c) {
+        if let Some(key) = self.touched(channel, c) {
             return Some(key);
         }
         self.enter(c)?;
-        self.touched(c)
+        let channel = self.node.channel(c);
+        self.touched(channel, c)
     }
 
     /// The connection of a call, which wasn't known, is entered: in the next place, or in that of the connection that

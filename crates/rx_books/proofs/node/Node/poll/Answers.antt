@@ -138,8 +138,8 @@ returns-clause-steps g c =
     c.give-given.ensures.others c.refresh.ensures.noted c.refresh.ensures.keeps)
     c.give-given.new.steps c.refresh.new.steps c.refresh.ensures.steps in
     let least = c.in_ok-due.ensures.steps in
-    let gives = c.give-given.ensures.steps_taken in
     λ d power. (
+    let gives = c.give-given.ensures.steps_taken d (omega (arith, conns, power)) in
     let all = notes d power in
     record {
       grows = omega (arith, least.grows, gives.grows, all.grows);

@@ -1,4 +1,4 @@
-use Rattle.std.proofs.Common.{sym, ◌∙◌, ap}
+use Rattle.std.proofs.Common.{◌≡◌, sym, ◌∙◌, ap}
 use Rattle.rx_packet.specs.Seen.{message_of}
 use Rattle.rx_rules.specs.Judging.{Facts, client_row}
 use Rattle.rx_client.proofs.TakenMessages.{owned_named, turned_named}
@@ -19,3 +19,6 @@ returns-in-None-clause-takes g c =
     (sym c.requires.number) c.touch.ensures.steps c.take_own.result
     (λ call. c.in-None.ensures call ∙ ap (λ (f : Facts). client_row f call) (c.facts-facts.ensures l m))
     c.touch.ensures.same c.take_own.ensures.answered c.take_own.ensures.steps
+
+pub facts-requires : goal.facts-requires
+facts-requires g c = record { key = c.requires.key; at = c.requires.channel; absent = λ none. absurd (cc (none)) }

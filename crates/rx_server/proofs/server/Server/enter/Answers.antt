@@ -13,3 +13,9 @@ returns-in_err-place-clause-none g c =
     (omega (arith, c.if-conns-limits.false, c.conns.ensures.count, limits))
     (none_idle g.C.Class.class_of _ l serves.mirrors
     (c.idle.ensures.none (subst (λ (o : Option ℕ). IsNone o) (sym c.in_err-place.was) refl))))
+
+pub returns-in_err-place-clause-stays : goal.returns-in_err-place-clause-stays
+returns-in_err-place-clause-stays g c = λ none. rw c.idle.ensures.same c.self.view_is
+
+pub invariant_of-self : goal.invariant_of-self
+invariant_of-self g c = rw c.idle.ensures.same c.self.invariant

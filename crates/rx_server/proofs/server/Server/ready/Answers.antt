@@ -2,6 +2,7 @@ use Rattle.std.proofs.Common.{◌≡◌, ℕ, Option, Some, None, sym, subst}
 use Rattle.std.specs.Prelude.{IfSome}
 use Rattle.rx_model.specs.Names.{connection_of}
 use Rattle.rx_rules.specs.Looks.{Looks, conn_at}
+use Rattle.rx_node.specs.Steps.{IsFound}
 use Rattle.rx_server.specs.Server.{IsServerOf, ServerState, Serves}
 use Rattle.rx_server.specs.Taking.{Entered, IsReady}
 use Rattle.rx_server.proofs.Entering.{entered_known, ready_entered, ready_known}
@@ -40,6 +41,11 @@ module _ (g : _) (c : goal.After-touched-2 g) (l : Looks) (serves : Serves g.C.C
       entered_known g.C.Class.class_of c.args.self.now c.enter.new.self l (connection_of c.args.c.now)
       (subst (λ (sv : ServerState). IsServerOf sv.node.kind sv.service) c.self.view_is c.self.invariant.0.server) absent
       (c.touched-2.ensures.none _ entered.serves none)
+
+pub touched-2-requires-clause-found : goal.touched-2-requires-clause-found
+touched-2-requires-clause-found g c =
+    subst (λ (sv : ServerState). IsFound g.C.Class.class_of sv.node c.args.c.now c.channel-channel.result) c.self-2.view_is
+    (c.channel-channel.ensures.found c.requires.chan)
 
 pub returns-clause-ready : goal.returns-clause-ready
 returns-clause-ready g c = λ l serves. ready g c l serves
