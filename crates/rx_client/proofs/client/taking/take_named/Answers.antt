@@ -20,5 +20,5 @@ returns-in-None-clause-takes g c =
     (λ call. c.in-None.ensures call ∙ ap (λ (f : Facts). client_row f call) (c.facts-facts.ensures l m))
     c.touch.ensures.same c.take_own.ensures.answered c.take_own.ensures.steps
 
-pub facts-requires : goal.facts-requires
-facts-requires g c = record { key = c.requires.key; at = c.requires.channel; absent = λ none. absurd (cc (none)) }
+pub facts-facts-requires : goal.facts-facts-requires
+facts-facts-requires g c = record { key = c.requires.key; at = c.requires.channel; absent = λ none. absurd (cc (none)) }
