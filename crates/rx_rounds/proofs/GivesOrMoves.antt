@@ -7,7 +7,11 @@ use Rattle.std.specs.Prelude.{slice_get, IsSomeAnd, ◌||◌, ◌≢◌}
 use Rattle.std.specs.List.{filter_map, list_any}
 use Rattle.rx_model.specs.declared.event.Noted.{Noted}
 use Rattle.rx_rules.specs.After.{looks}
-use Rattle.rx_rules.specs.Items.{due, poll_answer}
+use Rattle.rx_model.specs.Names.{Channel}
+use Rattle.rx_rules.specs.Items.{all_channels, due, poll_answer}
+use Rattle.rx_rules.specs.Life.{is_active}
+use Rattle.rx_rules.specs.Looks.{CallRecord, latest}
+use Rattle.rx_rules.specs.Setup.{is_client}
 use Rattle.rx_rules.specs.Least.{least_by}
 use Rattle.rx_rules.proofs.EveryLaws.{Every}
 use Rattle.rx_rules.specs.Records.{is_silent, silenced}
@@ -21,7 +25,7 @@ use Rattle.rx_plan.specs.Stages.{Stage}
 use Rattle.rx_rounds.specs.Clocks.{DueGives, MovesOn, PolledLater, QuietMoves, SomeSilent, has_silent}
 use Rattle.rx_rounds.proofs.ClocksMove.{settles_all}
 use Rattle.rx_rounds.proofs.EachItem.{In, least_in, least_low, least_none}
-use Rattle.rx_rounds.proofs.NodeClock.{AreAwake, due_later}
+use Rattle.rx_rounds.proofs.NodeClock.{AreAwake, due_later, due_near}
 use Rattle.rx_rounds.proofs.PolledOut.{awake_later, polled_out}
 use Rattle.rx_rounds.proofs.QuietPolls.{polls_asked}
 use Rattle.rx_rounds.proofs.Rounded.{Made, RoundMade, settles_still}
@@ -123,6 +127,23 @@ all_may time s early = ap not (none 0 s.nodes (λ j n there. (let at : 0 + j ≡
         rw (lt-leb (2 ^ 62) (moment k s.history + time) low)
         (none (suc k) ns (λ j m there. (let next : k + suc j ≡ suc k + j = omega arith in
         subst (λ (i : ℕ). moment i s.history + time < 2 ^ 62) next (early (suc j) m there))))
+
+-- a client whose call lives waits for no more than 2,000 ms, and so do all
+pub client_near : (s : Stage) (k : ℕ) (n : Node) (ch : Channel) (r : CallRecord) → slice_get s.nodes k ≡ Some n
+    → is_client n.setup.kind ≡ true → In ch (all_channels (looks n.setup (side k s.history)).conns)
+    → latest (looks n.setup (side k s.history)) ch ≡ Some r → is_active r.life ≡ true
+    → is_silent (looks n.setup (side k s.history)).now r ≡ false
+    → r.looks.spoke ≤ (looks n.setup (side k s.history)).now
+    → (w : ℕ) × (least_wait s.nodes s.history ≡ Some w) × (w ≤ 2000)
+client_near s k n ch r there client known latest_is active awake spoke =
+    (let near = due_near n.setup (looks n.setup (side k s.history)) ch r client known latest_is active awake spoke in
+    let wait : wait_at s.history k n ≡ Some (near.0 - moment k s.history) =
+    ap (option_map (λ m. m - moment k s.history)) near.1 in
+    let least = wait_within s.nodes s.history k (near.0 - moment k s.history) n there wait in
+    let now : (looks n.setup (side k s.history)).now ≡ moment k s.history = now-side n.setup k s.history in
+    let short : near.0 ≤ (looks n.setup (side k s.history)).now + 2000 = near.2 in
+    let low : least.0 ≤ near.0 - moment k s.history = least.2 in
+    (least.0, least.1, omega arith))
 
 -- ---- two rounds
 
