@@ -32,7 +32,7 @@ use Rattle.rx_rounds.proofs.Flow.{total}
 use Rattle.rx_rounds.proofs.Keeper.{kept_to, last_kept, part_read}
 use Rattle.rx_rounds.proofs.OneCall.{Ends, client_place, header_of, server_place, the_call}
 use Rattle.rx_rounds.proofs.OneFields.{FitsEnds}
-use Rattle.rx_rounds.proofs.OneNode.{datagrams}
+use Rattle.rx_rounds.proofs.OneNode.{length_both}
 use Rattle.rx_rounds.proofs.OneWay.{IsOwedBy, IsPlainOwed, IsSteady, Reads, Sends}
 use Rattle.rx_rounds.proofs.Pair.{CallEnd}
 use Rattle.rx_rounds.proofs.ReadOn.{begins_read}
@@ -41,7 +41,7 @@ use Rattle.rx_rounds.proofs.ReplyMoments.{MomentOf, in_ack, moment_of, of_ack, o
 use Rattle.rx_rounds.proofs.RoundParts.{turn_still}
 use Rattle.rx_rounds.proofs.Rounded.{RoundMade, caller_at, settles_not}
 use Rattle.rx_rounds.proofs.SaidMore.{said_more}
-use Rattle.rx_rounds.proofs.SaysOn.{SaidOn, arriving_at, says_on}
+use Rattle.rx_rounds.proofs.SaysOn.{arriving_at, says_still}
 use Rattle.rx_rounds.proofs.Settle.{InEither, Settled, client_moments, end_moments, in_ping, server_moments, settles_two}
 use Rattle.rx_rounds.proofs.ServeTurns.{turn_reads}
 use Rattle.rx_rounds.proofs.Taking.{TookPieces, Takes, came_behind, none_came, some_came, takes_burst, takes_none}
@@ -255,23 +255,7 @@ module _ (x : Ends) (g : Handlers) (fits : FitsEnds x) (apart : AreApart x) (req
     -- how many were given
     given_long : length m.polled.given ≡ (length p.pieces.messages + length p.acks)
         + (length o.pieces.messages + length o.acks)
-    given_long =
-        ap (λ (ds : List Datagram). length ds) pass.given_is
-        ∙ length-append (datagrams x.client x.server (p.pieces.messages ++ p.acks))
-        (datagrams x.server x.client (o.pieces.messages ++ o.acks))
-        ∙ sums (length (datagrams x.client x.server (p.pieces.messages ++ p.acks)))
-        (length p.pieces.messages + length p.acks)
-        (length (datagrams x.server x.client (o.pieces.messages ++ o.acks)))
-        (length o.pieces.messages + length o.acks)
-        (length_map x.client x.server (p.pieces.messages ++ p.acks) ∙ length-append p.pieces.messages p.acks)
-        (length_map x.server x.client (o.pieces.messages ++ o.acks) ∙ length-append o.pieces.messages o.acks)
-      where
-        length_map : (from to : Host) (ms : List Message) → length (datagrams from to ms) ≡ length ms
-        length_map from to [] = refl
-        length_map from to (y ∷ ys) = ap (λ (i : ℕ). suc i) (length_map from to ys)
-
-        sums : (u v w z : ℕ) → u ≡ v → w ≡ z → u + w ≡ v + z
-        sums u v w z one two_ = omega arith
+    given_long = length_both x m.polled.given p.pieces.messages p.acks o.pieces.messages o.acks pass.given_is
 
     -- where something is given no clock moves
     loud : 1 ≤ length p.pieces.messages + length o.acks → t ≡ m.called
@@ -399,78 +383,17 @@ module _ (x : Ends) (g : Handlers) (fits : FitsEnds x) (apart : AreApart x) (req
           abbrev js1 : List JobState
           js1 = record (begun (the_call x)) { request = kept_of g ks1.received.read } ∷ []
 
-          abbrev said : SaidOn x request call line now p.behind.given gc h.since a n ls1 js1 kc2 m.called
-          said = says_on x request call line h.shut now p.behind.given gc h.since a n ls1 js1 kc2 h.offering h.phase m.served
-              m.called up3 quiet2 offers2 closed2 done2 (omega (arith, known_a, short)) two2 m.calls_are
-
-          -- the caller said no more
-          long : length request ≡ (length kc2.sent.said + length said.more) + length said.offering
-          long =
-              ap (λ (ys : List ℕ). length ys) said.offers
-              ∙ length-append (kc2.sent.said ++ said.more) said.offering
-              ∙ ap (λ (i : ℕ). i + length said.offering) (length-append kc2.sent.said said.more)
-
-          long2 : length request ≡ length kc2.sent.said + length h.offering
-          long2 = ap (λ (ys : List ℕ). length ys) offers2 ∙ length-append kc2.sent.said h.offering
-
-          fits_in : length (kc2.sent.said ++ said.more) ≤ 1412 * (a + 32)
-          fits_in = within said.shut refl
-            where
-              within : (b : Bool) → said.shut ≡ b → length (kc2.sent.said ++ said.more) ≤ 1412 * (a + 32)
-              within b is =
-                  let few : pieces_by (length (kc2.sent.said ++ said.more)) said.shut - kc2.sent.acked ≤ 32 =
-                  said.up.held in
-                  let acked : kc2.sent.acked ≡ a = said.up.acked in
-                  by b (subst (λ (z : Bool). pieces_by (length (kc2.sent.said ++ said.more)) z - kc2.sent.acked ≤ 32) is few)
-                  acked
-                where
-                  by : (b : Bool) → pieces_by (length (kc2.sent.said ++ said.more)) b - kc2.sent.acked ≤ 32
-                      → kc2.sent.acked ≡ a → length (kc2.sent.said ++ said.more) ≤ 1412 * (a + 32)
-                  by true few acked = omega arith
-                  by false few acked = omega arith
-
-          no_more : length said.more ≡ 0
-          no_more = ⊎_elim
-              (λ (w : (h.offering ≡ []) × (h.shut ≡ true)).
-              (let none_ : length h.offering ≡ 0 = ap (λ (ys : List ℕ). length ys) w.0 in omega (arith, long, long2)))
+          out2 : ((h.offering ≡ []) × (h.shut ≡ true))
+              ⊎ ((h.shut ≡ false) × (0 < length h.offering) × (length kc2.sent.said ≡ 1412 * (a + 32)))
+          out2 = ⊎_elim (λ (w : (h.offering ≡ []) × (h.shut ≡ true)). inl w)
               (λ (w : (h.shut ≡ false) × (0 < length h.offering) × (length h.kc.sent.said ≡ 1412 * (a + 32))).
-              (let full : length kc2.sent.said ≡ 1412 * (a + 32) = ap (λ (ys : List ℕ). length ys) c.said ∙ w.2 in
-              let parts : length (kc2.sent.said ++ said.more) ≡ length kc2.sent.said + length said.more =
-              length-append kc2.sent.said said.more in omega (arith, fits_in))) h.out
+              inr (w.0, w.1, ap (λ (ys : List ℕ). length ys) c.said ∙ w.2)) h.out
 
-          more_is : said.more ≡ []
-          more_is = of said.more no_more
-            where
-              of : (ys : List ℕ) → length ys ≡ 0 → ys ≡ []
-              of [] none_ = refl
-              of (y ∷ ys) none_ = absurd (omega arith)
-
-          same_shut : said.shut ≡ kc2.sent.shut
-          same_shut = ⊎_elim
-              (λ (w : (h.offering ≡ []) × (h.shut ≡ true)). ⊎_elim
-              (λ (z : (said.offering ≡ []) × (said.shut ≡ true)). z.1 ∙ sym w.1 ∙ sym closed2)
-              (λ (z : (said.shut ≡ false) × (0 < length said.offering)
-              × (length (kc2.sent.said ++ said.more) ≡ 1412 * (a + 32))).
-              (let none_ : length h.offering ≡ 0 = ap (λ (ys : List ℕ). length ys) w.0 in
-              let some : 0 < length said.offering = z.1 in absurd (omega (arith, long, long2)))) said.out)
-              (λ (w : (h.shut ≡ false) × (0 < length h.offering) × (length h.kc.sent.said ≡ 1412 * (a + 32))). ⊎_elim
-              (λ (z : (said.offering ≡ []) × (said.shut ≡ true)).
-              (let none_ : length said.offering ≡ 0 = ap (λ (ys : List ℕ). length ys) z.0 in
-              let some : 0 < length h.offering = w.1 in absurd (omega (arith, long, long2, no_more))))
-              (λ (z : (said.shut ≡ false) × (0 < length said.offering)
-              × (length (kc2.sent.said ++ said.more) ≡ 1412 * (a + 32))). z.0 ∙ sym w.0 ∙ sym closed2) said.out) h.out
-
-          same_kc : said_more said.more said.shut kc2 ≡ kc2
-          same_kc =
-              ap (λ (ys : List ℕ). said_more ys said.shut kc2) more_is
-              ∙ ap (λ (b : Bool). said_more [] b kc2) same_shut
-              ∙ ap (λ (ys : List ℕ). record kc2 { sent = record kc2.sent { said = ys } }) (append-nil kc2.sent.said)
-
+          -- the caller says no more
           two3 : Two x ls1 (client_at x p.behind.given gc [] now kc2)
-              (caller_at call line (caller_with x said.offering said.shut [] phases.Resting) ∷ []) js1 m.called
-          two3 = subst (λ (k : CallLooks). Two x ls1 (client_at x p.behind.given gc [] now k)
-              (caller_at call line (caller_with x said.offering said.shut [] phases.Resting) ∷ []) js1 m.called) same_kc
-              said.two
+              (caller_at call line (caller_with x h.offering h.shut [] phases.Resting) ∷ []) js1 m.called
+          two3 = says_still x request call line None h.shut now p.behind.given gc h.since a n ls1 js1 kc2 h.offering h.phase
+              m.served m.called up3 quiet2 closed2 (omega (arith, known_a, short)) out2 two2 m.calls_are
 
           is_quiet : (length m.polled.given == 0) ≡ true
           is_quiet = eq-eqb (length m.polled.given) 0
@@ -491,10 +414,10 @@ module _ (x : Ends) (g : Handlers) (fits : FitsEnds x) (apart : AreApart x) (req
           awake4 = ap (λ (i : ℕ). nat_le SILENCE_MS (now - i)) heard1 ∙ awake2
 
           abbrev settled : Settled x ls1 (client_at x p.behind.given gc [] now kc2)
-              (caller_at call line (caller_with x said.offering said.shut [] phases.Resting) ∷ []) js1 now
+              (caller_at call line (caller_with x h.offering h.shut [] phases.Resting) ∷ []) js1 now
               (end_moments false ks1) (end_moments true kc2) (length m.polled.given == 0) t
           settled = settles_two x ls1 (client_at x p.behind.given gc [] now kc2)
-              (caller_at call line (caller_with x said.offering said.shut [] phases.Resting) ∷ []) js1 now
+              (caller_at call line (caller_with x h.offering h.shut [] phases.Resting) ∷ []) js1 now
               (end_moments false ks1) (end_moments true kc2) refl refl
               (server_moments x (the_call x ∷ []) now gs o.behind.given lives.Accepted ks1 refl refl awake4)
               (client_moments x [] now gc p.behind.given kc2 awake3) (kc2.spoke + PING_MS) (in_ping kc2)
@@ -564,23 +487,16 @@ module _ (x : Ends) (g : Handlers) (fits : FitsEnds x) (apart : AreApart x) (req
                   used = gc;
                   server = server_at x o.behind.given gs settled.then_now lives.Accepted ks1;
                   jobs = js1;
-                  offering = said.offering;
-                  shut = said.shut;
+                  offering = h.offering;
+                  shut = h.shut;
                   phase = phases.Resting;
                   two = settled.two;
                   serving = at_work o.behind.given gs known;
                   since = h.since;
                   up = up3;
-                  offers = said.offers ∙ ap (λ (ys : List ℕ). (kc2.sent.said ++ ys) ++ said.offering) more_is
-                      ∙ ap (λ (ys : List ℕ). ys ++ said.offering) (append-nil kc2.sent.said);
-                  closed = sym same_shut;
-                  out = ⊎_elim (λ (z : (said.offering ≡ []) × (said.shut ≡ true)). inl z)
-                      (λ (z : (said.shut ≡ false) × (0 < length said.offering)
-                      × (length (kc2.sent.said ++ said.more) ≡ 1412 * (a + 32))). inr (
-                        z.0,
-                        z.1,
-                        omega (arith, z.2, no_more, length-append kc2.sent.said said.more),
-                      )) said.out;
+                  offers = offers2;
+                  closed = closed2;
+                  out = out2;
                   quiet = quiet2;
                   owes_none = none2;
                   reads = reads1;

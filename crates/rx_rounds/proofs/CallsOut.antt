@@ -1,6 +1,6 @@
 -- A turn of a caller that says its request: as much of it as there is room for; or all, and then it shuts. Then it reads
 -- nothing, as no reply came.
-use Rattle.std.proofs.Common.{◌&&◌, ◌≡◌, ◌<◌, ◌⊎◌, inl, inr, ⊎_elim, if◌then◌else◌, ◌≤◌, ◌+◌, ◌-◌, ◌*◌, ◌++◌, ℕ, suc, zero}
+use Rattle.std.proofs.Common.{◌≡◌, ◌<◌, ◌⊎◌, inl, inr, ⊎_elim, if◌then◌else◌, ◌≤◌, ◌+◌, ◌-◌, ◌*◌, ◌++◌, ℕ, suc, zero}
 use Rattle.std.proofs.Common.{min, Bool, true, false, cond, List, [], ◌∷◌, refl, ap, sym, subst, ◌∙◌, Option, Some, Result, Err, not}
 use Rattle.std.proofs.Common.{Ok, length, take, drop, nat_lt, arith, append_assoc, append-nil, length-take, length-drop}
 use Rattle.std.proofs.lemmas.Bool.{cases_lt, ltb-true, ltb-false}
@@ -17,7 +17,7 @@ use Rattle.rx_rules.specs.CallLooks.{CallLooks, after_read, after_shut, after_wr
 use Rattle.rx_rules.specs.Life as lives
 use Rattle.rx_rules.specs.Looks.{CallRecord, Looks, is_call}
 use Rattle.rx_rules.specs.Owing.{owed_for_done}
-use Rattle.rx_rules.specs.Received.{Received, has_several, nothing_received, read_of, used_of}
+use Rattle.rx_rules.specs.Received.{Received, nothing_received, read_of, used_of}
 use Rattle.rx_rules.specs.Rules.{can_say, client_read, client_read_by, client_write, done_where, own_call}
 use Rattle.rx_rules.specs.Sent.{opened, room_by}
 use Rattle.rx_rules.specs.Slots.{room}
@@ -32,6 +32,7 @@ use Rattle.rx_plan.specs.Stages.{InvokedState, Stage}
 use Rattle.rx_plan.specs.Turned.{turns_all}
 use Rattle.rx_rounds.proofs.Between.{caller_with}
 use Rattle.rx_rounds.proofs.OneCall.{Ends, answering_link, client_setup, node_of, the_call}
+use Rattle.rx_rounds.proofs.Room.{lead_low, room_numbers, slots_numbers}
 use Rattle.rx_rounds.proofs.RoundParts.{two_callers}
 use Rattle.rx_rounds.proofs.OneSteps.{client_read_on, client_shut, own_is, wrote}
 use Rattle.rx_rounds.proofs.Rounded.{Made, call_to, caller_at}
@@ -49,18 +50,6 @@ pub record CanSay (a : ℕ) (k : CallLooks) : Type 0 where
   pub known : a ≤ opened (length k.sent.said)
   pub near : opened (length k.sent.said) ≤ a + 32
   pub small : a ≤ 1000000000
-
-room_numbers : (a o n more : ℕ) → a ≤ o → o ≤ a + 32 → 32 ≤ more → a ≤ 1000000000
-    → 1412 * (o + min (min (32 - (o - a)) more) (4294967294 - o)) - n ≡ 1412 * (a + 32) - n
-room_numbers a o n more known near slots small =
-    let whole : o + min (min (32 - (o - a)) more) (4294967294 - o) ≡ a + 32 = omega arith in
-    ap (λ (m : ℕ). 1412 * m - n) whole
-
-lead_low : (k : CallLooks) → lead k ≤ 1
-lead_low k = elim (has_lead k) as (λ b. cond b 1 0 ≤ 1) [ true ↦ omega arith | false ↦ omega arith ]
-
-slots_numbers : (h l : ℕ) → h ≤ 900 → l ≤ 1 → 32 ≤ 1984 - (h - l + 0) + 1 - l
-slots_numbers h l few low = omega arith
 
 -- there is room up to the 32nd piece behind those that are hard acknowledged
 room_is : (x : Ends) (answer : Option (List ℕ)) (now given used a : ℕ) (k : CallLooks) → CanSay a k
@@ -132,7 +121,7 @@ module _ (x : Ends) (answer : Option (List ℕ)) (ls : Looks) (cs : List Invoked
       ap (λ (r : Received). record k {
         received = record r { read = r.read ++ []; ended = r.ended };
         owed_ack = cond (nat_lt (used_of r) (used_of (record r { read = r.read ++ []; ended = r.ended })))
-            (owed_for_done now (k.cwnd.prompt && has_several k.received) k.owed_ack) k.owed_ack;
+            (owed_for_done now k.cwnd.prompt k.owed_ack) k.owed_ack;
       }) none ∙ ap (λ (r : Received). record k { received = r }) (sym none) in
       let f = subst (λ (h : Event). Calls_ x REPLY_BYTES ls (calling_with k) cs js v h w t) is
       (calls_read x REPLY_BYTES ls (calling_with k) cs js v w s t c 4096 go.0 asked go.1) in

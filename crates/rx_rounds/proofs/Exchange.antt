@@ -608,46 +608,6 @@ given_behind p whole since a n m e o low h =
     subst (λ (k : CallLooks). AreGiven p.now low o.pieces.last k) (sym o.is)
     (subst (λ (k : CallLooks). AreGiven p.now low o.pieces.last k) o.pieces.is h)
 
--- what it sends is as behind its pieces
-pub sends_told : (p : Place) (whole : List ℕ) (since a n m : ℕ) (e : CallEnd) (o : PolledOut p whole since a n m e)
-    → (s : ℕ) → Sends whole s a o.pieces.last o.pieces.behind.looks → Sends whole s a o.pieces.last o.behind.looks
-sends_told p whole since a n m e o s h =
-    subst (λ (k : CallLooks). Sends whole s a o.pieces.last k) (sym o.is)
-    (same (record e.looks {
-      sent = record e.looks.sent { givings = o.pieces.givings };
-      spoke = o.pieces.spoke;
-    }) (subst (λ (k : CallLooks). Sends whole s a o.pieces.last k) o.pieces.is h))
-  where
-    same : (k : CallLooks) → Sends whole s a o.pieces.last k
-        → Sends whole s a o.pieces.last (record k { owed_ack = o.owed; spoke = o.spoke })
-    same k g =
-        record {
-          acked = g.acked;
-          given = g.given;
-          marked = g.marked;
-          peer = g.peer;
-          known = g.known;
-          near = g.near;
-          counted = g.counted;
-          rest = g.rest;
-          said = g.said;
-          shut = g.shut;
-          held = g.held;
-          rates = record {
-            wide = g.rates.wide;
-            most = g.rates.most;
-            steady = g.rates.steady;
-            even = g.rates.even;
-            slow = g.rates.slow;
-          };
-          recent = g.recent;
-        }
-
--- nothing more is told at that moment
-tells_none : (client : Bool) (now : ℕ) → tells client now now None ≡ None
-tells_none true now = rw (lt-leb (now + 2000) now (omega arith)) refl
-tells_none false now = refl
-
 -- what it gave last changes nothing of what it sends
 given_told : (whole : List ℕ) (s a n : ℕ) (k : CallLooks) (owed : Option Owed) (spoke : ℕ) → Sends whole s a n k
     → Sends whole s a n (record k { owed_ack = owed; spoke = spoke })
@@ -673,6 +633,21 @@ given_told whole s a n k owed spoke g =
       };
       recent = g.recent;
     }
+
+-- what it sends is as behind its pieces
+pub sends_told : (p : Place) (whole : List ℕ) (since a n m : ℕ) (e : CallEnd) (o : PolledOut p whole since a n m e)
+    → (s : ℕ) → Sends whole s a o.pieces.last o.pieces.behind.looks → Sends whole s a o.pieces.last o.behind.looks
+sends_told p whole since a n m e o s h =
+    subst (λ (k : CallLooks). Sends whole s a o.pieces.last k) (sym o.is)
+    (given_told whole s a o.pieces.last (record e.looks {
+      sent = record e.looks.sent { givings = o.pieces.givings };
+      spoke = o.pieces.spoke;
+    }) o.owed o.spoke (subst (λ (k : CallLooks). Sends whole s a o.pieces.last k) o.pieces.is h))
+
+-- nothing more is told at that moment
+tells_none : (client : Bool) (now : ℕ) → tells client now now None ≡ None
+tells_none true now = rw (lt-leb (now + 2000) now (omega arith)) refl
+tells_none false now = refl
 
 pub polled_out : (p : Place) (whole : List ℕ) (since a n m : ℕ) (e : CallEnd) → p.window ≡ 32
     → (a < n → p.now ≤ since + 100) → Sends whole since a n e.looks → Tells m e.looks
@@ -770,9 +745,12 @@ polled_out p whole since a n m e window soon h t =
                 window = Some w;
               });
             }) window in
+            let told : CallLooks = record k { owed_ack = None; spoke = p.now } in
+            let plain : last.looks ≡ told = rw s.1.rates.steady refl in
             let over : next_of p last.looks ≡ None =
-            next_rest whole s.0 a x.last last.looks (given_told whole s.0 a x.last k None p.now s.1) p x.over
-            (λ less. s.2) ∙ tells_none p.client p.now in
+            ap (next_of p) plain
+            ∙ next_rest whole s.0 a x.last told (given_told whole s.0 a x.last k None p.now s.1) p x.over (λ less. s.2)
+            ∙ tells_none p.client p.now in
             let next : next_of p k ≡ Some (Ack reason caused) =
             next_rest whole s.0 a x.last k s.1 p x.over (λ less. s.2)
             ∙ ap (λ (i : CallLooks). tells p.client p.now i.spoke i.owed_ack) x.is ∙ some in
@@ -786,7 +764,7 @@ polled_out p whole since a n m e window soon h t =
                   (gives x.behind last (Ack reason caused) [] next (none_due last over)));
               owed = None;
               spoke = p.now;
-              is = ap (λ (i : CallLooks). record i { owed_ack = None; spoke = p.now }) x.is;
+              is = plain ∙ ap (λ (i : CallLooks). record i { owed_ack = None; spoke = p.now }) x.is;
               told = inl (refl, refl, omega arith);
               quiet = λ none early. absurd (why none (λ is. ⊎_elim (λ (h : x.spoke ≡ p.now). omega arith)
                   (λ (h : (x.spoke ≡ e.looks.spoke) × (x.last ≡ n)). (let soon_ : p.now < e.looks.spoke + 2000 = early is

@@ -35,7 +35,7 @@ use Rattle.rx_rounds.proofs.Making.{ends_to, then_to}
 use Rattle.rx_rounds.proofs.OneBurst.{link_kept, link_took}
 use Rattle.rx_rounds.proofs.OneCall.{Ends, client_place, header_of, node_of, served_link, server_place, server_setup, the_call}
 use Rattle.rx_rounds.proofs.OneFields.{FitsEnds, fresh}
-use Rattle.rx_rounds.proofs.OneNode.{ArePlain, datagrams, plain_acks, plain_both, plain_burst, plain_piece, side_flags}
+use Rattle.rx_rounds.proofs.OneNode.{ArePlain, datagrams, length_datagrams, plain_acks, plain_both, plain_burst, plain_piece, side_flags}
 use Rattle.rx_rounds.proofs.OneSteps.{empty_at, server_began, server_begins}
 use Rattle.rx_rounds.proofs.OneTaken.{AreLater, later_burst}
 use Rattle.rx_rounds.proofs.OneWay.{IsPlainOwed, Sends}
@@ -275,10 +275,6 @@ module _ (x : Ends) (g : Handlers) (fits : FitsEnds x) (apart : AreApart x) (req
             ∙ sym (ap (λ (k : CallLooks). can_give k.cwnd k.sent) p.pieces.is) ∙ p.pieces.over;
         two = r.two;
         loud = subst (λ (n : ℕ). 1 ≤ n) (sym (ap (λ (ds : List Datagram). length ds) is
-            ∙ length_map p.pieces.messages))
+            ∙ length_datagrams x.client x.server p.pieces.messages))
             (burst_some (header_of x) true request 0 p.pieces.last p.pieces.messages some p.pieces.burst);
       }
-    where
-      length_map : (ms : List Message) → length (datagrams x.client x.server ms) ≡ length ms
-      length_map [] = refl
-      length_map (y ∷ ys) = ap (λ (i : ℕ). suc i) (length_map ys)

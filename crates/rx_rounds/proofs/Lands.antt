@@ -2,7 +2,7 @@
 -- next acknowledgement tells so. Over any two ends whose look-ups are true to each other.
 use Rattle.std.proofs.Common.{◌≡◌, ℕ, zero, suc, ◌+◌, ◌-◌, ◌^◌, ◌<◌, ◌≤◌, Bool, true, false, ◌&&◌, ◌||◌}
 use Rattle.std.proofs.Common.{List, [], ◌∷◌, ◌++◌, length, refl, ap, sym, ◌∙◌, subst, ◌⊎◌, inl, inr, ⊎_elim, arith}
-use Rattle.std.proofs.Common.{Option, Some}
+use Rattle.std.proofs.Common.{Option, Some, cond}
 use Rattle.std.proofs.Common.{nat_lt, nat_le, ◌==◌, is_some, ap₂, slice_index_or}
 use Rattle.std.proofs.lemmas.List.{length_push}
 use Rattle.std.proofs.lemmas.Bool.{eq-eqb, ne_eqb, le-leb, leb-true, le-ltb, lt-leb, cases_eq, cases_lt, cases_Bool}
@@ -16,7 +16,7 @@ use Rattle.rx_rules.proofs.PacketLaws.{kept_within}
 use Rattle.rx_rules.specs.CallItems.{asks, flags_of}
 use Rattle.rx_rules.specs.CallItems as sendings
 use Rattle.rx_rules.specs.CallLooks.{CallLooks, NodeView, has_lead, after_taken}
-use Rattle.rx_rules.specs.Owing.{at_once}
+use Rattle.rx_rules.specs.Owing.{Owed}
 use Rattle.rx_rules.specs.Received.{is_above, last_seq, Piece, Packet, Received, reach, packet_at, greatest, front_of}
 use Rattle.rx_rules.specs.Received.{used_of, is_done, is_done_by, end_of, payload_of, marks_from, marks_of}
 use Rattle.rx_rules.specs.Sent.{Sent, given_of, is_acked, lowest_of, is_marked, marks_past, piece_at, after_ack}
@@ -242,14 +242,14 @@ row_again c v window shared now later given header there wide room honest =
     )))
     (cases_Bool (nat_le k (used_of v.received) || is_some (packet_at v.received.kept k)))
 
--- behind it: the piece is there, an ACK is owed at once, and whatever ACK is made of these look-ups acknowledges the
--- piece
-pub record Lands (c v after_it : CallLooks) (window k : ℕ) : Type 0 where
+-- behind it: the piece is there, an ACK is owed within a millisecond, and whatever ACK is made of these look-ups
+-- acknowledges the piece
+pub record Lands (c v after_it : CallLooks) (window moment k : ℕ) : Type 0 where
   pub kept : is_some (packet_at after_it.received.kept k) ≡ true
   pub hard : c.sent.acked ≤ used_of after_it.received
-  pub reason : ℕ
-  pub serial : ℕ
-  pub owes : after_it.owed_ack ≡ at_once reason serial
+  pub owed : Owed
+  pub owes : after_it.owed_ack ≡ Some owed
+  pub soon : owed.rank ≤ moment + 1
   pub told :
       is_acked (after_ack (used_of after_it.received + 1) (marks_of after_it.received) (Some window) c.sent) k ≡ true
 
@@ -261,7 +261,7 @@ asks_again c k = flag_asks (asks c.cwnd c.sent k true) (piece_at c.sent k).last
 -- Kept: it is new
 lands_kept : (c v : CallLooks) (view : NodeView) (window now given k : ℕ) (header : Message) (wide room : ℕ)
     → AreTrue c.sent v.received → 1 ≤ k → is_some (packet_at v.received.kept k) ≡ false
-    → Lands c v (after_taken view tooks.Kept (again_message (from_client wide room now header) c given k) v) window k
+    → Lands c v (after_taken view tooks.Kept (again_message (from_client wide room now header) c given k) v) window view.now k
 lands_kept c v view window now given k header wide room truth low new =
     let m : Message = again_message (from_client wide room now header) c given k in
     let p : Packet = record {
@@ -273,50 +273,54 @@ lands_kept c v view window now given k header wide room truth low new =
     let there : is_some (packet_at r.kept k) ≡ true = rw (eq-eqb k k refl) refl in
     let hard : c.sent.acked ≤ used_of r = omega (arith, used-more p v.received k new, truth.hard) in
     elim (cases_Bool (k == suc (front_of v.received.kept)))
-    as (λ e. Lands c v (after_taken view tooks.Kept m v) window k) [
+    as (λ e. Lands c v (after_taken view tooks.Kept m v) window view.now k) [
       | inl next ↦
           record {
             kept = there;
             hard = hard;
-            reason = ACK_REQUESTED;
-            serial = m.serial;
+            owed = record { reason = ACK_REQUESTED; serial = m.serial; rank = cond v.cwnd.prompt (view.now + 1) 0 };
             owes = rw next (rw (asks_again c k) refl);
+            soon = of v.cwnd.prompt;
             told = told_acked c.sent r window k low hard there;
           }
       | inr apart ↦
           record {
             kept = there;
             hard = hard;
-            reason = ACK_OUT_OF_SEQUENCE;
-            serial = m.serial;
+            owed = record { reason = ACK_OUT_OF_SEQUENCE; serial = m.serial; rank = 0 };
             owes = rw apart refl;
+            soon = omega arith;
             told = told_acked c.sent r window k low hard there;
           }
     ]
+  where
+    of : (b : Bool) → cond b (view.now + 1) 0 ≤ view.now + 1
+    of true = omega arith
+    of false = omega arith
 
 -- Repeat: it was there
 lands_repeat : (c v : CallLooks) (view : NodeView) (window now given k : ℕ) (header : Message) (wide room : ℕ)
     → AreTrue c.sent v.received → 1 ≤ k → is_some (packet_at v.received.kept k) ≡ true
-    → Lands c v (after_taken view tooks.Repeat (again_message (from_client wide room now header) c given k) v) window k
+    → Lands c v (after_taken view tooks.Repeat (again_message (from_client wide room now header) c given k) v) window view.now k
 lands_repeat c v view window now given k header wide room truth low there =
     let m : Message = again_message (from_client wide room now header) c given k in
     record {
       kept = there;
       hard = truth.hard;
-      reason = ACK_DUPLICATE;
-      serial = m.serial;
+      owed = record { reason = ACK_DUPLICATE; serial = m.serial; rank = 0 };
       owes = refl;
+      soon = omega arith;
       told = told_acked c.sent v.received window k low truth.hard there;
     }
 
 -- whatever was lost before: the lowest piece that isn't acknowledged, given again and delivered, is at the server,
--- which owes an ACK at once that acknowledges it
+-- which owes an ACK that acknowledges it, due within a millisecond
 pub lowest_lands : (c v : CallLooks) (window shared now later given : ℕ) (header there : Message) (wide room : ℕ)
     → Honest c v window
     → Lands c v (after_taken (view_of (at_server window shared later there) v)
     (row_of (at_server window shared later there)
     (again_message (from_client wide room now header) c given (lowest_of c.sent)) v)
-    (again_message (from_client wide room now header) c given (lowest_of c.sent)) v) window (lowest_of c.sent)
+    (again_message (from_client wide room now header) c given (lowest_of c.sent)) v) window later (lowest_of c.sent)
 lowest_lands c v window shared now later given header there wide room honest =
     let k : ℕ = lowest_of c.sent in
     let m : Message = again_message (from_client wide room now header) c given k in
@@ -324,11 +328,11 @@ lowest_lands c v window shared now later given header there wide room honest =
     ⊎_elim
     (λ (h : (row_of (at_server window shared later there) m v ≡ tooks.Kept) ×
     (is_some (packet_at v.received.kept k) ≡ false)).
-    subst (λ (t : Took). Lands c v (after_taken view t m v) window k) (sym h.0)
+    subst (λ (t : Took). Lands c v (after_taken view t m v) window later k) (sym h.0)
     (lands_kept c v view window now given k header wide room honest.truth (omega arith) h.1))
     (λ (h : (row_of (at_server window shared later there) m v ≡ tooks.Repeat) ×
     (is_some (packet_at v.received.kept k) ≡ true)).
-    subst (λ (t : Took). Lands c v (after_taken view t m v) window k) (sym h.0)
+    subst (λ (t : Took). Lands c v (after_taken view t m v) window later k) (sym h.0)
     (lands_repeat c v view window now given k header wide room honest.truth (omega arith) h.1))
     (row_again c v window shared now later given header there wide room honest)
 

@@ -71,6 +71,7 @@ pub mod ReplyRound
 pub mod ReplyStream
 pub mod ReplyTells
 pub mod ReplyTurn
+pub mod Room
 pub mod Rounded
 pub mod RoundParts
 pub mod SaidMore

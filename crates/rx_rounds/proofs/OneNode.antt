@@ -3,6 +3,7 @@
 use Rattle.std.proofs.Common.{◌≡◌, ◌<◌, ◌≤◌, ◌+◌, ◌-◌, ◌*◌, ◌^◌, ◌==◌, ◌++◌, ℕ, suc, zero, Bool, true, false}
 use Rattle.std.proofs.Common.{if◌then◌else◌, List, [], ◌∷◌, map, refl, ap, sym, ◌∙◌, Some, None, length}
 use Rattle.std.proofs.Common.{append-nil, append_assoc, arith, drop, nat_le, length-take}
+use Rattle.std.proofs.lemmas.List.{length-append}
 use Rattle.rx_model.specs.declared.event.Event.TheVariants as events
 use Rattle.rx_model.specs.declared.names.CallName.{CallName}
 use Rattle.rx_model.specs.declared.names.Host.{Host}
@@ -124,6 +125,25 @@ module _ (x : Ends) (fits : FitsEnds x) where
 -- their datagrams
 abbrev pub datagrams : Host → Host → List Message → List Datagram
 datagrams from to ms = map (λ (m : Message). sent from to (made m)) ms
+
+pub length_datagrams : (from to : Host) (ms : List Message) → length (datagrams from to ms) ≡ length ms
+length_datagrams from to [] = refl
+length_datagrams from to (m ∷ ms) = ap (λ (n : ℕ). suc n) (length_datagrams from to ms)
+
+-- how many are given where both nodes give pieces and then ACKs
+pub length_both : (x : Ends) (given : List Datagram) (ms ns os ps : List Message)
+    → given ≡ datagrams x.client x.server (ms ++ ns) ++ datagrams x.server x.client (os ++ ps)
+    → length given ≡ (length ms + length ns) + (length os + length ps)
+length_both x given ms ns os ps is =
+    ap (λ (ds : List Datagram). length ds) is
+    ∙ length-append (datagrams x.client x.server (ms ++ ns)) (datagrams x.server x.client (os ++ ps))
+    ∙ sums (length (datagrams x.client x.server (ms ++ ns))) (length ms + length ns)
+    (length (datagrams x.server x.client (os ++ ps))) (length os + length ps)
+    (length_datagrams x.client x.server (ms ++ ns) ∙ length-append ms ns)
+    (length_datagrams x.server x.client (os ++ ps) ∙ length-append os ps)
+  where
+    sums : (u v w z : ℕ) → u ≡ v → w ≡ z → u + w ≡ v + z
+    sums u v w z one other = omega arith
 
 -- ---- polls
 

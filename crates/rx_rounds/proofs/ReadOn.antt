@@ -1,11 +1,11 @@
 -- An end while its stream is read: what was read and what stands to be read are the stream's front.
-use Rattle.std.proofs.Common.{◌&&◌, ◌≡◌, ◌<◌, ◌≤◌, ◌+◌, ◌*◌, ◌++◌, ℕ, Bool, true, false, cond, List, [], refl, ap, sym, ◌∙◌, Option}
+use Rattle.std.proofs.Common.{◌≡◌, ◌<◌, ◌≤◌, ◌+◌, ◌*◌, ◌++◌, ℕ, Bool, true, false, cond, List, [], refl, ap, sym, ◌∙◌, Option}
 use Rattle.std.proofs.Common.{Some, None, length, take, drop, nat_lt, arith, append-nil, append_assoc}
 use Rattle.std.proofs.lemmas.Bool.{ltb-false}
 use Rattle.std.specs.Prelude.{IfSome, IsSomeAnd}
 use Rattle.rx_rules.specs.CallLooks.{CallLooks, after_read}
 use Rattle.rx_rules.specs.Owing.{Owed, delayed, owed_for_read}
-use Rattle.rx_rules.specs.Received.{Received, has_several, heard_of, unread_of, used_of}
+use Rattle.rx_rules.specs.Received.{Received, heard_of, unread_of, used_of}
 use Rattle.rx_rounds.proofs.Keeper.{part_read}
 use Rattle.rx_rounds.proofs.OneWay.{IsPlainOwed}
 use Rattle.rx_rounds.proofs.ReplyStream.{unread_kept}
@@ -54,7 +54,7 @@ module _ (whole : List ℕ) (now p n : ℕ) (first : CallLooks) where
             ap (after_read now false more) h.is
             ∙ ap (λ (b : Bool). record first {
               received = s;
-              owed_ack = owed_for_read now (b && has_several r) (used_of r) (used_of s) h.owed;
+              owed_ack = owed_for_read now b (used_of r) (used_of s) h.owed;
             }) h.unprompted;
         front =
             append_assoc read more (unread_of (after_read now false more k).received)

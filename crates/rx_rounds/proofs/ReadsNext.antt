@@ -1,6 +1,6 @@
 -- What the turns behind pieces of a request come to: its handler reads on, waits, replies or refuses; and its caller says as
 -- much more as there is room for.
-use Rattle.std.proofs.Common.{◌&&◌, ◌≡◌, ◌≢◌, ◌<◌, ◌≤◌, ◌⊎◌, inl, inr, ⊎_elim, ◌+◌, ◌^◌, ◌++◌, ℕ, ℤ, pos}
+use Rattle.std.proofs.Common.{◌≡◌, ◌≢◌, ◌<◌, ◌≤◌, ◌⊎◌, inl, inr, ⊎_elim, ◌+◌, ◌^◌, ◌++◌, ℕ, ℤ, pos}
 use Rattle.std.proofs.Common.{Bool, true, false, cond, List, [], ◌∷◌, refl, ap, sym, subst, ◌∙◌, Option, Some, None, length}
 use Rattle.std.proofs.Common.{arith, append-nil, nat_lt}
 use Rattle.std.proofs.lemmas.Bool.{both_ways, cases_Bool, ltb-false}
@@ -11,7 +11,7 @@ use Rattle.rx_rules.specs.CallLooks.{CallLooks, after_read}
 use Rattle.rx_rules.specs.Life as lives
 use Rattle.rx_rules.specs.Looks.{Looks}
 use Rattle.rx_rules.specs.Owing.{Owed, delayed, owed_for_read}
-use Rattle.rx_rules.specs.Received.{Received, has_several, heard_of, is_complete, marks_of, nothing_received, unread_of, used_of}
+use Rattle.rx_rules.specs.Received.{Received, heard_of, is_complete, marks_of, nothing_received, unread_of, used_of}
 use Rattle.rx_rules.specs.Sent.{Sent, counting_by, given_of, held_pieces, nothing_sent}
 use Rattle.rx_script.specs.Served.{bytes, refusal}
 use Rattle.rx_asks.specs.declared.ask.Phase.{Phase}
@@ -342,7 +342,7 @@ module _ (x : Ends) (g : Handlers) (request : List ℕ) (call line : ℕ) (small
       owed_ended : ended.owed_ack
           ≡ cond (nat_lt (used_of k.received) (used_of ended.received)) (delayed now 0 k.owed_ack) k.owed_ack
       owed_ended =
-          ap (λ (t : Bool). owed_for_read now (t && has_several k.received) (used_of k.received) (used_of ended.received)
+          ap (λ (t : Bool). owed_for_read now t (used_of k.received) (used_of ended.received)
           k.owed_ack) (ap (λ (i : CallLooks). i.cwnd.prompt) h.is ∙ h.unprompted)
 
       plain_ended : IfSome ended.owed_ack IsPlainOwed

@@ -30,6 +30,7 @@ use Rattle.rx_plan.specs.Parts.{To, each}
 use Rattle.rx_plan.specs.Rounds.{Polling, settles}
 use Rattle.rx_plan.specs.Stages.{InvokedState, Stage}
 use Rattle.rx_plan.specs.Turned.{dispatches, turns_all}
+use Rattle.rx_rounds.proofs.ArrivingRound.{tells_none}
 use Rattle.rx_rounds.proofs.Between.{EndsWith, HasCome, Refusing, caller_with, client_at}
 use Rattle.rx_rounds.proofs.Exchange.{Acks, Burst, PolledOut, a_piece, ack_with, an_ack, no_ack, no_piece, piece_with}
 use Rattle.rx_rounds.proofs.Exchange.{counts_within, polled_out, tells_of}
@@ -125,16 +126,6 @@ over_accepts : (x : Ends) (code : ℤ) (o : Option ℤ) (given used now : ℕ) (
 over_accepts x code o given used now k =
     simp (number_itself x.client.addr, number_itself x.client.port, number_itself x.epoch, number_itself x.first) refl
 
--- an end that received nothing tells of nothing
-tells_nothing : (k : CallLooks) → k.received ≡ nothing_received → k.owed_ack ≡ None → Tells 0 k
-tells_nothing k quiet none =
-    record {
-      used = ap (λ (r : Received). used_of r) quiet;
-      marks = ap (λ (r : Received). marks_of r) quiet;
-      previous = subst (λ (r : Received). r.previous < 2 ^ 32) (sym quiet) (omega arith);
-      plain = subst (λ (o : Option Owed). IfSome o IsPlainOwed) (sym none) tt;
-    }
-
 -- a caller that ended stays so as clocks move
 pub ended_settled : (call line : ℕ) (w : CallerState) (s t : Stage) (quiet : Bool) → Made (settles quiet) s t
     → HasEnded call line w s → HasEnded call line w t
@@ -225,7 +216,7 @@ abort_comes x g request call line now code s t fits apart few r m =
     let lc : Looks = client_at x r.given_client r.used_client [] now r.kc in
     let o : PolledOut (client_place x now) request r.since r.a r.n 0 e =
     polled_out (client_place x now) request r.since r.a r.n 0 e refl r.soon r.up
-    (tells_nothing r.kc r.quiet r.owes_none) in
+    (tells_none r.kc r.quiet r.owes_none) in
     let within : o.pieces.last ≤ total request =
     (let h = o.pieces.sends 0 (omega arith) (λ less. omega arith) in
     let most : counting_of o.pieces.behind.looks.sent ≤ total request =

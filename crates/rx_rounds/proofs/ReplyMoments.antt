@@ -5,9 +5,9 @@ use Rattle.std.proofs.lemmas.Bool.{cases_lt}
 use Rattle.std.specs.Prelude.{IfSome, if◌then◌else◌}
 use Rattle.rx_model.specs.declared.wire.TheConstants.{SILENCE_MS}
 use Rattle.rx_rules.specs.CallItems.{Ack, CallItem, Piece, ack_items, again_items, can_give, fresh_items, item_at, lost_items}
-use Rattle.rx_rules.specs.CallItems.{piece_items, ping_items}
+use Rattle.rx_rules.specs.CallItems.{piece_items, ping_items, resend_after}
 use Rattle.rx_rules.specs.CallLooks.{CallLooks}
-use Rattle.rx_rules.specs.Lost.{first_lost, late_of, overtaken_of, under_way}
+use Rattle.rx_rules.specs.Lost.{first_lost, late_of, lost_of, overtaken_of, under_way}
 use Rattle.rx_rules.specs.Owing.{Owed}
 use Rattle.rx_rules.specs.Sent.{LastGiving, given_of, last_giving, lowest_of}
 use Rattle.rx_rounds.proofs.EachItem.{In, in_behind, in_front}
@@ -24,6 +24,18 @@ in_ack client k o owes =
     (subst (λ (z : Option Owed). In (record { rank = o.rank; sending = Ack o.reason o.serial }) (ack_items z)) (sym owes)
     (inl refl))))
 
+-- a piece that may go is due at once
+pub in_piece : (client : Bool) (k : CallLooks) → can_give k.cwnd k.sent ≡ true → In 0 (end_moments client k)
+in_piece client k can =
+    in_end client k (record { rank = 0; sending = Piece (suc (given_of k.sent)) false })
+    (in_front (record { rank = 0; sending = Piece (suc (given_of k.sent)) false })
+    (piece_items k.rtt.rto k.cwnd k.sent) (ack_items k.owed_ack ++ ping_items client k.spoke)
+    (in_behind (record { rank = 0; sending = Piece (suc (given_of k.sent)) false }) (lost_items (lost_of k.cwnd k.sent))
+    (fresh_items k.cwnd k.sent
+    ++ again_items (resend_after k.rtt.rto k.cwnd.prompt (last_giving k.sent.givings (lowest_of k.sent))) (lowest_of k.sent)
+    (last_giving k.sent.givings (lowest_of k.sent)))
+    (rw can (inl refl))))
+
 module _ (client : Bool) (whole : List ℕ) (since a n : ℕ) (k : CallLooks) (h : Sends whole since a n k)
     (none : can_give k.cwnd k.sent ≡ false) where
   -- a piece again, an ACK, a ping, and its death
@@ -34,8 +46,8 @@ module _ (client : Bool) (whole : List ℕ) (since a n : ℕ) (k : CallLooks) (h
       ap (λ (b : Bool). map (λ (i : CallItem). i.rank)
       ((lost_items (if b then first_lost (overtaken_of k.sent)
       (if nat_lt (under_way k.sent) k.cwnd.window then late_of k.sent else None) else None)
-      ++ (fresh_items k.cwnd k.sent ++ again_items k.rtt.rto (lowest_of k.sent)
-      (last_giving k.sent.givings (lowest_of k.sent)))) ++ (ack_items k.owed_ack
+      ++ (fresh_items k.cwnd k.sent ++ again_items (resend_after k.rtt.rto b (last_giving k.sent.givings (lowest_of k.sent)))
+      (lowest_of k.sent) (last_giving k.sent.givings (lowest_of k.sent)))) ++ (ack_items k.owed_ack
       ++ ping_items client k.spoke)) ++ (k.heard + SILENCE_MS) ∷ []) h.rates.steady
       ∙ ap (λ (b : Bool). map (λ (i : CallItem). i.rank)
       (((if b then item_at 0 (Piece (suc (given_of k.sent)) false) else [])

@@ -23,7 +23,7 @@ use Rattle.rx_rounds.proofs.Exchange.{PolledOut, counts_within, must_go, polled_
 use Rattle.rx_rounds.proofs.Flow.{total}
 use Rattle.rx_rounds.proofs.OneCall.{Ends, client_place, server_place}
 use Rattle.rx_rounds.proofs.OneFields.{FitsEnds}
-use Rattle.rx_rounds.proofs.OneNode.{datagrams}
+use Rattle.rx_rounds.proofs.OneNode.{length_both}
 use Rattle.rx_rounds.proofs.OneWay.{IsPlainOwed, Sends}
 use Rattle.rx_rounds.proofs.Pair.{CallEnd}
 use Rattle.rx_rounds.proofs.ReadOn.{begins_read}
@@ -275,23 +275,7 @@ module _ (x : Ends) (g : Handlers) (fits : FitsEnds x) (apart : AreApart x) (req
   -- how many datagrams were given
   pub given_long : length m.polled.given ≡ (length p.pieces.messages + length p.acks)
       + (length o.pieces.messages + length o.acks)
-  given_long =
-      ap (λ (ds : List Datagram). length ds) came.given_is
-      ∙ length-append (datagrams x.client x.server (p.pieces.messages ++ p.acks))
-      (datagrams x.server x.client (o.pieces.messages ++ o.acks))
-      ∙ sums (length (datagrams x.client x.server (p.pieces.messages ++ p.acks)))
-      (length p.pieces.messages + length p.acks)
-      (length (datagrams x.server x.client (o.pieces.messages ++ o.acks)))
-      (length o.pieces.messages + length o.acks)
-      (length_map x.client x.server (p.pieces.messages ++ p.acks) ∙ length-append p.pieces.messages p.acks)
-      (length_map x.server x.client (o.pieces.messages ++ o.acks) ∙ length-append o.pieces.messages o.acks)
-    where
-      length_map : (from to : Host) (ms : List Message) → length (datagrams from to ms) ≡ length ms
-      length_map from to [] = refl
-      length_map from to (y ∷ ys) = ap (λ (i : ℕ). suc i) (length_map from to ys)
-
-      sums : (u v w z : ℕ) → u ≡ v → w ≡ z → u + w ≡ v + z
-      sums u v w z one two_ = omega arith
+  given_long = length_both x m.polled.given p.pieces.messages p.acks o.pieces.messages o.acks came.given_is
 
   pub loud : 1 ≤ (length p.acks + length o.pieces.messages) + length o.acks → t ≡ m.called
   loud some = settles_not m.called t (length m.polled.given == 0)

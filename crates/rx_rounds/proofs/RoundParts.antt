@@ -1,6 +1,6 @@
 -- The parts of a round of a server and one client with one call, at any moment: the polls of both, deliveries of both, and a
 -- turn of the dispatcher in which nothing is there to read.
-use Rattle.std.proofs.Common.{◌&&◌, ◌≡◌, ◌-◌, ◌++◌, ℕ, Bool, true, false, cond, List, [], ◌∷◌, refl, ap, sym, subst, ◌∙◌, inl}
+use Rattle.std.proofs.Common.{◌≡◌, ◌-◌, ◌++◌, ℕ, Bool, true, false, cond, List, [], ◌∷◌, refl, ap, sym, subst, ◌∙◌, inl}
 use Rattle.std.proofs.Common.{Option, None, append-nil, arith, nat_le, nat_lt}
 use Rattle.std.proofs.lemmas.Bool.{le-ltb}
 use Rattle.rx_model.specs.declared.answers.CallRead.{CallRead}
@@ -17,7 +17,7 @@ use Rattle.rx_rules.specs.Life.{Life, is_active, is_live}
 use Rattle.rx_rules.specs.Life as lives
 use Rattle.rx_rules.specs.Looks.{CallRecord, Looks, call_at}
 use Rattle.rx_rules.specs.Owing.{owed_for_done}
-use Rattle.rx_rules.specs.Received.{has_several, is_complete, read_from, unread_of, used_of}
+use Rattle.rx_rules.specs.Received.{is_complete, read_from, unread_of, used_of}
 use Rattle.rx_rules.specs.Rules.{accept_answer, served_read, served_read_by}
 use Rattle.rx_law.specs.Worlds.{Datagram}
 use Rattle.rx_jobs.specs.declared.job.Phase.TheVariants as phases
@@ -109,10 +109,10 @@ reads_still now k =
     ap (λ (ys : List ℕ). record k {
       received = record k.received { read = ys };
       owed_ack = cond (nat_lt (used_of k.received) (used_of (record k.received { read = ys })))
-          (owed_for_done now (k.cwnd.prompt && has_several k.received) k.owed_ack) k.owed_ack;
+          (owed_for_done now k.cwnd.prompt k.owed_ack) k.owed_ack;
     }) (append-nil k.received.read)
     ∙ ap (λ (b : Bool). record k {
-      owed_ack = cond b (owed_for_done now (k.cwnd.prompt && has_several k.received) k.owed_ack) k.owed_ack;
+      owed_ack = cond b (owed_for_done now k.cwnd.prompt k.owed_ack) k.owed_ack;
     })
     (le-ltb (used_of k.received) (used_of k.received) (omega arith))
 

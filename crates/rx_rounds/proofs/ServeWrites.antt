@@ -28,6 +28,7 @@ use Rattle.rx_rounds.proofs.Between.{server_at}
 use Rattle.rx_rounds.proofs.OneCall.{Ends, from_server, server_setup, the_call}
 use Rattle.rx_rounds.proofs.OneSteps.{call_is, server_finished, wrote}
 use Rattle.rx_rounds.proofs.Turned.{Serves, Serves_, serves_finish, serves_over, serves_write}
+use Rattle.rx_rounds.proofs.Room.{lead_low, room_numbers, slots_numbers}
 use Rattle.rx_rounds.proofs.Two.{Two, two_as}
 
 -- ---- room
@@ -44,18 +45,6 @@ pub record CanWrite (a : ℕ) (k : CallLooks) : Type 0 where
   pub small : a ≤ 1000000000
 
 -- in numbers
-room_numbers : (a o n more : ℕ) → a ≤ o → o ≤ a + 32 → 32 ≤ more → a ≤ 1000000000
-    → 1412 * (o + min (min (32 - (o - a)) more) (4294967294 - o)) - n ≡ 1412 * (a + 32) - n
-room_numbers a o n more known near slots small =
-    let whole : o + min (min (32 - (o - a)) more) (4294967294 - o) ≡ a + 32 = omega arith in
-    ap (λ (m : ℕ). 1412 * m - n) whole
-
-lead_low : (k : CallLooks) → lead k ≤ 1
-lead_low k = elim (has_lead k) as (λ b. cond b 1 0 ≤ 1) [ true ↦ omega arith | false ↦ omega arith ]
-
-slots_numbers : (h l : ℕ) → h ≤ 900 → l ≤ 1 → 32 ≤ 1984 - (h - l + 0) + 1 - l
-slots_numbers h l few low = omega arith
-
 -- there is room up to the 32nd piece behind those that are hard acknowledged
 pub room_is : (x : Ends) (now given used a : ℕ) (k : CallLooks) → CanWrite a k
     → room (server_setup x) (server_at x given used now lives.Accepted k) k

@@ -1,11 +1,10 @@
 -- The start of the rounds: nothing is due, and then the caller says its request as far as there is room.
 use Rattle.std.proofs.Common.{◌≡◌, ◌<◌, ◌≤◌, inl, inr, ⊎_elim, ◌+◌, ◌*◌, ◌++◌, ◌==◌, max, ℕ, suc, Bool, true, false, List, []}
 use Rattle.std.proofs.Common.{◌∷◌, refl, ap, sym, subst, ◌∙◌, length, arith, append-nil}
-use Rattle.rx_rules.specs.CallItems.{Piece, ack_items, again_items, can_give, fresh_items, lost_items, piece_items, ping_items}
-use Rattle.rx_rules.specs.Lost.{lost_of}
+use Rattle.rx_rules.specs.CallItems.{can_give}
 use Rattle.rx_rules.specs.CallLooks.{CallLooks}
 use Rattle.rx_rules.specs.Looks.{Looks}
-use Rattle.rx_rules.specs.Sent.{counting_by, given_of, last_giving, lowest_of}
+use Rattle.rx_rules.specs.Sent.{counting_by}
 use Rattle.rx_asks.specs.declared.ask.Phase.TheVariants as phases
 use Rattle.rx_jobs.specs.Handlers.{Handlers}
 use Rattle.rx_plan.specs.Network.{delivers}
@@ -13,7 +12,6 @@ use Rattle.rx_plan.specs.Parts.{To, each}
 use Rattle.rx_plan.specs.Stages.{InvokedState, Stage}
 use Rattle.rx_law.specs.Worlds.{Datagram}
 use Rattle.rx_rounds.proofs.Between.{caller_with, client_at}
-use Rattle.rx_rounds.proofs.EachItem.{In, in_behind, in_front}
 use Rattle.rx_rounds.proofs.Exchange.{must_go, none_due}
 use Rattle.rx_rounds.proofs.Making.{ends_to}
 use Rattle.rx_rounds.proofs.OneCall.{Ends}
@@ -21,6 +19,7 @@ use Rattle.rx_rounds.proofs.OneFields.{fresh}
 use Rattle.rx_rounds.proofs.OneSteps.{empty_at}
 use Rattle.rx_rounds.proofs.OneWay.{Sends}
 use Rattle.rx_rounds.proofs.Pair.{CallEnd}
+use Rattle.rx_rounds.proofs.ReplyMoments.{in_piece}
 use Rattle.rx_rounds.proofs.RoundParts.{client_polled, idle_dispatch}
 use Rattle.rx_rounds.proofs.Rounded.{Made, RoundMade, caller_at}
 use Rattle.rx_rounds.proofs.SaidMore.{said_more}
@@ -46,16 +45,6 @@ sends_fresh request =
       rates = record { wide = omega arith; most = refl; steady = refl; even = refl; slow = omega arith };
       recent = λ j low high. absurd (omega arith);
     }
-
--- a piece that may go is due at once
-pub fresh_in : (k : CallLooks) → can_give k.cwnd k.sent ≡ true → In 0 (end_moments true k)
-fresh_in k can =
-    in_end true k (record { rank = 0; sending = Piece (suc (given_of k.sent)) false })
-    (in_front (record { rank = 0; sending = Piece (suc (given_of k.sent)) false })
-    (piece_items k.rtt.rto k.cwnd k.sent) (ack_items k.owed_ack ++ ping_items true k.spoke)
-    (in_behind (record { rank = 0; sending = Piece (suc (given_of k.sent)) false }) (lost_items (lost_of k.cwnd k.sent))
-    (fresh_items k.cwnd k.sent ++ again_items k.rtt.rto (lowest_of k.sent) (last_giving k.sent.givings (lowest_of k.sent)))
-    (rw can (inl refl))))
 
 module _ (x : Ends) (g : Handlers) (request : List ℕ) (call line : ℕ) (some : 0 < length request) where
   abbrev caller : InvokedState
@@ -92,9 +81,9 @@ module _ (x : Ends) (g : Handlers) (request : List ℕ) (call line : ℕ) (some 
           let can : can_give kc.cwnd kc.sent ≡ true = must_go request 0 0 0 kc o.up refl counts in
           let r = settles_two x (empty_at 0) (client_at x 0 used [] 0 kc)
           (caller_at call line (caller_with x o.offering o.shut [] phases.Resting) ∷ []) [] 0 [] (end_moments true kc)
-          refl refl refl (client_moments x [] 0 used 0 kc refl) 0 (fresh_in kc can) (omega arith) (omega arith)
+          refl refl refl (client_moments x [] 0 used 0 kc refl) 0 (in_piece true kc can) (omega arith) (omega arith)
           (length m.polled.given == 0) m.called t o.two m.settles_are in
-          let low : r.then_now ≤ max 0 0 = r.near 0 (inr (fresh_in kc can)) in
+          let low : r.then_now ≤ max 0 0 = r.near 0 (inr (in_piece true kc can)) in
           let zero_ : r.then_now ≡ 0 = omega arith in
           record {
             used = used;

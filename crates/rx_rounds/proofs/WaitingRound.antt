@@ -9,13 +9,12 @@ use Rattle.rx_model.specs.declared.names.Host.{Host}
 use Rattle.rx_model.specs.declared.wire.TheConstants.{PING_MS, SILENCE_MS}
 use Rattle.rx_model.specs.Message.{Message}
 use Rattle.rx_model.proofs.NameLaws.{number_itself}
-use Rattle.rx_rules.specs.CallItems.{Piece, ack_items, again_items, can_give, fresh_items, item_at, lost_items, piece_items}
+use Rattle.rx_rules.specs.CallItems.{can_give}
 use Rattle.rx_rules.specs.CallLooks.{CallLooks}
 use Rattle.rx_rules.specs.Items.{moments}
 use Rattle.rx_rules.specs.Life as lives
 use Rattle.rx_rules.specs.Looks.{Looks}
 use Rattle.rx_rules.specs.Life.{is_active, is_live}
-use Rattle.rx_rules.specs.Lost.{lost_of}
 use Rattle.rx_rules.specs.Owing.{Owed}
 use Rattle.rx_rules.specs.Received.{Received, marks_of, nothing_received, used_of}
 use Rattle.rx_rules.specs.Sent.{Sent, counting_of, given_of, is_marked, last_giving, lowest_of, nothing_sent}
@@ -31,21 +30,21 @@ use Rattle.rx_rounds.proofs.ArrivingRound.{tells_none}
 use Rattle.rx_rounds.proofs.Between.{HasAll, InTouch, Refusing, Replying, Waiting, Waits, answers, answers_later, caller_with}
 use Rattle.rx_rounds.proofs.Between.{client_at, pings, rests, server_at}
 use Rattle.rx_rounds.proofs.CallsOut.{waits_turn}
-use Rattle.rx_rounds.proofs.EachItem.{In, in_behind, in_front}
+use Rattle.rx_rounds.proofs.EachItem.{In}
 use Rattle.rx_rounds.proofs.Exchange.{PolledOut, counts_within, must_go, polled_out, sends_sooner}
 use Rattle.rx_rounds.proofs.Flow.{total}
 use Rattle.rx_rounds.proofs.OneCall.{Ends, client_place, header_of, server_place, server_setup, the_call}
 use Rattle.rx_rounds.proofs.OneFields.{FitsEnds}
-use Rattle.rx_rounds.proofs.OneNode.{datagrams}
+use Rattle.rx_rounds.proofs.OneNode.{length_both}
 use Rattle.rx_rounds.proofs.OneWay.{IsOwedBy, IsPlainOwed, IsSteady, Sends}
 use Rattle.rx_rounds.proofs.Pair.{CallEnd}
 use Rattle.rx_rounds.proofs.ReadsNext.{replying_at}
-use Rattle.rx_rounds.proofs.ReplyMoments.{MomentOf, in_ack, moment_of, of_ack, of_death, of_piece, of_ping}
+use Rattle.rx_rounds.proofs.ReplyMoments.{MomentOf, in_ack, in_piece, moment_of, of_ack, of_death, of_piece, of_ping}
 use Rattle.rx_rounds.proofs.ReplyParts.{answering_lives}
 use Rattle.rx_rounds.proofs.Rounded.{RoundMade, caller_at, settles_not}
 use Rattle.rx_rounds.proofs.ServeDecides.{refused_at}
 use Rattle.rx_rounds.proofs.ServeTurns.{ServedOn, refused, replies_now, turn_waits, waits_longer}
-use Rattle.rx_rounds.proofs.Settle.{InEither, Settled, client_moments, end_moments, in_end, in_ping, server_moments, settles_two}
+use Rattle.rx_rounds.proofs.Settle.{InEither, Settled, client_moments, end_moments, in_ping, server_moments, settles_two}
 use Rattle.rx_rounds.proofs.Settle.{stays_still}
 use Rattle.rx_rounds.proofs.Taking.{TookPing, Takes, heard_ack, no_ping_came, ping_came, sends_heard, takes_none, takes_ping}
 use Rattle.rx_rounds.proofs.Two.{AreApart, Two}
@@ -172,23 +171,7 @@ module _ (x : Ends) (g : Handlers) (fits : FitsEnds x) (apart : AreApart x) (req
     -- how many were given
     given_long : length m.polled.given ≡ (length p.pieces.messages + length p.acks)
         + (length o.pieces.messages + length o.acks)
-    given_long =
-        ap (λ (ds : List Datagram). length ds) pass.given_is
-        ∙ length-append (datagrams x.client x.server (p.pieces.messages ++ p.acks))
-        (datagrams x.server x.client (o.pieces.messages ++ o.acks))
-        ∙ sums (length (datagrams x.client x.server (p.pieces.messages ++ p.acks)))
-        (length p.pieces.messages + length p.acks)
-        (length (datagrams x.server x.client (o.pieces.messages ++ o.acks)))
-        (length o.pieces.messages + length o.acks)
-        (length_map x.client x.server (p.pieces.messages ++ p.acks) ∙ length-append p.pieces.messages p.acks)
-        (length_map x.server x.client (o.pieces.messages ++ o.acks) ∙ length-append o.pieces.messages o.acks)
-      where
-        length_map : (from to : Host) (ms : List Message) → length (datagrams from to ms) ≡ length ms
-        length_map from to [] = refl
-        length_map from to (y ∷ ys) = ap (λ (i : ℕ). suc i) (length_map from to ys)
-
-        sums : (u v w z : ℕ) → u ≡ v → w ≡ z → u + w ≡ v + z
-        sums u v w z one two_ = omega arith
+    given_long = length_both x m.polled.given p.pieces.messages p.acks o.pieces.messages o.acks pass.given_is
 
     loud : 1 ≤ length p.acks + length o.acks → t ≡ m.called
     loud some =
@@ -731,15 +714,7 @@ module _ (x : Ends) (g : Handlers) (fits : FitsEnds x) (apart : AreApart x) (req
               (server_moments x (the_call x ∷ []) now r.used_server r.given_server r.life r.ks lives_.0 lives_.1 awake_s)
               (client_moments x r.firsts now r.used_client r.given_client r.kc awake_c) (r.kc.spoke + PING_MS)
               (in_ping r.kc) (omega (arith, r.spoken)) early (length m.polled.given == 0) m.called t r.two 0
-              (inl (in_end false r.ks (record { rank = 0; sending = Piece (suc (given_of r.ks.sent)) false })
-              (in_front _ (piece_items r.ks.rtt.rto r.ks.cwnd r.ks.sent) (ack_items r.ks.owed_ack ++ [])
-              (in_behind _ (lost_items (lost_of r.ks.cwnd r.ks.sent)) (fresh_items r.ks.cwnd r.ks.sent
-              ++ again_items r.ks.rtt.rto (lowest_of r.ks.sent) (last_giving r.ks.sent.givings (lowest_of r.ks.sent)))
-              (in_front _ (fresh_items r.ks.cwnd r.ks.sent) (again_items r.ks.rtt.rto (lowest_of r.ks.sent)
-              (last_giving r.ks.sent.givings (lowest_of r.ks.sent)))
-              (subst (λ (b : Bool). In (record { rank = 0; sending = Piece (suc (given_of r.ks.sent)) false })
-              (if b then item_at 0 (Piece (suc (given_of r.ks.sent)) false) else []))
-              (sym (must_go reply r.since 0 0 r.ks r.down refl (r.more refl))) (inl refl))))))) (omega arith)
+              (inl (in_piece false r.ks (must_go reply r.since 0 0 r.ks r.down refl (r.more refl)))) (omega arith)
               m.settles_are)) r)
             where
               lives_ : (is_active r.life ≡ true) × (is_live r.life ≡ true)
