@@ -17,7 +17,7 @@ PLACES = """
 .             .               .         .         .               rx_passes       rx_world       rx_words
 rx_node_bench rx_server_tests rx_nodes  rx_caller .               rx_udp          rx_dispatch    rx_rounds
 .             rx_server       rx_client .         .               rx_base         .              rx_plan
-.             rx_books        .         .         .               .               .              rx_run
+.             rx_books        rx_progress .       .               .               .              rx_run
 .             rx_node         rx_between rx_token rx_jumbo        .               rx_jobs        .
 rx_call_bench rx_ends         rx_table  rx_class  rx_asks         .               .              .
 .             rx_call         rx_queue  rx_events rx_wire         rx_script_tests rx_reply       .

@@ -61,11 +61,11 @@ kept_is : (o : Option CallRecord) → (ends_of o).kept ≡ (received_by o).kept
 kept_is None = refl
 kept_is (Some k) = refl
 
-passed_sent : (s : Setup) (now : ℕ) (o : Option CallRecord) → (passed_at s now o).sent ≡ sent_by o
+pub passed_sent : (s : Setup) (now : ℕ) (o : Option CallRecord) → (passed_at s now o).sent ≡ sent_by o
 passed_sent s now None = refl
 passed_sent s now (Some k) = refl
 
-passed_received : (s : Setup) (now : ℕ) (o : Option CallRecord) → (passed_at s now o).received ≡ received_by o
+pub passed_received : (s : Setup) (now : ℕ) (o : Option CallRecord) → (passed_at s now o).received ≡ received_by o
 passed_received s now None = refl
 passed_received s now (Some k) = refl
 
@@ -79,9 +79,9 @@ fits_by n true low = omega arith
 fits_by n false low = omega arith
 
 -- what is known of a sender
-record Gives (sent : Sent) : Type 0 where
-  counts : given_of sent ≤ pieces_of sent
-  fits : given_of sent ≤ 4294967294
+pub record Gives (sent : Sent) : Type 0 where
+  pub counts : given_of sent ≤ pieces_of sent
+  pub fits : given_of sent ≤ 4294967294
 
 gives_of : (o : Option CallRecord) → SendsOf (ends_of o) → Gives (sent_by o)
 gives_of None sends = record { counts = omega arith; fits = omega arith }
@@ -190,7 +190,7 @@ module _ (x : TwoEnds) (h : List Noted) (f : Fed x h) (came : CameAll x h) (c : 
         both = between x h c f on;
       }
 
-  client_gives : Gives (sent_by a)
+  pub client_gives : Gives (sent_by a)
   client_gives =
       gives_of a ((client-calls x.client_setup x.connection.host x.connection.epoch cl f.client_kind f.client_fits
       f.client_legal).standing.calls c).sends
