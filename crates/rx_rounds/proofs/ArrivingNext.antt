@@ -27,7 +27,9 @@ use Rattle.rx_rounds.proofs.ArrivingRound.{ClientBehind, Exchanged, client_behin
 use Rattle.rx_rounds.proofs.ArrivingRound.{nothing_gives, nothing_sends, tells_none, tells_read, used_read}
 use Rattle.rx_rounds.proofs.Between.{Arriving, InTouch, Refusing, Replying, Waiting, at_work, caller_with, client_at, server_at}
 use Rattle.rx_rounds.proofs.EachItem.{In}
-use Rattle.rx_rounds.proofs.Exchange.{PolledOut, burst_some, counts_within, must_go, polled_out}
+use Rattle.rx_rounds.proofs.PolledEnd.{PolledOut, polled_out}
+use Rattle.rx_rounds.proofs.Exchange.{burst_some}
+use Rattle.rx_rounds.proofs.SendsLaws.{counts_within, must_go}
 use Rattle.rx_rounds.proofs.Flow.{total}
 use Rattle.rx_rounds.proofs.Keeper.{kept_to, last_kept, part_read}
 use Rattle.rx_rounds.proofs.OneCall.{Ends, client_place, header_of, server_place, the_call}

@@ -20,8 +20,9 @@ use Rattle.rx_plan.specs.Network.{delivers}
 use Rattle.rx_plan.specs.Parts.{To, each}
 use Rattle.rx_plan.specs.Stages.{InvokedState, Stage}
 use Rattle.rx_rounds.proofs.Between.{client_at, server_at}
-use Rattle.rx_rounds.proofs.Exchange.{AreGiven, PolledOut, given_behind}
-use Rattle.rx_rounds.proofs.Exchange.{sends_told}
+use Rattle.rx_rounds.proofs.Exchange.{AreGiven}
+use Rattle.rx_rounds.proofs.PolledEnd.{PolledOut, given_behind}
+use Rattle.rx_rounds.proofs.PolledEnd.{sends_told}
 use Rattle.rx_rounds.proofs.Flow.{total}
 use Rattle.rx_rounds.proofs.Keeper.{drained, marks_none, part_read}
 use Rattle.rx_rounds.proofs.OneCall.{Ends, client_place, header_of, server_place}
@@ -34,8 +35,10 @@ use Rattle.rx_rounds.proofs.OneWay.{IsPlainOwed, IsSteady, Reads, Sends, Tells}
 use Rattle.rx_rounds.proofs.Pair.{CallEnd}
 use Rattle.rx_rounds.proofs.RoundParts.{both_polled, delivers_split}
 use Rattle.rx_rounds.proofs.Rounded.{Made, RoundMade}
-use Rattle.rx_rounds.proofs.Taking.{TookAck, Takes, ack_came, heard_ack, no_ack_came, sends_heard}
-use Rattle.rx_rounds.proofs.Taking.{takes_ack, takes_none}
+use Rattle.rx_rounds.proofs.TakingAck.{TookAck, ack_came, heard_ack, no_ack_came, sends_heard}
+use Rattle.rx_rounds.proofs.Taking.{Takes}
+use Rattle.rx_rounds.proofs.TakingAck.{takes_ack}
+use Rattle.rx_rounds.proofs.Taking.{takes_none}
 use Rattle.rx_rounds.proofs.Two.{AreApart, Two}
 
 -- an end that said nothing

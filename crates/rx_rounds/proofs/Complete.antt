@@ -15,7 +15,8 @@ use Rattle.rx_rounds.proofs.Between.{HasCome, caller_with, client_at}
 use Rattle.rx_rounds.proofs.Codes.{served_no_zero}
 use Rattle.rx_rounds.proofs.Flow.{total}
 use Rattle.rx_rounds.proofs.KeyAnswers.{fourth}
-use Rattle.rx_rounds.proofs.KeyAsks.{Answering, Challenged, answering_at, answering_then, calls_with, challenges, unproved_at}
+use Rattle.rx_rounds.proofs.KeyAsks.{Answering, answering_then}
+use Rattle.rx_rounds.proofs.KeyChallenges.{Challenged, answering_at, calls_with, challenges, unproved_at}
 use Rattle.rx_rounds.proofs.KeySteps.{IsAnswer, answers}
 use Rattle.rx_rounds.proofs.LinesComplete.{RoundsComplete, completes}
 use Rattle.rx_rounds.proofs.OneCall.{Ends}
@@ -107,19 +108,19 @@ module _ (x : Ends) (g : Handlers) (request : List ℕ) (fits : FitsEnds x) (apa
           → Begins u → Made (rounds g (suc (suc (suc (suc left))))) u t → HasCome x g request 1 3 t
       keyed_comes left u t enough low two made =
           let b = second_made (suc (suc left)) u t two made in
-          let h : Challenged x g fits apart answer a keyed request 1 3 small b.stage =
-          challenges x g fits apart answer a keyed request 1 3 small some b.before b.stage b.started b.made in
+          let h : Challenged x request 1 3 b.stage =
+          challenges x g answer a request 1 3 fits apart keyed small some b.before b.stage b.started b.made in
           let third = rounds_more g (suc left) b.stage t b.others.0
-          (any_two x (unproved_at x g fits apart answer a keyed request 1 3 small true 0 h.used_server
+          (any_two x (unproved_at x true 0 h.used_server
           (came_behind false 0 request [] h.last h.owed fresh))
-          (answering_at x g fits apart answer a keyed request 1 3 small None h.given h.used h.kc)
-          (calls_with x g fits apart answer a keyed request 1 3 small h.offering h.shut) [] b.stage h.two) b.others.1 in
-          let i : Answering x g fits apart answer a keyed request 1 3 small third.behind =
-          answering_then x g fits apart answer a keyed request 1 3 small b.stage third.behind h third.first in
+          (answering_at x None h.given h.used h.kc)
+          (calls_with x 1 3 h.offering h.shut) [] b.stage h.two) b.others.1 in
+          let i : Answering x answer request 1 3 third.behind =
+          answering_then x g fits apart answer a request 1 3 b.stage third.behind h third.first in
           let last = rounds_more g left third.behind t third.others.0
-          (any_two x (unproved_at x g fits apart answer a keyed request 1 3 small false i.given_server i.used_server i.ks)
-          (answering_at x g fits apart answer a keyed request 1 3 small (Some answer) i.given i.used i.kc)
-          (calls_with x g fits apart answer a keyed request 1 3 small i.offering i.shut) [] third.behind i.two)
+          (any_two x (unproved_at x false i.given_server i.used_server i.ks)
+          (answering_at x (Some answer) i.given i.used i.kc)
+          (calls_with x 1 3 i.offering i.shut) [] third.behind i.two)
           third.others.1 in
           let next = fourth x g fits apart answer a keyed request 1 3 small are_bytes coded third.behind last.behind i
           last.first in

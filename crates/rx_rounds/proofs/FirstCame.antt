@@ -27,7 +27,9 @@ use Rattle.rx_plan.specs.Parts.{To, each}
 use Rattle.rx_plan.specs.Stages.{InvokedState, Stage}
 use Rattle.rx_rounds.proofs.ArrivingRound.{tells_none}
 use Rattle.rx_rounds.proofs.Between.{caller_with, client_at}
-use Rattle.rx_rounds.proofs.Exchange.{Burst, PolledOut, a_piece, burst_some, counts_within, no_piece, piece_with, polled_out, sends_told}
+use Rattle.rx_rounds.proofs.Exchange.{Burst, a_piece, burst_some, no_piece, piece_with}
+use Rattle.rx_rounds.proofs.PolledEnd.{PolledOut, polled_out, sends_told}
+use Rattle.rx_rounds.proofs.SendsLaws.{counts_within}
 use Rattle.rx_rounds.proofs.Flow.{total}
 use Rattle.rx_rounds.proofs.Keeper.{part_read, piece}
 use Rattle.rx_rounds.proofs.KeyClass.{challenged_new, or_same}

@@ -28,11 +28,13 @@ use Rattle.rx_plan.specs.Parts.{To, each}
 use Rattle.rx_plan.specs.Stages.{InvokedState, Stage}
 use Rattle.rx_rounds.proofs.ArrivingRound.{tells_none}
 use Rattle.rx_rounds.proofs.Between.{client_at, server_at}
-use Rattle.rx_rounds.proofs.Exchange.{PolledOut, counts_within, polled_out, sends_told, tells}
+use Rattle.rx_rounds.proofs.PolledEnd.{PolledOut, polled_out, sends_told}
+use Rattle.rx_rounds.proofs.SendsLaws.{counts_within, tells}
 use Rattle.rx_rounds.proofs.Flow.{total}
 use Rattle.rx_rounds.proofs.Keeper.{part_read}
-use Rattle.rx_rounds.proofs.KeyAsks.{Answering, answering_at, awake, calls_with, server_next, some_first, unproved_at}
-use Rattle.rx_rounds.proofs.KeyFirst.{used_none}
+use Rattle.rx_rounds.proofs.KeyAsks.{Answering, awake, server_next, some_first}
+use Rattle.rx_rounds.proofs.KeyChallenges.{answering_at, calls_with, unproved_at}
+use Rattle.rx_rounds.proofs.KeyMarks.{used_none}
 use Rattle.rx_rounds.proofs.KeySteps.{IsAnswer, plain_response, response_gave, response_gives, response_heard, response_of}
 use Rattle.rx_rounds.proofs.KeySteps.{response_took}
 use Rattle.rx_rounds.proofs.Making.{then_to}
@@ -59,20 +61,20 @@ module _ (x : Ends) (g : Handlers) (fits : FitsEnds x) (apart : AreApart x) (ans
   c = the_call x
 
   abbrev Asked : Stage → Type 0
-  Asked = Answering x g fits apart answer a keyed request call line small
+  Asked = Answering x answer request call line
 
   module _ (s t : Stage) (h : Asked s) (m : RoundMade g s t) where
     abbrev cs : List InvokedState
-    cs = calls_with x g fits apart answer a keyed request call line small h.offering h.shut
+    cs = calls_with x call line h.offering h.shut
 
     abbrev ls : Looks
-    ls = unproved_at x g fits apart answer a keyed request call line small false h.given_server h.used_server h.ks
+    ls = unproved_at x false h.given_server h.used_server h.ks
 
     abbrev lc : Looks
-    lc = answering_at x g fits apart answer a keyed request call line small (Some answer) h.given h.used h.kc
+    lc = answering_at x (Some answer) h.given h.used h.kc
 
     awake_of : (k : CallLooks) → k.heard ≡ 0 → nat_le 12000 (0 - k.heard) ≡ false
-    awake_of = awake x g fits apart answer a keyed request call line small
+    awake_of = awake
 
     -- ---- what is given
 
@@ -118,7 +120,7 @@ module _ (x : Ends) (g : Handlers) (fits : FitsEnds x) (apart : AreApart x) (ans
     rests_server =
         link_poll x false (c ∷ []) 0 h.used_server h.given_server lives.Waiting h.ks refl refl (awake_of h.ks h.heard)
         ∙ ap (datagram (server_place x 0) x.client (record { looks = h.ks; given = h.given_server }))
-        (server_next x g fits apart answer a keyed request call line small h.ks h.new h.steady
+        (server_next x h.ks h.new h.steady
         ∙ of h.ks.owed_ack h.later)
       where
         of : (o : Option Owed) → IfSome o (λ z. 0 < z.rank) → tells false 0 h.ks.spoke o ≡ None
@@ -180,7 +182,7 @@ module _ (x : Ends) (g : Handlers) (fits : FitsEnds x) (apart : AreApart x) (ans
         ≡ server_at x h.given_server 0 0 lives.Waiting ks1 =
         ap (λ (got : Took). after (server_setup x) (events.Taken x.client (made response) got) ls)
         (response_took x (c ∷ []) h.used_server h.given_server h.ks h.heard (suc h.given % 2 ^ 32) answer
-        (some_first x g fits apart answer a keyed request call line small) a plain1)
+        (some_first x fits) a plain1)
         ∙ response_heard x (c ∷ []) h.used_server h.given_server h.ks h.heard (suc h.given % 2 ^ 32) answer a plain1
         ∙ ap (λ (q : Bool). node_of x (served_link x q false h.given_server 0) (c ∷ []) 0 lives.Waiting ks1) (sym keyed) in (
           b.between,

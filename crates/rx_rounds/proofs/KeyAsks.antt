@@ -1,5 +1,4 @@
--- The second and third rounds of an invoke where there is a key: its first pieces come to a server that doesn't know its
--- client yet; then the CHALLENGE passes, and an ACK that marks these pieces, if it is due.
+-- The third round of an invoke where there is a key: the CHALLENGE passes, and an ACK that marks what came, if it is due.
 use Rattle.std.proofs.Common.{◌≡◌, ◌<◌, ◌≤◌, ◌⊎◌, inl, inr, ⊎_elim, ◌+◌, ◌-◌, ◌*◌, ◌^◌, ◌%◌, ◌==◌, ◌++◌, ℕ, suc, Bool, true}
 use Rattle.std.proofs.Common.{false, List, [], ◌∷◌, refl, ap, sym, subst, ◌∙◌, Option, Some, None, is_some, length, replicate}
 use Rattle.std.proofs.Common.{◌||◌, arith, cond, nat_le, nat_lt}
@@ -33,12 +32,13 @@ use Rattle.rx_plan.specs.Rounds.{Polled, Polling, polls}
 use Rattle.rx_plan.specs.Stages.{InvokedState, Stage}
 use Rattle.rx_rounds.proofs.ArrivingRound.{nothing_gives, nothing_sends}
 use Rattle.rx_rounds.proofs.Between.{caller_with}
-use Rattle.rx_rounds.proofs.Exchange.{Told, next_rest, nothing_told, something_told, tells, told_by}
+use Rattle.rx_rounds.proofs.PolledEnd.{Told, nothing_told, something_told, told_by}
+use Rattle.rx_rounds.proofs.SendsLaws.{next_rest, tells}
 use Rattle.rx_rounds.proofs.FirstCame.{FirstCame, first_comes}
 use Rattle.rx_rounds.proofs.Flow.{total}
 use Rattle.rx_rounds.proofs.Keeper.{part_read}
 use Rattle.rx_rounds.proofs.KeyClass.{index_small}
-use Rattle.rx_rounds.proofs.KeyFirst.{length_marks, marked_to, marks_all, marks_given, used_none}
+use Rattle.rx_rounds.proofs.KeyMarks.{length_marks, marked_to, marks_all, marks_given, used_none}
 use Rattle.rx_rounds.proofs.KeySteps.{IsAnswer, challenge_gave, challenge_gives, challenge_heard, challenge_of, challenge_took}
 use Rattle.rx_rounds.proofs.KeySteps.{plain_challenge, unproved_none}
 use Rattle.rx_rounds.proofs.Making.{ends_to, then_to}
@@ -52,242 +52,72 @@ use Rattle.rx_rounds.proofs.RoundParts.{idle_dispatch}
 use Rattle.rx_rounds.proofs.Rounded.{Made, RoundMade, caller_at, settles_not}
 use Rattle.rx_rounds.proofs.SaysOn.{says_still}
 use Rattle.rx_rounds.proofs.Starts.{Started}
-use Rattle.rx_rounds.proofs.Taking.{came_behind, even_sampled, slow_sampled}
+use Rattle.rx_rounds.proofs.Taking.{came_behind}
+use Rattle.rx_rounds.proofs.TakingAck.{even_sampled, slow_sampled}
 use Rattle.rx_rounds.proofs.Two.{AreApart, Polls, Two, client_polls_none, delivered_client, host_server, out_to, polls_to, sent}
 use Rattle.rx_rounds.proofs.Two.{server_polls_none, server_polls_some, two_as}
+use Rattle.rx_rounds.proofs.MarksHeard.{all_marks, heard_marks, sends_marked, marks_row, marks_heard}
+use Rattle.rx_rounds.proofs.KeyChallenges.{Challenged, Gave, answering_at, calls_with, rests, unproved_at}
 
--- ---- an ACK with marks
+-- the client answers the CHALLENGE
+pub record Answering (x : Ends) (answer request : List ℕ) (call line : ℕ) (t : Stage) : Type 0 where
+  pub last : ℕ
+  pub some : 1 ≤ last
+  pub near : last ≤ 32
+  pub within : last ≤ total request
+  pub kc : CallLooks
+  pub offering : List ℕ
+  pub shut : Bool
+  pub has : Gave request last kc offering shut
+  pub ks : CallLooks
+  pub received : ks.received ≡ part_read request [] last last
+  pub new : ks.sent ≡ nothing_sent
+  pub steady : IsSteady ks
+  pub heard : ks.heard ≡ 0
+  pub plain : IfSome ks.owed_ack IsPlainOwed
+  pub later : IfSome ks.owed_ack (λ o. 0 < o.rank)
+  pub soon : IfSome ks.owed_ack (λ o. o.rank ≤ 100)
+  pub given : ℕ
+  pub used : ℕ
+  pub given_server : ℕ
+  pub used_server : ℕ
+  pub two : Two x (unproved_at x false given_server used_server ks) (answering_at x (Some answer) given used kc)
+      (calls_with x call line offering shut) [] t
 
--- what it tells where n packets are kept and none is done with
-abbrev pub all_marks : ℕ → ℕ → ℕ → AckBody
-all_marks n reason serial =
-    record {
-      first = 1;
-      previous = n;
-      serial = serial;
-      reason = reason;
-      marks = replicate n true;
-      window = Some 32;
-    }
+pub some_first : (x : Ends) → FitsEnds x → 1 < x.first + 1
+some_first x fits = let known : 1 ≤ x.first = fits.some in omega arith
 
--- an end that heard it
-abbrev pub heard_marks : ℕ → CallLooks → CallLooks
-heard_marks n k =
-    record k {
-      sent = record k.sent { acked = 0; soft = is_marked 1 (replicate n true); peer_window = 32 };
-      rtt = sampled (newly_of 0 1 (replicate n true) k.sent).sample k.rtt;
-      cwnd = after_acked (newly_of 0 1 (replicate n true) k.sent).count k.cwnd;
-      heard = 0;
-    }
+-- nothing is due of an end that owes nothing and may give nothing
+rests_client : (x : Ends) (request : List ℕ) (last : ℕ) (kc : CallLooks) (offering : List ℕ) (shut : Bool) → Gave request last kc offering shut
+    → can_give kc.cwnd kc.sent ≡ false → next_of (client_place x 0) kc ≡ None
+rests_client x request last kc offering shut h over =
+    next_rest request 0 0 last kc h.up (client_place x 0) over (λ less. omega arith)
+    ∙ ap (λ (o : Option Owed). tells true 0 kc.spoke o) h.none ∙ ap (λ (n : ℕ). tells true 0 n None) h.spoke
 
-module _ (whole : List ℕ) (n : ℕ) (k : CallLooks) (h : Sends whole 0 0 n k) where
-  pub sends_marked : Sends whole 0 0 n (heard_marks n k)
-  sends_marked =
-      record {
-        acked = refl;
-        given = h.given;
-        marked = λ j past. marked_to n j (omega arith) ∙ lt-leb j n past;
-        peer = refl;
-        known = h.known;
-        near = h.near;
-        counted = h.counted;
-        rest = h.rest;
-        said = h.said;
-        shut = h.shut;
-        held = (let few : held_pieces k.sent ≤ 32 = h.held in omega (arith, h.acked));
-        rates = record {
-          wide = (let wide : 1 ≤ k.cwnd.window = h.rates.wide in omega (arith, h.rates.most));
-          most = h.rates.most;
-          steady = h.rates.steady;
-          even = even_sampled (newly_of 0 1 (replicate n true) k.sent).sample k.rtt h.rates.even;
-          slow = slow_sampled (newly_of 0 1 (replicate n true) k.sent).sample k.rtt h.rates.even h.rates.slow;
-        };
-        recent = h.recent;
-      }
+pub awake : (k : CallLooks) → k.heard ≡ 0 → nat_le SILENCE_MS (0 - k.heard) ≡ false
+awake k heard = ap (λ (i : ℕ). nat_le SILENCE_MS (0 - i)) heard
 
-  -- it is no strange one
-  pub marks_row : (x : Ends) (serial reason caused : ℕ)
-      → row_of (client_place x 0) (ack_of x serial (all_marks n reason caused)) k ≡ tooks.Heard
-  marks_row x serial reason caused =
-      ap (λ (i : ℕ). cond (nat_lt i 0 || marks_past (replicate n true) 1 i) tooks.Strange tooks.Heard) h.given
-      ∙ ap (λ (b : Bool). cond (b || marks_past (replicate n true) 1 n) tooks.Strange tooks.Heard)
-      (le-ltb n 0 (omega arith))
-      ∙ ap (λ (b : Bool). cond b tooks.Strange tooks.Heard) (marks_given n 1 n (omega arith))
-
-  pub marks_heard : (x : Ends) (serial reason caused : ℕ) → (reason == ACK_PING) ≡ false
-      → after_taken (view_of (client_place x 0) k) tooks.Heard (ack_of x serial (all_marks n reason caused)) k
-      ≡ heard_marks n k
-  marks_heard x serial reason caused kind = rw (le-ltb 0 k.sent.acked (omega (arith, h.acked)), kind) refl
+-- what the server's end tells, which said nothing
+pub server_next : (x : Ends) (ks : CallLooks) → ks.sent ≡ nothing_sent → IsSteady ks
+    → next_of (server_place x 0) ks ≡ tells false 0 ks.spoke ks.owed_ack
+server_next x ks new steady =
+    next_rest [] 0 0 0 ks (nothing_sends 0 ks new steady) (server_place x 0) (nothing_gives ks new)
+    (λ less. absurd (omega arith))
 
 module _ (x : Ends) (g : Handlers) (fits : FitsEnds x) (apart : AreApart x) (answer : List ℕ) (a : IsAnswer x answer)
-    (keyed : is_some x.key ≡ true) (request : List ℕ) (call line : ℕ) (small : total request ≤ 1000000) where
+    (request : List ℕ) (call line : ℕ) where
   abbrev c : CallName
   c = the_call x
 
-  -- the server, to which its client didn't show the key yet; and whether it owes a CHALLENGE
-  abbrev pub unproved_at : Bool → ℕ → ℕ → CallLooks → Looks
-  unproved_at owing given used k = node_of x (served_link x false owing given used) (c ∷ []) 0 lives.Waiting k
-
-  -- the client, with the RESPONSE that it owes
-  abbrev pub answering_at : Option (List ℕ) → ℕ → ℕ → CallLooks → Looks
-  answering_at o given used k = node_of x (answering_link x o given used) [] 0 lives.Calling k
-
-  abbrev pub calls_with : List ℕ → Bool → List InvokedState
-  calls_with offering shut = caller_at call line (caller_with x offering shut [] phases.Resting) ∷ []
-
-  -- the client's end, which gave so many pieces
-  pub record Gave (last : ℕ) (kc : CallLooks) (offering : List ℕ) (shut : Bool) : Type 0 where
-    pub up : Sends request 0 0 last kc
-    pub quiet : kc.received ≡ nothing_received
-    pub none : kc.owed_ack ≡ None
-    pub heard : kc.heard ≡ 0
-    pub spoke : kc.spoke ≡ 0
-    pub offers : request ≡ kc.sent.said ++ offering
-    pub closed : kc.sent.shut ≡ shut
-    pub out : ((offering ≡ []) × (shut ≡ true))
-        ⊎ ((shut ≡ false) × (0 < length offering) × (length kc.sent.said ≡ 1412 * (0 + 32)))
-
-  -- the turns of a round in which something was given: no handler has the call, and the caller says nothing more
-  rests : (owing : Bool) (gs us : ℕ) (ks : CallLooks) (o : Option (List ℕ)) (gc uc last : ℕ) (kc : CallLooks)
-      (offering : List ℕ) (shut : Bool) (s t : Stage) (m : RoundMade g s t) → ks.heard ≡ 0 → Gave last kc offering shut
-      → (length m.polled.given == 0) ≡ false
-      → Two x (unproved_at owing gs us ks) (answering_at o gc uc kc) (calls_with offering shut) [] m.delivered
-      → Two x (unproved_at owing gs us ks) (answering_at o gc uc kc) (calls_with offering shut) [] t
-  rests owing gs us ks o gc uc last kc offering shut s t m heard h loud two =
-      let ls : Looks = unproved_at owing gs us ks in
-      let lc : Looks = answering_at o gc uc kc in
-      let two1 = idle_dispatch x g ls lc (calls_with offering shut) m.delivered m.served two
-      (unproved_none x [] us gs ks heard owing a.challenges) m.serves_are in
-      let two2 = says_still x request call line o shut 0 gc uc 0 0 last ls [] kc offering phases.Resting m.served m.called
-      h.up h.quiet h.closed (omega arith) h.out two1 m.calls_are in
-      subst (λ (u : Stage). Two x ls lc (calls_with offering shut) [] u)
-      (sym (settles_not m.called t (length m.polled.given == 0) loud m.settles_are)) two2
-
-  -- ---- the second round
-
-  pub record Challenged (t : Stage) : Type 0 where
-    pub last : ℕ
-    pub some : 1 ≤ last
-    pub near : last ≤ 32
-    pub within : last ≤ total request
-    pub kc : CallLooks
-    pub offering : List ℕ
-    pub shut : Bool
-    pub has : Gave last kc offering shut
-    pub over : can_give kc.cwnd kc.sent ≡ false
-    pub owed : Owed
-    pub plain : IsPlainOwed owed
-    pub soon : owed.rank ≤ 100
-    pub given : ℕ
-    pub used : ℕ
-    pub used_server : ℕ
-    pub two : Two x (unproved_at true 0 used_server (came_behind false 0 request [] last owed fresh))
-        (answering_at None given used kc) (calls_with offering shut) [] t
-
-  pub challenges : (some : 0 < length request) (s t : Stage) (first : Started x g request call line some s)
-      (m : RoundMade g s t) → Challenged t
-  challenges some s t first m =
-      of (first_comes x g fits apart request call line small first.used s t first.said first.can m)
-    where
-      of : FirstCame x g fits apart request call line small first.used s t first.said first.can m → Challenged t
-      of f =
-          record {
-            last = f.last;
-            some = f.some;
-            near = f.near;
-            within = f.within;
-            kc = f.kc2;
-            offering = first.said.offering;
-            shut = first.said.shut;
-            has = has;
-            over = f.over;
-            owed = f.owed;
-            plain = f.plain;
-            soon = f.soon;
-            given = f.gc;
-            used = f.uc;
-            used_server = f.us;
-            two = rests true 0 f.us (came_behind false 0 request [] f.last f.owed fresh) None f.gc f.uc f.last f.kc2
-                first.said.offering first.said.shut s t m refl has
-                (ne_eqb (length m.polled.given) 0 (λ (z : length m.polled.given ≡ 0).
-                (let loud : 1 ≤ length m.polled.given = f.loud in omega arith)))
-                (subst (λ (b : Bool). Two x (unproved_at b 0 f.us (came_behind false 0 request [] f.last f.owed fresh))
-                (answering_at None f.gc f.uc f.kc2) (calls_with first.said.offering first.said.shut) [] m.delivered) keyed
-                f.two);
-          }
-        where
-          has : Gave f.last f.kc2 first.said.offering first.said.shut
-          has =
-              record {
-                up = f.up;
-                quiet = f.quiet;
-                none = f.none;
-                heard = f.heard;
-                spoke = f.spoke;
-                offers = first.said.offers ∙ ap (λ (ys : List ℕ). ys ++ first.said.offering) (sym f.said);
-                closed = f.shut;
-                out = ⊎_elim (λ (w : (first.said.offering ≡ []) × (first.said.shut ≡ true)). inl w)
-                    (λ (w : (first.said.shut ≡ false) × (0 < length first.said.offering)
-                    × (length first.said.more ≡ 1412 * (0 + 32))).
-                    inr (w.0, w.1, ap (λ (ys : List ℕ). length ys) f.said ∙ w.2)) first.said.out;
-              }
-
-  -- ---- the third round
-
-  -- the client answers the CHALLENGE
-  pub record Answering (t : Stage) : Type 0 where
-    pub last : ℕ
-    pub some : 1 ≤ last
-    pub near : last ≤ 32
-    pub within : last ≤ total request
-    pub kc : CallLooks
-    pub offering : List ℕ
-    pub shut : Bool
-    pub has : Gave last kc offering shut
-    pub ks : CallLooks
-    pub received : ks.received ≡ part_read request [] last last
-    pub new : ks.sent ≡ nothing_sent
-    pub steady : IsSteady ks
-    pub heard : ks.heard ≡ 0
-    pub plain : IfSome ks.owed_ack IsPlainOwed
-    pub later : IfSome ks.owed_ack (λ o. 0 < o.rank)
-    pub soon : IfSome ks.owed_ack (λ o. o.rank ≤ 100)
-    pub given : ℕ
-    pub used : ℕ
-    pub given_server : ℕ
-    pub used_server : ℕ
-    pub two : Two x (unproved_at false given_server used_server ks) (answering_at (Some answer) given used kc)
-        (calls_with offering shut) [] t
-
-  pub some_first : 1 < x.first + 1
-  some_first = let known : 1 ≤ x.first = fits.some in omega arith
-
-  -- nothing is due of an end that owes nothing and may give nothing
-  rests_client : (last : ℕ) (kc : CallLooks) (offering : List ℕ) (shut : Bool) → Gave last kc offering shut
-      → can_give kc.cwnd kc.sent ≡ false → next_of (client_place x 0) kc ≡ None
-  rests_client last kc offering shut h over =
-      next_rest request 0 0 last kc h.up (client_place x 0) over (λ less. omega arith)
-      ∙ ap (λ (o : Option Owed). tells true 0 kc.spoke o) h.none ∙ ap (λ (n : ℕ). tells true 0 n None) h.spoke
-
-  pub awake : (k : CallLooks) → k.heard ≡ 0 → nat_le SILENCE_MS (0 - k.heard) ≡ false
-  awake k heard = ap (λ (i : ℕ). nat_le SILENCE_MS (0 - i)) heard
-
-  -- what the server's end tells, which said nothing
-  pub server_next : (ks : CallLooks) → ks.sent ≡ nothing_sent → IsSteady ks
-      → next_of (server_place x 0) ks ≡ tells false 0 ks.spoke ks.owed_ack
-  server_next ks new steady =
-      next_rest [] 0 0 0 ks (nothing_sends 0 ks new steady) (server_place x 0) (nothing_gives ks new)
-      (λ less. absurd (omega arith))
-
-  module _ (s t : Stage) (h : Challenged s) (m : RoundMade g s t) where
+  module _ (s t : Stage) (h : Challenged x request call line s) (m : RoundMade g s t) where
     abbrev cs : List InvokedState
-    cs = calls_with h.offering h.shut
+    cs = calls_with x call line h.offering h.shut
 
     abbrev ks0 : CallLooks
     ks0 = came_behind false 0 request [] h.last h.owed fresh
 
     abbrev lc : Looks
-    lc = answering_at None h.given h.used h.kc
+    lc = answering_at x None h.given h.used h.kc
 
     abbrev challenge : Message
     challenge = challenge_of x (suc 0 % 2 ^ 32)
@@ -342,63 +172,63 @@ module _ (x : Ends) (g : Handlers) (fits : FitsEnds x) (apart : AreApart x) (ans
     ks2 = record ks0 { owed_ack = None; spoke = 0 }
 
     data PolledThird (q : Polled) : Type 0 where
-      asks_alone : 0 < h.owed.rank → q.given ≡ asks ∷ [] → Two x (unproved_at false 1 0 ks0) lc cs [] q.stage
+      asks_alone : 0 < h.owed.rank → q.given ≡ asks ∷ [] → Two x (unproved_at x false 1 0 ks0) lc cs [] q.stage
           → PolledThird q
       asks_told : (reason serial : ℕ) → 1 ≤ reason → reason ≤ 8 → serial < 2 ^ 32 → (reason == ACK_PING) ≡ false
-          → q.given ≡ asks ∷ acks reason serial ∷ [] → Two x (unproved_at false 2 0 ks2) lc cs [] q.stage
+          → q.given ≡ asks ∷ acks reason serial ∷ [] → Two x (unproved_at x false 2 0 ks2) lc cs [] q.stage
           → PolledThird q
 
     polls_third : (q : Polled) → Made polls s q → PolledThird q
     polls_third q made_ =
-        let ls : Looks = unproved_at true 0 h.used_server ks0 in
+        let ls : Looks = unproved_at x true 0 h.used_server ks0 in
         let r = polls_to x ls lc cs [] s q made_.0 h.two made_.1 in
         let silent : poll_answer (client_setup x) lc ≡ None =
         client_poll x 0 h.used h.given h.kc (awake h.kc h.has.heard)
         ∙ ap (datagram (client_place x 0) x.server (record { looks = h.kc; given = h.given }))
-        (rests_client h.last h.kc h.offering h.shut h.has h.over) in
+        (rests_client x request h.last h.kc h.offering h.shut h.has h.over) in
         let c1 = client_polls_none x ls lc cs [] s r.0.stage x.client [] r.2 h.two silent r.4 in
         let two1 : Two x ls lc cs [] r.0.stage = two_as x ls (after (client_setup x) (events.Polled None) lc) ls lc cs []
         r.0.stage r.0.stage refl (client_none x 0 h.used h.given h.kc (awake h.kc h.has.heard)) refl c1.1 in
         let o = out_to 0 x.server r.0 q r.1 (host_server x ls lc cs [] r.0.stage two1) r.5 in
         let e1 = server_polls_some x ls lc cs [] r.0.stage q.stage x.server x.client (made challenge) r.0.given o.0 two1
         (challenge_gives x (c ∷ []) h.used_server 0 ks0 refl) o.2 in
-        let ls1 : Looks = unproved_at false 1 0 ks0 in
+        let ls1 : Looks = unproved_at x false 1 0 ks0 in
         let two2 : Two x ls1 lc cs [] e1.0 = two_as x _ lc ls1 lc cs [] e1.0 e1.0
         (challenge_gave x (c ∷ []) h.used_server 0 ks0 refl plain1) refl refl e1.1 in
         let start : r.0.given ≡ [] = r.3 ∙ c1.0 in
         by r.0.given o.0 e1.0 start o.1 two2 e1.2 (told_by false 0 0 (Some h.owed) h.plain)
       where
         by : (given : List Datagram) (w : Polling) (u : Stage) → given ≡ [] → q.given ≡ w.given
-            → Two x (unproved_at false 1 0 ks0) lc cs [] u
+            → Two x (unproved_at x false 1 0 ks0) lc cs [] u
             → Polls 0 x.server (given ++ asks ∷ []) u w q.stage → Told false 0 0 (Some h.owed) → PolledThird q
         by given w u start is two goes (nothing_told none late early) =
-            let ls1 : Looks = unproved_at false 1 0 ks0 in
+            let ls1 : Looks = unproved_at x false 1 0 ks0 in
             let over : poll_answer (server_setup x) ls1 ≡ None =
             link_poll x false (c ∷ []) 0 0 1 lives.Waiting ks0 refl refl refl
             ∙ ap (datagram (server_place x 0) x.client (record { looks = ks0; given = 1 }))
-            (server_next ks0 refl steady0 ∙ none) in
+            (server_next x ks0 refl steady0 ∙ none) in
             let e = server_polls_none x ls1 lc cs [] u q.stage x.server (given ++ asks ∷ []) w two over goes in
             asks_alone (late h.owed refl) (is ∙ e.0 ∙ ap (λ (ds : List Datagram). ds ++ asks ∷ []) start)
             (two_as x (after (server_setup x) (events.Polled None) ls1) lc ls1 lc cs [] q.stage q.stage
             (link_none x false (c ∷ []) 0 0 1 lives.Waiting ks0 refl) refl refl e.1)
         by given w u start is two goes (something_told reason serial some low high few kind why ping) =
-            let ls1 : Looks = unproved_at false 1 0 ks0 in
+            let ls1 : Looks = unproved_at x false 1 0 ks0 in
             let m2 : Message = message_of (server_place x 0) (record { looks = ks0; given = 1 }) (Ack reason serial) in
             let gives : poll_answer (server_setup x) ls1 ≡ Some (x.client, made m2) =
             link_poll x false (c ∷ []) 0 0 1 lives.Waiting ks0 refl refl refl
             ∙ ap (datagram (server_place x 0) x.client (record { looks = ks0; given = 1 }))
-            (server_next ks0 refl steady0 ∙ some) in
+            (server_next x ks0 refl steady0 ∙ some) in
             let e = server_polls_some x ls1 lc cs [] u q.stage x.server x.client (made m2) (given ++ asks ∷ []) w two gives
             goes in
             let same : m2 ≡ ack reason serial = ack_is reason serial (kind refl) in
-            let ls2 : Looks = unproved_at false 2 0 ks2 in
+            let ls2 : Looks = unproved_at x false 2 0 ks2 in
             let two3 : Two x ls2 lc cs [] e.0 = two_as x _ lc ls2 lc cs [] e.0 e.0
             (link_gave x false (c ∷ []) 0 0 1 lives.Waiting ks0 (Ack reason serial) refl refl
             (subst IsPlain (sym same) (plain2 reason serial low high few))) refl refl e.1 in
             let over : poll_answer (server_setup x) ls2 ≡ None =
             link_poll x false (c ∷ []) 0 0 2 lives.Waiting ks2 refl refl refl
             ∙ ap (datagram (server_place x 0) x.client (record { looks = ks2; given = 2 }))
-            (server_next ks2 refl
+            (server_next x ks2 refl
             (record { wide = omega arith; most = refl; steady = refl; even = refl; slow = omega arith })) in
             let f = server_polls_none x ls2 lc cs [] e.0 q.stage x.server
             ((given ++ asks ∷ []) ++ sent x.server x.client (made m2) ∷ []) w two3 over e.2 in
@@ -416,23 +246,23 @@ module _ (x : Ends) (g : Handlers) (fits : FitsEnds x) (apart : AreApart x) (ans
     same1 : h.kc ≡ kc1
     same1 = ap (λ (i : ℕ). record h.kc { heard = i }) h.has.heard
 
-    has1 : Gave h.last kc1 h.offering h.shut
-    has1 = subst (λ (k : CallLooks). Gave h.last k h.offering h.shut) same1 h.has
+    has1 : Gave request h.last kc1 h.offering h.shut
+    has1 = subst (λ (k : CallLooks). Gave request h.last k h.offering h.shut) same1 h.has
 
     hears_challenge : (ls : Looks) (rest : List Datagram) (u v : Stage) → Two x ls lc cs [] u
         → Made (each delivers (asks ∷ rest)) u v
-        → (w : Stage) × Two x ls (answering_at (Some answer) h.given 0 kc1) cs [] w × Made (each delivers rest) w v
+        → (w : Stage) × Two x ls (answering_at x (Some answer) h.given 0 kc1) cs [] w × Made (each delivers rest) w v
     hears_challenge ls rest u v two made_ =
         let b = then_to (delivers asks u) (each delivers rest) made_.0 v made_.1 in
         let d = delivered_client x ls lc cs [] u b.between x.server (made challenge) b.front apart two b.made in
         let next : after (client_setup x)
         (events.Taken x.server (made challenge) (took_of (client_setup x) lc x.server (made challenge))) lc
-        ≡ answering_at (Some answer) h.given 0 kc1 =
+        ≡ answering_at x (Some answer) h.given 0 kc1 =
         ap (λ (got : Took). after (client_setup x) (events.Taken x.server (made challenge) got) lc)
-        (challenge_took x h.used h.given h.kc h.has.heard (suc 0 % 2 ^ 32) answer some_first a plain1)
+        (challenge_took x h.used h.given h.kc h.has.heard (suc 0 % 2 ^ 32) answer (some_first x fits) a plain1)
         ∙ challenge_heard x h.used h.given h.kc h.has.heard (suc 0 % 2 ^ 32) answer a plain1 in (
           b.between,
-          two_as x ls _ ls (answering_at (Some answer) h.given 0 kc1) cs [] b.between b.between refl next refl d,
+          two_as x ls _ ls (answering_at x (Some answer) h.given 0 kc1) cs [] b.between b.between refl next refl d,
           (b.rest, b.goes),
         )
 
@@ -440,7 +270,7 @@ module _ (x : Ends) (g : Handlers) (fits : FitsEnds x) (apart : AreApart x) (ans
     abbrev kc2 : CallLooks
     kc2 = heard_marks h.last kc1
 
-    has2 : Gave h.last kc2 h.offering h.shut
+    has2 : Gave request h.last kc2 h.offering h.shut
     has2 =
         record {
           up = sends_marked request h.last kc1 has1.up;
@@ -455,24 +285,24 @@ module _ (x : Ends) (g : Handlers) (fits : FitsEnds x) (apart : AreApart x) (ans
 
     hears_ack : (ls : Looks) (reason serial : ℕ) (u v : Stage) → 1 ≤ reason → reason ≤ 8 → serial < 2 ^ 32
         → (reason == ACK_PING) ≡ false
-        → Two x ls (answering_at (Some answer) h.given 0 kc1) cs [] u → Made (each delivers (acks reason serial ∷ [])) u v
-        → Two x ls (answering_at (Some answer) h.given 0 kc2) cs [] v
+        → Two x ls (answering_at x (Some answer) h.given 0 kc1) cs [] u → Made (each delivers (acks reason serial ∷ [])) u v
+        → Two x ls (answering_at x (Some answer) h.given 0 kc2) cs [] v
     hears_ack ls reason serial u v low high few kind two made_ =
         let m2 : Message = ack reason serial in
-        let l1 : Looks = answering_at (Some answer) h.given 0 kc1 in
+        let l1 : Looks = answering_at x (Some answer) h.given 0 kc1 in
         let plain : IsPlain m2 = plain2 reason serial low high few in
         let b = then_to (delivers (acks reason serial) u) (each delivers []) made_.0 v made_.1 in
         let d = delivered_client x ls l1 cs [] u b.between x.server (made m2) b.front apart two b.made in
         let next : after (client_setup x)
         (events.Taken x.server (made m2) (took_of (client_setup x) l1 x.server (made m2))) l1
-        ≡ answering_at (Some answer) h.given 0 kc2 =
+        ≡ answering_at x (Some answer) h.given 0 kc2 =
         ap (λ (got : Took). after (client_setup x) (events.Taken x.server (made m2) got) l1)
-        (answering_took_ack x (Some answer) [] 0 0 h.given kc1 (suc 1 % 2 ^ 32) (all_marks h.last reason serial) some_first
+        (answering_took_ack x (Some answer) [] 0 0 h.given kc1 (suc 1 % 2 ^ 32) (all_marks h.last reason serial) (some_first x fits)
         plain ∙ marks_row request h.last kc1 has1.up x (suc 1 % 2 ^ 32) reason serial)
         ∙ answering_heard_ack x (Some answer) [] 0 0 h.given kc1 (suc 1 % 2 ^ 32) (all_marks h.last reason serial) plain
-        ∙ ap (answering_at (Some answer) h.given 0)
+        ∙ ap (answering_at x (Some answer) h.given 0)
         (marks_heard request h.last kc1 has1.up x (suc 1 % 2 ^ 32) reason serial kind) in
-        two_as x ls _ ls (answering_at (Some answer) h.given 0 kc2) cs [] b.between v refl next
+        two_as x ls _ ls (answering_at x (Some answer) h.given 0 kc2) cs [] b.between v refl next
         (sym (ends_to b.between v b.rest b.goes)) d
 
     -- ---- the round
@@ -483,13 +313,13 @@ module _ (x : Ends) (g : Handlers) (fits : FitsEnds x) (apart : AreApart x) (ans
       subst (λ (xs : List Datagram). each delivers xs m.polled.stage m.delivers_are.0 (To m.delivered)) is m.delivers_are.1,
     )
 
-    pub answering_then : Answering t
+    pub answering_then : Answering x answer request call line t
     answering_then = by (polls_third m.polled m.polls_are)
       where
-        by : PolledThird m.polled → Answering t
+        by : PolledThird m.polled → Answering x answer request call line t
         by (asks_alone late is two) =
-            let d = hears_challenge (unproved_at false 1 0 ks0) [] m.polled.stage m.delivered two (gave_in (asks ∷ []) is) in
-            let two1 = subst (λ (u : Stage). Two x (unproved_at false 1 0 ks0) (answering_at (Some answer) h.given 0 kc1) cs [] u)
+            let d = hears_challenge (unproved_at x false 1 0 ks0) [] m.polled.stage m.delivered two (gave_in (asks ∷ []) is) in
+            let two1 = subst (λ (u : Stage). Two x (unproved_at x false 1 0 ks0) (answering_at x (Some answer) h.given 0 kc1) cs [] u)
             (sym (ends_to d.0 m.delivered d.2.0 d.2.1)) d.1 in
             record {
               last = h.last;
@@ -512,13 +342,13 @@ module _ (x : Ends) (g : Handlers) (fits : FitsEnds x) (apart : AreApart x) (ans
               used = 0;
               given_server = 1;
               used_server = 0;
-              two = rests false 1 0 ks0 (Some answer) h.given 0 h.last kc1 h.offering h.shut s t m refl has1
+              two = rests x g answer a request call line false 1 0 ks0 (Some answer) h.given 0 h.last kc1 h.offering h.shut s t m refl has1
                   (ap (λ (ds : List Datagram). length ds == 0) is) two1;
             }
         by (asks_told reason serial low high few kind is two) =
-            let d = hears_challenge (unproved_at false 2 0 ks2) (acks reason serial ∷ []) m.polled.stage m.delivered two
+            let d = hears_challenge (unproved_at x false 2 0 ks2) (acks reason serial ∷ []) m.polled.stage m.delivered two
             (gave_in (asks ∷ acks reason serial ∷ []) is) in
-            let two1 = hears_ack (unproved_at false 2 0 ks2) reason serial d.0 m.delivered low high few kind d.1 d.2 in
+            let two1 = hears_ack (unproved_at x false 2 0 ks2) reason serial d.0 m.delivered low high few kind d.1 d.2 in
             record {
               last = h.last;
               some = h.some;
@@ -540,6 +370,6 @@ module _ (x : Ends) (g : Handlers) (fits : FitsEnds x) (apart : AreApart x) (ans
               used = 0;
               given_server = 2;
               used_server = 0;
-              two = rests false 2 0 ks2 (Some answer) h.given 0 h.last kc2 h.offering h.shut s t m refl has2
+              two = rests x g answer a request call line false 2 0 ks2 (Some answer) h.given 0 h.last kc2 h.offering h.shut s t m refl has2
                   (ap (λ (ds : List Datagram). length ds == 0) is) two1;
             }

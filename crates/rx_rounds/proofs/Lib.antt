@@ -22,8 +22,10 @@ pub mod Keeping
 pub mod KeepsOn
 pub mod KeyAnswers
 pub mod KeyAsks
+pub mod KeyChallenges
 pub mod KeyClass
 pub mod KeyFirst
+pub mod KeyMarks
 pub mod KeySteps
 pub mod Lands
 pub mod LinesComplete
@@ -31,6 +33,7 @@ pub mod LinesInvoke
 pub mod LinesLink
 pub mod Majors
 pub mod Making
+pub mod MarksHeard
 pub mod NodeClock
 pub mod OneArrives
 pub mod OneBurst
@@ -50,6 +53,7 @@ pub mod OneWrite
 pub mod OtherCalls
 pub mod Pair
 pub mod PlanLines
+pub mod PolledEnd
 pub mod PolledOut
 pub mod QuietPolls
 pub mod ReadOn
@@ -60,6 +64,7 @@ pub mod RefuseCode
 pub mod RefuseRound
 pub mod RefuseTurn
 pub mod ReplyAll
+pub mod ReplyBegins
 pub mod ReplyComes
 pub mod ReplyEnds
 pub mod ReplyHears
@@ -77,6 +82,7 @@ pub mod RoundParts
 pub mod SaidMore
 pub mod SaysOn
 pub mod Second
+pub mod SendsLaws
 pub mod ServeDecides
 pub mod ServeTurns
 pub mod ServeWrites
@@ -84,6 +90,7 @@ pub mod Settle
 pub mod Sizes
 pub mod Starts
 pub mod Taking
+pub mod TakingAck
 pub mod Truth
 pub mod Turned
 pub mod Two

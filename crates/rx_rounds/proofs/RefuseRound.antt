@@ -32,8 +32,11 @@ use Rattle.rx_plan.specs.Stages.{InvokedState, Stage}
 use Rattle.rx_plan.specs.Turned.{dispatches, turns_all}
 use Rattle.rx_rounds.proofs.ArrivingRound.{tells_none}
 use Rattle.rx_rounds.proofs.Between.{EndsWith, HasCome, Refusing, caller_with, client_at}
-use Rattle.rx_rounds.proofs.Exchange.{Acks, Burst, PolledOut, a_piece, ack_with, an_ack, no_ack, no_piece, piece_with}
-use Rattle.rx_rounds.proofs.Exchange.{counts_within, polled_out, tells_of}
+use Rattle.rx_rounds.proofs.Exchange.{Acks, Burst, a_piece, ack_with, an_ack, no_ack, no_piece, piece_with}
+use Rattle.rx_rounds.proofs.PolledEnd.{PolledOut}
+use Rattle.rx_rounds.proofs.SendsLaws.{counts_within}
+use Rattle.rx_rounds.proofs.PolledEnd.{polled_out}
+use Rattle.rx_rounds.proofs.Exchange.{tells_of}
 use Rattle.rx_rounds.proofs.Flow.{total}
 use Rattle.rx_rounds.proofs.Keeper.{piece}
 use Rattle.rx_rounds.proofs.Keeping.{HasEnded, kept_settles}

@@ -19,8 +19,10 @@ use Rattle.rx_plan.specs.Network.{delivers}
 use Rattle.rx_plan.specs.Parts.{To, each}
 use Rattle.rx_plan.specs.Stages.{InvokedState, Stage}
 use Rattle.rx_rounds.proofs.Between.{client_at, server_at}
-use Rattle.rx_rounds.proofs.Exchange.{AreGiven, PolledOut, PollsOut, counts_within, given_behind, next_rest}
-use Rattle.rx_rounds.proofs.Exchange.{sends_told}
+use Rattle.rx_rounds.proofs.Exchange.{AreGiven, PollsOut}
+use Rattle.rx_rounds.proofs.PolledEnd.{PolledOut, given_behind}
+use Rattle.rx_rounds.proofs.SendsLaws.{counts_within, next_rest}
+use Rattle.rx_rounds.proofs.PolledEnd.{sends_told}
 use Rattle.rx_rounds.proofs.Flow.{total}
 use Rattle.rx_rounds.proofs.OneCall.{Ends, client_place, header_of, server_place}
 use Rattle.rx_rounds.proofs.OneFields.{FitsEnds}
@@ -33,7 +35,7 @@ use Rattle.rx_rounds.proofs.ReplyHears.{HasNoPing, Hears, hears_none, hears_one,
 use Rattle.rx_rounds.proofs.ReplyTells.{told_reason}
 use Rattle.rx_rounds.proofs.RoundParts.{both_polled, delivers_split}
 use Rattle.rx_rounds.proofs.Rounded.{Made, RoundMade}
-use Rattle.rx_rounds.proofs.Taking.{heard_ack, sends_heard}
+use Rattle.rx_rounds.proofs.TakingAck.{heard_ack, sends_heard}
 use Rattle.rx_rounds.proofs.Two.{AreApart, Two}
 
 -- the client has nothing more to say, and tells what came of the reply; the server gives more of it

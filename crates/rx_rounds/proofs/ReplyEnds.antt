@@ -9,13 +9,16 @@ use Rattle.rx_rules.specs.CallLooks.{CallLooks}
 use Rattle.rx_rules.specs.Owing.{Owed, owed_for_ack}
 use Rattle.rx_rules.specs.Received.{unread_of, used_of}
 use Rattle.rx_rules.specs.Sent.{Sent, counting_of, given_of, is_all_given, pieces_of}
-use Rattle.rx_rounds.proofs.Exchange.{Acks, Burst, counts_within}
+use Rattle.rx_rounds.proofs.Exchange.{Acks, Burst}
+use Rattle.rx_rounds.proofs.SendsLaws.{counts_within}
 use Rattle.rx_rounds.proofs.Flow.{total}
 use Rattle.rx_rounds.proofs.Keeper.{drained, part_read}
 use Rattle.rx_rounds.proofs.OneWay.{IsOwedBy, IsPlainOwed, Sends}
 use Rattle.rx_rounds.proofs.SaidMore.{steady}
-use Rattle.rx_rounds.proofs.Taking.{Takes, TookAck, TookPieces, ack_came, came_behind, heard_ack, no_ack_came, none_came}
-use Rattle.rx_rounds.proofs.Taking.{place_at, sends_heard, some_came, takes_ack, takes_burst, takes_none}
+use Rattle.rx_rounds.proofs.Taking.{Takes, TookPieces, came_behind, none_came}
+use Rattle.rx_rounds.proofs.TakingAck.{TookAck, ack_came, heard_ack, no_ack_came}
+use Rattle.rx_rounds.proofs.Taking.{place_at, some_came, takes_burst, takes_none}
+use Rattle.rx_rounds.proofs.TakingAck.{sends_heard, takes_ack}
 
 -- an end that gave all of a shut stream
 pub record GaveAll (whole : List ℕ) (k : CallLooks) : Type 0 where

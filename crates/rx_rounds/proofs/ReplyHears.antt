@@ -26,7 +26,7 @@ use Rattle.rx_rounds.proofs.OneWay.{Sends}
 use Rattle.rx_rounds.proofs.Pair.{row_of, view_of}
 use Rattle.rx_rounds.proofs.ReplyTells.{reason_in}
 use Rattle.rx_rounds.proofs.Rounded.{Made}
-use Rattle.rx_rounds.proofs.Taking.{heard_ack}
+use Rattle.rx_rounds.proofs.TakingAck.{heard_ack}
 use Rattle.rx_rounds.proofs.Two.{AreApart, Two, sent, two_as}
 use Rattle.rx_model.specs.Spelling.{made}
 

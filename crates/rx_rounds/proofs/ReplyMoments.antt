@@ -11,7 +11,7 @@ use Rattle.rx_rules.specs.Lost.{first_lost, late_of, lost_of, overtaken_of, unde
 use Rattle.rx_rules.specs.Owing.{Owed}
 use Rattle.rx_rules.specs.Sent.{LastGiving, given_of, last_giving, lowest_of}
 use Rattle.rx_rounds.proofs.EachItem.{In, in_behind, in_front}
-use Rattle.rx_rounds.proofs.Exchange.{again_late, again_never}
+use Rattle.rx_rounds.proofs.SendsLaws.{again_late, again_never}
 use Rattle.rx_rounds.proofs.OneWay.{Sends}
 use Rattle.rx_rounds.proofs.Settle.{end_moments, in_end}
 

@@ -10,7 +10,8 @@ use Rattle.rx_model.specs.Message.{Message}
 use Rattle.rx_rules.specs.CallItems.{Ack, CallItem, Sending}
 use Rattle.rx_rules.specs.Least.{least_by}
 use Rattle.rx_rules.specs.Owing.{Owed}
-use Rattle.rx_rounds.proofs.Exchange.{PollsOut, gives, none_due, tells}
+use Rattle.rx_rounds.proofs.Exchange.{PollsOut, gives, none_due}
+use Rattle.rx_rounds.proofs.SendsLaws.{tells}
 use Rattle.rx_rounds.proofs.OneWay.{IsPlainOwed}
 use Rattle.rx_rounds.proofs.Pair.{CallEnd, Place, message_of, next_of}
 

@@ -19,7 +19,8 @@ use Rattle.rx_plan.specs.Stages.{InvokedState, Stage}
 use Rattle.rx_rounds.proofs.ArrivingRound.{tells_read}
 use Rattle.rx_rounds.proofs.Between.{Answering_, InTouch, Owing, Replying, caller_with, client_at, owes_any, owes_none, owes_now}
 use Rattle.rx_rounds.proofs.Between.{server_at}
-use Rattle.rx_rounds.proofs.Exchange.{PolledOut, counts_within, must_go, polled_out}
+use Rattle.rx_rounds.proofs.PolledEnd.{PolledOut, polled_out}
+use Rattle.rx_rounds.proofs.SendsLaws.{counts_within, must_go}
 use Rattle.rx_rounds.proofs.Flow.{total}
 use Rattle.rx_rounds.proofs.OneCall.{Ends, client_place, server_place}
 use Rattle.rx_rounds.proofs.OneFields.{FitsEnds}

@@ -12,7 +12,8 @@ use Rattle.rx_plan.specs.Parts.{To, each}
 use Rattle.rx_plan.specs.Stages.{InvokedState, Stage}
 use Rattle.rx_law.specs.Worlds.{Datagram}
 use Rattle.rx_rounds.proofs.Between.{caller_with, client_at}
-use Rattle.rx_rounds.proofs.Exchange.{must_go, none_due}
+use Rattle.rx_rounds.proofs.SendsLaws.{must_go}
+use Rattle.rx_rounds.proofs.Exchange.{none_due}
 use Rattle.rx_rounds.proofs.Making.{ends_to}
 use Rattle.rx_rounds.proofs.OneCall.{Ends}
 use Rattle.rx_rounds.proofs.OneFields.{fresh}

@@ -31,14 +31,15 @@ use Rattle.rx_rounds.proofs.Between.{HasAll, InTouch, Refusing, Replying, Waitin
 use Rattle.rx_rounds.proofs.Between.{client_at, pings, rests, server_at}
 use Rattle.rx_rounds.proofs.CallsOut.{waits_turn}
 use Rattle.rx_rounds.proofs.EachItem.{In}
-use Rattle.rx_rounds.proofs.Exchange.{PolledOut, counts_within, must_go, polled_out, sends_sooner}
+use Rattle.rx_rounds.proofs.PolledEnd.{PolledOut, polled_out}
+use Rattle.rx_rounds.proofs.SendsLaws.{counts_within, must_go, sends_sooner}
 use Rattle.rx_rounds.proofs.Flow.{total}
 use Rattle.rx_rounds.proofs.OneCall.{Ends, client_place, header_of, server_place, server_setup, the_call}
 use Rattle.rx_rounds.proofs.OneFields.{FitsEnds}
 use Rattle.rx_rounds.proofs.OneNode.{length_both}
 use Rattle.rx_rounds.proofs.OneWay.{IsOwedBy, IsPlainOwed, IsSteady, Sends}
 use Rattle.rx_rounds.proofs.Pair.{CallEnd}
-use Rattle.rx_rounds.proofs.ReadsNext.{replying_at}
+use Rattle.rx_rounds.proofs.ReplyBegins.{replying_at}
 use Rattle.rx_rounds.proofs.ReplyMoments.{MomentOf, in_ack, in_piece, moment_of, of_ack, of_death, of_piece, of_ping}
 use Rattle.rx_rounds.proofs.ReplyParts.{answering_lives}
 use Rattle.rx_rounds.proofs.Rounded.{RoundMade, caller_at, settles_not}
@@ -46,7 +47,8 @@ use Rattle.rx_rounds.proofs.ServeDecides.{refused_at}
 use Rattle.rx_rounds.proofs.ServeTurns.{ServedOn, refused, replies_now, turn_waits, waits_longer}
 use Rattle.rx_rounds.proofs.Settle.{InEither, Settled, client_moments, end_moments, in_ping, server_moments, settles_two}
 use Rattle.rx_rounds.proofs.Settle.{stays_still}
-use Rattle.rx_rounds.proofs.Taking.{TookPing, Takes, heard_ack, no_ping_came, ping_came, sends_heard, takes_none, takes_ping}
+use Rattle.rx_rounds.proofs.TakingAck.{TookPing, heard_ack, no_ping_came, ping_came, sends_heard, takes_ping}
+use Rattle.rx_rounds.proofs.Taking.{Takes, takes_none}
 use Rattle.rx_rounds.proofs.Two.{AreApart, Two}
 
 -- what a round comes to
