@@ -28,6 +28,7 @@ pub mod KeyFirst
 pub mod KeyMarks
 pub mod KeySteps
 pub mod Lands
+pub mod LeftOpen
 pub mod LinesComplete
 pub mod LinesInvoke
 pub mod LinesLink
