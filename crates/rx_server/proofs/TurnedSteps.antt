@@ -183,6 +183,13 @@ is_crowded tooks.Stopped is = absurd (cc (is))
 is_crowded tooks.Over is = absurd (cc (is))
 is_crowded _ is = absurd (cc (is))
 
+pub is_busy : (row : Took) → turned_of row ≡ turns.Busy → row ≡ tooks.Busy
+is_busy tooks.Busy is = refl
+is_busy tooks.NoRoom is = absurd (cc (is))
+is_busy tooks.Stopped is = absurd (cc (is))
+is_busy tooks.Over is = absurd (cc (is))
+is_busy _ is = absurd (cc (is))
+
 pub is_stopped : (row : Took) → turned_of row ≡ turns.Stopped → row ≡ tooks.Stopped
 is_stopped tooks.Stopped is = refl
 is_stopped tooks.NoRoom is = absurd (cc (is))

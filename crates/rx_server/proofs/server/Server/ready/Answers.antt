@@ -42,8 +42,8 @@ module _ (g : _) (c : goal.After-touched-2 g) (l : Looks) (serves : Serves g.C.C
       (subst (λ (sv : ServerState). IsServerOf sv.node.kind sv.service) c.self.view_is c.self.invariant.0.server) absent
       (c.touched-2.ensures.none _ entered.serves none)
 
-pub touched-2-requires-clause-found : goal.touched-2-requires-clause-found
-touched-2-requires-clause-found g c =
+pub touched-requires-2-clause-found : goal.touched-requires-2-clause-found
+touched-requires-2-clause-found g c =
     subst (λ (sv : ServerState). IsFound g.C.Class.class_of sv.node c.args.c.now c.channel-channel.result) c.self-2.view_is
     (c.channel-channel.ensures.found c.requires.chan)
 
