@@ -42,7 +42,7 @@ const CUT_LATE: Case = Case {
 };
 
 /// The example serve-one, and failing-wire: its first bind, take or give fails, its second, and so on up to its last.
-static SERVES: [Case; 13] = [
+static SERVES: [Case; 11] = [
     Case {
         line: SERVE,
         comes: ASKED,
@@ -58,18 +58,18 @@ static SERVES: [Case; 13] = [
         wire_faults: &[2],
         ..CUT_EARLY
     },
-    // the ACK that the request asks for, before it is accepted, and the reply
+    // the reply, and the ACK that the request asks for, behind its read
     Case {
         wire_faults: &[3],
         lost: 1,
-        ..CUT_EARLY
+        ..CUT_LATE
     },
     Case {
         wire_faults: &[4],
         lost: 1,
         ..CUT_LATE
     },
-    // a take of 100 ms, and the ACK of what was read
+    // the reply again after 1,100 ms, and again after 2,000
     Case {
         wire_faults: &[5],
         ..CUT_LATE
@@ -79,7 +79,6 @@ static SERVES: [Case; 13] = [
         lost: 1,
         ..CUT_LATE
     },
-    // the reply again after 1,000 ms, and again after 2,000
     Case {
         wire_faults: &[7],
         ..CUT_LATE
@@ -89,24 +88,15 @@ static SERVES: [Case; 13] = [
         lost: 1,
         ..CUT_LATE
     },
+    // the take up to the end
     Case {
         wire_faults: &[9],
         ..CUT_LATE
     },
     Case {
-        wire_faults: &[10],
-        lost: 1,
-        ..CUT_LATE
-    },
-    // the take up to the end
-    Case {
-        wire_faults: &[11],
-        ..CUT_LATE
-    },
-    Case {
         line: SERVE,
         comes: ASKED,
-        wire_faults: &[12],
+        wire_faults: &[10],
         out: SERVED,
         ..CASE
     },
