@@ -1,5 +1,5 @@
--- All rounds of an invoke of a plan without a key: each is worth one of four for each piece, one for each turn that its
--- handler waits, and a few more.
+-- All rounds of an invoke of a plan: each is worth one of four for each piece, one for each turn that its handler waits,
+-- and a few more.
 use Rattle.std.proofs.Common.{◌≡◌, ◌≢◌, ◌<◌, ◌≤◌, inl, ◌+◌, ◌*◌, ◌^◌, ◌++◌, ℕ, ℤ, pos, zero, suc, Bool, true, false}
 use Rattle.std.proofs.Common.{List, [], ◌∷◌, refl, ap, sym, subst, ◌∙◌, arith, nat_lt}
 use Rattle.std.specs.List.{list_any}

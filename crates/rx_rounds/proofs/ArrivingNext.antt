@@ -1,13 +1,11 @@
 -- What a round makes of an invoke whose request comes: more of it came, or is known to have come, or the ACK that is owed
 -- is due; or its handler waits, replies or refuses.
-use Rattle.std.proofs.Common.{◌≡◌, ◌≢◌, ◌<◌, ◌≤◌, ◌⊎◌, inl, inr, ⊎_elim, ◌+◌, ◌-◌, ◌*◌, ◌^◌, ◌++◌, ◌==◌, ℕ, ℤ, pos, suc}
+use Rattle.std.proofs.Common.{◌≡◌, ◌≢◌, ◌<◌, ◌≤◌, ◌⊎◌, inl, inr, ⊎_elim, ◌+◌, ◌-◌, ◌*◌, ◌^◌, ◌++◌, ◌==◌, ℕ, ℤ, pos}
 use Rattle.std.proofs.Common.{max, Bool, true, false, List, [], ◌∷◌, refl, ap, sym, subst, ◌∙◌, Option, Some, None, length}
 use Rattle.std.proofs.Common.{arith, append-nil, nat_le}
 use Rattle.std.proofs.lemmas.Bool.{both_ways, cases_lt, lt-leb, ne_eqb, eq-eqb}
-use Rattle.std.proofs.lemmas.List.{length-append}
 use Rattle.std.specs.Prelude.{IfSome, IsSomeAnd}
 use Rattle.rx_model.specs.declared.wire.TheConstants.{PING_MS, SILENCE_MS}
-use Rattle.rx_model.specs.declared.names.Host.{Host}
 use Rattle.rx_model.specs.Message.{IsBytes, Message}
 use Rattle.rx_rules.specs.CallItems.{can_give}
 use Rattle.rx_rules.specs.CallLooks.{CallLooks}
@@ -15,8 +13,7 @@ use Rattle.rx_rules.specs.Life as lives
 use Rattle.rx_rules.specs.Looks.{Looks}
 use Rattle.rx_rules.specs.Owing.{Owed}
 use Rattle.rx_rules.specs.Received.{Received, front_of, is_complete, is_within, nothing_received, unread_of}
-use Rattle.rx_rules.specs.Sent.{Sent, counting_by, counting_of, held_pieces, nothing_sent, pieces_by}
-use Rattle.rx_law.specs.Worlds.{Datagram}
+use Rattle.rx_rules.specs.Sent.{Sent, counting_by, counting_of, held_pieces, nothing_sent}
 use Rattle.rx_script.specs.Served.{refusal}
 use Rattle.rx_asks.specs.declared.ask.Phase.TheVariants as phases
 use Rattle.rx_jobs.specs.Handlers.{Handlers, served_for, wait_of}
@@ -42,7 +39,6 @@ use Rattle.rx_rounds.proofs.ReadsNext.{Came, TurnsNext, reads_more, refuses_next
 use Rattle.rx_rounds.proofs.ReplyMoments.{MomentOf, in_ack, moment_of, of_ack, of_death, of_piece, of_ping}
 use Rattle.rx_rounds.proofs.RoundParts.{turn_still}
 use Rattle.rx_rounds.proofs.Rounded.{RoundMade, caller_at, settles_not}
-use Rattle.rx_rounds.proofs.SaidMore.{said_more}
 use Rattle.rx_rounds.proofs.SaysOn.{arriving_at, says_still}
 use Rattle.rx_rounds.proofs.Settle.{InEither, Settled, client_moments, end_moments, in_ping, server_moments, settles_two}
 use Rattle.rx_rounds.proofs.ServeTurns.{turn_reads}

@@ -1,5 +1,5 @@
--- The stages of an invoke of a plan without a key between two rounds: its request comes, its handler waits, its reply
--- comes, its code comes; and that its caller ended.
+-- The stages of an invoke of a plan between two rounds, where its server knows its client: its request comes, its handler
+-- waits, its reply comes, its code comes; and that its caller ended.
 use Rattle.std.proofs.Common.{◌≡◌, ◌≢◌, ◌<◌, ◌≤◌, ◌*◌, ◌+◌, ◌⊎◌, ℕ, ℤ, pos, Bool, true, false, List, [], ◌∷◌, ◌++◌}
 use Rattle.std.proofs.Common.{Option, Some, None, length}
 use Rattle.std.specs.Prelude.{IfSome}

@@ -13,7 +13,7 @@ use Rattle.rx_model.specs.declared.event.Event.{Event}
 use Rattle.rx_model.specs.declared.event.Event.TheVariants as events
 use Rattle.rx_model.specs.declared.names.CallName.{CallName}
 use Rattle.rx_rules.specs.After.{after}
-use Rattle.rx_rules.specs.CallLooks.{CallLooks, after_read, after_shut, after_write, has_lead, held, lead}
+use Rattle.rx_rules.specs.CallLooks.{CallLooks, after_read, after_shut, after_write, held, lead}
 use Rattle.rx_rules.specs.Life as lives
 use Rattle.rx_rules.specs.Looks.{CallRecord, Looks, is_call}
 use Rattle.rx_rules.specs.Owing.{owed_for_done}

@@ -1,30 +1,25 @@
 -- One end of a call by itself: the messages of a stream, and which of them it gives when it is polled.
-use Rattle.std.proofs.Common.{◌≡◌, ◌<◌, ◌≤◌, ◌+◌, ◌-◌, ◌*◌, ◌/◌, ◌%◌, ◌^◌, ◌==◌, ◌&&◌, ◌++◌, ◌⊎◌, not, ℕ, zero, suc, max, min, Bool}
-use Rattle.std.proofs.Common.{true, false, cond, List, [], ◌∷◌, refl, ap, sym, subst, ◌∙◌, inl, inr, ⊎_elim, arith, Option, Some, None}
-use Rattle.std.proofs.Common.{length-drop, if◌then◌else◌, length, filter, nat_le, nat_lt, option_map, take, drop, is_some, append-nil}
-use Rattle.std.proofs.lemmas.Bool.{eq-eqb, ne_eqb, cases_eq, cases_lt, lt-ltb, le-leb, lt-leb, or_left}
-use Rattle.std.proofs.lemmas.Bool.{and_parts, both_ways, cases_Bool, ltb-true, leb-true}
-use Rattle.std.proofs.lemmas.List.{drop-append-le, length-append, take-append-le}
-use Rattle.std.specs.Prelude.{IfSome, IsSomeAnd}
+use Rattle.std.proofs.Common.{◌≡◌, ◌<◌, ◌≤◌, ◌+◌, ◌%◌, ◌^◌, ◌==◌, ◌++◌, ◌⊎◌, ℕ, zero, suc, min, Bool}
+use Rattle.std.proofs.Common.{true, false, List, [], ◌∷◌, refl, ap, sym, subst, ◌∙◌, inl, inr, ⊎_elim, arith, Some, None}
+use Rattle.std.proofs.Common.{if◌then◌else◌, length, is_some}
+use Rattle.std.proofs.lemmas.Bool.{eq-eqb, ne_eqb, cases_eq, cases_lt, or_left}
+use Rattle.std.proofs.lemmas.Bool.{both_ways, cases_Bool}
+use Rattle.std.specs.Prelude.{IsSomeAnd}
 use Rattle.rx_model.specs.declared.wire.TheConstants.{ACK_PING, CLIENT_INITIATED}
 use Rattle.rx_model.specs.Body.{AckBody, Body}
 use Rattle.rx_model.specs.Body as bodies
 use Rattle.rx_model.specs.Message.{Message}
-use Rattle.rx_rules.specs.CallItems.{CallItem, Sending, Piece, Ack, ack_items, again_items, asks, can_give, flags_of}
-use Rattle.rx_rules.specs.CallItems.{ping_items}
-use Rattle.rx_rules.specs.CallLooks.{CallLooks, after_piece}
-use Rattle.rx_rules.specs.Least.{least_by, lesser_by}
-use Rattle.rx_rules.specs.Owing.{Owed}
+use Rattle.rx_rules.specs.CallItems.{Sending, Piece, asks, can_give, flags_of}
+use Rattle.rx_rules.specs.CallLooks.{CallLooks}
 use Rattle.rx_rules.specs.Received.{marks_of, reach, used_of}
 use Rattle.rx_rules.specs.Received as received
-use Rattle.rx_rules.specs.Sent.{Giving, LastGiving, after_giving, counting_of, given_of, greatest_given, in_flight, is_acked}
-use Rattle.rx_rules.specs.Sent.{last_giving, lowest_of, opened, orders_of, payload_at, piece_at}
-use Rattle.rx_rounds.proofs.Counting.{count_none, reach_least}
+use Rattle.rx_rules.specs.Sent.{Giving, after_giving, counting_of}
+use Rattle.rx_rules.specs.Sent.{last_giving, orders_of, piece_at}
 use Rattle.rx_rounds.proofs.Flow.{total}
 use Rattle.rx_rounds.proofs.Keeper.{piece}
-use Rattle.rx_rounds.proofs.OneWay.{IsPlainOwed, Sends, Tells}
+use Rattle.rx_rounds.proofs.OneWay.{Sends}
 use Rattle.rx_rounds.proofs.Pair.{CallEnd, Place, gave, message_of, next_of}
-use Rattle.rx_rounds.proofs.SendsLaws.{never_given, ripe_at, ripe_append, first_due, tells, again_late, again_never, counts_within, sends_sooner, piece_same, piece_is, gives_piece, next_more, again_none, next_rest, may_go, must_go}
+use Rattle.rx_rounds.proofs.SendsLaws.{sends_sooner, piece_same, piece_is, gives_piece, next_more, may_go}
 
 -- ---- what is given
 

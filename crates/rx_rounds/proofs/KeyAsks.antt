@@ -1,29 +1,23 @@
 -- The third round of an invoke where there is a key: the CHALLENGE passes, and an ACK that marks what came, if it is due.
-use Rattle.std.proofs.Common.{◌≡◌, ◌<◌, ◌≤◌, ◌⊎◌, inl, inr, ⊎_elim, ◌+◌, ◌-◌, ◌*◌, ◌^◌, ◌%◌, ◌==◌, ◌++◌, ℕ, suc, Bool, true}
-use Rattle.std.proofs.Common.{false, List, [], ◌∷◌, refl, ap, sym, subst, ◌∙◌, Option, Some, None, is_some, length, replicate}
-use Rattle.std.proofs.Common.{◌||◌, arith, cond, nat_le, nat_lt}
-use Rattle.std.proofs.lemmas.Bool.{le-ltb, lt-leb, ne_eqb}
+use Rattle.std.proofs.Common.{◌≡◌, ◌<◌, ◌≤◌, ◌+◌, ◌-◌, ◌^◌, ◌%◌, ◌==◌, ◌++◌, ℕ, suc, Bool, true}
+use Rattle.std.proofs.Common.{false, List, [], ◌∷◌, refl, ap, sym, subst, ◌∙◌, Option, Some, None, length}
+use Rattle.std.proofs.Common.{arith, nat_le}
 use Rattle.std.specs.Prelude.{IfSome}
 use Rattle.rx_model.specs.declared.answers.Took.{Took}
-use Rattle.rx_model.specs.declared.answers.Took.TheVariants as tooks
 use Rattle.rx_model.specs.declared.event.Event.TheVariants as events
 use Rattle.rx_model.specs.declared.names.CallName.{CallName}
 use Rattle.rx_model.specs.declared.wire.TheConstants.{ACK_PING, SILENCE_MS}
-use Rattle.rx_model.specs.Body.{AckBody}
 use Rattle.rx_model.specs.Message.{Message}
 use Rattle.rx_model.specs.Spelling.{made, IsPlain}
 use Rattle.rx_rules.specs.After.{after}
 use Rattle.rx_rules.specs.CallItems.{Ack, can_give}
-use Rattle.rx_rules.specs.CallLooks.{CallLooks, after_taken, sampled}
+use Rattle.rx_rules.specs.CallLooks.{CallLooks}
 use Rattle.rx_rules.specs.Items.{poll_answer}
 use Rattle.rx_rules.specs.Judging.{took_of}
 use Rattle.rx_rules.specs.Life as lives
 use Rattle.rx_rules.specs.Looks.{Looks}
 use Rattle.rx_rules.specs.Owing.{Owed}
-use Rattle.rx_rules.specs.Rates.{after_acked}
-use Rattle.rx_rules.specs.Received.{nothing_received}
-use Rattle.rx_rules.specs.Sent.{held_pieces, is_marked, marks_past, newly_of, nothing_sent}
-use Rattle.rx_asks.specs.declared.ask.Phase.TheVariants as phases
+use Rattle.rx_rules.specs.Sent.{nothing_sent}
 use Rattle.rx_jobs.specs.Handlers.{Handlers}
 use Rattle.rx_law.specs.Worlds.{Datagram}
 use Rattle.rx_plan.specs.Network.{delivers}
@@ -31,29 +25,23 @@ use Rattle.rx_plan.specs.Parts.{To, each}
 use Rattle.rx_plan.specs.Rounds.{Polled, Polling, polls}
 use Rattle.rx_plan.specs.Stages.{InvokedState, Stage}
 use Rattle.rx_rounds.proofs.ArrivingRound.{nothing_gives, nothing_sends}
-use Rattle.rx_rounds.proofs.Between.{caller_with}
 use Rattle.rx_rounds.proofs.PolledEnd.{Told, nothing_told, something_told, told_by}
 use Rattle.rx_rounds.proofs.SendsLaws.{next_rest, tells}
-use Rattle.rx_rounds.proofs.FirstCame.{FirstCame, first_comes}
 use Rattle.rx_rounds.proofs.Flow.{total}
 use Rattle.rx_rounds.proofs.Keeper.{part_read}
 use Rattle.rx_rounds.proofs.KeyClass.{index_small}
-use Rattle.rx_rounds.proofs.KeyMarks.{length_marks, marked_to, marks_all, marks_given, used_none}
+use Rattle.rx_rounds.proofs.KeyMarks.{length_marks, marks_all, used_none}
 use Rattle.rx_rounds.proofs.KeySteps.{IsAnswer, challenge_gave, challenge_gives, challenge_heard, challenge_of, challenge_took}
-use Rattle.rx_rounds.proofs.KeySteps.{plain_challenge, unproved_none}
+use Rattle.rx_rounds.proofs.KeySteps.{plain_challenge}
 use Rattle.rx_rounds.proofs.Making.{ends_to, then_to}
-use Rattle.rx_rounds.proofs.OneCall.{Ends, answering_link, client_place, client_poll, client_setup, datagram, link_poll}
-use Rattle.rx_rounds.proofs.OneCall.{node_of, served_link, server_place, server_setup, the_call}
+use Rattle.rx_rounds.proofs.OneCall.{Ends, client_place, client_poll, client_setup, datagram, link_poll}
+use Rattle.rx_rounds.proofs.OneCall.{server_place, server_setup, the_call}
 use Rattle.rx_rounds.proofs.OneFields.{FitsEnds, fresh}
 use Rattle.rx_rounds.proofs.OneSteps.{ack_of, answering_heard_ack, answering_took_ack, client_none, link_gave, link_none}
-use Rattle.rx_rounds.proofs.OneWay.{IsPlainOwed, IsSteady, Sends}
-use Rattle.rx_rounds.proofs.Pair.{message_of, next_of, row_of, view_of}
-use Rattle.rx_rounds.proofs.RoundParts.{idle_dispatch}
-use Rattle.rx_rounds.proofs.Rounded.{Made, RoundMade, caller_at, settles_not}
-use Rattle.rx_rounds.proofs.SaysOn.{says_still}
-use Rattle.rx_rounds.proofs.Starts.{Started}
+use Rattle.rx_rounds.proofs.OneWay.{IsPlainOwed, IsSteady}
+use Rattle.rx_rounds.proofs.Pair.{message_of, next_of}
+use Rattle.rx_rounds.proofs.Rounded.{Made, RoundMade}
 use Rattle.rx_rounds.proofs.Taking.{came_behind}
-use Rattle.rx_rounds.proofs.TakingAck.{even_sampled, slow_sampled}
 use Rattle.rx_rounds.proofs.Two.{AreApart, Polls, Two, client_polls_none, delivered_client, host_server, out_to, polls_to, sent}
 use Rattle.rx_rounds.proofs.Two.{server_polls_none, server_polls_some, two_as}
 use Rattle.rx_rounds.proofs.MarksHeard.{all_marks, heard_marks, sends_marked, marks_row, marks_heard}

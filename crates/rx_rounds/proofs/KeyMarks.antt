@@ -1,60 +1,14 @@
 -- What an ACK tells of pieces that came and that nobody read: it marks each of them.
-use Rattle.std.proofs.Common.{◌≡◌, ◌<◌, ◌≤◌, ◌+◌, ◌-◌, ◌*◌, ◌^◌, ◌%◌, ◌==◌, ◌⊎◌, ◌++◌, ℕ, suc, zero, Bool, true, false}
-use Rattle.std.proofs.Common.{List, [], ◌∷◌, refl, ap, sym, subst, ◌∙◌, inl, inr, ⊎_elim, Option, Some, None, is_some, arith}
+use Rattle.std.proofs.Common.{◌≡◌, ◌<◌, ◌≤◌, ◌+◌, ◌-◌, ◌*◌, ◌==◌, ◌++◌, ℕ, suc, zero, Bool, true, false}
+use Rattle.std.proofs.Common.{List, [], ◌∷◌, refl, ap, ◌∙◌, inl, inr, Option, Some, is_some, arith}
 use Rattle.std.proofs.Common.{length, nat_le, replicate, drop, length-take, length-drop}
 use Rattle.std.proofs.Common.{◌≢◌, cond, zero-le, le-ltb}
-use Rattle.std.proofs.lemmas.Bool.{cases_lt, eq-eqb, le-leb, lt-leb, ne_eqb}
-use Rattle.rx_model.specs.declared.answers.Took.{Took}
-use Rattle.rx_model.specs.declared.event.Event.TheVariants as events
-use Rattle.rx_model.specs.declared.names.CallName.{CallName}
-use Rattle.rx_model.specs.declared.wire.TheConstants.{ACK_REQUESTED}
-use Rattle.rx_model.specs.Body.{AckBody}
-use Rattle.rx_model.specs.Message.{Message}
-use Rattle.rx_model.specs.Spelling.{made, IsPlain}
-use Rattle.rx_rules.specs.After.{after}
-use Rattle.rx_rules.specs.CallItems.{Ack}
-use Rattle.rx_rules.specs.CallLooks.{CallLooks}
-use Rattle.rx_rules.specs.Items.{poll_answer}
-use Rattle.rx_rules.specs.Judging.{took_of}
-use Rattle.rx_rules.specs.Life as lives
-use Rattle.rx_rules.specs.Looks.{Looks}
-use Rattle.rx_rules.specs.Owing.{Owed, at_once}
+use Rattle.std.proofs.lemmas.Bool.{cases_lt, eq-eqb, le-leb, lt-leb}
 use Rattle.rx_rules.specs.Received.{Piece, front_of, greatest, is_done, marks_from, marks_of, packet_at, used_of}
 use Rattle.rx_rules.specs.Sent.{is_marked, marks_past}
-use Rattle.rx_law.specs.Worlds.{Datagram}
-use Rattle.rx_jobs.specs.Dispatching.{Turning, accepts, over}
-use Rattle.rx_jobs.specs.Handlers.{Handlers}
-use Rattle.rx_jobs.specs.Jobs.{JobState}
-use Rattle.rx_plan.specs.Network.{delivers}
-use Rattle.rx_plan.specs.Parts.{To, each}
-use Rattle.rx_plan.specs.Rounds.{Polled, polls, rounds}
-use Rattle.rx_plan.specs.Stages.{Stage}
-use Rattle.rx_plan.specs.Turned.{dispatches, jobs_left}
 use Rattle.rx_rounds.proofs.Counting.{index_all, index_past, reach_none}
-use Rattle.rx_rounds.proofs.Flow.{Marked, Speed, asks_end, hears_marks, next_none, quicker_marks, row_marks, told_marks, total}
-use Rattle.rx_rounds.proofs.Flow.{newly_marks, waits, writer_at}
-use Rattle.rx_rounds.proofs.KeyClass.{index_small}
-use Rattle.rx_rounds.proofs.KeySteps.{IsAnswer, challenge_gave, challenge_gives, challenge_heard, challenge_of, challenge_took}
-use Rattle.rx_rounds.proofs.KeySteps.{plain_challenge, plain_response, response_gave, response_gives, response_heard}
-use Rattle.rx_rounds.proofs.KeySteps.{response_of, response_took, unproved_none}
-use Rattle.rx_rounds.proofs.Keeper.{greatest_kept, keeper_at, kept_to, packet_kept, part_read, piece}
-use Rattle.rx_rounds.proofs.Making.{ends_to, then_to}
-use Rattle.rx_rounds.proofs.OneBurst.{burst, delivers_more, owes, owes_now, polls_burst}
-use Rattle.rx_rounds.proofs.OneCall.{Ends, answering_link, client_place, client_poll, client_setup, datagram}
-use Rattle.rx_rounds.proofs.OneCall.{from_server, header_of, link_poll, node_of, served_link, server_place, server_setup, the_call}
-use Rattle.rx_rounds.proofs.OneFields.{FitsEnds}
-use Rattle.rx_rounds.proofs.OneFirst.{FirstPassed, first_passes, goes_on, writing_all}
-use Rattle.rx_rounds.proofs.OneFirst.{hard as first_hard, soft as first_soft, some as first_some, v as first_v}
-use Rattle.rx_rounds.proofs.OneProgress.{no_calls}
-use Rattle.rx_rounds.proofs.OneRequest.{Next, WentFurther, next_pieces}
-use Rattle.rx_rounds.proofs.OneSteps.{ack_of, answering_heard_ack, answering_took_ack, client_none, empty_at, link_gave, link_none}
-use Rattle.rx_rounds.proofs.OneTurn.{Keeps, turn_first}
-use Rattle.rx_rounds.proofs.Pair.{message_of, view_of}
-use Rattle.rx_rounds.proofs.Rounded.{Made, RoundMade, dispatch_to, rounds_more, settles_not}
-use Rattle.rx_rounds.proofs.Turned.{Serves, Serves_, serves_accept, serves_over}
-use Rattle.rx_rounds.proofs.Two.{AreApart, Two, any_two, client_polls_none, client_polls_some, delivered_client}
-use Rattle.rx_rounds.proofs.Two.{delivered_server, host_server, out_to, polls_to, sent, server_polls_none, server_polls_some}
-use Rattle.rx_rounds.proofs.Two.{two_as, two_jobs}
+use Rattle.rx_rounds.proofs.Flow.{Marked, total}
+use Rattle.rx_rounds.proofs.Keeper.{greatest_kept, kept_to, packet_kept, part_read, piece}
 
 -- ---- what an ACK tells of pieces that nobody read
 

@@ -3,7 +3,7 @@
 use Rattle.std.proofs.Common.{◌≡◌, ◌≢◌, ◌<◌, ◌≤◌, ◌⊎◌, inl, inr, ⊎_elim, ◌+◌, ◌^◌, ◌++◌, ℕ, ℤ, pos}
 use Rattle.std.proofs.Common.{Bool, true, false, cond, List, [], ◌∷◌, refl, ap, sym, subst, ◌∙◌, Option, Some, None, length}
 use Rattle.std.proofs.Common.{arith, append-nil, nat_lt}
-use Rattle.std.proofs.lemmas.Bool.{both_ways, cases_Bool, ltb-false}
+use Rattle.std.proofs.lemmas.Bool.{cases_Bool, ltb-false}
 use Rattle.std.proofs.lemmas.List.{length-append}
 use Rattle.std.specs.Prelude.{IfSome, IsSomeAnd}
 use Rattle.rx_model.specs.Spelling.{IsCode}
@@ -12,18 +12,18 @@ use Rattle.rx_rules.specs.Life as lives
 use Rattle.rx_rules.specs.Looks.{Looks}
 use Rattle.rx_rules.specs.Owing.{Owed, delayed, owed_for_read}
 use Rattle.rx_rules.specs.Received.{Received, heard_of, is_complete, marks_of, nothing_received, unread_of, used_of}
-use Rattle.rx_rules.specs.Sent.{Sent, counting_by, given_of, held_pieces, nothing_sent}
-use Rattle.rx_script.specs.Served.{bytes, refusal}
+use Rattle.rx_rules.specs.Sent.{counting_by, nothing_sent}
+use Rattle.rx_script.specs.Served.{refusal}
 use Rattle.rx_asks.specs.declared.ask.Phase.{Phase}
 use Rattle.rx_asks.specs.declared.ask.Phase.TheVariants as phases
 use Rattle.rx_jobs.specs.Handlers.{Handlers, served_for, wait_of}
-use Rattle.rx_jobs.specs.Jobs.{JobState, begun}
+use Rattle.rx_jobs.specs.Jobs.{begun}
 use Rattle.rx_jobs.specs.Keeping.{kept_of}
 use Rattle.rx_plan.specs.Stages.{InvokedState, Stage}
 use Rattle.rx_plan.specs.Turned.{turns_all}
 use Rattle.rx_rounds.proofs.ArrivingRound.{reads_out_of, tells_read}
-use Rattle.rx_rounds.proofs.Between.{Answering_, Arriving, HasAll, InTouch, Refusing, Replying, Waiting, answers_later}
-use Rattle.rx_rounds.proofs.Between.{caller_with, client_at, finished, owes_any, server_at, writes}
+use Rattle.rx_rounds.proofs.Between.{Arriving, HasAll, Refusing, Replying, Waiting, answers_later}
+use Rattle.rx_rounds.proofs.Between.{caller_with, client_at, server_at}
 use Rattle.rx_rounds.proofs.CallsOut.{waits_turn}
 use Rattle.rx_rounds.proofs.Flow.{total}
 use Rattle.rx_rounds.proofs.Keeper.{kept_to}
@@ -34,14 +34,13 @@ use Rattle.rx_rounds.proofs.ReadOn.{IsRead, read_out}
 use Rattle.rx_rounds.proofs.ReadWhole.{marks_all, used_all}
 use Rattle.rx_rounds.proofs.ReplyStream.{heard_kept, heard_whole}
 use Rattle.rx_rounds.proofs.Rounded.{Made, caller_at}
-use Rattle.rx_rounds.proofs.SaidMore.{counts_more, said_more, sends_said}
+use Rattle.rx_rounds.proofs.SaidMore.{said_more}
 use Rattle.rx_rounds.proofs.SaysOn.{arriving_at, says_on}
 use Rattle.rx_rounds.proofs.ServeDecides.{refused_at}
 use Rattle.rx_rounds.proofs.ServeTurns.{ReadsJob, ServedOn, WroteOn, has_read_all, refused, refused_early, replies_now}
 use Rattle.rx_rounds.proofs.ServeTurns.{waits_for_pieces, waits_longer}
-use Rattle.rx_rounds.proofs.Sizes.{reply_short}
 use Rattle.rx_rounds.proofs.Two.{Two}
-use Rattle.rx_rounds.proofs.ReplyBegins.{says_any, Begins, replying_at}
+use Rattle.rx_rounds.proofs.ReplyBegins.{Begins, replying_at}
 
 -- a stream of which all pieces were given is shut
 pub given_all : (whole : List ℕ) (since a n : ℕ) (k : CallLooks) → Sends whole since a n k → n ≡ total whole

@@ -1,7 +1,6 @@
 -- The round behind a code: the server's ABORT comes to the client, whatever the client gives, and its caller is told.
 use Rattle.std.proofs.Common.{◌≡◌, ◌<◌, ◌≤◌, ◌+◌, ◌-◌, ◌%◌, ◌^◌, ◌++◌, ◌==◌, ℕ, ℤ, suc, Bool, true, false, List, [], ◌∷◌}
 use Rattle.std.proofs.Common.{refl, ap, sym, subst, ◌∙◌, Option, Some, None, length, append_assoc, arith, nat_le}
-use Rattle.std.specs.Prelude.{IfSome}
 use Rattle.std.proofs.lemmas.Bool.{lt-leb}
 use Rattle.rx_model.proofs.NameLaws.{number_itself}
 use Rattle.rx_model.specs.declared.answers.End.TheVariants as ends
@@ -15,8 +14,6 @@ use Rattle.rx_rules.specs.After.{after}
 use Rattle.rx_rules.specs.CallLooks.{CallLooks}
 use Rattle.rx_rules.specs.Judging.{took_of}
 use Rattle.rx_rules.specs.Looks.{Looks}
-use Rattle.rx_rules.specs.Owing.{Owed}
-use Rattle.rx_rules.specs.Received.{Received, marks_of, nothing_received, used_of}
 use Rattle.rx_rules.specs.Rules.{accept_answer}
 use Rattle.rx_rules.specs.Sent.{counting_of}
 use Rattle.rx_law.specs.Worlds.{Datagram}
@@ -46,7 +43,6 @@ use Rattle.rx_rounds.proofs.OneFields.{FitsEnds}
 use Rattle.rx_rounds.proofs.OneNode.{ArePlain, client_polled_out, datagrams, plain_ack, plain_acks, plain_burst, plain_both}
 use Rattle.rx_rounds.proofs.OneNode.{plain_piece, side_flags}
 use Rattle.rx_rounds.proofs.RoundParts.{idle_dispatch}
-use Rattle.rx_rounds.proofs.OneWay.{IsPlainOwed, Tells}
 use Rattle.rx_rounds.proofs.Pair.{CallEnd}
 use Rattle.rx_rounds.proofs.RefuseCode.{abort_of, abort_polls, aborted_at, client_aborted, client_took_abort, over_after_ack}
 use Rattle.rx_rounds.proofs.RefuseCode.{over_after_data, over_at, over_took_ack, over_took_data, plain_abort}

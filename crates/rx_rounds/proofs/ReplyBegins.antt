@@ -1,43 +1,30 @@
 -- A handler that answers behind its request, at a client that was given nothing yet: its reply comes from there on.
-use Rattle.std.proofs.Common.{◌≡◌, ◌≢◌, ◌<◌, ◌≤◌, ◌⊎◌, inl, inr, ⊎_elim, ◌+◌, ◌^◌, ◌++◌, ℕ, ℤ, pos}
-use Rattle.std.proofs.Common.{Bool, true, false, cond, List, [], ◌∷◌, refl, ap, sym, subst, ◌∙◌, Option, Some, None, length}
-use Rattle.std.proofs.Common.{arith, append-nil, nat_lt}
-use Rattle.std.proofs.lemmas.Bool.{both_ways, cases_Bool, ltb-false}
-use Rattle.std.proofs.lemmas.List.{length-append}
-use Rattle.std.specs.Prelude.{IfSome, IsSomeAnd}
-use Rattle.rx_model.specs.Spelling.{IsCode}
-use Rattle.rx_rules.specs.CallLooks.{CallLooks, after_read}
-use Rattle.rx_rules.specs.Life as lives
+use Rattle.std.proofs.Common.{◌≡◌, ◌≤◌, ◌⊎◌, inl, inr, ⊎_elim, ◌+◌, ◌++◌, ℕ}
+use Rattle.std.proofs.Common.{Bool, true, false, List, [], ◌∷◌, refl, ap, sym, subst, ◌∙◌, Option, None}
+use Rattle.std.proofs.Common.{arith}
+use Rattle.std.proofs.lemmas.Bool.{both_ways}
+use Rattle.std.specs.Prelude.{IfSome}
+use Rattle.rx_rules.specs.CallLooks.{CallLooks}
 use Rattle.rx_rules.specs.Looks.{Looks}
-use Rattle.rx_rules.specs.Owing.{Owed, delayed, owed_for_read}
-use Rattle.rx_rules.specs.Received.{Received, heard_of, is_complete, marks_of, nothing_received, unread_of, used_of}
-use Rattle.rx_rules.specs.Sent.{Sent, counting_by, given_of, held_pieces, nothing_sent}
-use Rattle.rx_script.specs.Served.{bytes, refusal}
+use Rattle.rx_rules.specs.Owing.{Owed}
+use Rattle.rx_rules.specs.Received.{Received, nothing_received, unread_of}
+use Rattle.rx_rules.specs.Sent.{Sent, given_of, held_pieces, nothing_sent}
+use Rattle.rx_script.specs.Served.{bytes}
 use Rattle.rx_asks.specs.declared.ask.Phase.{Phase}
 use Rattle.rx_asks.specs.declared.ask.Phase.TheVariants as phases
-use Rattle.rx_jobs.specs.Handlers.{Handlers, served_for, wait_of}
-use Rattle.rx_jobs.specs.Jobs.{JobState, begun}
-use Rattle.rx_jobs.specs.Keeping.{kept_of}
+use Rattle.rx_jobs.specs.Handlers.{Handlers, served_for}
+use Rattle.rx_jobs.specs.Jobs.{JobState}
 use Rattle.rx_plan.specs.Stages.{InvokedState, Stage}
 use Rattle.rx_plan.specs.Turned.{turns_all}
-use Rattle.rx_rounds.proofs.ArrivingRound.{reads_out_of, tells_read}
-use Rattle.rx_rounds.proofs.Between.{Answering_, Arriving, HasAll, InTouch, Refusing, Replying, Waiting, answers_later}
+use Rattle.rx_rounds.proofs.Between.{Answering_, HasAll, InTouch, Replying}
 use Rattle.rx_rounds.proofs.Between.{caller_with, client_at, finished, owes_any, server_at, writes}
 use Rattle.rx_rounds.proofs.CallsOut.{waits_turn}
 use Rattle.rx_rounds.proofs.Flow.{total}
-use Rattle.rx_rounds.proofs.Keeper.{kept_to}
-use Rattle.rx_rounds.proofs.OneCall.{Ends, the_call}
-use Rattle.rx_rounds.proofs.OneRequest.{whole_is}
-use Rattle.rx_rounds.proofs.OneWay.{IsOwedBy, IsPlainOwed, IsSteady, Reads, Sends}
-use Rattle.rx_rounds.proofs.ReadOn.{IsRead, read_out}
-use Rattle.rx_rounds.proofs.ReadWhole.{marks_all, used_all}
-use Rattle.rx_rounds.proofs.ReplyStream.{heard_kept, heard_whole}
+use Rattle.rx_rounds.proofs.OneCall.{Ends}
+use Rattle.rx_rounds.proofs.OneWay.{IsPlainOwed, IsSteady, Sends}
 use Rattle.rx_rounds.proofs.Rounded.{Made, caller_at}
 use Rattle.rx_rounds.proofs.SaidMore.{counts_more, said_more, sends_said}
-use Rattle.rx_rounds.proofs.SaysOn.{arriving_at, says_on}
-use Rattle.rx_rounds.proofs.ServeDecides.{refused_at}
-use Rattle.rx_rounds.proofs.ServeTurns.{ReadsJob, ServedOn, WroteOn, has_read_all, refused, refused_early, replies_now}
-use Rattle.rx_rounds.proofs.ServeTurns.{waits_for_pieces, waits_longer}
+use Rattle.rx_rounds.proofs.ServeTurns.{WroteOn}
 use Rattle.rx_rounds.proofs.Sizes.{reply_short}
 use Rattle.rx_rounds.proofs.Two.{Two}
 

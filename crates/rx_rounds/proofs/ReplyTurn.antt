@@ -1,11 +1,10 @@
 -- A round in which a reply comes, as far as its turns: what both ends are behind them.
 use Rattle.std.proofs.Common.{◌≡◌, ◌<◌, ◌≤◌, ◌⊎◌, inl, inr, ⊎_elim, ◌+◌, ◌-◌, ◌*◌, ◌/◌, ◌^◌, ◌++◌, ◌==◌, ℕ}
-use Rattle.std.proofs.Common.{suc, Bool, true, false, List, [], ◌∷◌, refl, ap, sym, subst, ◌∙◌, Option, Some, None}
+use Rattle.std.proofs.Common.{Bool, true, false, List, [], ◌∷◌, refl, ap, sym, subst, ◌∙◌, Option, Some, None}
 use Rattle.std.proofs.Common.{length, arith, append-nil, append_assoc, nat_le}
 use Rattle.std.proofs.lemmas.Bool.{cases_lt, lt-leb, ne_eqb}
 use Rattle.std.proofs.lemmas.List.{length-append}
 use Rattle.std.specs.Prelude.{IfSome}
-use Rattle.rx_model.specs.declared.names.Host.{Host}
 use Rattle.rx_model.specs.declared.wire.TheConstants.{SILENCE_MS}
 use Rattle.rx_model.specs.Message.{Message}
 use Rattle.rx_rules.specs.CallLooks.{CallLooks}
@@ -13,7 +12,6 @@ use Rattle.rx_rules.specs.Looks.{Looks}
 use Rattle.rx_rules.specs.Owing.{Owed}
 use Rattle.rx_rules.specs.Received.{Received, marks_of}
 use Rattle.rx_rules.specs.Sent.{counting_by, counting_of, opened, pieces_by}
-use Rattle.rx_law.specs.Worlds.{Datagram}
 use Rattle.rx_jobs.specs.Handlers.{Handlers}
 use Rattle.rx_plan.specs.Stages.{InvokedState, Stage}
 use Rattle.rx_rounds.proofs.ArrivingRound.{tells_read}

@@ -1,6 +1,6 @@
 -- A turn of a dispatcher's job that writes its reply: as much of it as there is room for; or all, and then it finishes.
 use Rattle.std.proofs.Common.{◌≡◌, ◌≢◌, ◌<◌, ◌⊎◌, inl, inr, ⊎_elim, if◌then◌else◌, ◌≤◌, ◌+◌, ◌-◌, ◌*◌, ◌++◌, ◌==◌, ℕ, pos, suc, zero, min, Bool, true, false}
-use Rattle.std.proofs.Common.{cond, List, [], ◌∷◌, refl, ap, sym, subst, ◌∙◌, Option, Some, Result, Ok, length}
+use Rattle.std.proofs.Common.{List, [], ◌∷◌, refl, ap, sym, subst, ◌∙◌, Option, Some, Result, Ok, length}
 use Rattle.std.proofs.Common.{take, drop, nat_lt, arith, append_assoc, append-nil, length-take, length-drop}
 use Rattle.std.proofs.lemmas.Bool.{cases_lt, eqb-false, eqb-true, lt-ltb}
 use Rattle.std.proofs.lemmas.List.{length-append, take-append-drop, take-take}
@@ -10,7 +10,7 @@ use Rattle.rx_model.specs.declared.event.Event.{Event}
 use Rattle.rx_model.specs.declared.event.Event.TheVariants as events
 use Rattle.rx_model.specs.declared.names.CallName.{CallName}
 use Rattle.rx_rules.specs.After.{after}
-use Rattle.rx_rules.specs.CallLooks.{CallLooks, after_shut, after_write, has_lead, held, lead}
+use Rattle.rx_rules.specs.CallLooks.{CallLooks, after_shut, after_write, held, lead}
 use Rattle.rx_rules.specs.Life.{Life}
 use Rattle.rx_rules.specs.Life as lives
 use Rattle.rx_rules.specs.Looks.{CallRecord, Looks, call_at}

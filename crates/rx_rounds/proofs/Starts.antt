@@ -1,5 +1,5 @@
 -- The start of the rounds: nothing is due, and then the caller says its request as far as there is room.
-use Rattle.std.proofs.Common.{◌≡◌, ◌<◌, ◌≤◌, inl, inr, ⊎_elim, ◌+◌, ◌*◌, ◌++◌, ◌==◌, max, ℕ, suc, Bool, true, false, List, []}
+use Rattle.std.proofs.Common.{◌≡◌, ◌<◌, ◌≤◌, inr, ⊎_elim, ◌+◌, ◌*◌, ◌++◌, ◌==◌, max, ℕ, Bool, true, false, List, []}
 use Rattle.std.proofs.Common.{◌∷◌, refl, ap, sym, subst, ◌∙◌, length, arith, append-nil}
 use Rattle.rx_rules.specs.CallItems.{can_give}
 use Rattle.rx_rules.specs.CallLooks.{CallLooks}
@@ -25,7 +25,7 @@ use Rattle.rx_rounds.proofs.RoundParts.{client_polled, idle_dispatch}
 use Rattle.rx_rounds.proofs.Rounded.{Made, RoundMade, caller_at}
 use Rattle.rx_rounds.proofs.SaidMore.{said_more}
 use Rattle.rx_rounds.proofs.SaysOn.{SaidOn, says_on}
-use Rattle.rx_rounds.proofs.Settle.{client_moments, end_moments, in_end, settles_two}
+use Rattle.rx_rounds.proofs.Settle.{client_moments, end_moments, settles_two}
 use Rattle.rx_rounds.proofs.Two.{Two}
 
 -- a call of which nothing was said

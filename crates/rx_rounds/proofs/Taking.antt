@@ -1,7 +1,7 @@
 -- One end of a call by itself takes what the other end gave: pieces in order.
 use Rattle.std.proofs.Common.{◌≡◌, ◌<◌, ◌≤◌, ◌+◌, ◌-◌, ◌^◌, ◌==◌, ◌&&◌, ◌++◌, not, ℕ, suc, Bool}
 use Rattle.std.proofs.Common.{true, false, List, [], ◌∷◌, refl, ap, sym, subst, ◌∙◌, arith, Option, Some, None}
-use Rattle.std.proofs.Common.{if◌then◌else◌, length, nat_le, nat_lt, is_some}
+use Rattle.std.proofs.Common.{if◌then◌else◌, nat_le, nat_lt, is_some}
 use Rattle.std.proofs.lemmas.Bool.{eq-eqb, ne_eqb, lt-ltb, le-ltb, lt-leb, and_right, or_from, or_right}
 use Rattle.std.specs.Prelude.{IfSome, IsSomeAnd}
 use Rattle.rx_model.specs.declared.answers.Took.TheVariants as tooks
@@ -9,18 +9,15 @@ use Rattle.rx_model.specs.declared.wire.TheConstants.{ACK_PING, CLIENT_INITIATED
 use Rattle.rx_model.specs.Message.{Message, has_flag}
 use Rattle.rx_rules.specs.CallItems.{flags_of}
 use Rattle.rx_rules.specs.CallLooks.{CallLooks, after_taken, arrival, found, freed, has_lead, held, lead, packet_of}
-use Rattle.rx_rules.specs.CallLooks.{sampled}
-use Rattle.rx_rules.specs.Owing.{Owed, at_once, delayed, owed_for_ack}
-use Rattle.rx_rules.specs.Rates.{Rtt, after_acked}
+use Rattle.rx_rules.specs.Owing.{Owed, at_once, delayed}
 use Rattle.rx_rules.specs.Received.{Arrival, Packet, Piece, Received, arrival_row, count_above, front_of, greatest, is_above}
 use Rattle.rx_rules.specs.Received.{is_no_seq, last_seq, packet_at, used_of}
-use Rattle.rx_rules.specs.Sent.{given_of, held_pieces, is_all_given, is_marked, newly_of}
-use Rattle.rx_rounds.proofs.Exchange.{Acks, AreGiven, Burst, a_piece, ack_with, an_ack, no_ack, no_piece, piece_with}
-use Rattle.rx_rounds.proofs.PolledEnd.{ArePings}
+use Rattle.rx_rules.specs.Sent.{held_pieces, is_all_given}
+use Rattle.rx_rounds.proofs.Exchange.{Burst, a_piece, ack_with, no_piece, piece_with}
 use Rattle.rx_rounds.proofs.Flow.{total}
 use Rattle.rx_rounds.proofs.Keeper.{count_kept, front_kept, greatest_kept, last_kept, packet_past, part_read, piece, used_few}
 use Rattle.rx_law.proofs.UsedLaws.{used_keeps}
-use Rattle.rx_rounds.proofs.OneWay.{IsOwedBy, IsPlainOwed, Sends}
+use Rattle.rx_rounds.proofs.OneWay.{IsOwedBy, IsPlainOwed}
 use Rattle.rx_rounds.proofs.Pair.{Place, row_of, view_of}
 
 -- ---- flags

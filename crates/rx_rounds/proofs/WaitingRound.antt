@@ -1,11 +1,9 @@
 -- A round of an invoke whose handler waits: it waits a turn less, or replies or refuses; the client pings and is answered.
-use Rattle.std.proofs.Common.{◌≡◌, ◌≢◌, ◌<◌, ◌≤◌, ◌⊎◌, inl, inr, ⊎_elim, ◌+◌, ◌-◌, ◌^◌, ◌++◌, ◌==◌, ℕ, ℤ, pos, suc}
+use Rattle.std.proofs.Common.{◌≡◌, ◌≢◌, ◌<◌, ◌≤◌, ◌⊎◌, inl, inr, ⊎_elim, ◌+◌, ◌-◌, ◌^◌, ◌++◌, ◌==◌, ℕ, ℤ, pos}
 use Rattle.std.proofs.Common.{max, min, Bool, true, false, List, [], ◌∷◌, refl, ap, sym, subst, ◌∙◌, Option, Some, None, length}
 use Rattle.std.proofs.Common.{arith, append-nil, nat_le, nat_lt}
 use Rattle.std.proofs.lemmas.Bool.{and_left, and_right, cases_lt, le-ltb, lt-leb, ne_eqb, eq-eqb}
-use Rattle.std.proofs.lemmas.List.{length-append}
-use Rattle.std.specs.Prelude.{IfSome, IsSomeAnd, if◌then◌else◌}
-use Rattle.rx_model.specs.declared.names.Host.{Host}
+use Rattle.std.specs.Prelude.{IfSome, IsSomeAnd}
 use Rattle.rx_model.specs.declared.wire.TheConstants.{PING_MS, SILENCE_MS}
 use Rattle.rx_model.specs.Message.{Message}
 use Rattle.rx_model.proofs.NameLaws.{number_itself}
@@ -17,8 +15,7 @@ use Rattle.rx_rules.specs.Looks.{Looks}
 use Rattle.rx_rules.specs.Life.{is_active, is_live}
 use Rattle.rx_rules.specs.Owing.{Owed}
 use Rattle.rx_rules.specs.Received.{Received, marks_of, nothing_received, used_of}
-use Rattle.rx_rules.specs.Sent.{Sent, counting_of, given_of, is_marked, last_giving, lowest_of, nothing_sent}
-use Rattle.rx_law.specs.Worlds.{Datagram}
+use Rattle.rx_rules.specs.Sent.{Sent, counting_of, given_of, is_marked, nothing_sent}
 use Rattle.rx_script.specs.Served.{refusal}
 use Rattle.rx_asks.specs.declared.ask.Phase.TheVariants as phases
 use Rattle.rx_jobs.specs.Handlers.{Handlers, served_for, wait_of}
@@ -30,7 +27,6 @@ use Rattle.rx_rounds.proofs.ArrivingRound.{tells_none}
 use Rattle.rx_rounds.proofs.Between.{HasAll, InTouch, Refusing, Replying, Waiting, Waits, answers, answers_later, caller_with}
 use Rattle.rx_rounds.proofs.Between.{client_at, pings, rests, server_at}
 use Rattle.rx_rounds.proofs.CallsOut.{waits_turn}
-use Rattle.rx_rounds.proofs.EachItem.{In}
 use Rattle.rx_rounds.proofs.PolledEnd.{PolledOut, polled_out}
 use Rattle.rx_rounds.proofs.SendsLaws.{counts_within, must_go, sends_sooner}
 use Rattle.rx_rounds.proofs.Flow.{total}
