@@ -1,6 +1,6 @@
 -- A plan that makes one invoke, and the caller that each of five wrong bodies leaves of it behind the rounds: no stage
--- with that caller is one of a plan that completes, by what is said of such a plan alone. Each body was written into the
--- code, and the plan was run: its last line was `answer #1 open`, and its trace had what the client accepted.
+-- with that caller is one of a plan that completes, by what is said of such a plan alone. Each body was written into
+-- the code, and the plan was run: its last line was `answer #1 open`, and its trace had what the client accepted.
 use Rattle.std.proofs.Common.{◌≡◌, ◌≤◌, ◌<◌, ◌+◌, ◌^◌, ℕ, zero, suc, Bool, true, false, List, [], ◌∷◌, length, refl, ap}
 use Rattle.std.proofs.Common.{subst, Option, Some, None, String, Vec, arith, drop, slice_get, string_bytes, IfSome, All}
 use Rattle.std.proofs.Common.{length-append}
@@ -176,8 +176,8 @@ module _ (proc : String Global) (named : string_bytes proc ≡ codes "Put") (arg
   never_reads : IsRefused (left 45184 false)
   never_reads = open_is_refused (left 45184 false) refl
 
-  -- a handler that reads all and is never finished, or a client that never polls its last piece: the request is said and
-  -- shut, and no reply comes
+  -- a handler that reads all and is never finished, or a client that never polls its last piece: the request is said
+  -- and shut, and no reply comes
   never_finished : IsRefused (left 100008 true)
   never_finished = open_is_refused (left 100008 true) refl
 
@@ -185,6 +185,7 @@ module _ (proc : String Global) (named : string_bytes proc ≡ codes "Put") (arg
   never_shuts : IsRefused (left 100008 false)
   never_shuts = open_is_refused (left 100008 false) refl
 
-  -- clocks that stand where nothing else happens: the server owes an ACK in 100 ms, and till then the client has no room
+  -- clocks that stand where nothing else happens: the server owes an ACK in 100 ms, and till then the client has no
+  -- room
   clocks_stand : IsRefused (left 87544 false)
   clocks_stand = open_is_refused (left 87544 false) refl
