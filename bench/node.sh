@@ -1,7 +1,7 @@
 #!/bin/sh
 # Calls from a client to a server, both in memory: rx_node_bench. Prints calls per second and instructions per datagram
 # of tiny calls on one channel and on four, and bytes per second and instructions per datagram of one stream each way,
-# with 1 and with 1,000 idle connections, and with 1, 100 and 1,000 calls that live beside. What makes the checksum of
+# with 1, 1,000 and 10,000 idle connections, and with 1, 100 and 1,000 calls that live beside. What makes the checksum of
 # the streams' bytes is left out.
 # Wants rt and valgrind. Run it from any folder.
 set -e
@@ -57,6 +57,7 @@ calls 1000 1 1 0
 calls 1000 4 1 0
 calls 100 1 1000 0
 calls 100 4 1000 0
+calls 100 1 10000 0
 calls 200 1 1 1
 calls 200 1 1 100
 calls 200 1 1 1000
