@@ -29,7 +29,8 @@ import tempfile
 import threading
 import time
 
-import drawn
+sys.dont_write_bytecode = True
+import drawn  # noqa: E402
 
 top = pathlib.Path(__file__).resolve().parent.parent
 corpus = pathlib.Path(__file__).resolve().parent / "corpus"
