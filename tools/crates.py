@@ -12,19 +12,19 @@ import sys
 top = pathlib.Path(__file__).resolve().parent.parent
 LIST, DRAWING = top / "crates.txt", top / "docs/crates.svg"
 PLACES = """
-.             .               .         .         .               rx_top_tests    rx             .
-.             .               .         .         .               .               rx_top         .
-.             .               .         .         .               rx_passes       rx_world       rx_words
-rx_node_bench rx_server_tests rx_nodes  rx_caller .               rx_udp          rx_dispatch    rx_rounds
-.             rx_server       rx_client .         .               rx_base         .              rx_plan
-.             rx_books        rx_progress .       .               .               .              rx_run
-.             rx_node         rx_between rx_token rx_jumbo        .               rx_jobs        .
-rx_call_bench rx_ends         rx_table  rx_class  rx_asks         .               .              .
-.             rx_call         rx_queue  rx_events rx_wire         rx_script_tests rx_reply       .
-rx_recvwin    rx_sendwin      rx_due    rx_law    rx_examples     .               rx_script      xg_compile
-rx_pool       rx_rtt          .         .         rx_packet_bench stub_table      xdr_code_bench xg_check
-.             .               rx_packet rx_rules  .               xdr_code        xdr_json       xg_parse
-.             .               rx_model  .         .               xdr_value       .              xg_lex
+.             .               .           .          .               rx_top_tests    rx             .
+.             .               .           .          .               .               rx_top         .
+.             .               .           .          .               rx_passes       rx_world       rx_words
+rx_node_bench rx_server_tests rx_nodes    rx_caller  .               rx_udp          rx_dispatch    rx_rounds
+.             rx_server       rx_client   .          .               rx_base         .              rx_plan
+.             rx_books        rx_progress .          .               .               .              rx_run
+.             rx_node         rx_between  rx_token   rx_jumbo        .               rx_jobs        .
+rx_call_bench rx_ends         rx_table    rx_class   rx_asks         .               .              .
+.             rx_call         rx_queue    rx_events  rx_wire         rx_script_tests rx_reply       .
+rx_recvwin    rx_sendwin      rx_due      rx_law     rx_examples     .               rx_script      xg_compile
+rx_pool       rx_rtt          .           rx_history rx_packet_bench stub_table      xdr_code_bench xg_check
+.             .               rx_packet   rx_rules   .               xdr_code        xdr_json       xg_parse
+.             .               rx_model    .          .               xdr_value       .              xg_lex
 """
 # A wing: its title, its color, its first and last column, and its lowest and highest floor.
 WINGS = [("the program", "#fdeee0", 5, 7, 6, 12), ("the protocol", "#e8f0fb", 0, 4, 0, 9),

@@ -20,13 +20,13 @@ use Rattle.rx_rules.specs.Looks.{CallRecord, Looks, call_at, channel_at, conn_at
 use Rattle.rx_rules.specs.Rules.{AllowedAt, AllowedClient, Legal}
 use Rattle.rx_rules.specs.Setup.{Setup, Kind, Client, FitsSetup, named}
 use Rattle.rx_rules.proofs.ConnsLaws.{number_of}
-use Rattle.rx_law.specs.Starts.{StartsBy, StartsNew}
-use Rattle.rx_law.proofs.Client.{fresh-call}
-use Rattle.rx_law.proofs.ClientHistory.{client-calls}
-use Rattle.rx_law.proofs.Conns.{Conns}
-use Rattle.rx_law.proofs.Server.{spared-starts}
-use Rattle.rx_law.proofs.SoundLaws.{Below, Sound}
-use Rattle.rx_law.proofs.Takes.{call_at-any}
+use Rattle.rx_history.specs.Starts.{StartsBy, StartsNew}
+use Rattle.rx_history.proofs.Client.{fresh-call}
+use Rattle.rx_history.proofs.ClientHistory.{client-calls}
+use Rattle.rx_history.proofs.Conns.{Conns}
+use Rattle.rx_history.proofs.Server.{spared-starts}
+use Rattle.rx_history.proofs.SoundLaws.{Below, Sound}
+use Rattle.rx_history.proofs.Takes.{call_at-any}
 use Rattle.rx_asks.specs.Asks.{calling, heard}
 use Rattle.rx_asks.specs.History.{Drives, starts, begins, makes, leaves, IsCalledAt, LeavesCall, Tells}
 use Rattle.rx_asks.specs.History.{TellsOfItsCall}

@@ -25,7 +25,7 @@ use Rattle.rx_rules.specs.Rules.{AllowedClient, client_read, client_read_by, cli
 use Rattle.rx_rules.specs.Setup.{Setup}
 use Rattle.rx_rules.proofs.CallsLaws.{KeepsNames, changed_if, call_at-on_call}
 use Rattle.rx_rules.proofs.FindLaws.{find_passes}
-use Rattle.rx_law.specs.Streams as streams
+use Rattle.rx_history.specs.Streams as streams
 use Rattle.rx_events.specs.Events.{written_count}
 use Rattle.rx_asks.specs.declared.ask.TheConstants.{BLOCK_BYTES, CC_UNMARSHAL}
 use Rattle.rx_asks.specs.Asks.{Asking, IsAsked, Offers, Shuts, Reads, Cancels, begun, calling, end_after, heard}

@@ -15,7 +15,7 @@ use Rattle.rx_rules.specs.Life as lives
 use Rattle.rx_rules.specs.Looks.{CallRecord, Looks, call_at}
 use Rattle.rx_rules.specs.Rules.{AllowedClient, Legal}
 use Rattle.rx_rules.specs.Setup.{Setup, Client, FitsSetup}
-use Rattle.rx_law.specs.Streams as streams
+use Rattle.rx_history.specs.Streams as streams
 use Rattle.rx_asks.specs.declared.ask.TheConstants.{CC_UNMARSHAL}
 use Rattle.rx_asks.specs.Asks.{Asking, begun, calling}
 use Rattle.rx_asks.specs.View.{CallerState, caller_for}

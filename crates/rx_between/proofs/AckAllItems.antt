@@ -21,10 +21,10 @@ use Rattle.rx_rules.specs.Rules.{Legal}
 use Rattle.rx_rules.specs.Setup.{Setup, FitsSetup, is_client, named, receiving_window}
 use Rattle.rx_rules.proofs.EveryLaws.{Every, every-append, every-filter}
 use Rattle.rx_rules.proofs.LeastLaws.{least-keeps}
-use Rattle.rx_law.proofs.Data.{same_message}
-use Rattle.rx_law.proofs.GivingItems.{item_name}
-use Rattle.rx_law.proofs.Givings.{poll_gives}
-use Rattle.rx_law.specs.Givings.{GivesItem, GivesStray}
+use Rattle.rx_history.proofs.Data.{same_message}
+use Rattle.rx_history.proofs.GivingItems.{item_name}
+use Rattle.rx_history.proofs.Givings.{poll_gives}
+use Rattle.rx_history.specs.Givings.{GivesItem, GivesStray}
 
 -- a channel owes an ACKALL, and this is its latest call
 pub record OwesAll (l : Looks) (c : CallName) : Type 0 where

@@ -19,14 +19,14 @@ use Rattle.rx_rules.specs.Looks.{CallRecord, call_at, channel_at}
 use Rattle.rx_rules.specs.Received.{Packet, used_of}
 use Rattle.rx_rules.specs.Rules.{AllowedServer, Legal}
 use Rattle.rx_rules.specs.Setup.{Setup, Client, FitsSetup, IsServer, named, receiving_window}
-use Rattle.rx_law.specs.Sides.{side}
-use Rattle.rx_law.specs.Starts.{StartsOnce}
+use Rattle.rx_history.specs.Sides.{side}
+use Rattle.rx_history.specs.Starts.{StartsOnce}
 use Rattle.rx_law.specs.Worlds.{Gave, TwoEnds}
-use Rattle.rx_law.proofs.ClientHistory.{client-calls}
-use Rattle.rx_law.proofs.Ends.{ends_of}
+use Rattle.rx_history.proofs.ClientHistory.{client-calls}
+use Rattle.rx_history.proofs.Ends.{ends_of}
 use Rattle.rx_law.proofs.Fronts.{ArePieces}
 use Rattle.rx_law.proofs.Joint.{Fed}
-use Rattle.rx_law.proofs.OnceLaw.{served}
+use Rattle.rx_history.proofs.OnceLaw.{served}
 use Rattle.rx_between.specs.Acknowledged.{BothTrue, received_by, sent_by}
 use Rattle.rx_between.specs.Agreed.{Agrees, AreGiven, HasEnded, IsLetBy, IsOverWell, IsWithin, is_over_well}
 use Rattle.rx_between.proofs.Along.{Stands, ToClient, ToServer, along}

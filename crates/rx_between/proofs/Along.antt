@@ -8,8 +8,8 @@ use Rattle.rx_model.proofs.NameLaws.{same_number}
 use Rattle.rx_rules.specs.After.{looks}
 use Rattle.rx_rules.specs.Rules.{Legal}
 use Rattle.rx_rules.specs.Setup.{Client, FitsSetup, IsServer}
-use Rattle.rx_law.specs.Sides.{side}
-use Rattle.rx_law.specs.Starts.{StartsOnce}
+use Rattle.rx_history.specs.Sides.{side}
+use Rattle.rx_history.specs.Starts.{StartsOnce}
 use Rattle.rx_law.specs.Worlds.{Gave, TwoEnds}
 use Rattle.rx_law.proofs.Joint.{Between, Fed, between, fed-before, not-both, of_call}
 use Rattle.rx_between.proofs.CameAll.{CameAll, JudgedCame}

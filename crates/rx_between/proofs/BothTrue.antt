@@ -19,10 +19,10 @@ use Rattle.rx_rules.specs.Rules.{Legal}
 use Rattle.rx_rules.specs.Sent.{Sent, pieces_by, pieces_of}
 use Rattle.rx_rules.specs.Setup.{Setup, Kind, Client, Server, FitsSetup, IsServer, is_client, named}
 use Rattle.rx_law.proofs.Carries.{Carries}
-use Rattle.rx_law.proofs.Ends.{ends_of}
+use Rattle.rx_history.proofs.Ends.{ends_of}
 use Rattle.rx_law.proofs.Joint.{Between, Fed, client-name, of_call, server-name}
-use Rattle.rx_law.specs.Sides.{side}
-use Rattle.rx_law.specs.Starts.{StartsOnce}
+use Rattle.rx_history.specs.Sides.{side}
+use Rattle.rx_history.specs.Starts.{StartsOnce}
 use Rattle.rx_law.specs.Worlds.{Gave, TwoEnds}
 use Rattle.rx_between.specs.Acknowledged.{AreTrue, BothTrue, received_by, sent_by}
 use Rattle.rx_between.specs.Told.{IsEarlierAck}

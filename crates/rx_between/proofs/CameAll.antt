@@ -20,13 +20,13 @@ use Rattle.rx_rules.specs.Judging.{outer_row}
 use Rattle.rx_rules.specs.Looks.{Looks}
 use Rattle.rx_rules.specs.Rules.{AllowedAt, Legal}
 use Rattle.rx_rules.specs.Setup.{Setup, Kind, Server, Client, FitsSetup, IsServer, is_client, named}
-use Rattle.rx_law.specs.Givings.{GivesItem, GivesStray}
+use Rattle.rx_history.specs.Givings.{GivesItem, GivesStray}
 use Rattle.rx_law.specs.Promises.{at_client, at_server, ends_in}
-use Rattle.rx_law.specs.Sides.{Node, side, GivesTo, IsClientAt}
+use Rattle.rx_history.specs.Sides.{Node, side, GivesTo, IsClientAt}
 use Rattle.rx_law.specs.Worlds.{AreApart, AreNodes, Carried, Datagram, Gave, IsFrom, TwoEnds, bag, given_at, with_given}
-use Rattle.rx_law.proofs.Data.{OwnName, same_message}
-use Rattle.rx_law.proofs.GivingItems.{item_name}
-use Rattle.rx_law.proofs.Givings.{next_is, poll_gives}
+use Rattle.rx_history.proofs.Data.{OwnName, same_message}
+use Rattle.rx_history.proofs.GivingItems.{item_name}
+use Rattle.rx_history.proofs.Givings.{next_is, poll_gives}
 use Rattle.rx_law.proofs.Joint.{gives-at, legal-before, polled-is, server-name}
 use Rattle.rx_law.proofs.World.{Giver, at-home, client-address, flagged-any, flagged-server, gave-mine, giver-server}
 use Rattle.rx_law.proofs.World.{if-some, later-gave}

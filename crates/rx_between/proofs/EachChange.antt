@@ -28,9 +28,9 @@ use Rattle.rx_rules.specs.Records.{started}
 use Rattle.rx_rules.specs.Setup.{Setup, Kind, Server, Client, sending_window}
 use Rattle.rx_rules.proofs.CallsLaws.{KeepsNames}
 use Rattle.rx_rules.proofs.StartLaws.{call_at-other}
-use Rattle.rx_law.proofs.Calls.{call-changed}
-use Rattle.rx_law.proofs.Events.{call-by}
-use Rattle.rx_law.proofs.Takes.{call_at-any}
+use Rattle.rx_history.proofs.Calls.{call-changed}
+use Rattle.rx_history.proofs.Events.{call-by}
+use Rattle.rx_history.proofs.Takes.{call_at-any}
 use Rattle.rx_between.proofs.EachStep.{CallStep, EndStep, Goes, IsBusyBy, IsFollowedBy, IsMade, Judges, LifeStep, Opens}
 use Rattle.rx_between.proofs.EachStep.{Starts, Stops, Takes, TellsCode, ViewOf, is_own, is_start}
 use Rattle.rx_between.proofs.EachStep as steps

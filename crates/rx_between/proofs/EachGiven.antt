@@ -25,7 +25,7 @@ use Rattle.rx_rules.specs.Sent.{piece_at}
 use Rattle.rx_rules.specs.Setup.{Setup, named, receiving_window}
 use Rattle.rx_rules.specs.Slots.{node_view}
 use Rattle.rx_rules.proofs.CallsLaws.{call_at-on_calls}
-use Rattle.rx_law.proofs.Calls.{call-changed}
+use Rattle.rx_history.proofs.Calls.{call-changed}
 use Rattle.rx_between.proofs.EachStep.{CallStep, EndStep, Goes, IsBusyBy, IsFollowedBy, IsMade, Judges, LifeStep, Opens}
 use Rattle.rx_between.proofs.EachStep.{Starts, Stops, Takes, TellsCode, ViewOf, is_own, is_start}
 use Rattle.rx_between.proofs.EachStep as steps

@@ -15,9 +15,9 @@ use Rattle.rx_rules.specs.Looks.{CallRecord, ConnLooks, Looks, on_looks}
 use Rattle.rx_rules.specs.Records.{silenced}
 use Rattle.rx_rules.specs.Rules.{Legal}
 use Rattle.rx_rules.specs.Setup.{Setup, FitsSetup}
-use Rattle.rx_law.specs.Givings.{GivesItem, GivesPlain, GivesStray}
-use Rattle.rx_law.proofs.GivingItems.{item_leaves, stray_leaves}
-use Rattle.rx_law.proofs.Givings.{poll_gives}
+use Rattle.rx_history.specs.Givings.{GivesItem, GivesPlain, GivesStray}
+use Rattle.rx_history.proofs.GivingItems.{item_leaves, stray_leaves}
+use Rattle.rx_history.proofs.Givings.{poll_gives}
 use Rattle.rx_between.proofs.EachItem.{IsOther, Sends, gives}
 
 module _ (s : Setup) (h : List Event) (fits : FitsSetup s) (legal : Legal s h) (to : Host) (bytes : List ℕ) where

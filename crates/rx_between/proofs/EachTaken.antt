@@ -34,11 +34,11 @@ use Rattle.rx_rules.specs.Slots.{node_view}
 use Rattle.rx_rules.proofs.CallsLaws.{call_at-on_calls}
 use Rattle.rx_rules.proofs.FindLaws.{find_passes}
 use Rattle.rx_rules.proofs.StartLaws.{call_at-other}
-use Rattle.rx_law.proofs.Calls.{call-changed}
-use Rattle.rx_law.proofs.Events.{call-by, calls-prepared, calls-turned}
-use Rattle.rx_law.proofs.Moments.{now-prepared}
-use Rattle.rx_law.proofs.RoomTaken.{challenged-calls}
-use Rattle.rx_law.proofs.Takes.{call_at-any}
+use Rattle.rx_history.proofs.Calls.{call-changed}
+use Rattle.rx_history.proofs.Events.{call-by, calls-prepared, calls-turned}
+use Rattle.rx_history.proofs.Moments.{now-prepared}
+use Rattle.rx_history.proofs.RoomTaken.{challenged-calls}
+use Rattle.rx_history.proofs.Takes.{call_at-any}
 use Rattle.rx_between.proofs.EachStep.{CallStep, EndStep, Goes, IsBusyBy, IsFollowedBy, IsMade, Judges, LifeStep, Opens}
 use Rattle.rx_between.proofs.EachStep.{Starts, Stops, Takes, TellsCode, ViewOf, is_own, is_start}
 use Rattle.rx_between.proofs.EachStep as steps

@@ -23,13 +23,13 @@ use Rattle.rx_rules.specs.Looks.{CallRecord, Looks, call_at, channel_at, conn_at
 use Rattle.rx_rules.specs.Rules.{AllowedAt, Legal}
 use Rattle.rx_rules.specs.Setup.{Setup, Kind, Server, Client, FitsSetup, named}
 use Rattle.rx_rules.proofs.ConnsLaws.{number_of}
-use Rattle.rx_law.specs.Streams.{end_of_life}
+use Rattle.rx_history.specs.Streams.{end_of_life}
 use Rattle.rx_law.specs.Worlds.{Gave}
 use Rattle.rx_law.proofs.Asks.{data-is}
-use Rattle.rx_law.proofs.ClientHistory.{client-calls}
+use Rattle.rx_history.proofs.ClientHistory.{client-calls}
 use Rattle.rx_law.proofs.Joint.{gives-at, polled-is}
-use Rattle.rx_law.proofs.OrderlyHistory.{orderly_history}
-use Rattle.rx_law.proofs.SoundLaws.{Below}
+use Rattle.rx_history.proofs.OrderlyHistory.{orderly_history}
+use Rattle.rx_history.proofs.SoundLaws.{Below}
 use Rattle.rx_between.specs.Agreed.{HasEnded}
 use Rattle.rx_between.proofs.EachEvent.{each_step}
 use Rattle.rx_between.proofs.EachStep.{CallStep, IsFollowedBy, Judges, is_own, is_start}

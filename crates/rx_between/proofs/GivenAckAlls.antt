@@ -12,7 +12,7 @@ use Rattle.rx_rules.specs.Looks.{ConnLooks, Looks, call_named, conn_at}
 use Rattle.rx_rules.specs.Rules.{AllowedAt, Legal}
 use Rattle.rx_rules.specs.Setup.{Setup, Client, FitsSetup, IsServer, named}
 use Rattle.rx_rules.proofs.ConnsLaws.{channel_number}
-use Rattle.rx_law.proofs.Differ.{every_found}
+use Rattle.rx_history.proofs.Differ.{every_found}
 use Rattle.rx_law.proofs.Joint.{gives-at, polled-is}
 use Rattle.rx_law.specs.Worlds.{Gave}
 use Rattle.rx_between.proofs.AckAllItems.{OwesAll, polls_ackall}

@@ -27,8 +27,8 @@ use Rattle.rx_rules.specs.Rules.{AllowedAt, Legal}
 use Rattle.rx_rules.specs.Sent.{Giving, Sent, given_of}
 use Rattle.rx_rules.specs.Setup.{Setup, FitsSetup, named}
 use Rattle.rx_law.specs.Worlds.{Gave}
-use Rattle.rx_law.proofs.Calls.{body-ends, call-changed, found-ends}
-use Rattle.rx_law.proofs.Ends.{Ends}
+use Rattle.rx_history.proofs.Calls.{body-ends, call-changed, found-ends}
+use Rattle.rx_history.proofs.Ends.{Ends}
 use Rattle.rx_law.proofs.Joint.{gives-at, polled-is}
 use Rattle.rx_between.specs.Acknowledged.{received_by, sent_by}
 use Rattle.rx_between.specs.Agreed.{AreGiven}

@@ -19,7 +19,7 @@ use Rattle.rx_rules.specs.Received.{packet_at, used_of}
 use Rattle.rx_rules.specs.Received as packets
 use Rattle.rx_rules.specs.Sent.{is_all_given, is_strange_ack}
 use Rattle.rx_rules.specs.Setup.{Setup}
-use Rattle.rx_law.proofs.UsedLaws.{used_reads}
+use Rattle.rx_history.proofs.UsedLaws.{used_reads}
 use Rattle.rx_between.proofs.EachStep.{EndStep, finishes, gives, reads, shuts, stays, takes, writes}
 use Rattle.rx_between.proofs.Marks.{packet-more, used-more}
 use Rattle.rx_between.specs.Told.{Grows}

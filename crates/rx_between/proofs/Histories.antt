@@ -9,10 +9,10 @@ use Rattle.rx_rules.specs.Looks.{CallRecord, call_at}
 use Rattle.rx_rules.specs.Received.{Packet, Received}
 use Rattle.rx_rules.specs.Rules.{Legal}
 use Rattle.rx_rules.specs.Setup.{Setup, Client, FitsSetup, IsServer}
-use Rattle.rx_law.proofs.ClientHistory.{called-turn, client-calls}
-use Rattle.rx_law.proofs.Ends.{Moves, ends_of}
+use Rattle.rx_history.proofs.ClientHistory.{called-turn, client-calls}
+use Rattle.rx_history.proofs.Ends.{Moves, ends_of}
 use Rattle.rx_law.proofs.ServerHistory.{served-turn, server-serves}
-use Rattle.rx_law.specs.Starts.{StartsOnce}
+use Rattle.rx_history.specs.Starts.{StartsOnce}
 use Rattle.rx_between.specs.Told.{Grows}
 use Rattle.rx_between.specs.Acknowledged.{received_by}
 use Rattle.rx_between.proofs.EachEvent.{each_step}

@@ -15,10 +15,10 @@ use Rattle.rx_rules.specs.Looks.{Looks, conn_at}
 use Rattle.rx_rules.specs.Setup.{Setup, Kind, Client, IsServer}
 use Rattle.rx_law.proofs.Joint.{client-name, server-name}
 use Rattle.rx_law.proofs.JoinsTimed.{peer-is}
-use Rattle.rx_law.proofs.Numbers.{client-known}
+use Rattle.rx_history.proofs.Numbers.{client-known}
 use Rattle.rx_law.specs.Premises.{LinkedTo}
 use Rattle.rx_law.specs.Promises.{at_client, at_server}
-use Rattle.rx_law.specs.Sides.{side}
+use Rattle.rx_history.specs.Sides.{side}
 use Rattle.rx_law.specs.Worlds.{CarriedOn, ComesOn, Gave, SpeaksOf, TwoEnds}
 use Rattle.rx_between.proofs.CameAll.{CameAll, JudgedCame}
 

@@ -7,11 +7,11 @@ use Rattle.rx_model.specs.Names.{Channel}
 use Rattle.rx_rules.specs.Looks.{CallRecord, call_at, channel_at, conn_at, latest_name}
 use Rattle.rx_rules.proofs.ConnsLaws.{channel_number, number_of}
 use Rattle.rx_law.specs.Promises.{at_client, at_server, ends_in}
-use Rattle.rx_law.specs.Sides.{side}
+use Rattle.rx_history.specs.Sides.{side}
 use Rattle.rx_law.specs.Worlds.{TwoEnds}
-use Rattle.rx_law.proofs.ClientHistory.{client-calls}
+use Rattle.rx_history.proofs.ClientHistory.{client-calls}
 use Rattle.rx_law.proofs.Joint.{Fed}
-use Rattle.rx_law.proofs.SoundLaws.{Below}
+use Rattle.rx_history.proofs.SoundLaws.{Below}
 use Rattle.rx_between.specs.Agreed.{AgreeHeld, AgreeInWorld, AgreeOn, AgreeOnce, SenseHeld, SenseInWorld, SenseOnce}
 use Rattle.rx_between.proofs.AllAgree.{all_agree}
 use Rattle.rx_between.proofs.CameAll.{CameAll}

@@ -11,16 +11,17 @@ use Rattle.rx_rules.specs.Looks.{Looks}
 use Rattle.rx_rules.specs.Setup.{Setup, Client}
 use Rattle.rx_law.proofs.Joint.{Came, CameOn, DataCame, Fed}
 use Rattle.rx_law.proofs.JoinsTimed.{joined-lately}
-use Rattle.rx_law.proofs.Places.{Spared}
+use Rattle.rx_history.proofs.Places.{Spared}
 use Rattle.rx_law.proofs.ServerHistory.{spared-once}
 use Rattle.rx_law.proofs.StartsTimed.{starts-once}
 use Rattle.rx_law.proofs.World.{if-some, is_server, world-fed, world-fed-by}
 use Rattle.rx_law.proofs.WorldTimed.{world-lately}
 use Rattle.rx_law.specs.Premises.{Held, HeldOnce}
 use Rattle.rx_law.specs.Promises.{ServerForgotNone, at_client, at_server, ends_in}
-use Rattle.rx_law.specs.Sides.{Node, side}
-use Rattle.rx_law.specs.Starts.{StartsOnce}
-use Rattle.rx_law.specs.Times.{ForgotNone, Timely}
+use Rattle.rx_history.specs.Sides.{Node, side}
+use Rattle.rx_history.specs.Starts.{StartsOnce}
+use Rattle.rx_law.specs.Times.{Timely}
+use Rattle.rx_history.specs.Alone.{ForgotNone}
 use Rattle.rx_law.specs.Worlds.{TwoEnds, World}
 use Rattle.rx_between.specs.Acknowledged.{TrueHeld, TrueInWorld, TrueOnce}
 use Rattle.rx_between.proofs.BothTrue.{both_true}

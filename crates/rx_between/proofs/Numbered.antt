@@ -28,18 +28,18 @@ use Rattle.rx_rules.specs.Slots.{node_view}
 use Rattle.rx_rules.proofs.ConnsLaws.{channel_number, number_in, number_of}
 use Rattle.rx_rules.proofs.EveryLaws.{Every, every-append}
 use Rattle.rx_rules.proofs.FindLaws.{find_passes}
-use Rattle.rx_law.proofs.Calls.{call-changed}
-use Rattle.rx_law.proofs.Differ.{every_found}
-use Rattle.rx_law.proofs.Dims.{Dims, Same, dims_life, dims_looks}
-use Rattle.rx_law.proofs.DimsEvents.{finish_dims, polled_dims, read_dims}
-use Rattle.rx_law.proofs.DimsTaken.{data_dims, turned_dims, used_dims, with_dims}
-use Rattle.rx_law.proofs.Events.{call-by}
-use Rattle.rx_law.proofs.LifeFalls.{accept_falls}
-use Rattle.rx_law.proofs.OnceLaw.{served}
-use Rattle.rx_law.proofs.Pairwise.{pairs_every}
-use Rattle.rx_law.proofs.Places.{fresh-number, instead}
-use Rattle.rx_law.proofs.RoomTaken.{challenged-calls}
-use Rattle.rx_law.proofs.Takes.{call_at-any}
+use Rattle.rx_history.proofs.Calls.{call-changed}
+use Rattle.rx_history.proofs.Differ.{every_found}
+use Rattle.rx_history.proofs.Dims.{Dims, Same, dims_life, dims_looks}
+use Rattle.rx_history.proofs.DimsEvents.{finish_dims, polled_dims, read_dims}
+use Rattle.rx_history.proofs.DimsTaken.{data_dims, turned_dims, used_dims, with_dims}
+use Rattle.rx_history.proofs.Events.{call-by}
+use Rattle.rx_history.proofs.LifeFalls.{accept_falls}
+use Rattle.rx_history.proofs.OnceLaw.{served}
+use Rattle.rx_history.proofs.Pairwise.{pairs_every}
+use Rattle.rx_history.proofs.Places.{fresh-number, instead}
+use Rattle.rx_history.proofs.RoomTaken.{challenged-calls}
+use Rattle.rx_history.proofs.Takes.{call_at-any}
 use Rattle.rx_between.proofs.Followed.{some_stays}
 
 -- the latest call of each channel of a connection has a record, where it has a number

@@ -18,13 +18,13 @@ use Rattle.rx_rules.specs.Looks.{CallRecord, Looks, call_at, channel_at, conn_at
 use Rattle.rx_rules.specs.Rules.{AllowedAt, AllowedClient, AllowedServer, Legal}
 use Rattle.rx_rules.specs.Setup.{Setup, Kind, Client, FitsSetup, IsServer, is_client, named, sending_window}
 use Rattle.rx_rules.proofs.ConnsLaws.{number_of}
-use Rattle.rx_law.proofs.Client.{fresh-call}
-use Rattle.rx_law.proofs.ClientHistory.{Called}
-use Rattle.rx_law.proofs.OnceLaw.{served}
-use Rattle.rx_law.proofs.Openings.{channel_prepared}
-use Rattle.rx_law.proofs.RowsInFront.{above_served, may_start}
-use Rattle.rx_law.proofs.SoundLaws.{Below}
-use Rattle.rx_law.specs.Starts.{StartsBy, StartsNew}
+use Rattle.rx_history.proofs.Client.{fresh-call}
+use Rattle.rx_history.proofs.ClientHistory.{Called}
+use Rattle.rx_history.proofs.OnceLaw.{served}
+use Rattle.rx_history.proofs.Openings.{channel_prepared}
+use Rattle.rx_history.proofs.RowsInFront.{above_served, may_start}
+use Rattle.rx_history.proofs.SoundLaws.{Below}
+use Rattle.rx_history.specs.Starts.{StartsBy, StartsNew}
 use Rattle.rx_between.specs.Acknowledged.{received_by, sent_by}
 use Rattle.rx_between.proofs.EachStep.{CallStep, EndStep, Judges, Opens, Starts, is_start, stays, takes}
 

@@ -34,11 +34,11 @@ use Rattle.rx_rules.specs.Rules.{AllowedClient, Legal, client_read, own_call}
 use Rattle.rx_rules.specs.Setup.{Setup, Kind, Client, FitsSetup, Server, named}
 use Rattle.rx_rules.proofs.ConnsLaws.{channel_number, conn_at-on_conn, conn_if, number_in, number_of}
 use Rattle.rx_rules.proofs.FindLaws.{find_passes}
-use Rattle.rx_law.proofs.Calls.{call-changed}
-use Rattle.rx_law.proofs.ClientHistory.{client-calls}
-use Rattle.rx_law.proofs.Events.{call-by, calls-prepared}
-use Rattle.rx_law.proofs.Openings.{channel_prepared}
-use Rattle.rx_law.proofs.Turns.{Fine}
+use Rattle.rx_history.proofs.Calls.{call-changed}
+use Rattle.rx_history.proofs.ClientHistory.{client-calls}
+use Rattle.rx_history.proofs.Events.{call-by, calls-prepared}
+use Rattle.rx_history.proofs.Openings.{channel_prepared}
+use Rattle.rx_history.proofs.Turns.{Fine}
 use Rattle.rx_between.specs.Acknowledged.{received_by}
 use Rattle.rx_between.proofs.Histories.{client_onward, grown_step}
 use Rattle.rx_between.proofs.Onward.{clients, row_named}

@@ -32,7 +32,7 @@ use Rattle.rx_rules.specs.Records.{silenced, started, started_later, used}
 use Rattle.rx_rules.specs.Setup.{Setup, is_client, named}
 use Rattle.rx_rules.proofs.ConnsLaws.{KeepsConns, conn_if, conn_at-on_conn, number_in, number_of}
 use Rattle.rx_rules.proofs.EveryLaws.{Every}
-use Rattle.rx_law.proofs.Differ.{every_map}
+use Rattle.rx_history.proofs.Differ.{every_map}
 
 -- the n-th channel owes an ACKALL
 abbrev pub owes_in : List ChannelLooks → ℕ → Bool

@@ -23,7 +23,7 @@ use Rattle.rx_rules.specs.Setup.{Setup, Kind, Server, Client, is_client, receivi
 use Rattle.rx_rules.specs.Slots.{node_view}
 use Rattle.rx_between.proofs.EachStep.{ViewOf, is_own, is_start}
 use Rattle.rx_law.proofs.Asks.{data-is}
-use Rattle.rx_law.proofs.Takes.{call_at-any}
+use Rattle.rx_history.proofs.Takes.{call_at-any}
 
 -- ---- the rows in front
 

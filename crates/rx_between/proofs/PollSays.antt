@@ -16,10 +16,10 @@ use Rattle.rx_rules.specs.Records.{silenced}
 use Rattle.rx_rules.specs.Rules.{Legal}
 use Rattle.rx_rules.specs.Setup.{Setup, FitsSetup, named, receiving_window}
 use Rattle.rx_rules.specs.Slots.{node_view}
-use Rattle.rx_law.specs.Givings.{GivesItem, GivesPlain, GivesStray}
-use Rattle.rx_law.proofs.Data.{same_message}
-use Rattle.rx_law.proofs.GivingItems.{item_name}
-use Rattle.rx_law.proofs.Givings.{poll_gives}
+use Rattle.rx_history.specs.Givings.{GivesItem, GivesPlain, GivesStray}
+use Rattle.rx_history.proofs.Data.{same_message}
+use Rattle.rx_history.proofs.GivingItems.{item_name}
+use Rattle.rx_history.proofs.Givings.{poll_gives}
 use Rattle.rx_between.proofs.EachItem.{IsOther, Sends}
 use Rattle.rx_between.proofs.EachItem as each
 use Rattle.rx_between.proofs.GivenAcks.{sends_there}

@@ -10,7 +10,7 @@ use Rattle.rx_rules.specs.Setup.{Setup, Kind, Server, Client}
 use Rattle.rx_rules.proofs.ConnsLaws.{channel_number, conn_at-on_conn, conn_if, number_in, number_of}
 use Rattle.rx_rules.proofs.EnterLaws.{fresh_channels}
 use Rattle.rx_rules.proofs.FindLaws.{find-last}
-use Rattle.rx_law.proofs.Places.{OnlyNew, find-only, fresh-number, is_none}
+use Rattle.rx_history.proofs.Places.{OnlyNew, find-only, fresh-number, is_none}
 
 used_number : (x y : Connection) (l : Looks) (n : ℕ) → number_of (conn_at (used x l) y) n ≡ number_of (conn_at l y) n
 used_number x y l n =

@@ -22,9 +22,9 @@ use Rattle.rx_rules.specs.Looks.{CallRecord, Looks, call_at}
 use Rattle.rx_rules.specs.Received.{Received}
 use Rattle.rx_rules.specs.Rules.{Legal}
 use Rattle.rx_rules.specs.Setup.{Setup, FitsSetup}
-use Rattle.rx_law.specs.Streams.{end_of_life}
-use Rattle.rx_law.proofs.Calls.{body-ends, found-ends}
-use Rattle.rx_law.proofs.Ends.{Ends}
+use Rattle.rx_history.specs.Streams.{end_of_life}
+use Rattle.rx_history.proofs.Calls.{body-ends, found-ends}
+use Rattle.rx_history.proofs.Ends.{Ends}
 use Rattle.rx_between.specs.Acknowledged.{received_by}
 use Rattle.rx_between.specs.Agreed.{HasEnded}
 use Rattle.rx_between.proofs.EachChange.{changed_twice}

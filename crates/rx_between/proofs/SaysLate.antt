@@ -27,14 +27,15 @@ use Rattle.rx_rules.specs.Rules.{AllowedAt, AllowedServer, HasBytes, Legal, serv
 use Rattle.rx_rules.specs.Sent.{Sent, counting_by}
 use Rattle.rx_rules.specs.Setup.{Setup, FitsSetup, IsServer, named}
 use Rattle.rx_rules.specs.Slots.{room}
-use Rattle.rx_law.proofs.Calls.{body-ends, found-ends}
-use Rattle.rx_law.proofs.Data.{poll-gives}
-use Rattle.rx_law.proofs.Ends.{Ends}
+use Rattle.rx_history.proofs.Calls.{body-ends, found-ends}
+use Rattle.rx_history.proofs.Data.{poll-gives}
+use Rattle.rx_history.proofs.Ends.{Ends}
 use Rattle.rx_law.proofs.Joint.{gives-at, polled-is}
-use Rattle.rx_law.proofs.OnceLaw.{served}
-use Rattle.rx_law.proofs.Server.{good-silenced}
-use Rattle.rx_law.proofs.ServerHistory.{or_not, running-at, server-stands}
-use Rattle.rx_law.specs.Starts.{StartsOnce}
+use Rattle.rx_history.proofs.OnceLaw.{served}
+use Rattle.rx_history.proofs.Server.{good-silenced}
+use Rattle.rx_law.proofs.ServerHistory.{or_not}
+use Rattle.rx_history.proofs.ServerStands.{running-at, server-stands}
+use Rattle.rx_history.specs.Starts.{StartsOnce}
 use Rattle.rx_law.specs.Worlds.{Gave}
 use Rattle.rx_between.specs.Told.{Grows}
 use Rattle.rx_between.specs.Acknowledged.{received_by, sent_by}

@@ -18,16 +18,16 @@ use Rattle.rx_rules.specs.Received.{Packet, Piece, Received, greatest, packet_at
 use Rattle.rx_rules.specs.Sent.{Sent, given_of, is_all_given, pieces_by, pieces_of}
 use Rattle.rx_rules.specs.Setup.{Setup, Kind, Client, Server, IsServer, is_client, named, receiving_window}
 use Rattle.rx_law.specs.Pieces.{IsAt}
-use Rattle.rx_law.specs.Sides.{side}
+use Rattle.rx_history.specs.Sides.{side}
 use Rattle.rx_law.specs.Worlds.{Gave, TwoEnds}
 use Rattle.rx_law.proofs.Carries.{Carries}
-use Rattle.rx_law.proofs.ClientHistory.{client-calls}
-use Rattle.rx_law.proofs.Ends.{ends_of}
+use Rattle.rx_history.proofs.ClientHistory.{client-calls}
+use Rattle.rx_history.proofs.Ends.{ends_of}
 use Rattle.rx_law.proofs.Fronts.{ArePieces}
 use Rattle.rx_law.proofs.Joint.{Fed, between, client-grown, given-says, server-grown}
-use Rattle.rx_law.proofs.ServerHistory.{server-stands}
-use Rattle.rx_law.proofs.Turns.{SendsOf, counting}
-use Rattle.rx_law.proofs.UsedLaws.{used_within}
+use Rattle.rx_history.proofs.ServerStands.{server-stands}
+use Rattle.rx_history.proofs.Turns.{SendsOf, counting}
+use Rattle.rx_history.proofs.UsedLaws.{used_within}
 use Rattle.rx_between.specs.Acknowledged.{received_by, sent_by}
 use Rattle.rx_between.specs.Agreed.{Agrees, AreGiven, MakesSense, SenseAt, SenseOn, passed_at}
 use Rattle.rx_between.specs.Told.{IsEarlierAck}

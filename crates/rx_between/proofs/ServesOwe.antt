@@ -25,9 +25,9 @@ use Rattle.rx_rules.specs.Records.{entered, fresh_conn, idle_conn, is_full, plac
 use Rattle.rx_rules.specs.Rules.{AllowedServer, Legal}
 use Rattle.rx_rules.specs.Setup.{Setup, Kind, Client, Server, FitsSetup, IsServer, named}
 use Rattle.rx_rules.proofs.EveryLaws.{Every, every-append}
-use Rattle.rx_law.proofs.Differ.{every_map}
-use Rattle.rx_law.proofs.Events.{call-by, calls-prepared}
-use Rattle.rx_law.proofs.OnceLaw.{served}
+use Rattle.rx_history.proofs.Differ.{every_map}
+use Rattle.rx_history.proofs.Events.{call-by, calls-prepared}
+use Rattle.rx_history.proofs.OnceLaw.{served}
 use Rattle.rx_between.proofs.EachEvent.{each_step}
 use Rattle.rx_between.proofs.EachStep.{CallStep, Goes, IsMade, LifeStep, Starts}
 use Rattle.rx_between.proofs.EachStep as steps

@@ -19,10 +19,10 @@ use Rattle.rx_rules.specs.Received.{unread_of, used_of}
 use Rattle.rx_rules.specs.Received as packets
 use Rattle.rx_rules.specs.Sent.{pieces_by}
 use Rattle.rx_rules.specs.Setup.{Setup}
-use Rattle.rx_law.proofs.Ends.{Ends}
+use Rattle.rx_history.proofs.Ends.{Ends}
 use Rattle.rx_law.proofs.Carries.{Carries}
 use Rattle.rx_law.proofs.Fronts.{ArePieces}
-use Rattle.rx_law.proofs.WholeLaws.{Whole, end_reads, whole_keeps, whole_reads}
+use Rattle.rx_history.proofs.WholeLaws.{Whole, end_reads, whole_keeps, whole_reads}
 use Rattle.rx_law.specs.Pieces.{IsAt}
 use Rattle.rx_between.proofs.EachStep.{EndStep, finishes, gives, reads, shuts, stays, takes, writes}
 use Rattle.rx_between.proofs.Grows.{IsNew, row_new}

@@ -9,7 +9,7 @@ use Rattle.rx_rules.specs.Sent.{Sent, nothing_sent}
 use Rattle.rx_rules.specs.Setup.{Client}
 use Rattle.rx_law.specs.Premises.{Held, HeldOnce}
 use Rattle.rx_law.specs.Promises.{ServerForgotNone, at_client, at_server, ends_in}
-use Rattle.rx_law.specs.Sides.{Node}
+use Rattle.rx_history.specs.Sides.{Node}
 use Rattle.rx_law.specs.Times.{Timely}
 use Rattle.rx_law.specs.Worlds.{TwoEnds, World}
 

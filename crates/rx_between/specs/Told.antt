@@ -12,7 +12,7 @@ use Rattle.rx_rules.specs.Looks.{call_at}
 use Rattle.rx_rules.specs.Received.{Received, marks_of, packet_at, used_of}
 use Rattle.rx_rules.specs.Rules.{Legal}
 use Rattle.rx_rules.specs.Setup.{Setup, Client, FitsSetup, IsServer, named, receiving_window}
-use Rattle.rx_law.specs.Starts.{StartsOnce}
+use Rattle.rx_history.specs.Starts.{StartsOnce}
 use Rattle.rx_law.specs.Worlds.{Gave}
 use Rattle.rx_between.specs.Acknowledged.{received_by}
 

@@ -22,7 +22,7 @@ use Rattle.rx_rules.specs.Setup.{Setup, is_client}
 use Rattle.rx_rules.proofs.EveryLaws.{Every}
 use Rattle.rx_rules.proofs.FindLaws.{find_passes, list_any-none}
 use Rattle.rx_model.proofs.NameLaws.{both}
-use Rattle.rx_law.proofs.Differ.{every_found, every_other}
+use Rattle.rx_history.proofs.Differ.{every_found, every_other}
 use Rattle.rx_node.specs.Due.{lesser_of, unsilenced}
 use Rattle.rx_node.specs.Mirrors.{Mirrors}
 use Rattle.rx_node.specs.Node.{NodeState, setup_of}

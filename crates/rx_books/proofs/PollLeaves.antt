@@ -14,8 +14,8 @@ use Rattle.rx_rules.specs.Items.{Item, message_on}
 use Rattle.rx_rules.specs.Looks.{Looks}
 use Rattle.rx_rules.specs.Records.{silenced}
 use Rattle.rx_rules.specs.Setup.{Setup}
-use Rattle.rx_law.proofs.Dims.{Dims, dims_channel, dims_conn, dims_looks, dims_trans}
-use Rattle.rx_law.proofs.DimsEvents.{polled_dims}
+use Rattle.rx_history.proofs.Dims.{Dims, dims_channel, dims_conn, dims_looks, dims_trans}
+use Rattle.rx_history.proofs.DimsEvents.{polled_dims}
 use Rattle.rx_node.specs.Due.{AreDueAs, Gave, IsDueAs}
 use Rattle.rx_node.specs.Mirrors.{Mirrors}
 use Rattle.rx_node.specs.Node.{NodeState, setup_of}

@@ -21,8 +21,8 @@ use Rattle.rx_rules.specs.Records.{is_silent, silence_of, silenced, unless_silen
 use Rattle.rx_rules.specs.Rules.{Allowed, AllowedAt, Legal}
 use Rattle.rx_rules.specs.Setup.{Kind, Server, Client, Setup, FitsSetup}
 use Rattle.rx_rules.proofs.EveryLaws.{Every}
-use Rattle.rx_law.proofs.Givings.{poll_gives}
-use Rattle.rx_law.proofs.GivingItems.{item_leaves, stray_leaves}
+use Rattle.rx_history.proofs.Givings.{poll_gives}
+use Rattle.rx_history.proofs.GivingItems.{item_leaves, stray_leaves}
 use Rattle.rx_node.specs.Due.{AreDueAs, Gave, IsDueAs, unsilenced}
 use Rattle.rx_node.specs.Mirrors.{Mirrors, StepsNode}
 use Rattle.rx_node.specs.Node.{KeepsNode, NodeState, setup_of}

@@ -37,10 +37,10 @@ use Rattle.rx_rules.specs.Rules.{own_call}
 use Rattle.rx_rules.specs.Rules as rules
 use Rattle.rx_rules.specs.Setup.{FitsSetup, Kind, Setup, Client, is_client}
 use Rattle.rx_rules.specs.Slots.{room}
-use Rattle.rx_law.proofs.ClientHistory.{client-calls}
-use Rattle.rx_law.proofs.RoomStarts.{RoomyAt}
-use Rattle.rx_law.proofs.Turns.{Fine}
-use Rattle.rx_law.proofs.Suffice.{roomy_history}
+use Rattle.rx_history.proofs.ClientHistory.{client-calls}
+use Rattle.rx_history.proofs.RoomStarts.{RoomyAt}
+use Rattle.rx_history.proofs.Turns.{Fine}
+use Rattle.rx_history.proofs.Suffice.{roomy_history}
 use Rattle.rx_recvwin.specs.Window.{given_count, tells_end}
 use Rattle.rx_node.specs.declared.life.Turn.TheVariants as turns
 use Rattle.rx_node.specs.Lives.{after_turn}

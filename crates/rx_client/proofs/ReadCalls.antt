@@ -19,7 +19,7 @@ use Rattle.rx_rules.specs.Owing.{Owed, owed_for_done, owed_for_read}
 use Rattle.rx_rules.specs.Received.{Received, used_of}
 use Rattle.rx_rules.specs.Received as packets
 use Rattle.rx_rules.specs.Rules.{asked_of, client_read, client_read_by, client_read_got, end_answer}
-use Rattle.rx_law.proofs.Differ.{Differ, by_name}
+use Rattle.rx_history.proofs.Differ.{Differ, by_name}
 use Rattle.rx_node.proofs.CallChanges.{same_call}
 use Rattle.rx_node.proofs.ChannelChanges.{channel_same}
 use Rattle.rx_client.specs.Calling.{HasEnded}

@@ -8,8 +8,8 @@ use Rattle.rx_rules.specs.Classes.{Class}
 use Rattle.rx_rules.specs.Looks.{Looks, latest_name}
 use Rattle.rx_rules.specs.Received.{Packet, packet_at}
 use Rattle.rx_rules.specs.Setup.{is_client}
-use Rattle.rx_law.proofs.Differ.{every_found}
-use Rattle.rx_law.proofs.Tight.{TightOf}
+use Rattle.rx_history.proofs.Differ.{every_found}
+use Rattle.rx_history.proofs.Tight.{TightOf}
 use Rattle.rx_pool.specs.Pool.{Slots}
 use Rattle.rx_recvwin.specs.declared.packet.KeptPacket.{KeptPacket}
 use Rattle.rx_recvwin.specs.Places.{leading, place_at, seen_at}

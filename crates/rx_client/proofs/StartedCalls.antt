@@ -23,12 +23,12 @@ use Rattle.rx_rules.specs.Rules.{next_number}
 use Rattle.rx_rules.specs.Setup.{FitsSetup, Kind, Setup, Client, is_client, nonce_of}
 use Rattle.rx_rules.specs.Slots.{live}
 use Rattle.rx_rules.proofs.EveryLaws.{Every}
-use Rattle.rx_law.proofs.Conns.{GoodConn}
-use Rattle.rx_law.proofs.FitHistory.{node_stands}
-use Rattle.rx_law.proofs.Orderly.{AmongFirst, HasFour, Orderly}
-use Rattle.rx_law.proofs.OrderlyHistory.{orderly_history}
-use Rattle.rx_law.proofs.RoomStarts.{RoomyAt}
-use Rattle.rx_law.proofs.Suffice.{roomy_history}
+use Rattle.rx_history.proofs.Conns.{GoodConn}
+use Rattle.rx_history.proofs.FitHistory.{node_stands}
+use Rattle.rx_history.proofs.Orderly.{AmongFirst, HasFour, Orderly}
+use Rattle.rx_history.proofs.OrderlyHistory.{orderly_history}
+use Rattle.rx_history.proofs.RoomStarts.{RoomyAt}
+use Rattle.rx_history.proofs.Suffice.{roomy_history}
 use Rattle.rx_table.specs.Records.{place_of}
 use Rattle.rx_node.specs.Mirrors.{IsChannel, Mirrors}
 use Rattle.rx_node.specs.Node.{NodeState, setup_of}

@@ -18,7 +18,7 @@ use Rattle.rx_rules.specs.CallLooks.{call_row, found, freed, has_lead, lead, pac
 use Rattle.rx_rules.specs.Received.{Arrival, Packet, Received, arrival_row, count_above, front_of, packet_at}
 use Rattle.rx_rules.specs.Received.{used_of}
 use Rattle.rx_rules.specs.Sent.{held_pieces, opened, pieces_by, room_of}
-use Rattle.rx_law.proofs.HeldLaws.{Slotted, beside_kept, beside_shut, beside_taken, beside_write}
+use Rattle.rx_history.proofs.HeldLaws.{Slotted, beside_kept, beside_shut, beside_taken, beside_write}
 use Rattle.rx_pool.specs.Pool.{Slots}
 use Rattle.rx_recvwin.specs.Window.{packet_slots, window_of}
 use Rattle.rx_recvwin.proofs.Nearness.{held_is, lead_is}

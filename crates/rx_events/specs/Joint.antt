@@ -4,7 +4,7 @@ use Rattle.rx_model.specs.declared.event.Event.{Event}
 use Rattle.rx_model.specs.declared.event.Noted.{Noted}
 use Rattle.rx_rules.specs.After.{looks}
 use Rattle.rx_rules.specs.Rules.{Allowed}
-use Rattle.rx_law.specs.Sides.{Node, side}
+use Rattle.rx_history.specs.Sides.{Node, side}
 
 -- the rules allow an event of a node behind a joint history
 abbrev pub IsAllowedAt : List Node → List Noted → ℕ → Event → Type 0

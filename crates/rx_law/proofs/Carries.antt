@@ -1,12 +1,13 @@
 -- One stream from its sender to its receiver.
 use Rattle.std.proofs.Common.{◌≡◌, ◌≤◌, Bool, true, false, List, [], ◌∷◌, ◌++◌, length, take, drop, length-append}
-use Rattle.std.proofs.Common.{length-drop, refl, ap, sym, subst, ◌∙◌, arith, ℕ, zero, suc, inl, inr, append_assoc}
+use Rattle.std.proofs.Common.{refl, ap, sym, subst, ◌∙◌, arith, ℕ, zero, suc, inl, inr, append_assoc}
 use Rattle.std.proofs.Common.{append-nil}
 use Rattle.std.proofs.lemmas.List.{take-append-drop}
 use Rattle.rx_rules.specs.Received.{Packet, heard_of}
-use Rattle.rx_law.specs.Streams.{Begins}
-use Rattle.rx_law.proofs.Ends.{Ends, no_ends, Grows, Moves, left_of}
+use Rattle.rx_history.specs.Streams.{Begins}
+use Rattle.rx_history.proofs.Ends.{Ends, no_ends, Grows, Moves, left_of}
 use Rattle.rx_law.specs.Pieces.{IsAt}
+use Rattle.rx_history.proofs.WholeLaws.{none_left}
 use Rattle.rx_law.proofs.Fronts.{ArePieces, pieces_grow, heard_begins, heard_whole}
 
 -- what the receiver has of a stream
@@ -65,9 +66,6 @@ all_read (x ∷ xs) (z ∷ zs) r n =
     let t : xs ++ r.0 ≡ zs = cc (e) in
     let rest = all_read xs zs (r.0, t) (omega arith) in
     λ i. first i ∷ rest i
-
-pub none_left : (n : ℕ) (xs : List ℕ) → drop n xs ≡ [] → length xs ≤ n
-none_left n xs h = (let e : length (drop n xs) ≡ 0 = ap length h in omega (arith, length-drop n xs))
 
 -- an end moves, where what it keeps is a piece
 pub receiver_step : (bytes : List ℕ) (shut : Bool) (Comes : Packet → Type 0) (x y : Ends) → Moves Comes x y

@@ -3,7 +3,7 @@ use Rattle.std.proofs.Common.{◌≡◌, ◌==◌, ℕ, cond, Bool, true, false,
 use Rattle.rx_model.specs.declared.event.Event.{Event}
 use Rattle.rx_model.specs.declared.event.Event.TheVariants as events
 use Rattle.rx_model.specs.declared.event.Noted.{Noted}
-use Rattle.rx_law.specs.Sides.{moment, with_clock}
+use Rattle.rx_history.specs.Sides.{moment, with_clock}
 use Rattle.rx_law.specs.Times.{AdvancesAlike, AdvancesAlways, GoAlike, GoAlways, is_clock}
 
 -- only a clock event moves a clock

@@ -27,7 +27,7 @@ use Rattle.rx_rules.proofs.FindLaws.{find_passes}
 use Rattle.rx_rules.proofs.LeastLaws.{least-keeps}
 use Rattle.rx_model.proofs.FieldLaws.{four}
 use Rattle.rx_model.proofs.NameLaws.{name_is}
-use Rattle.rx_law.proofs.Data.{long-enough, same_message}
+use Rattle.rx_history.proofs.Data.{long-enough, same_message}
 
 -- the name is of its channel's latest call, or of one to which the channel owes a BUSY
 abbrev pub IsDue : Looks → CallName → Type 0

@@ -15,8 +15,9 @@ use Rattle.rx_rules.proofs.ConnsLaws.{number_of}
 use Rattle.rx_rules.proofs.EnterLaws.{fresh_channels, keeps-used}
 use Rattle.rx_model.proofs.NameLaws.{connection_is, connection_itself}
 use Rattle.rx_law.proofs.Firm.{Firm, Young, busy_in, busy_of, firm-used, young-now}
-use Rattle.rx_law.proofs.Moments.{now-placed}
-use Rattle.rx_law.proofs.Places.{Apart, OnlyNew, find-only, found-placed, instead, is_none, keeps-placed, only-fours}
+use Rattle.rx_history.proofs.Moments.{now-placed}
+use Rattle.rx_history.proofs.Places.{Apart, OnlyNew, find-only, found-placed, instead, is_none, keeps-placed}
+use Rattle.rx_history.proofs.Places.{only-fours}
 use Rattle.rx_law.proofs.Recalls.{Recalls, idle-old, recalls-keeps}
 
 -- ---- what is entered

@@ -17,7 +17,7 @@ use Rattle.rx_model.specs.declared.names.Host.{Host}
 use Rattle.rx_rules.specs.Classes.{FitsClass, null}
 use Rattle.rx_rules.specs.Setup.{Server, Client, FitsLimits, FitsSetup, unprompted}
 use Rattle.rx_model.specs.Message.{IsBytes}
-use Rattle.rx_law.specs.Sides.{IsClientAt, Node, side}
+use Rattle.rx_history.specs.Sides.{IsClientAt, Node, side}
 use Rattle.rx_law.specs.Worlds.{AreApart, World}
 use Rattle.rx_model.specs.declared.event.Noted.{Noted}
 use Rattle.rx_model.proofs.NameLaws.{both}

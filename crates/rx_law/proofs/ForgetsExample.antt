@@ -11,7 +11,7 @@ use Rattle.rx_rules.specs.After.{looks}
 use Rattle.rx_rules.specs.Classes.{null}
 use Rattle.rx_rules.specs.Setup.{Server, Client, FitsLimits, FitsSetup, unprompted}
 use Rattle.rx_law.specs.Promises.{LawIn}
-use Rattle.rx_law.specs.Sides.{IsClientAt, Node, moment, side}
+use Rattle.rx_history.specs.Sides.{IsClientAt, Node, moment, side}
 use Rattle.rx_law.specs.Times.{Acts, AdvancesAlike, GoAlike, Timely}
 use Rattle.rx_law.specs.Worlds.{AreApart, World}
 use Rattle.rx_law.proofs.Example.{are_bytes, default_fits, host, name, null_fits}

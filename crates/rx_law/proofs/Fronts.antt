@@ -7,9 +7,9 @@ use Rattle.std.proofs.lemmas.List.{take_all, take-append-drop}
 use Rattle.rx_rules.specs.Received.{Packet, Piece, bytes_to, front_of, greatest, heard_of, is_within, last_seq}
 use Rattle.rx_rules.specs.Received.{packet_at, payload_of}
 use Rattle.rx_rules.proofs.ReachLaws.{reach_passes}
-use Rattle.rx_law.specs.Streams.{Begins}
+use Rattle.rx_history.specs.Streams.{Begins}
 use Rattle.rx_model.proofs.NameLaws.{same_number}
-use Rattle.rx_law.proofs.Ends.{Grows}
+use Rattle.rx_history.proofs.Ends.{Grows}
 use Rattle.rx_law.proofs.Pieces.{at_grows}
 use Rattle.rx_law.specs.Pieces.{IsAt, IsPiece}
 

@@ -10,11 +10,11 @@ use Rattle.rx_model.specs.Message.{Message}
 use Rattle.rx_model.specs.Reading.{reading_of}
 use Rattle.rx_rules.specs.Rules.{Legal}
 use Rattle.rx_rules.specs.Setup.{Setup, Client, FitsSetup, IsServer, named}
-use Rattle.rx_law.specs.Streams.{is_shut, is_shut_by, said, said_by}
+use Rattle.rx_history.specs.Streams.{is_shut, is_shut_by, said, said_by}
 use Rattle.rx_law.specs.Worlds.{Gave}
 use Rattle.rx_law.specs.Pieces.{IsAt}
-use Rattle.rx_law.specs.Starts.{StartsOnce}
-use Rattle.rx_law.proofs.Ends.{ends_of}
+use Rattle.rx_history.specs.Starts.{StartsOnce}
+use Rattle.rx_history.proofs.Ends.{ends_of}
 use Rattle.rx_law.proofs.Joint.{client-grown, given-says, server-grown}
 
 in-words : (o : Option CallRecord) (seq : ℕ) (m : Message) (payload : List ℕ)

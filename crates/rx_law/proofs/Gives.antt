@@ -20,13 +20,13 @@ use Rattle.rx_rules.proofs.ConnsLaws.{channel_number, number_of}
 use Rattle.rx_rules.proofs.FindLaws.{find_passes}
 use Rattle.rx_rules.proofs.KeepsLaws.{Keeps, keeps-trans}
 use Rattle.rx_model.proofs.NameLaws.{connection_is, name_itself}
-use Rattle.rx_law.proofs.Client.{channel-fits}
-use Rattle.rx_law.proofs.Conns.{Conns, FitsConnection, OfKind, found-good}
-use Rattle.rx_law.proofs.Data.{some_pair}
+use Rattle.rx_history.proofs.Client.{channel-fits}
+use Rattle.rx_history.proofs.Conns.{Conns, FitsConnection, OfKind, found-good}
+use Rattle.rx_history.proofs.Data.{some_pair}
 use Rattle.rx_law.proofs.Due.{IsDue, made-header, next-due}
 use Rattle.rx_law.proofs.Firm.{Firm, busy_of, firm-counted, firm-trans, young-now}
 use Rattle.rx_law.proofs.FirmAfter.{firm-body}
-use Rattle.rx_law.proofs.GivenLaws.{keeps-body, keeps-counted}
+use Rattle.rx_history.proofs.GivenLaws.{keeps-body, keeps-counted}
 use Rattle.rx_law.proofs.Joint.{server-name}
 use Rattle.rx_law.proofs.Recalls.{Recalls, lives-some, recalls-keeps}
 

@@ -29,15 +29,15 @@ use Rattle.rx_rules.specs.Setup.{Setup, Kind, Server, Client, FitsSetup, named}
 use Rattle.rx_model.specs.Strays.{is_stray}
 use Rattle.rx_rules.proofs.ConnsLaws.{number_of}
 use Rattle.rx_model.proofs.NameLaws.{name_is}
-use Rattle.rx_law.proofs.Client.{fresh-call}
-use Rattle.rx_law.proofs.Conns.{Conns}
-use Rattle.rx_law.proofs.Data.{poll-gives}
-use Rattle.rx_law.proofs.Events.{call-by, calls-prepared, calls-turned}
+use Rattle.rx_history.proofs.Client.{fresh-call}
+use Rattle.rx_history.proofs.Conns.{Conns}
+use Rattle.rx_history.proofs.Data.{poll-gives}
+use Rattle.rx_history.proofs.Events.{call-by, calls-prepared, calls-turned}
 use Rattle.rx_law.proofs.Hears.{Hears, heard_at, heard_by, heard-on_calls, heard-on_life, heard-on_looks, hears}
 use Rattle.rx_law.proofs.HearsTaken.{HeardBy, hears-started, hears-with}
-use Rattle.rx_law.proofs.Moments.{now-prepared}
-use Rattle.rx_law.proofs.Server.{Standing, good-silenced}
-use Rattle.rx_law.proofs.SoundLaws.{Below, Sound}
+use Rattle.rx_history.proofs.Moments.{now-prepared}
+use Rattle.rx_history.proofs.Server.{Standing, good-silenced}
+use Rattle.rx_history.proofs.SoundLaws.{Below, Sound}
 
 -- a message of the call came, with an answer for which it is heard
 pub record HeardFrom (s : Setup) (l : Looks) (from : Host) (bytes : List ℕ) (got : Took) (c : CallName) : Type 0 where

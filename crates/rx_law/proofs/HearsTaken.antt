@@ -21,8 +21,8 @@ use Rattle.rx_rules.specs.Setup.{Setup}
 use Rattle.rx_rules.specs.Slots.{node_view}
 use Rattle.rx_model.proofs.NameLaws.{name_is}
 use Rattle.rx_rules.proofs.StartLaws.{call_at-other}
-use Rattle.rx_law.proofs.Calls.{call-changed}
-use Rattle.rx_law.proofs.Takes.{call_at-any}
+use Rattle.rx_history.proofs.Calls.{call-changed}
+use Rattle.rx_history.proofs.Takes.{call_at-any}
 use Rattle.rx_law.proofs.Hears.{Hears, heard-challenged, heard-heard, heard-on_life, heard-over, heard-stopped}
 use Rattle.rx_law.proofs.Hears.{heard_at, heard_by, hears, hears-trans}
 

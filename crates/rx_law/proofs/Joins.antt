@@ -12,15 +12,15 @@ use Rattle.rx_rules.specs.Looks.{Looks, conn_at}
 use Rattle.rx_model.specs.Names.{Connection, connection_of, name_of}
 use Rattle.rx_law.specs.Promises.{LawOn, at_client, at_server}
 use Rattle.rx_rules.specs.Setup.{Setup, Kind, Client, IsServer}
-use Rattle.rx_law.specs.Sides.{side}
+use Rattle.rx_history.specs.Sides.{side}
 use Rattle.rx_law.specs.Worlds.{CarriedOn, ComesOn, Gave, TwoEnds}
 use Rattle.rx_law.proofs.Joint.{Came, CameOn, DataCame, client-name, server-name}
 use Rattle.rx_law.proofs.Law.{law-on}
-use Rattle.rx_law.proofs.Numbers.{client-known}
-use Rattle.rx_law.proofs.Places.{Spared}
+use Rattle.rx_history.proofs.Numbers.{client-known}
+use Rattle.rx_history.proofs.Places.{Spared}
 use Rattle.rx_law.proofs.ServerHistory.{spared-once}
 use Rattle.rx_law.specs.Premises.{Held, HeldOnce, LinkedTo}
-use Rattle.rx_law.specs.Starts.{StartsOnce}
+use Rattle.rx_history.specs.Starts.{StartsOnce}
 use Rattle.rx_law.proofs.JoinsTimed.{joined-lately, peer-is}
 use Rattle.rx_law.proofs.StartsTimed.{starts-once}
 

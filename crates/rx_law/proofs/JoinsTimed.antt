@@ -15,14 +15,14 @@ use Rattle.rx_model.specs.Names.{Connection, connection_of, name_of}
 use Rattle.rx_rules.specs.Setup.{Setup, Kind, Client, IsServer}
 use Rattle.rx_law.specs.Premises.{LinkedTo}
 use Rattle.rx_law.specs.Promises.{at_client, at_server}
-use Rattle.rx_law.specs.Sides.{moment}
+use Rattle.rx_history.specs.Sides.{moment}
 use Rattle.rx_law.specs.Times.{FreshOn, GaveLately, TimelyOn}
 use Rattle.rx_law.specs.Worlds.{ComesOn, Joined, SpeaksOf, TwoEnds}
 use Rattle.rx_model.proofs.NameLaws.{host_is}
 use Rattle.rx_law.proofs.Hears.{hears}
 use Rattle.rx_law.proofs.Joint.{client-name, server-name}
 use Rattle.rx_law.proofs.Late.{FedLately, LateAny, LateData, LateOn}
-use Rattle.rx_law.proofs.Numbers.{client-known}
+use Rattle.rx_history.proofs.Numbers.{client-known}
 
 -- the sender that a client accepts is the host that it is linked to
 pub peer-is : (from host : Host) (o : Option ConnLooks) → is_peer from o ≡ true → IfSome o (λ r. r.peer ≡ host) → from

@@ -22,19 +22,20 @@ use Rattle.rx_rules.specs.Received.{Packet, Piece}
 use Rattle.rx_rules.specs.Records.{silenced}
 use Rattle.rx_rules.specs.Rules.{AllowedAt, Legal}
 use Rattle.rx_rules.specs.Setup.{Setup, Kind, Server, Client, FitsSetup, IsServer, client_host, named}
-use Rattle.rx_law.specs.Sides.{GivesTo, side}
+use Rattle.rx_history.specs.Sides.{GivesTo, side}
 use Rattle.rx_law.specs.Worlds.{Gave, TwoEnds}
 use Rattle.rx_model.proofs.NameLaws.{same_number}
-use Rattle.rx_law.proofs.Calls.{calls-silenced, calls-streams}
+use Rattle.rx_history.proofs.Calls.{calls-silenced, calls-streams}
 use Rattle.rx_law.proofs.Carries.{Carries, nothing_carried, receiver_step, sender_step}
-use Rattle.rx_law.proofs.ClientHistory.{called-turn, client-calls}
-use Rattle.rx_law.proofs.Data.{poll-gives}
-use Rattle.rx_law.proofs.Ends.{Ends, Grows, ends_in, ends_of}
+use Rattle.rx_history.proofs.ClientHistory.{called-turn, client-calls}
+use Rattle.rx_history.proofs.Data.{poll-gives}
+use Rattle.rx_history.proofs.Ends.{Ends, Grows, ends_in, ends_of}
 use Rattle.rx_law.proofs.Pieces.{at_grows, piece_is}
 use Rattle.rx_law.specs.Pieces.{IsAt, IsPiece}
-use Rattle.rx_law.specs.Starts.{StartsOnce}
-use Rattle.rx_law.proofs.Server.{Arrives, Standing, good-silenced}
-use Rattle.rx_law.proofs.ServerHistory.{served-turn, server-serves, server-stands}
+use Rattle.rx_history.specs.Starts.{StartsOnce}
+use Rattle.rx_history.proofs.Server.{Arrives, Standing, good-silenced}
+use Rattle.rx_law.proofs.ServerHistory.{served-turn, server-serves}
+use Rattle.rx_history.proofs.ServerStands.{server-stands}
 
 -- ---- what one side gave
 

@@ -23,15 +23,15 @@ use Rattle.rx_rules.proofs.KeepsLaws.{Keeps}
 use Rattle.rx_model.proofs.NameLaws.{name_is}
 use Rattle.rx_law.proofs.Asks.{asks-data, data-is, waits, waits-above}
 use Rattle.rx_law.proofs.Enters.{above-prepared, recalls-prepared, young-prepared}
-use Rattle.rx_law.proofs.Events.{call-by, calls-prepared}
+use Rattle.rx_history.proofs.Events.{call-by, calls-prepared}
 use Rattle.rx_law.proofs.Firm.{Firm, Young}
 use Rattle.rx_law.proofs.FirmAfter.{firm-data}
 use Rattle.rx_law.proofs.Judges.{firm-with, keeps-with, recalls-started, starts, starts-enters, with-starts}
 use Rattle.rx_law.proofs.Waits.{recalls-waits}
-use Rattle.rx_law.proofs.Moments.{now-prepared}
-use Rattle.rx_law.proofs.Numbers.{there-prepared}
+use Rattle.rx_history.proofs.Moments.{now-prepared}
+use Rattle.rx_history.proofs.Numbers.{there-prepared}
 use Rattle.rx_law.proofs.Recalls.{Recalls, lives-some, recalls-keeps}
-use Rattle.rx_law.proofs.TakenLaws.{keeps-data}
+use Rattle.rx_history.proofs.TakenLaws.{keeps-data}
 
 -- DATA of the call came, and asked for it
 pub record AskedFor (s : Setup) (l : Looks) (from : Host) (bytes : List ℕ) (got : Took) (c : CallName) : Type 0 where

@@ -17,7 +17,7 @@ use Rattle.rx_model.specs.Reading.{reading_of}
 use Rattle.rx_rules.specs.Rules.{Legal}
 use Rattle.rx_rules.specs.Setup.{Setup, Client, FitsSetup, IsServer, named}
 use Rattle.rx_law.specs.Promises.{at_client, at_server}
-use Rattle.rx_law.specs.Sides.{moment, side}
+use Rattle.rx_history.specs.Sides.{moment, side}
 use Rattle.rx_law.specs.Times.{Acts, AdvancesAlike, GaveLately, GoAlike}
 use Rattle.rx_law.specs.Worlds.{TwoEnds}
 use Rattle.rx_law.proofs.Hears.{heard_at, hears}

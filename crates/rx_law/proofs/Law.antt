@@ -13,7 +13,7 @@ use Rattle.rx_model.specs.declared.event.Noted.{Noted}
 use Rattle.rx_model.specs.declared.names.CallName.{CallName}
 use Rattle.rx_rules.specs.After.{is_ok_end, is_zero, looks}
 use Rattle.rx_model.specs.Body as bodies
-use Rattle.rx_law.specs.Counts.{finishes, times, times_accepted, times_finished}
+use Rattle.rx_history.specs.Counts.{finishes, times, times_accepted, times_finished}
 use Rattle.rx_rules.specs.Life.{Life}
 use Rattle.rx_rules.specs.Life as lives
 use Rattle.rx_rules.specs.Looks.{CallRecord, call_at}
@@ -25,17 +25,18 @@ use Rattle.rx_model.specs.Reading.{reading_of}
 use Rattle.rx_rules.specs.Records.{silence_of}
 use Rattle.rx_rules.specs.Rules.{Legal, served_finish}
 use Rattle.rx_rules.specs.Setup.{Client, FitsSetup, named}
-use Rattle.rx_law.specs.Sides.{side}
-use Rattle.rx_law.specs.Streams.{Begins, end_at, end_by, end_of_life, is_shut_by, read_by, said_by}
+use Rattle.rx_history.specs.Sides.{side}
+use Rattle.rx_history.specs.Streams.{Begins, end_at, end_by, end_of_life, is_shut_by, read_by, said_by}
 use Rattle.rx_law.specs.Worlds.{Gave, TwoEnds}
 use Rattle.rx_model.proofs.NameLaws.{number_itself, name_itself, same_number}
-use Rattle.rx_law.proofs.OnceLaw.{served}
-use Rattle.rx_law.proofs.Client.{CauseBy}
-use Rattle.rx_law.proofs.ClientHistory.{called-turn, client-calls}
-use Rattle.rx_law.proofs.Ends.{ends_of}
+use Rattle.rx_history.proofs.OnceLaw.{served}
+use Rattle.rx_history.proofs.Client.{CauseBy}
+use Rattle.rx_history.proofs.ClientHistory.{called-turn, client-calls}
+use Rattle.rx_history.proofs.Ends.{ends_of}
 use Rattle.rx_law.proofs.Joint.{Came, Fed, between, client-name, fed-at, fed-before, not-both}
-use Rattle.rx_law.proofs.ServerHistory.{Served, finishes_well, or_not, running-at, server-serves}
-use Rattle.rx_law.proofs.Turns.{CountedOf, Fine}
+use Rattle.rx_law.proofs.ServerHistory.{Served, finishes_well, or_not, server-serves}
+use Rattle.rx_history.proofs.ServerStands.{running-at}
+use Rattle.rx_history.proofs.Turns.{CountedOf, Fine}
 
 -- ---- the words of the law, of the streams as one value
 

@@ -19,19 +19,19 @@ use Rattle.rx_model.specs.Reading.{reading_of}
 use Rattle.rx_rules.specs.Records.{silenced}
 use Rattle.rx_rules.specs.Rules.{AllowedServer}
 use Rattle.rx_rules.specs.Setup.{Setup, IsServer, named}
-use Rattle.rx_law.specs.Sides.{GivesTo}
+use Rattle.rx_history.specs.Sides.{GivesTo}
 use Rattle.rx_rules.proofs.KeepsLaws.{Keeps, keeps-on_life, keeps-on_looks, keeps-refl}
 use Rattle.rx_rules.proofs.LifeLaws.{accept_waits}
 use Rattle.rx_model.proofs.SpelledLaws.{spelled}
-use Rattle.rx_law.proofs.Conns.{Conns}
+use Rattle.rx_history.proofs.Conns.{Conns}
 use Rattle.rx_law.proofs.Firm.{Firm, firm-same}
 use Rattle.rx_law.proofs.FirmAfter.{firm-finish, firm-read, firm-turned}
-use Rattle.rx_law.proofs.GivenLaws.{keeps-finish, keeps-read, keeps-silenced}
+use Rattle.rx_history.proofs.GivenLaws.{keeps-finish, keeps-read, keeps-silenced}
 use Rattle.rx_law.proofs.Joint.{gives-at}
-use Rattle.rx_law.proofs.MessageTaken.{turned-keeps}
+use Rattle.rx_history.proofs.MessageTaken.{turned-keeps}
 use Rattle.rx_law.proofs.Recalls.{Recalls, lives-some, recalls-clock, recalls-keeps}
 use Rattle.rx_law.proofs.Knows.{AsksFor, AsksNew, Judged, above-before, asked, judged-keeps, judged-with}
-use Rattle.rx_law.specs.Starts.{StartsBy, StartsNew}
+use Rattle.rx_history.specs.Starts.{StartsBy, StartsNew}
 use Rattle.rx_law.proofs.Polls.{given-poll}
 
 -- what the server knows of a call behind an event: it was used at a moment that is later or the same; where it came by

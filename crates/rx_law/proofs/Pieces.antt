@@ -7,7 +7,7 @@ use Rattle.std.proofs.lemmas.Bool.Decides.{nat_tests}
 use Rattle.std.proofs.lemmas.List.{take-append-le, drop-append-le}
 use Rattle.rx_rules.specs.Received.{Piece}
 use Rattle.rx_rules.specs.Sent.{Sent, piece_at, counting_of, opened}
-use Rattle.rx_law.proofs.Ends.{Grows}
+use Rattle.rx_history.proofs.Ends.{Grows}
 use Rattle.rx_law.specs.Pieces.{IsAt, IsPiece}
 
 more_open : (j n : ℕ) → suc j ≤ (n - 1) / 1412 → 1412 * j + 1412 < n

@@ -18,8 +18,8 @@ use Rattle.rx_model.specs.Strays.{is_stray}
 use Rattle.rx_rules.proofs.ConnsLaws.{number_of}
 use Rattle.rx_rules.proofs.KeepsLaws.{keeps-refl}
 use Rattle.rx_model.proofs.NameLaws.{name_is, same_number}
-use Rattle.rx_law.proofs.Conns.{Conns}
-use Rattle.rx_law.proofs.Data.{some_pair}
+use Rattle.rx_history.proofs.Conns.{Conns}
+use Rattle.rx_history.proofs.Data.{some_pair}
 use Rattle.rx_law.proofs.Firm.{firm-same, busy_of}
 use Rattle.rx_law.proofs.Gives.{Given, none-given, other-given, own-given, poll-tells}
 use Rattle.rx_law.proofs.Recalls.{Recalls, recalls-keeps}

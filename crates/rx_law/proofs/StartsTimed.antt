@@ -16,18 +16,18 @@ use Rattle.rx_model.specs.Names.{connection_of}
 use Rattle.rx_rules.specs.Rules.{AllowedAt, AllowedClient, Legal}
 use Rattle.rx_rules.specs.Setup.{Setup, Kind, Client}
 use Rattle.rx_law.specs.Promises.{at_client, at_server}
-use Rattle.rx_law.specs.Sides.{moment, side, with_clock}
-use Rattle.rx_law.specs.Starts.{StartsNew, StartsOnce}
+use Rattle.rx_history.specs.Sides.{moment, side, with_clock}
+use Rattle.rx_history.specs.Starts.{StartsNew, StartsOnce}
 use Rattle.rx_law.specs.Worlds.{TwoEnds}
 use Rattle.rx_model.proofs.NameLaws.{number_itself, same_number}
-use Rattle.rx_law.proofs.ClientHistory.{client-calls}
+use Rattle.rx_history.proofs.ClientHistory.{client-calls}
 use Rattle.rx_law.proofs.Hears.{heard_at}
 use Rattle.rx_law.proofs.Joint.{not-both}
 use Rattle.rx_law.proofs.Late.{FedLately, Timed, lately-before}
 use Rattle.rx_law.proofs.Learns.{starts-new}
-use Rattle.rx_law.proofs.Moments.{now-side}
-use Rattle.rx_law.proofs.OnceLaw.{served}
-use Rattle.rx_law.proofs.ServerHistory.{server-stands}
+use Rattle.rx_history.proofs.Moments.{now-side}
+use Rattle.rx_history.proofs.OnceLaw.{served}
+use Rattle.rx_history.proofs.ServerStands.{server-stands}
 use Rattle.rx_law.proofs.TimedClient.{client-timed}
 use Rattle.rx_law.proofs.TimedServer.{asks-new, server-timed}
 

@@ -17,15 +17,15 @@ use Rattle.rx_model.specs.Names.{connection_of}
 use Rattle.rx_model.specs.Reading.{reading_of}
 use Rattle.rx_rules.specs.Rules.{AllowedClient}
 use Rattle.rx_rules.specs.Setup.{Setup, Client, FitsSetup, IsServer, named}
-use Rattle.rx_law.specs.Sides.{moment}
+use Rattle.rx_history.specs.Sides.{moment}
 use Rattle.rx_law.specs.Times.{Acts, AdvancesAlike, GaveLately, is_clock}
 use Rattle.rx_law.specs.Worlds.{TwoEnds}
 use Rattle.rx_law.proofs.Hears.{Hears, heard_at, heard_by}
 use Rattle.rx_law.proofs.HearsAfter.{HeardFrom, HeardIn, gives-heard, hears-client}
 use Rattle.rx_law.proofs.Joint.{client-name, gives-at, server-name}
 use Rattle.rx_law.proofs.Late.{LateAny, Timed, alike-since}
-use Rattle.rx_law.proofs.Server.{Standing}
-use Rattle.rx_law.proofs.SoundLaws.{Sound}
+use Rattle.rx_history.proofs.Server.{Standing}
+use Rattle.rx_history.proofs.SoundLaws.{Sound}
 
 -- ---- why a call is heard
 

@@ -17,11 +17,11 @@ use Rattle.rx_model.specs.Names.{Connection, channel_of, connection_of, name_of}
 use Rattle.rx_model.specs.Reading.{reading_of}
 use Rattle.rx_rules.specs.Rules.{AllowedServer}
 use Rattle.rx_rules.specs.Setup.{Client, IsServer, named}
-use Rattle.rx_law.specs.Sides.{GivesTo, moment, with_clock}
+use Rattle.rx_history.specs.Sides.{GivesTo, moment, with_clock}
 use Rattle.rx_law.specs.Times.{GaveLately}
 use Rattle.rx_law.specs.Worlds.{TwoEnds}
 use Rattle.rx_rules.proofs.ConnsLaws.{channel_number, number_of}
-use Rattle.rx_law.proofs.Conns.{Conns}
+use Rattle.rx_history.proofs.Conns.{Conns}
 use Rattle.rx_law.proofs.Hears.{heard_at}
 use Rattle.rx_law.proofs.Joint.{client-name, server-name}
 use Rattle.rx_law.proofs.Knows.{AskedFor, AsksFor, AsksNew}

@@ -1,7 +1,7 @@
 -- From a world of hosts to each connection.
 use Rattle.std.proofs.Common.{◌≡◌, ◌≢◌, ◌⊎◌, ◌&&◌, ◌==◌, ◌<◌, not, cond, if◌then◌else◌, ℕ, zero, suc, Bool, true, false}
 use Rattle.std.proofs.Common.{List, [], ◌∷◌}
-use Rattle.std.proofs.Common.{length, drop, is_some, Option, Some, None, Result, Ok, Err, refl, ◌∙◌, ap, sym, subst}
+use Rattle.std.proofs.Common.{length, drop, Option, Some, None, Result, Ok, Err, refl, ◌∙◌, ap, sym, subst}
 use Rattle.std.proofs.Common.{inl, inr, arith}
 use Rattle.std.specs.Prelude.{IfSome, IsSomeAnd, Contains, slice_get, slice_index_or}
 use Rattle.std.specs.List.{list_any}
@@ -15,57 +15,39 @@ use Rattle.rx_model.specs.declared.names.CallName.{CallName}
 use Rattle.rx_model.specs.declared.names.Host.{Host}
 use Rattle.rx_model.specs.declared.stray.Stray.{Stray}
 use Rattle.rx_model.specs.declared.wire.TheConstants.{CLIENT_INITIATED}
-use Rattle.rx_rules.specs.After.{after, counted, linked, enters, given_body, given_by, given_message, looks, prepared}
+use Rattle.rx_rules.specs.After.{after, counted, linked, given_body, given_by, given_message, looks, prepared}
 use Rattle.rx_rules.specs.After.{taken_behind, taken_message, turned_away}
 use Rattle.rx_model.specs.Body.{Body}
 use Rattle.rx_model.specs.Body as bodies
-use Rattle.rx_law.specs.Counts.{Once}
+use Rattle.rx_history.specs.Counts.{Once}
 use Rattle.rx_rules.specs.Items.{poll_answer}
 use Rattle.rx_rules.specs.Judging.{client_outer, outer_row, is_for_clients, is_for_servers, is_peer}
-use Rattle.rx_rules.specs.Looks.{ConnLooks, Looks, conn_at}
+use Rattle.rx_rules.specs.Looks.{Looks, conn_at}
 use Rattle.rx_model.specs.Message.{Message, has_flag}
 use Rattle.rx_model.specs.Names.{Connection, connection_of, same_connection}
 use Rattle.rx_law.specs.Promises.{LawIn, ServerForgotNone, ends_in, at_client, at_server}
 use Rattle.rx_model.specs.Reading.{reading_of}
-use Rattle.rx_rules.specs.Records.{entered, fresh_conn, idle_conn, is_full, placed, silenced, with_conn}
+use Rattle.rx_rules.specs.Records.{silenced}
 use Rattle.rx_rules.specs.Rules.{AllowedAt, AllowedClient, Legal}
 use Rattle.rx_rules.specs.Setup.{Setup, Kind, Server, Client, FitsSetup, IsServer, is_client, named}
-use Rattle.rx_law.specs.Sides.{Node, side, GivesTo, IsClientAt}
+use Rattle.rx_history.specs.Sides.{Node, side, GivesTo, IsClientAt}
 use Rattle.rx_model.specs.Strays.{is_stray}
-use Rattle.rx_law.specs.Starts.{StartsOnce}
-use Rattle.rx_law.specs.Times.{ForgotNone}
+use Rattle.rx_history.specs.Starts.{StartsOnce}
+use Rattle.rx_history.specs.Alone.{ForgotNone}
 use Rattle.rx_law.specs.Worlds.{AreApart, AreNodes, Carried, Datagram, Gave, IsFrom, World, bag, given_at, with_given}
 use Rattle.rx_model.proofs.NameLaws.{number_itself, same_number}
-use Rattle.rx_law.proofs.OnceLaw.{once_under_forgery}
-use Rattle.rx_law.proofs.ClientHistory.{client-calls}
-use Rattle.rx_law.proofs.Data.{OwnName, poll-flag, poll-gives}
+use Rattle.rx_history.proofs.OnceLaw.{once_under_forgery}
+use Rattle.rx_history.proofs.ClientHistory.{client-calls}
+use Rattle.rx_history.proofs.Data.{OwnName, poll-flag, poll-gives}
 use Rattle.rx_law.proofs.Joint.{Came, CameOn, DataCame, Fed, gives-at, legal-before, polled-is, server-name}
 use Rattle.rx_law.proofs.Law.{law-on}
-use Rattle.rx_law.proofs.Server.{Standing, good-silenced}
-use Rattle.rx_law.proofs.ServerHistory.{server-stands, spared-once}
-use Rattle.rx_law.proofs.ForgotLaws.{with-strays}
+use Rattle.rx_history.proofs.Server.{Standing, good-silenced}
+use Rattle.rx_law.proofs.ServerHistory.{spared-once}
+use Rattle.rx_history.proofs.ServerStands.{server-stands}
+use Rattle.rx_history.proofs.ForgotLaws.{with-strays}
+use Rattle.rx_history.proofs.StraysStay.{strays-prepared}
 
 -- ---- a client owes no stray abort
-
-strays-placed : (new : ConnLooks) (o : Option ConnLooks) (l : Looks) → (placed new o l).strays ≡ l.strays
-strays-placed new None l = refl
-strays-placed new (Some old) l = refl
-
-strays-with_conn : (s : Setup) (kind : Kind) (x : Connection) (l : Looks) → (with_conn s kind x l).strays ≡ l.strays
-strays-with_conn s (Server service nonces) x l = strays-placed (fresh_conn x x.host service 1 l)
-    (if is_full s l then idle_conn l else None) l
-strays-with_conn s (Client host epoch) x l = refl
-
-pub strays-prepared : (s : Setup) (got : Took) (x : Connection) (l : Looks) → (prepared s got x l).strays ≡ l.strays
-strays-prepared s got x l = of (enters got)
-  where
-    entering : (b : Bool) → (if b then l else with_conn s s.kind x l).strays ≡ l.strays
-    entering true = refl
-    entering false = strays-with_conn s s.kind x l
-
-    of : (b : Bool) → (if b then entered s x l else l).strays ≡ l.strays
-    of true = entering (is_some (conn_at l x))
-    of false = refl
 
 -- no row in front of a client is Unserved
 client-rows : (s : Setup) (kind : Kind) (host : Host) (epoch : ℕ) (l : Looks) (from : Host) (m : Message) (row : Took)

@@ -17,10 +17,10 @@ use Rattle.rx_model.specs.Message.{Message, has_flag}
 use Rattle.rx_model.specs.Reading.{reading_of}
 use Rattle.rx_rules.specs.Rules.{Legal}
 use Rattle.rx_rules.specs.Setup.{Kind, Server, Client, FitsSetup, IsServer, is_client, named}
-use Rattle.rx_law.specs.Sides.{Node, IsClientAt, moment, side}
+use Rattle.rx_history.specs.Sides.{Node, IsClientAt, moment, side}
 use Rattle.rx_law.specs.Times.{IsFresh}
 use Rattle.rx_law.specs.Worlds.{AreApart, AreNodes}
-use Rattle.rx_law.proofs.Data.{OwnName}
+use Rattle.rx_history.proofs.Data.{OwnName}
 use Rattle.rx_law.proofs.Joint.{server-name}
 use Rattle.rx_law.proofs.World.{and-some, gave-mine, if-some}
 use Rattle.rx_law.proofs.WorldTimed.{found-and, lately-gave}

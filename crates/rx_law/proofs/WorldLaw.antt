@@ -12,15 +12,15 @@ use Rattle.rx_model.specs.declared.event.Noted.{Noted}
 use Rattle.rx_model.specs.declared.names.CallName.{CallName}
 use Rattle.rx_model.specs.declared.names.Host.{Host}
 use Rattle.rx_rules.specs.After.{enters, looks, prepared}
-use Rattle.rx_law.specs.Counts.{Once, times, times_accepted, times_finished}
+use Rattle.rx_history.specs.Counts.{Once, times, times_accepted, times_finished}
 use Rattle.rx_rules.specs.Judging.{took_of, took_reading}
 use Rattle.rx_rules.specs.Looks.{CallRecord, Looks, call_at, channel_at}
 use Rattle.rx_model.specs.Names.{channel_of, connection_of}
 use Rattle.rx_rules.specs.Rules.{AllowedServer, Legal}
 use Rattle.rx_rules.specs.Setup.{FitsSetup, IsServer, named}
 use Rattle.rx_law.specs.Promises.{LawIn, ServerForgotNone, ends_in}
-use Rattle.rx_law.specs.Sides.{Node, side}
-use Rattle.rx_law.specs.Starts.{StartsBy, StartsNew, StartsOnce}
+use Rattle.rx_history.specs.Sides.{Node, side}
+use Rattle.rx_history.specs.Starts.{StartsBy, StartsNew, StartsOnce}
 use Rattle.rx_law.specs.Times.{AreFresh, GoAlike, IsFresh, Timely}
 use Rattle.rx_law.specs.Worlds.{AreApart, AreNodes, World}
 use Rattle.rx_rules.proofs.ConnsLaws.{channel_number}
@@ -29,10 +29,10 @@ use Rattle.rx_law.proofs.Asks.{asks-data, data-is}
 use Rattle.rx_law.proofs.Enters.{above-prepared}
 use Rattle.rx_law.proofs.Joint.{legal-before}
 use Rattle.rx_law.proofs.Law.{law-on}
-use Rattle.rx_law.proofs.OnceLaw.{served}
+use Rattle.rx_history.proofs.OnceLaw.{served}
 use Rattle.rx_law.proofs.ServerHistory.{finishes_well, server-serves}
 use Rattle.rx_law.proofs.StartsTimed.{starts-once}
-use Rattle.rx_law.proofs.Turns.{CountedOf}
+use Rattle.rx_history.proofs.Turns.{CountedOf}
 use Rattle.rx_law.proofs.World.{if-some, world-fed-by, world-kept}
 use Rattle.rx_law.proofs.WorldTimed.{world-lately}
 use Rattle.rx_law.proofs.WorldAsks.{ClientOf, asked-by, serves}

@@ -11,7 +11,7 @@ use Rattle.rx_model.specs.Names.{Connection}
 use Rattle.rx_rules.specs.Rules.{Legal}
 use Rattle.rx_rules.specs.Setup.{Client, FitsSetup}
 use Rattle.rx_law.specs.Promises.{at_client, at_server, ends_in}
-use Rattle.rx_law.specs.Sides.{Node, moment, side}
+use Rattle.rx_history.specs.Sides.{Node, moment, side}
 use Rattle.rx_law.specs.Times.{AreFresh, GaveLately, GoAlike, IsFresh}
 use Rattle.rx_law.specs.Worlds.{AreApart, AreNodes, Gave}
 use Rattle.rx_model.proofs.NameLaws.{number_itself}

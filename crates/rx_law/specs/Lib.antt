@@ -1,10 +1,5 @@
-pub mod Counts
-pub mod Streams
-pub mod Sides
 pub mod Worlds
 pub mod Times
 pub mod Promises
 pub mod Pieces
-pub mod Starts
 pub mod Premises
-pub mod Givings

@@ -3,11 +3,12 @@ use Rattle.std.specs.Prelude.{◌≡◌, ◌⊎◌, List, [], ◌∷◌, IfSome}
 use Rattle.rx_model.specs.declared.event.Noted.{Noted}
 use Rattle.rx_rules.specs.Looks.{conn_at}
 use Rattle.rx_law.specs.Promises.{LawOn, at_client}
-use Rattle.rx_law.specs.Sides.{side}
+use Rattle.rx_history.specs.Sides.{side}
 use Rattle.rx_model.specs.declared.names.CallName.{CallName}
 use Rattle.rx_model.specs.Names.{connection_of}
-use Rattle.rx_law.specs.Times.{ForgotNoneOf, TimelyOn}
-use Rattle.rx_law.specs.Starts.{StartsOnce}
+use Rattle.rx_law.specs.Times.{TimelyOn}
+use Rattle.rx_history.specs.Alone.{ForgotNoneOf}
+use Rattle.rx_history.specs.Starts.{StartsOnce}
 use Rattle.rx_law.specs.Worlds.{Joined, TwoEnds}
 
 -- as each event comes, the client's connection is one to the server's host

@@ -1,10 +1,9 @@
--- What legal histories promise: once, prefixes, ends, slots, and entry by proof alone. Public clauses cite this module.
+-- What legal histories of several nodes promise: once, prefixes and ends. What one node promises by itself stands in
+-- `Alone` of rx_history. Public clauses cite this module.
 use Rattle.std.specs.Prelude.{◌≡◌, ◌≤◌, ◌⊎◌, ℕ, ℤ, pos, true, List, [], ◌∷◌, ◌++◌, Option, Some, Ok, slice_get}
 use Rattle.std.specs.Prelude.{IfSome, IsSomeAnd}
-use Rattle.byteorder.specs.Endian.{big_bytes}
 use Rattle.rx_model.specs.declared.answers.End.{End}
 use Rattle.rx_model.specs.declared.answers.End.TheVariants as ends
-use Rattle.rx_model.specs.declared.answers.Took.TheVariants as tooks
 use Rattle.rx_model.specs.declared.event.Event.{Event}
 use Rattle.rx_model.specs.declared.event.Event.TheVariants as events
 use Rattle.rx_model.specs.declared.event.Noted.{Noted}
@@ -13,20 +12,17 @@ use Rattle.rx_model.specs.declared.names.Host.{Host}
 use Rattle.rx_model.specs.declared.wire.TheConstants.{SILENCE_MS}
 use Rattle.rx_rules.specs.After.{looks}
 use Rattle.rx_model.specs.Body as bodies
-use Rattle.rx_rules.specs.Classes.{token, token_answer}
-use Rattle.rx_law.specs.Counts.{Once, times_accepted, times_finished}
-use Rattle.rx_rules.specs.Looks.{Looks, call_at, conn_at}
+use Rattle.rx_history.specs.Counts.{Once, times_accepted, times_finished}
+use Rattle.rx_rules.specs.Looks.{Looks, call_at}
 use Rattle.rx_model.specs.Message.{Message}
 use Rattle.rx_model.specs.Names.{Connection, connection_of, name_of}
 use Rattle.rx_model.specs.Reading.{reading_of}
 use Rattle.rx_rules.specs.Records.{silence_of}
-use Rattle.rx_rules.specs.Rules.{Legal}
-use Rattle.rx_rules.specs.Setup.{Setup, Client, FitsSetup, IsServer, nonce_of}
-use Rattle.rx_law.specs.Sides.{Node, side}
-use Rattle.rx_rules.specs.Slots.{common}
-use Rattle.rx_rules.specs.Setup.{shared_slots}
-use Rattle.rx_law.specs.Streams.{Begins, said, read, is_shut, end_at}
-use Rattle.rx_law.specs.Times.{ForgotNone, Timely}
+use Rattle.rx_rules.specs.Setup.{Setup, Client}
+use Rattle.rx_history.specs.Sides.{Node, side}
+use Rattle.rx_history.specs.Streams.{Begins, said, read, is_shut, end_at}
+use Rattle.rx_law.specs.Times.{Timely}
+use Rattle.rx_history.specs.Alone.{ForgotNone}
 use Rattle.rx_law.specs.Worlds.{Gave, TwoEnds, World}
 
 -- ---- the two ends of a connection
@@ -139,38 +135,3 @@ pub record LawIn (nodes : List Node) (h : List Noted) : Type 0 where
 abbrev pub WorldLaw : Type 0
 WorldLaw =
     (nodes : List Node) (h : List Noted) → World nodes h → (ServerForgotNone nodes h ⊎ Timely nodes h) → LawIn nodes h
-
--- whatever bytes came, a server that forgot no record accepts no call twice
-abbrev pub OnceUnderForgery : Type 0
-OnceUnderForgery = (s : Setup) (h : List Event) → IsServer s.kind → Legal s h → ForgotNone s h → Once h
-
--- calls never hold more slots beside their own than they may
-abbrev pub SlotsSuffice : Type 0
-SlotsSuffice = (s : Setup) (h : List Event) → FitsSetup s → Legal s h → common (looks s h) ≤ shared_slots s
-
--- ---- entered only when proved
-
--- a right RESPONSE of the connection was heard when its present record was there
-pub record Proves (s : Setup) (key : List ℕ) (c : CallName) (order : ℕ) (h : List Event) : Type 0 where
-  pub later : List Event
-  pub from : Host
-  pub bytes : List ℕ
-  pub before : List Event
-  pub is : h ≡ later ++ events.Taken from bytes tooks.Heard ∷ before
-  pub message : Message
-  pub reads : reading_of bytes ≡ Ok message
-  pub on : connection_of (name_of from message) ≡ connection_of c
-  pub record_is : IsSomeAnd (conn_at (looks s before) (connection_of c)) (λ r. r.order ≡ order)
-  pub body : message.body ≡ bodies.Response (token_answer key c (big_bytes 8 (nonce_of s.kind order)))
-
--- each accept of a call came behind one
-abbrev pub Entered : Setup → List ℕ → CallName → List Event → Type 0
-Entered s key c h =
-    (later before : List Event) → h ≡ later ++ events.Accepted (Some c) ∷ before
-    → IsSomeAnd (conn_at (looks s before) (connection_of c)) (λ r. Proves s key c r.order before)
-
--- whatever bytes came, a server with a key accepts only calls of clients that showed it
-abbrev pub EnteredOnlyWhenProved : Type 0
-EnteredOnlyWhenProved =
-    (s : Setup) (key : List ℕ) (h : List Event) → IsServer s.kind → s.class ≡ token key → Legal s h
-    → (c : CallName) → Entered s key c h

@@ -1,16 +1,12 @@
 -- The times of a history: that no datagram is old, and that clocks go alike. Public clauses cite this module.
 use Rattle.std.specs.Prelude.{◌≡◌, ◌+◌, ◌<◌, ◌≤◌, ◌⊎◌, ℕ, suc, Bool, true, false, List, [], ◌∷◌, slice_get, IfSome}
 use Rattle.std.specs.Prelude.{IsSomeAnd}
-use Rattle.std.specs.List.{list_any}
 use Rattle.rx_model.specs.declared.event.Event.{Event}
 use Rattle.rx_model.specs.declared.event.Event.TheVariants.{Clocked, Taken}
 use Rattle.rx_model.specs.declared.event.Noted.{Noted}
 use Rattle.rx_model.specs.declared.names.Host.{Host}
 use Rattle.rx_model.specs.declared.wire.TheConstants.{LIFETIME_MS, SKEW_MS}
-use Rattle.rx_rules.specs.After.{looks}
-use Rattle.rx_model.specs.Names.{Connection, same_connection}
-use Rattle.rx_rules.specs.Setup.{Setup}
-use Rattle.rx_law.specs.Sides.{Node, moment, GivesTo}
+use Rattle.rx_history.specs.Sides.{Node, moment, GivesTo}
 use Rattle.rx_law.specs.Worlds.{ComesOn, TwoEnds}
 
 -- ---- clocks
@@ -102,13 +98,3 @@ AreFresh nodes (e ∷ h) = IfSome (slice_get nodes e.node) (λ n. IsFresh nodes 
 pub record Timely (nodes : List Node) (h : List Noted) : Type 0 where
   pub fresh : AreFresh nodes h
   pub alike : (k : ℕ) → IfSome (slice_get nodes (suc k)) (λ n. GoAlike 0 (suc k) h)
-
--- ---- forgetting
-
--- no record was forgotten
-abbrev pub ForgotNone : Setup → List Event → Type 0
-ForgotNone s h = (looks s h).forgotten ≡ []
-
--- none of this connection was
-abbrev pub ForgotNoneOf : Setup → Connection → List Event → Type 0
-ForgotNoneOf s x h = list_any (λ y. same_connection y x) (looks s h).forgotten ≡ false

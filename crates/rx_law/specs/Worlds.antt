@@ -11,7 +11,7 @@ use Rattle.rx_model.specs.Names.{Connection, connection_of, name_of}
 use Rattle.rx_model.specs.Reading.{reading_of}
 use Rattle.rx_rules.specs.Rules.{Legal}
 use Rattle.rx_rules.specs.Setup.{Setup, Kind, Client, FitsSetup, IsServer}
-use Rattle.rx_law.specs.Sides.{Node, side, GivesTo, IsClientAt}
+use Rattle.rx_history.specs.Sides.{Node, side, GivesTo, IsClientAt}
 
 -- ---- what the network carries
 

@@ -8,22 +8,23 @@ ghost use Rattle.rx_rules.specs.After.{looks};
 ghost use Rattle.rx_model.specs.Body as bodies;
 ghost use Rattle.rx_rules.specs.CallLooks.{packet_of};
 ghost use Rattle.rx_model.specs.Message.{Message};
-ghost use Rattle.rx_law.specs.Promises.{EnteredOnlyWhenProved, LawOn, OnceUnderForgery, SlotsSuffice, WorldLaw};
+ghost use Rattle.rx_law.specs.Promises.{LawOn, WorldLaw};
+ghost use Rattle.rx_history.specs.Alone.{EnteredOnlyWhenProved, OnceUnderForgery, SlotsSuffice};
 ghost use Rattle.rx_model.specs.Names.{channel_of};
 ghost use Rattle.rx_model.specs.Strays.{is_stray};
 ghost use Rattle.rx_rules.specs.Looks.{latest_name};
 ghost use Rattle.rx_model.specs.Reading.{reading_of};
 ghost use Rattle.rx_rules.specs.Rules.{Legal};
 ghost use Rattle.rx_rules.specs.Setup.{Setup, Client, FitsSetup, IsServer, is_client, named};
-ghost use Rattle.rx_law.specs.Sides.{Node};
-ghost use Rattle.rx_law.specs.Streams.{is_shut, said};
+ghost use Rattle.rx_history.specs.Sides.{Node};
+ghost use Rattle.rx_history.specs.Streams.{is_shut, said};
 ghost use Rattle.rx_law.specs.Worlds.{Gave, TwoEnds, World};
 ghost use Rattle.rx_law.specs.Times.{GoAlike, GoAlways};
-ghost use Rattle.rx_law.specs.Givings.{GivesItem, GivesPlain};
+ghost use Rattle.rx_history.specs.Givings.{GivesItem, GivesPlain};
 ghost use Rattle.rx_rules.specs.Items.{poll_answer};
 ghost use Rattle.rx_law.specs.Pieces.{IsAt};
 ghost use Rattle.rx_law.specs.Premises.{ConnectionLaw, HeldOnce};
-ghost use Rattle.rx_law.specs.Starts.{StartsOnce};
+ghost use Rattle.rx_history.specs.Starts.{StartsOnce};
 
 /// A server that forgot no connection accepts no call twice, whatever bytes came.
 pub fn accepts_once()

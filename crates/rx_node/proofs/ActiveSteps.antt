@@ -18,9 +18,9 @@ use Rattle.rx_rules.specs.Records.{unless_silent}
 use Rattle.rx_rules.specs.Sent.{room_of}
 use Rattle.rx_rules.specs.Setup.{is_client}
 use Rattle.rx_rules.specs.Slots.{room}
-use Rattle.rx_law.proofs.LifeFalls.{Falls}
-use Rattle.rx_law.proofs.RoomEvents.{Wrote, roomy_wrote}
-use Rattle.rx_law.proofs.RoomStarts.{RoomyAt}
+use Rattle.rx_history.proofs.LifeFalls.{Falls}
+use Rattle.rx_history.proofs.RoomEvents.{Wrote, roomy_wrote}
+use Rattle.rx_history.proofs.RoomStarts.{RoomyAt}
 use Rattle.rx_call.specs.Kept.{call_under}
 use Rattle.rx_call.specs.Standing.{EndOfCall}
 use Rattle.rx_ends.specs.Ends.{IsUnshut, StandsAs, StandsEnd}

@@ -8,7 +8,7 @@ use Rattle.rx_rules.specs.Looks.{CallRecord, Looks, call_at, on_call}
 use Rattle.rx_model.proofs.NameLaws.{name_is, name_itself, name_sym}
 use Rattle.rx_rules.proofs.CallsLaws.{changed_if}
 use Rattle.rx_rules.proofs.EveryLaws.{Every}
-use Rattle.rx_law.proofs.Differ.{Differ, by_name}
+use Rattle.rx_history.proofs.Differ.{Differ, by_name}
 
 -- ---- a change of one call
 

@@ -21,7 +21,7 @@ use Rattle.rx_rules.specs.Records.{started, with_call}
 use Rattle.rx_rules.specs.Setup.{Setup, sending_window}
 use Rattle.rx_rules.proofs.EveryLaws.{Every}
 use Rattle.rx_rules.proofs.FindLaws.{find_passes}
-use Rattle.rx_law.proofs.Differ.{Differ, by_connection}
+use Rattle.rx_history.proofs.Differ.{Differ, by_connection}
 
 -- ---- connections by place
 

@@ -8,9 +8,9 @@ use Rattle.rx_rules.specs.Classes.{Class}
 use Rattle.rx_rules.specs.Looks.{ChannelLooks, ConnLooks, Looks, on_conn}
 use Rattle.rx_model.proofs.NameLaws.{connection_itself, refuted}
 use Rattle.rx_rules.proofs.ConnsLaws.{conn_if, number_in}
-use Rattle.rx_law.proofs.Dims.{dims_conn}
-use Rattle.rx_law.proofs.Orderly.{orderly_dims}
-use Rattle.rx_law.proofs.RoomStarts.{roomy_by}
+use Rattle.rx_history.proofs.Dims.{dims_conn}
+use Rattle.rx_history.proofs.Orderly.{orderly_dims}
+use Rattle.rx_history.proofs.RoomStarts.{roomy_by}
 use Rattle.rx_table.specs.declared.seat.Seat.{Seat}
 use Rattle.rx_table.specs.Records.{ConnRecord, Records, on_place, record_at, seat_at}
 use Rattle.rx_node.specs.declared.link.Link.{Link}

@@ -11,9 +11,9 @@ use Rattle.rx_rules.specs.Looks.{CallRecord, Looks, is_call, latest, latest_name
 use Rattle.rx_rules.specs.Slots.{beside, common, live}
 use Rattle.rx_model.proofs.NameLaws.{channel_itself, name_is, refuted}
 use Rattle.rx_rules.proofs.CallsLaws.{call_at-on_call, changed_if}
-use Rattle.rx_law.proofs.OneCall.{common_one, live_one, life_of}
-use Rattle.rx_law.proofs.Orderly.{orderly_looks}
-use Rattle.rx_law.proofs.RoomStarts.{RoomyAt}
+use Rattle.rx_history.proofs.OneCall.{common_one, live_one, life_of}
+use Rattle.rx_history.proofs.Orderly.{orderly_looks}
+use Rattle.rx_history.proofs.RoomStarts.{RoomyAt}
 use Rattle.rx_table.specs.declared.seat.Seat.{Seat}
 use Rattle.rx_table.specs.Records.{seat_at}
 use Rattle.rx_ends.specs.Ends.{EndsState, StandsEnd, StepsEnd, beside_looks}

@@ -24,9 +24,9 @@ use Rattle.rx_rules.specs.Looks.{CallRecord, Looks, call_at, latest_name, on_loo
 use Rattle.rx_rules.specs.Sent.{piece_at}
 use Rattle.rx_rules.specs.Setup.{Kind, Server, Client, Setup, is_client, receiving_window, shared_slots, side_flag}
 use Rattle.rx_rules.proofs.FindLaws.{find_passes}
-use Rattle.rx_law.proofs.Roomy.{roomy_one}
-use Rattle.rx_law.proofs.RoomStarts.{RoomyAt}
-use Rattle.rx_law.proofs.Tight.{gives_ack, gives_piece}
+use Rattle.rx_history.proofs.Roomy.{roomy_one}
+use Rattle.rx_history.proofs.RoomStarts.{RoomyAt}
+use Rattle.rx_history.proofs.Tight.{gives_ack, gives_piece}
 use Rattle.rx_call.specs.Standing.{after_given, giving_of}
 use Rattle.rx_call.specs.declared.giving.Giving.TheVariants as givings
 use Rattle.rx_ends.specs.Ends.{EndsState, StandsEnd, StepsEnd, view_at}

@@ -17,7 +17,7 @@ use Rattle.rx_model.proofs.NameLaws.{connection_is}
 use Rattle.rx_rules.proofs.EveryLaws.{Every}
 use Rattle.rx_rules.proofs.FindLaws.{find_passes}
 use Rattle.rx_rules.proofs.LeastLaws.{least-keeps}
-use Rattle.rx_law.proofs.Differ.{Differ, by_connection}
+use Rattle.rx_history.proofs.Differ.{Differ, by_connection}
 use Rattle.rx_table.specs.declared.seat.Seat.{Seat}
 use Rattle.rx_table.specs.Records as tables
 use Rattle.rx_table.specs.Records.{ConnRecord, IsLongestIdle, Records, idle_since, names, place_of, record_at, seat_at}

@@ -13,7 +13,7 @@ use Rattle.rx_rules.specs.Life as lives
 use Rattle.rx_rules.specs.Looks.{CallRecord, Looks, latest, latest_name, on_life}
 use Rattle.rx_rules.specs.Setup.{is_client}
 use Rattle.rx_rules.specs.Slots.{beside}
-use Rattle.rx_law.proofs.LifeFalls.{Falls, falls_refl, is_begun}
+use Rattle.rx_history.proofs.LifeFalls.{Falls, falls_refl, is_begun}
 use Rattle.rx_table.specs.declared.seat.Seat.{Seat}
 use Rattle.rx_table.specs.Records.{Records, names, seat_at, with_seat}
 use Rattle.rx_call.specs.Kept.{call_under, live_count}

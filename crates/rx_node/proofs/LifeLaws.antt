@@ -6,8 +6,9 @@ use Rattle.rx_rules.specs.After.{is_zero}
 use Rattle.rx_rules.specs.Life.{Life, after_finish, is_active, is_live}
 use Rattle.rx_rules.specs.Life as lives
 use Rattle.rx_model.proofs.NameLaws.{refuted}
-use Rattle.rx_law.proofs.LifeFalls.{Falls, accept_falls, acks_falls, cancel_falls, code_falls, end_falls, finish_falls}
-use Rattle.rx_law.proofs.LifeFalls.{gone_falls, later_falls, silence_falls}
+use Rattle.rx_history.proofs.LifeFalls.{Falls, accept_falls, acks_falls, cancel_falls, code_falls, end_falls}
+use Rattle.rx_history.proofs.LifeFalls.{finish_falls}
+use Rattle.rx_history.proofs.LifeFalls.{gone_falls, later_falls, silence_falls}
 use Rattle.rx_node.specs.declared.life.Turn.{Turn}
 use Rattle.rx_node.specs.declared.life.Turn.TheVariants as turns
 use Rattle.rx_node.specs.Lives.{after_turn, is_of}

@@ -10,11 +10,11 @@ use Rattle.rx_rules.specs.Looks.{CallRecord, ChannelLooks, Looks, channel_at, is
 use Rattle.rx_rules.specs.Setup.{is_client}
 use Rattle.rx_rules.specs.Slots.{beside, common, live}
 use Rattle.rx_rules.proofs.CallsLaws.{call_at-on_call, changed_if}
-use Rattle.rx_law.proofs.Dims.{dims_life}
-use Rattle.rx_law.proofs.LifeFalls.{Falls}
-use Rattle.rx_law.proofs.OneCall.{common_one, live_one, life_of}
-use Rattle.rx_law.proofs.Orderly.{orderly_dims}
-use Rattle.rx_law.proofs.RoomStarts.{roomy_life}
+use Rattle.rx_history.proofs.Dims.{dims_life}
+use Rattle.rx_history.proofs.LifeFalls.{Falls}
+use Rattle.rx_history.proofs.OneCall.{common_one, live_one, life_of}
+use Rattle.rx_history.proofs.Orderly.{orderly_dims}
+use Rattle.rx_history.proofs.RoomStarts.{roomy_life}
 use Rattle.rx_table.specs.declared.seat.Seat.{Seat}
 use Rattle.rx_table.specs.Records.{ConnRecord, Records, record_at, seat_at}
 use Rattle.rx_node.specs.declared.life.Life.{Life as CodeLife}

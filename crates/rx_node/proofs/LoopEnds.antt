@@ -10,8 +10,8 @@ use Rattle.rx_rules.specs.Looks.{CallRecord, ConnLooks, Looks, call_at, on_calls
 use Rattle.rx_rules.specs.Records.{unless_silent}
 use Rattle.rx_rules.specs.Setup.{Setup}
 use Rattle.rx_model.proofs.NameLaws.{connection_itself, refuted}
-use Rattle.rx_law.proofs.Differ.{Differ, by_name}
-use Rattle.rx_law.proofs.Orderly.{Orderly}
+use Rattle.rx_history.proofs.Differ.{Differ, by_name}
+use Rattle.rx_history.proofs.Orderly.{Orderly}
 use Rattle.rx_node.specs.declared.life.Turn.TheVariants as turns
 use Rattle.rx_node.proofs.CallChanges.{FoundIn, every_own, every_then, map_both}
 use Rattle.rx_node.proofs.CallLoops.{LiveAt, OfLive, among, change_among, key_of, live_at}

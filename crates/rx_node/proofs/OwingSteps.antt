@@ -10,9 +10,9 @@ use Rattle.rx_rules.specs.Looks.{CallRecord, ChannelLooks, ConnLooks, Looks, cha
 use Rattle.rx_rules.specs.Looks.{on_channel, on_conn}
 use Rattle.rx_model.proofs.NameLaws.{channel_is, connection_itself, refuted}
 use Rattle.rx_rules.proofs.ConnsLaws.{KeepsConns, conn_if}
-use Rattle.rx_law.proofs.Dims.{dims_channel}
-use Rattle.rx_law.proofs.Orderly.{HasFour, orderly_dims}
-use Rattle.rx_law.proofs.RoomStarts.{roomy_by}
+use Rattle.rx_history.proofs.Dims.{dims_channel}
+use Rattle.rx_history.proofs.Orderly.{HasFour, orderly_dims}
+use Rattle.rx_history.proofs.RoomStarts.{roomy_by}
 use Rattle.rx_table.specs.declared.seat.Seat.{Seat}
 use Rattle.rx_table.specs.Records.{ConnRecord, seat_at, with_seat}
 use Rattle.rx_node.specs.declared.link.Link.{Link}

@@ -10,8 +10,8 @@ use Rattle.rx_rules.specs.Records.{fresh_conn, placed}
 use Rattle.rx_rules.specs.Setup.{nonce_of}
 use Rattle.rx_model.proofs.NameLaws.{connection_itself}
 use Rattle.rx_rules.proofs.FindLaws.{find-before, find-last}
-use Rattle.rx_law.proofs.Orderly.{Orderly}
-use Rattle.rx_law.proofs.RoomStarts.{roomy_by}
+use Rattle.rx_history.proofs.Orderly.{Orderly}
+use Rattle.rx_history.proofs.RoomStarts.{roomy_by}
 use Rattle.rx_table.specs.declared.seat.Seat.{Seat}
 use Rattle.rx_table.specs.Records.{ConnRecord, fresh_record, fresh_seat, fresh_seats, record_at, seat_at}
 use Rattle.rx_node.specs.declared.link.Link.{Link}

@@ -16,12 +16,12 @@ use Rattle.rx_rules.specs.Received.{Received, is_complete, read_from, read_of, u
 use Rattle.rx_rules.specs.Setup.{Setup, is_client, shared_slots}
 use Rattle.rx_rules.specs.Slots.{left_slots}
 use Rattle.rx_rules.proofs.CallsLaws.{changed_if}
-use Rattle.rx_law.proofs.HeldLaws.{beside_read}
-use Rattle.rx_law.proofs.Roomy.{Takes, roomy_takes}
-use Rattle.rx_law.proofs.RoomEvents.{ReadWhole}
-use Rattle.rx_law.proofs.RoomStarts.{RoomyAt}
-use Rattle.rx_law.proofs.Tight.{TightOf, more_looks}
-use Rattle.rx_law.proofs.WholeLaws.{Whole, end_reads, whole_reads}
+use Rattle.rx_history.proofs.HeldLaws.{beside_read}
+use Rattle.rx_history.proofs.Roomy.{Takes, roomy_takes}
+use Rattle.rx_history.proofs.RoomEvents.{ReadWhole}
+use Rattle.rx_history.proofs.RoomStarts.{RoomyAt}
+use Rattle.rx_history.proofs.Tight.{TightOf, more_looks}
+use Rattle.rx_history.proofs.WholeLaws.{Whole, end_reads, whole_reads}
 use Rattle.rx_recvwin.specs.Window.{tells_end}
 use Rattle.rx_node.specs.Mirrors.{Mirrors}
 use Rattle.rx_node.specs.Node.{NodeState, setup_of}

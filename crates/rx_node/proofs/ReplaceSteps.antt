@@ -11,8 +11,8 @@ use Rattle.rx_rules.specs.Looks.{fresh_channel}
 use Rattle.rx_rules.specs.Records.{fresh_conn, placed}
 use Rattle.rx_rules.specs.Setup.{nonce_of}
 use Rattle.rx_model.proofs.NameLaws.{connection_itself, refuted}
-use Rattle.rx_law.proofs.Orderly.{Orderly}
-use Rattle.rx_law.proofs.RoomStarts.{roomy_by}
+use Rattle.rx_history.proofs.Orderly.{Orderly}
+use Rattle.rx_history.proofs.RoomStarts.{roomy_by}
 use Rattle.rx_table.specs.declared.seat.Seat.{Seat}
 use Rattle.rx_table.specs.Records.{ConnRecord, fresh_record, fresh_seat, on_place, record_at, seat_at}
 use Rattle.rx_node.specs.declared.link.Link.{Link}

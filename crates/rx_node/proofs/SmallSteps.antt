@@ -7,7 +7,7 @@ use Rattle.rx_rules.specs.Looks.{ConnLooks, Looks, on_conn}
 use Rattle.rx_rules.specs.Records.{used}
 use Rattle.rx_table.specs.Records.{on_place}
 use Rattle.rx_node.proofs.ConnSteps.{mirrors_conn}
-use Rattle.rx_law.proofs.RoomStarts.{roomy_by}
+use Rattle.rx_history.proofs.RoomStarts.{roomy_by}
 use Rattle.rx_node.specs.Mirrors.{Mirrors}
 use Rattle.rx_node.specs.Node.{NodeState, setup_of}
 

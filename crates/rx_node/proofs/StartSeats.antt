@@ -11,8 +11,8 @@ use Rattle.rx_rules.specs.Life.{is_active}
 use Rattle.rx_rules.specs.Looks.{Looks, call_named}
 use Rattle.rx_rules.specs.Records.{started}
 use Rattle.rx_rules.specs.Setup.{is_client}
-use Rattle.rx_law.proofs.Orderly.{Orderly}
-use Rattle.rx_law.proofs.RoomStarts.{RoomyAt}
+use Rattle.rx_history.proofs.Orderly.{Orderly}
+use Rattle.rx_history.proofs.RoomStarts.{RoomyAt}
 use Rattle.rx_call.specs.Kept.{call_under, live_count}
 use Rattle.rx_call.specs.Standing.{EndOfCall}
 use Rattle.rx_call.specs.declared.pace.Pace.{Pace}

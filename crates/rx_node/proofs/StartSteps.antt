@@ -19,9 +19,9 @@ use Rattle.rx_rules.specs.Slots.{beside, common, live}
 use Rattle.rx_model.proofs.NameLaws.{name_is, refuted}
 use Rattle.rx_rules.proofs.ConnsLaws.{channel_number, conn_if}
 use Rattle.rx_rules.proofs.StartLaws.{call_at-other}
-use Rattle.rx_law.proofs.OneCall.{common_started, life_of, live_started, weight_at}
-use Rattle.rx_law.proofs.Orderly.{Orderly}
-use Rattle.rx_law.proofs.RoomStarts.{RoomyAt}
+use Rattle.rx_history.proofs.OneCall.{common_started, life_of, live_started, weight_at}
+use Rattle.rx_history.proofs.Orderly.{Orderly}
+use Rattle.rx_history.proofs.RoomStarts.{RoomyAt}
 use Rattle.rx_table.specs.declared.seat.Seat.{Seat}
 use Rattle.rx_table.specs.Records.{fresh_seat, seat_at, with_seat}
 use Rattle.rx_node.specs.declared.life.Life.{Life as CodeLife}

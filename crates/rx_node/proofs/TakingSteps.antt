@@ -31,12 +31,12 @@ use Rattle.rx_rules.specs.Setup.{Setup, is_client, shared_slots}
 use Rattle.rx_rules.specs.Slots.{node_view}
 use Rattle.rx_model.proofs.NameLaws.{name_is, same_number}
 use Rattle.rx_rules.proofs.FindLaws.{find_passes}
-use Rattle.rx_law.proofs.Differ.{Differ, by_name}
-use Rattle.rx_law.proofs.RoomStarts.{RoomyAt, roomy_by}
-use Rattle.rx_law.proofs.Roomy.{roomy_one, roomy_takes}
-use Rattle.rx_law.proofs.RowsKept.{row_kept}
-use Rattle.rx_law.proofs.Tight.{gives_taken}
-use Rattle.rx_law.proofs.TightKept.{takes_kept}
+use Rattle.rx_history.proofs.Differ.{Differ, by_name}
+use Rattle.rx_history.proofs.RoomStarts.{RoomyAt, roomy_by}
+use Rattle.rx_history.proofs.Roomy.{roomy_one, roomy_takes}
+use Rattle.rx_history.proofs.RowsKept.{row_kept}
+use Rattle.rx_history.proofs.Tight.{gives_taken}
+use Rattle.rx_history.proofs.TightKept.{takes_kept}
 use Rattle.rx_class.specs.Writes.{WritesFront}
 use Rattle.rx_ends.specs.Ends.{EndsState, StandsEnd, StepsEnd, view_at}
 use Rattle.rx_table.specs.Records.{record_at}

@@ -12,7 +12,7 @@ ghost use Rattle.rx_rules.specs.Records.{fresh_conn, placed, used};
 ghost use Rattle.rx_rules.specs.Life.{is_live};
 ghost use Rattle.rx_rules.specs.Rules.{own_call};
 ghost use Rattle.rx_rules.specs.Setup.{FitsSetup, client_host, is_client, nonce_of};
-ghost use Rattle.rx_law.proofs.Orderly.{Orderly};
+ghost use Rattle.rx_history.proofs.Orderly.{Orderly};
 ghost use Rattle.rx_table.specs.Records.{IsLongestIdle, idle_since, place_of, record_at, seat_at};
 ghost use Rattle.rx_node.specs.Kinds.{kind_of};
 ghost use Rattle.rx_node.specs.Mirrors.{IsChannel, IsKey, Mirrors, StepsNode};

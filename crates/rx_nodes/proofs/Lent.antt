@@ -4,7 +4,7 @@ use Rattle.std.proofs.Common.{Some, option_map, refl, ap, sym, subst, arith}
 use Rattle.std.specs.Prelude.{slice_get}
 use Rattle.rx_model.specs.declared.names.Host.{Host}
 use Rattle.rx_table.specs.Records.{changed_at}
-use Rattle.rx_law.specs.Sides.{Node}
+use Rattle.rx_history.specs.Sides.{Node}
 use Rattle.rx_node.specs.Node.{NodeState, setup_of}
 use Rattle.rx_server.specs.Server.{ServerState}
 use Rattle.rx_token.specs.Chosen.{chosen}

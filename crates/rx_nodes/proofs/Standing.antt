@@ -9,7 +9,7 @@ use Rattle.rx_model.specs.declared.event.Noted.{Noted}
 use Rattle.rx_model.proofs.NameLaws.{number_itself}
 use Rattle.rx_rules.specs.After.{looks}
 use Rattle.rx_rules.specs.Rules.{Allowed}
-use Rattle.rx_law.specs.Sides.{Node, side}
+use Rattle.rx_history.specs.Sides.{Node, side}
 use Rattle.rx_table.specs.Records.{changed_at}
 use Rattle.rx_node.specs.Node.{NodeState, setup_of}
 use Rattle.rx_node.specs.Steps.{AnswersNode, StandsNode}

@@ -9,8 +9,8 @@ use Rattle.rx_model.specs.declared.event.Noted.{Noted}
 use Rattle.rx_rules.specs.After.{looks}
 use Rattle.rx_rules.specs.Items.{due}
 use Rattle.rx_rules.specs.Least.{lesser_by}
-use Rattle.rx_law.specs.Sides.{Node, moment, side}
-use Rattle.rx_law.proofs.Moments.{now-side}
+use Rattle.rx_history.specs.Sides.{Node, moment, side}
+use Rattle.rx_history.proofs.Moments.{now-side}
 use Rattle.rx_model.specs.declared.names.Host.{Host}
 use Rattle.rx_node.specs.Node.{NodeState, setup_of}
 use Rattle.rx_node.proofs.TableSteps.{get_some}

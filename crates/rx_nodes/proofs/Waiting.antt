@@ -10,7 +10,7 @@ use Rattle.rx_model.specs.declared.event.Event.{Event}
 use Rattle.rx_model.specs.declared.event.Noted.{Noted}
 use Rattle.rx_rules.specs.After.{looks}
 use Rattle.rx_rules.specs.Slots.{live}
-use Rattle.rx_law.specs.Sides.{Node, side}
+use Rattle.rx_history.specs.Sides.{Node, side}
 use Rattle.rx_model.specs.declared.names.Host.{Host}
 use Rattle.rx_node.specs.Node.{NodeState, setup_of}
 use Rattle.rx_server.specs.Server.{ServerState, Stands}

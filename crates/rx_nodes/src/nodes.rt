@@ -2,7 +2,7 @@ ghost use Rattle.std.specs.Prelude.{◌≡◌, ◌≤◌, ◌++◌, ◌∷◌, L
 ghost use Rattle.std.specs.Borrow.{sem};
 ghost use Rattle.rx_model.specs.declared.event.Noted.{Noted};
 ghost use Rattle.rx_rules.specs.Setup as setups;
-ghost use Rattle.rx_law.specs.Sides.{moment};
+ghost use Rattle.rx_history.specs.Sides.{moment};
 ghost use Rattle.rx_law.specs.Worlds.{AreOf};
 ghost use Rattle.rx_token.specs.Chosen.{chosen, secret_of};
 ghost use Rattle.rx_nodes.specs.Nodes.{IsClientThere, IsNodeThere, Standing, client_of, host_of, moment_of, nodes_of};

@@ -2,7 +2,7 @@
 use Rattle.std.proofs.Common.{◌≡◌, ◌≤◌, ℕ, List, [], ◌∷◌, Option, Some, None, Result, Err, refl, inl, inr, sym}
 use Rattle.std.proofs.Common.{arith, subst}
 use Rattle.rx_asks.specs.View.{CallerState, caller_for}
-use Rattle.rx_law.specs.Sides.{with_clock}
+use Rattle.rx_history.specs.Sides.{with_clock}
 use Rattle.rx_model.specs.declared.event.Event.{Event}
 use Rattle.rx_model.specs.declared.event.Event.TheVariants as events
 use Rattle.rx_model.specs.declared.event.Noted.{Noted}

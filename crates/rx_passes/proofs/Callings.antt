@@ -10,7 +10,7 @@ use Rattle.rx_asks.specs.View.{CallerState}
 use Rattle.rx_caller.specs.declared.fault.CallerFault.{CallerFault}
 use Rattle.rx_caller.specs.declared.fault.CallerFault.TheVariants as faults
 use Rattle.rx_asks.specs.declared.ask.TheConstants.{REPLY_BYTES}
-use Rattle.rx_law.specs.Sides.{with_clock}
+use Rattle.rx_history.specs.Sides.{with_clock}
 use Rattle.rx_model.specs.declared.answers.ReadGot.TheVariants as readers
 use Rattle.rx_model.specs.declared.event.Event.{Event}
 use Rattle.rx_model.specs.declared.event.Event.TheVariants as events

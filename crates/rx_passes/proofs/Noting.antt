@@ -3,8 +3,8 @@ use Rattle.std.proofs.Common.{◌≡◌, ◌≤◌, ℕ, List, [], ◌∷◌, Op
 use Rattle.rx_model.specs.declared.event.Event.{Event}
 use Rattle.rx_model.specs.declared.event.Noted.{Noted}
 use Rattle.rx_base.specs.Sink.{Gained}
-use Rattle.rx_law.proofs.Moments.{now-after}
-use Rattle.rx_law.specs.Sides.{with_clock}
+use Rattle.rx_history.proofs.Moments.{now-after}
+use Rattle.rx_history.specs.Sides.{with_clock}
 use Rattle.rx_rules.specs.After.{looks}
 use Rattle.rx_rules.specs.Setup.{Setup}
 use Rattle.rx_wire.specs.Journal.{HasNoted}

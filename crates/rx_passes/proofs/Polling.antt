@@ -12,7 +12,7 @@ use Rattle.rx_model.specs.declared.names.Host.{Host}
 use Rattle.rx_rules.specs.After.{looks}
 use Rattle.rx_rules.specs.Setup.{Setup}
 use Rattle.rx_udp.specs.Wire.{Logged}
-use Rattle.rx_law.proofs.Moments.{now-after}
+use Rattle.rx_history.proofs.Moments.{now-after}
 use Rattle.rx_wire.specs.Journal.{HasNoted}
 use Rattle.rx_wire.specs.Turns.{noted}
 use Rattle.rx_wire.proofs.TurnLaws.{HasNotedAll-none}

@@ -4,9 +4,9 @@ use Rattle.std.proofs.Common.{Option, Some, None, Result, Ok, Err, refl, sym, ar
 use Rattle.std.specs.Prelude.{if◌then◌else◌, bit_and, nat_lt, slice_index}
 use Rattle.std.proofs.lemmas.List.{length-append, length-map}
 use Rattle.rx_jumbo.specs.Parts.{is_jumbo}
-use Rattle.rx_law.specs.Givings.{GivesPlain}
-use Rattle.rx_law.proofs.Data.{long-enough}
-use Rattle.rx_law.proofs.Givings.{poll_gives}
+use Rattle.rx_history.specs.Givings.{GivesPlain}
+use Rattle.rx_history.proofs.Data.{long-enough}
+use Rattle.rx_history.proofs.Givings.{poll_gives}
 use Rattle.rx_model.specs.declared.answers.BadMsg.{BadMsg}
 use Rattle.rx_model.specs.declared.answers.BadMsg.TheVariants.{AbortShort, AckShort, Jumbo, Kind, Short, TooLong}
 use Rattle.rx_model.specs.declared.event.Event.{Event}

@@ -8,8 +8,8 @@ use Rattle.rx_jobs.specs.Jobs.{Ask, IsCall, JobState, accept, finish, read, writ
 use Rattle.rx_dispatch.specs.Wanting.{IsWanting}
 use Rattle.rx_model.specs.declared.event.Event.{Event}
 use Rattle.rx_model.specs.declared.event.Noted.{Noted}
-use Rattle.rx_law.proofs.Moments.{now-after}
-use Rattle.rx_law.specs.Sides.{with_clock}
+use Rattle.rx_history.proofs.Moments.{now-after}
+use Rattle.rx_history.specs.Sides.{with_clock}
 use Rattle.rx_rules.specs.After.{looks}
 use Rattle.rx_rules.specs.Setup.{Setup}
 use Rattle.rx_wire.specs.Journal.{HasNoted}

@@ -28,15 +28,15 @@ use Rattle.rx_rules.specs.Rules.{Allowed, AllowedAt, Legal, done_where, served_f
 use Rattle.rx_rules.specs.Setup.{Setup, Kind, Server, Client, named}
 use Rattle.rx_rules.proofs.ConnsLaws.{channel_number}
 use Rattle.rx_rules.proofs.EveryLaws.{Every}
-use Rattle.rx_law.proofs.Client.{StoppedBy}
-use Rattle.rx_law.proofs.Differ.{Differ, by_connection}
-use Rattle.rx_law.proofs.DimsTaken.{used_dims}
-use Rattle.rx_law.proofs.Events.{call-by, calls-prepared}
-use Rattle.rx_law.proofs.FitConnTaken.{may_abort}
-use Rattle.rx_law.proofs.Openings.{channel_prepared}
-use Rattle.rx_law.proofs.Orderly.{Orderly, orderly_dims}
-use Rattle.rx_law.proofs.OrderlyHistory.{orderly_history}
-use Rattle.rx_law.proofs.ServerHistory.{running-at}
+use Rattle.rx_history.proofs.Client.{StoppedBy}
+use Rattle.rx_history.proofs.Differ.{Differ, by_connection}
+use Rattle.rx_history.proofs.DimsTaken.{used_dims}
+use Rattle.rx_history.proofs.Events.{call-by, calls-prepared}
+use Rattle.rx_history.proofs.FitConnTaken.{may_abort}
+use Rattle.rx_history.proofs.Openings.{channel_prepared}
+use Rattle.rx_history.proofs.Orderly.{Orderly, orderly_dims}
+use Rattle.rx_history.proofs.OrderlyHistory.{orderly_history}
+use Rattle.rx_history.proofs.ServerStands.{running-at}
 use Rattle.rx_plan.specs.Causes.{Silences}
 use Rattle.rx_plan.proofs.ChannelsHold.{IsOwnLatest}
 use Rattle.rx_plan.proofs.OwedCodes.{ConnOwes, MayOwe, MayOweBy, MayOweFor, Owed, owed_after}

@@ -16,10 +16,10 @@ use Rattle.rx_model.proofs.NameLaws.{number_itself, same_number}
 use Rattle.rx_rules.specs.After.{looks}
 use Rattle.rx_rules.specs.Rules.{Legal}
 use Rattle.rx_rules.specs.Setup.{Kind, Server, Client, FitsSetup, IsServer, is_client, named}
-use Rattle.rx_law.specs.Sides.{Node, side, GivesTo, IsClientAt}
+use Rattle.rx_history.specs.Sides.{Node, side, GivesTo, IsClientAt}
 use Rattle.rx_law.specs.Worlds.{AreApart, AreNodes, Datagram, Gave, bag, given_at, with_given}
-use Rattle.rx_law.proofs.Client.{StoppedBy}
-use Rattle.rx_law.proofs.Data.{OwnName}
+use Rattle.rx_history.proofs.Client.{StoppedBy}
+use Rattle.rx_history.proofs.Data.{OwnName}
 use Rattle.rx_law.proofs.Joint.{client-name, server-name}
 use Rattle.rx_law.proofs.World.{Giver, at-home, flagged-any, flagged-server, gave-mine, if-some, later-gave}
 use Rattle.rx_plan.proofs.ClientAborts.{HasEnded, IsOfEnded, client_aborts}

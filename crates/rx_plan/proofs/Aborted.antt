@@ -20,11 +20,11 @@ use Rattle.rx_rules.specs.Rules.{Legal}
 use Rattle.rx_rules.specs.Setup.{Setup, Server, Client, FitsSetup, named}
 use Rattle.rx_rules.proofs.EveryLaws.{Every}
 use Rattle.rx_law.specs.Promises.{EndsByAbort, at_client, ends_in}
-use Rattle.rx_law.specs.Sides.{Node, side}
-use Rattle.rx_law.specs.Starts.{StartsOnce}
-use Rattle.rx_law.specs.Streams.{end_at, said}
+use Rattle.rx_history.specs.Sides.{Node, side}
+use Rattle.rx_history.specs.Starts.{StartsOnce}
+use Rattle.rx_history.specs.Streams.{end_at, said}
 use Rattle.rx_law.specs.Worlds.{Carried, Gave, IsFrom, TwoEnds, World, bag}
-use Rattle.rx_law.proofs.Client.{StoppedBy}
+use Rattle.rx_history.proofs.Client.{StoppedBy}
 use Rattle.rx_law.proofs.Joint.{Fed, fed-at, legal-before, not-both, server-name}
 use Rattle.rx_law.proofs.Law.{law-of}
 use Rattle.rx_law.proofs.World.{if-some}

@@ -7,7 +7,7 @@ use Rattle.rx_model.proofs.NameLaws.{same_number}
 use Rattle.rx_rules.specs.After.{looks}
 use Rattle.rx_rules.specs.Rules.{Allowed, Legal}
 use Rattle.rx_rules.specs.Setup.{FitsSetup, IsServer}
-use Rattle.rx_law.specs.Sides.{IsClientAt, Node, side}
+use Rattle.rx_history.specs.Sides.{IsClientAt, Node, side}
 use Rattle.rx_law.specs.Worlds.{AreNodes, AreOf, Sides}
 use Rattle.rx_events.specs.Joint.{IsAllowedAt}
 

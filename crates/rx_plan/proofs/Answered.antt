@@ -18,12 +18,12 @@ use Rattle.rx_rules.specs.Rules.{Legal}
 use Rattle.rx_rules.specs.Setup.{Setup, Kind, Client, Server, FitsSetup, IsServer}
 use Rattle.rx_law.specs.Promises.{EndsAs}
 use Rattle.rx_law.specs.Promises.{ServerForgotNone, ends_in}
-use Rattle.rx_law.specs.Sides.{Node, side}
-use Rattle.rx_law.specs.Streams as streams
+use Rattle.rx_history.specs.Sides.{Node, side}
+use Rattle.rx_history.specs.Streams as streams
 use Rattle.rx_law.specs.Times.{Timely}
 use Rattle.rx_law.specs.Worlds.{AreNodes, Sides, TwoEnds, World}
-use Rattle.rx_law.proofs.ClientHistory.{client-calls}
-use Rattle.rx_law.proofs.Data.{OwnName}
+use Rattle.rx_history.proofs.ClientHistory.{client-calls}
+use Rattle.rx_history.proofs.Data.{OwnName}
 use Rattle.rx_law.proofs.Joint.{Fed}
 use Rattle.rx_law.proofs.Law.{law-of}
 use Rattle.rx_law.proofs.World.{if-some}

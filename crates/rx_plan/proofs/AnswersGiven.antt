@@ -24,12 +24,12 @@ use Rattle.rx_rules.specs.Records.{silenced}
 use Rattle.rx_rules.specs.Rules.{AllowedAt, Legal}
 use Rattle.rx_rules.specs.Setup.{Client, FitsSetup, Kind, Server, Setup, named}
 use Rattle.rx_rules.proofs.EveryLaws.{Every}
-use Rattle.rx_law.specs.Givings.{GivesItem, GivesStray}
-use Rattle.rx_law.specs.Sides.{GivesTo}
+use Rattle.rx_history.specs.Givings.{GivesItem, GivesStray}
+use Rattle.rx_history.specs.Sides.{GivesTo}
 use Rattle.rx_law.specs.Worlds.{Gave}
-use Rattle.rx_law.proofs.Data.{OwnName}
-use Rattle.rx_law.proofs.GivingItems.{item_name}
-use Rattle.rx_law.proofs.Givings.{next_is, poll_gives}
+use Rattle.rx_history.proofs.Data.{OwnName}
+use Rattle.rx_history.proofs.GivingItems.{item_name}
+use Rattle.rx_history.proofs.Givings.{next_is, poll_gives}
 use Rattle.rx_law.proofs.Joint.{gives-at, polled-is}
 use Rattle.rx_plan.proofs.AbortCauses.{named_row, ready_here, taken_is}
 use Rattle.rx_plan.proofs.ChannelsHold.{Channels, IsOwnLatest, channel_changed, channel_here, channels_changed}

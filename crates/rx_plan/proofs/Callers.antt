@@ -14,7 +14,7 @@ use Rattle.rx_model.proofs.NameLaws.{number_itself, same_number}
 use Rattle.rx_rules.specs.After.{looks}
 use Rattle.rx_rules.specs.Rules.{Allowed, AllowedAt}
 use Rattle.rx_rules.specs.Setup.{Kind, Server, Client, IsServer}
-use Rattle.rx_law.specs.Sides.{Node, side}
+use Rattle.rx_history.specs.Sides.{Node, side}
 use Rattle.rx_law.specs.Worlds.{AreNodes}
 use Rattle.rx_law.proofs.World.{and-some}
 use Rattle.rx_asks.specs.Asks.{Asking, Cancels, IsAsked, Offers, Reads, Shuts, heard}

@@ -20,12 +20,12 @@ use Rattle.rx_rules.specs.Records.{silenced, unless_silent}
 use Rattle.rx_rules.specs.Rules.{AllowedAt, Legal}
 use Rattle.rx_rules.specs.Setup.{FitsSetup, Setup, named, nonce_of}
 use Rattle.rx_rules.proofs.CallsLaws.{call_at-on_calls}
-use Rattle.rx_law.specs.Givings.{GivesItem, GivesStray}
-use Rattle.rx_law.specs.Sides.{GivesTo}
+use Rattle.rx_history.specs.Givings.{GivesItem, GivesStray}
+use Rattle.rx_history.specs.Sides.{GivesTo}
 use Rattle.rx_law.specs.Worlds.{Gave}
-use Rattle.rx_law.proofs.GivenLaws.{silent-name}
-use Rattle.rx_law.proofs.GivingItems.{item_name}
-use Rattle.rx_law.proofs.Givings.{poll_gives}
+use Rattle.rx_history.proofs.GivenLaws.{silent-name}
+use Rattle.rx_history.proofs.GivingItems.{item_name}
+use Rattle.rx_history.proofs.Givings.{poll_gives}
 use Rattle.rx_law.proofs.Joint.{gives-at, polled-is}
 use Rattle.rx_plan.proofs.ItemsTell.{ChannelTells, IsPlain, next_tells}
 

@@ -13,7 +13,7 @@ use Rattle.rx_rules.specs.Records.{fresh_conn}
 use Rattle.rx_rules.proofs.ConnsLaws.{conn_if, number_of}
 use Rattle.rx_rules.proofs.EveryLaws.{Every}
 use Rattle.rx_rules.proofs.FindLaws.{find_passes}
-use Rattle.rx_law.proofs.Differ.{Differ, by_connection, every_found, every_map, none_change}
+use Rattle.rx_history.proofs.Differ.{Differ, by_connection, every_found, every_map, none_change}
 
 -- ---- a list with a changed place
 

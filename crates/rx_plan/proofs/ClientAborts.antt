@@ -25,14 +25,14 @@ use Rattle.rx_rules.specs.Life as lives
 use Rattle.rx_rules.specs.Looks.{CallRecord, Looks, call_at, conn_at, is_call}
 use Rattle.rx_rules.specs.Rules.{AllowedAt, AllowedClient, Legal}
 use Rattle.rx_rules.specs.Setup.{Setup, Kind, Client, FitsSetup, is_client, named}
-use Rattle.rx_law.specs.Sides.{GivesTo}
-use Rattle.rx_law.specs.Streams.{end_at, end_by, end_of_life}
+use Rattle.rx_history.specs.Sides.{GivesTo}
+use Rattle.rx_history.specs.Streams.{end_at, end_by, end_of_life}
 use Rattle.rx_law.specs.Worlds.{Gave}
-use Rattle.rx_law.proofs.Data.{OwnName}
-use Rattle.rx_law.proofs.Events.{call-by, calls-prepared}
-use Rattle.rx_law.proofs.FitConnTaken.{may_abort}
+use Rattle.rx_history.proofs.Data.{OwnName}
+use Rattle.rx_history.proofs.Events.{call-by, calls-prepared}
+use Rattle.rx_history.proofs.FitConnTaken.{may_abort}
 use Rattle.rx_law.proofs.Joint.{gives-at, polled-is}
-use Rattle.rx_law.proofs.OrderlyHistory.{orderly_history}
+use Rattle.rx_history.proofs.OrderlyHistory.{orderly_history}
 use Rattle.rx_law.proofs.World.{Mine, gave-mine}
 use Rattle.rx_asks.specs.History.{IsCalled}
 use Rattle.rx_plan.proofs.AbortCauses.{cancelled_live, live_latest, owed_weaker, ready_latest, taken_is}

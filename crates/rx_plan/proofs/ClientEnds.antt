@@ -23,14 +23,14 @@ use Rattle.rx_rules.specs.Rules.{AllowedAt, AllowedClient, Legal}
 use Rattle.rx_rules.specs.Setup.{Setup, Kind, Client, FitsSetup, is_client, named, sending_window}
 use Rattle.rx_rules.proofs.CallsLaws.{KeepsNames, call_at-on_call, changed_if}
 use Rattle.rx_rules.proofs.ConnsLaws.{number_of}
-use Rattle.rx_law.specs.Streams.{end_at, end_by, end_of_life}
-use Rattle.rx_law.proofs.Client.{fresh-call}
-use Rattle.rx_law.proofs.ClientHistory.{client-calls}
-use Rattle.rx_law.proofs.Conns.{Conns}
-use Rattle.rx_law.proofs.Openings.{channel_prepared}
-use Rattle.rx_law.proofs.RowsInFront.{above_served, may_start}
-use Rattle.rx_law.proofs.SoundLaws.{Below, Sound}
-use Rattle.rx_law.proofs.Takes.{call_at-any}
+use Rattle.rx_history.specs.Streams.{end_at, end_by, end_of_life}
+use Rattle.rx_history.proofs.Client.{fresh-call}
+use Rattle.rx_history.proofs.ClientHistory.{client-calls}
+use Rattle.rx_history.proofs.Conns.{Conns}
+use Rattle.rx_history.proofs.Openings.{channel_prepared}
+use Rattle.rx_history.proofs.RowsInFront.{above_served, may_start}
+use Rattle.rx_history.proofs.SoundLaws.{Below, Sound}
+use Rattle.rx_history.proofs.Takes.{call_at-any}
 use Rattle.rx_asks.specs.History.{IsCalled}
 use Rattle.rx_asks.proofs.Kept.{GoesOn, Kept, on-end, on-refl}
 use Rattle.rx_asks.proofs.KeptEvents.{StartsNoCall, kept_after}

@@ -14,8 +14,8 @@ use Rattle.rx_rules.specs.After.{is_zero, looks}
 use Rattle.rx_rules.specs.Looks.{Looks}
 use Rattle.rx_rules.specs.Rules.{AllowedAt, Legal}
 use Rattle.rx_rules.specs.Setup.{Setup, Kind, Server, Client, IsServer}
-use Rattle.rx_law.specs.Sides.{side}
-use Rattle.rx_law.proofs.Client.{StoppedBy}
+use Rattle.rx_history.specs.Sides.{side}
+use Rattle.rx_history.proofs.Client.{StoppedBy}
 use Rattle.rx_wire.specs.Turns.{noted}
 use Rattle.rx_plan.specs.Causes.{IsSilenced}
 use Rattle.rx_plan.proofs.AbortCauses.{GivesCode, HasCode, LaterBy, WrongBy}

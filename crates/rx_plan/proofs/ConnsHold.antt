@@ -31,7 +31,7 @@ use Rattle.rx_rules.specs.Records.{with_conn}
 use Rattle.rx_rules.specs.Setup.{Client, IsServer, Kind, Server, Setup, is_client, named}
 use Rattle.rx_rules.proofs.ConnsLaws.{conn_if}
 use Rattle.rx_rules.proofs.EveryLaws.{Every, every-append}
-use Rattle.rx_law.proofs.Differ.{every_map}
+use Rattle.rx_history.proofs.Differ.{every_map}
 
 -- a change of a channel that owes no code and no RESPONSE anew, and starts no call
 pub record Clears (f : ChannelLooks → ChannelLooks) : Type 0 where

@@ -10,9 +10,9 @@ use Rattle.rx_model.specs.Names.{same_name}
 use Rattle.rx_model.proofs.NameLaws.{both, name_is, same_number}
 use Rattle.rx_rules.specs.Rules.{Legal}
 use Rattle.rx_rules.specs.Setup.{Setup}
-use Rattle.rx_law.specs.Counts.{Once, finishes, times_finished}
-use Rattle.rx_law.specs.Sides.{side}
-use Rattle.rx_law.specs.Starts.{StartsOnce}
+use Rattle.rx_history.specs.Counts.{Once, finishes, times_finished}
+use Rattle.rx_history.specs.Sides.{side}
+use Rattle.rx_history.specs.Starts.{StartsOnce}
 use Rattle.rx_plan.proofs.Finishing.{once_before}
 
 -- ---- splits of a history

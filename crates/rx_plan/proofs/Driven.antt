@@ -15,7 +15,7 @@ use Rattle.rx_asks.specs.declared.ask.TheConstants.{REPLY_BYTES}
 use Rattle.rx_jobs.specs.Dispatching.{Turning, accepts, dispatching, over}
 use Rattle.rx_jobs.specs.Handlers.{Handlers}
 use Rattle.rx_jobs.specs.Jobs.{Ask, IsCall, JobState}
-use Rattle.rx_law.specs.Sides.{Node, moment}
+use Rattle.rx_history.specs.Sides.{Node, moment}
 use Rattle.rx_law.specs.Worlds.{Datagram}
 use Rattle.rx_events.specs.Events.{IsAsked, IsCalled, IsCancelled, IsClocked, IsPolled, IsTaken}
 use Rattle.rx_events.specs.Joint.{IsAllowedAt}

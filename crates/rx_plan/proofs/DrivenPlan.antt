@@ -12,7 +12,7 @@ use Rattle.xdr_value.specs.View.{values_of}
 use Rattle.rx_jobs.specs.Dispatching.{over}
 use Rattle.rx_jobs.specs.Handlers.{Handlers}
 use Rattle.rx_jobs.specs.Jobs.{JobState}
-use Rattle.rx_law.specs.Sides.{Node, side}
+use Rattle.rx_history.specs.Sides.{Node, side}
 use Rattle.rx_script.specs.Procs.{proc_named}
 use Rattle.rx_script.specs.declared.outcome.PlanWhy.TheVariants as causes
 use Rattle.rx_script.specs.declared.plan.Numbered.{Numbered}

@@ -17,17 +17,18 @@ use Rattle.rx_rules.specs.Life.{after_finish}
 use Rattle.rx_rules.specs.Looks.{CallRecord, Looks, call_at, on_looks}
 use Rattle.rx_rules.specs.Rules.{AllowedServer, Legal, served_finish}
 use Rattle.rx_rules.specs.Setup.{Setup, Client, IsServer}
-use Rattle.rx_law.specs.Counts.{Once}
+use Rattle.rx_history.specs.Counts.{Once}
 use Rattle.rx_law.specs.Promises.{EndsOk, RequestWhole, ServerForgotNone, ends_in}
-use Rattle.rx_law.specs.Sides.{Node, side}
-use Rattle.rx_law.specs.Starts.{StartsOnce}
-use Rattle.rx_law.specs.Streams as streams
-use Rattle.rx_law.specs.Times.{ForgotNone, Timely}
+use Rattle.rx_history.specs.Sides.{Node, side}
+use Rattle.rx_history.specs.Starts.{StartsOnce}
+use Rattle.rx_history.specs.Streams as streams
+use Rattle.rx_law.specs.Times.{Timely}
+use Rattle.rx_history.specs.Alone.{ForgotNone}
 use Rattle.rx_law.specs.Worlds.{TwoEnds, World}
-use Rattle.rx_law.proofs.Ends.{ends_of}
+use Rattle.rx_history.proofs.Ends.{ends_of}
 use Rattle.rx_law.proofs.Joint.{between, Fed, Grown, client-grown, fed-at, fed-before, server-grown}
 use Rattle.rx_law.proofs.Law.{law-of}
-use Rattle.rx_law.proofs.OnceLaw.{served}
+use Rattle.rx_history.proofs.OnceLaw.{served}
 use Rattle.rx_law.proofs.StartsTimed.{starts-once}
 use Rattle.rx_law.proofs.World.{if-some, world-fed, world-fed-by}
 use Rattle.rx_law.proofs.WorldTimed.{world-lately}

@@ -11,9 +11,9 @@ use Rattle.rx_rules.specs.Looks.{Looks, call_at}
 use Rattle.rx_rules.specs.Rules.{AllowedServer, Legal}
 use Rattle.rx_rules.specs.Setup.{Setup, IsServer}
 use Rattle.rx_rules.proofs.EveryLaws.{Every}
-use Rattle.rx_law.specs.Counts.{Once, times_accepted}
-use Rattle.rx_law.specs.Starts.{StartsOnce}
-use Rattle.rx_law.proofs.OnceLaw.{served}
+use Rattle.rx_history.specs.Counts.{Once, times_accepted}
+use Rattle.rx_history.specs.Starts.{StartsOnce}
+use Rattle.rx_history.proofs.OnceLaw.{served}
 use Rattle.rx_jobs.specs.Dispatching.{Turning, accepts, serves, over, dispatching}
 use Rattle.rx_jobs.specs.Handlers.{Handlers}
 use Rattle.rx_jobs.specs.History.{Drives, gives, handles, is_accept, life_of, turn_calls}

@@ -7,8 +7,8 @@ use Rattle.rx_model.specs.declared.names.CallName.{CallName}
 use Rattle.rx_rules.specs.After.{looks}
 use Rattle.rx_rules.specs.Rules.{Legal}
 use Rattle.rx_law.specs.Promises.{at_client}
-use Rattle.rx_law.specs.Sides.{side}
-use Rattle.rx_law.specs.Streams.{end_at}
+use Rattle.rx_history.specs.Sides.{side}
+use Rattle.rx_history.specs.Streams.{end_at}
 use Rattle.rx_law.specs.Worlds.{TwoEnds}
 use Rattle.rx_law.proofs.Joint.{Fed, fed-before}
 use Rattle.rx_plan.proofs.ClientEnds.{end_stays}

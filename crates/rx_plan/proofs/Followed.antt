@@ -12,9 +12,9 @@ use Rattle.rx_model.proofs.NameLaws.{name_sym, number_itself, same_number}
 use Rattle.rx_rules.specs.After.{looks}
 use Rattle.rx_rules.specs.Rules.{Allowed, AllowedAt, Legal}
 use Rattle.rx_rules.specs.Setup.{Setup, Kind, FitsSetup}
-use Rattle.rx_law.specs.Sides.{Node, side}
+use Rattle.rx_history.specs.Sides.{Node, side}
 use Rattle.rx_law.specs.Worlds.{AreNodes}
-use Rattle.rx_law.proofs.ClientHistory.{client-calls}
+use Rattle.rx_history.proofs.ClientHistory.{client-calls}
 use Rattle.rx_law.proofs.World.{and-some, if-some}
 use Rattle.rx_asks.specs.Asks.{Asking, IsAsked, begun as caller_begun, calling, heard}
 use Rattle.rx_asks.specs.History.{Drives, LeavesCall}

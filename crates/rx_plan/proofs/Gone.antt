@@ -23,11 +23,11 @@ use Rattle.rx_rules.specs.Rules.{AllowedServer, Legal, served_by, served_finish,
 use Rattle.rx_rules.specs.Rules.{served_read_got, served_write}
 use Rattle.rx_rules.specs.Setup.{Setup, IsServer}
 use Rattle.rx_rules.specs.Slots.{room}
-use Rattle.rx_law.specs.Starts.{StartsNew, StartsOnce}
-use Rattle.rx_law.proofs.OnceLaw.{served}
+use Rattle.rx_history.specs.Starts.{StartsNew, StartsOnce}
+use Rattle.rx_history.proofs.OnceLaw.{served}
 use Rattle.rx_jobs.specs.History.{gives, handles, life_of}
 use Rattle.rx_jobs.specs.Lives.{has_gone, tells_gone}
-use Rattle.rx_law.proofs.LifeFalls.{Falls, end_falls}
+use Rattle.rx_history.proofs.LifeFalls.{Falls, end_falls}
 use Rattle.rx_plan.proofs.Passed.{none_passed, passed_in}
 use Rattle.rx_plan.proofs.Holding.{holds-on_call, holds-on_life, holds_after}
 use Rattle.rx_plan.proofs.Passing.{starts_anew}

@@ -24,7 +24,7 @@ use Rattle.rx_jobs.specs.Jobs.{Ask, accept, IsCall, JobState, Moving, ask_of, be
 use Rattle.rx_jobs.specs.Jobs.{decided, grown, heard, heard_read, heard_write, is_staying, judged, maybe_coded}
 use Rattle.rx_jobs.specs.Jobs.{moving, serving, settled, settled_by, trimmed, waits, want_in}
 use Rattle.rx_jobs.specs.Keeping.{kept_of}
-use Rattle.rx_law.specs.Counts.{accepts as is_accept_of, times_accepted}
+use Rattle.rx_history.specs.Counts.{accepts as is_accept_of, times_accepted}
 use Rattle.rx_script.specs.Served.{Served}
 use Rattle.rx_script.specs.Served as serveds
 use Rattle.rx_plan.proofs.Passing.{AcceptsFresh}

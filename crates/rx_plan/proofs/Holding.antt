@@ -43,8 +43,8 @@ use Rattle.rx_rules.proofs.StartLaws.{call_at-new, call_at-other}
 use Rattle.rx_plan.proofs.Passed.{LeavesStreams, StartsAnew, StartsAnewAt, StartsAnewBy, StartsAnewOf}
 use Rattle.rx_plan.proofs.Passed.{challenged-calls, none_passed, passed_in, prepared-calls, taken-leaves}
 use Rattle.rx_plan.proofs.Passed.{turned-calls}
-use Rattle.rx_law.proofs.LifeFalls.{Falls, accept_falls, acks_falls, code_falls, end_falls, finish_falls}
-use Rattle.rx_law.proofs.LifeFalls.{gone_falls, later_falls, silence_falls}
+use Rattle.rx_history.proofs.LifeFalls.{Falls, accept_falls, acks_falls, code_falls, end_falls, finish_falls}
+use Rattle.rx_history.proofs.LifeFalls.{gone_falls, later_falls, silence_falls}
 
 module _ (P : Option CallRecord → Type 0)
     (on_streams : (k : CallRecord) (new : CallLooks) → passed_in new ≡ passed_in k.looks → P (Some k)

@@ -6,8 +6,8 @@ use Rattle.rx_model.specs.declared.names.CallName.{CallName}
 use Rattle.rx_model.proofs.NameLaws.{same_number}
 use Rattle.rx_rules.specs.Rules.{Legal}
 use Rattle.rx_rules.specs.Setup.{Setup}
-use Rattle.rx_law.specs.Sides.{Node, side}
-use Rattle.rx_law.specs.Starts.{StartsOnce}
+use Rattle.rx_history.specs.Sides.{Node, side}
+use Rattle.rx_history.specs.Starts.{StartsOnce}
 use Rattle.rx_law.specs.Worlds.{Carried}
 use Rattle.rx_law.proofs.Joint.{legal-before}
 use Rattle.rx_wire.specs.Turns.{noted}

@@ -19,17 +19,17 @@ use Rattle.rx_rules.specs.Rules.{AllowedAt, Legal}
 use Rattle.rx_rules.specs.Setup.{Setup, Client, FitsSetup, IsServer, named}
 use Rattle.rx_rules.proofs.CallsLaws.{call_at-on_calls}
 use Rattle.rx_rules.proofs.ConnsLaws.{number_of}
-use Rattle.rx_law.specs.Givings.{GivesItem, GivesStray}
-use Rattle.rx_law.specs.Sides.{Node, side, GivesTo}
+use Rattle.rx_history.specs.Givings.{GivesItem, GivesStray}
+use Rattle.rx_history.specs.Sides.{Node, side, GivesTo}
 use Rattle.rx_law.specs.Worlds.{AreApart, AreNodes, Gave, bag}
-use Rattle.rx_law.proofs.ClientHistory.{client-calls}
-use Rattle.rx_law.proofs.GivenLaws.{silent-name}
-use Rattle.rx_law.proofs.GivingItems.{item_name}
-use Rattle.rx_law.proofs.Givings.{next_is, poll_gives}
+use Rattle.rx_history.proofs.ClientHistory.{client-calls}
+use Rattle.rx_history.proofs.GivenLaws.{silent-name}
+use Rattle.rx_history.proofs.GivingItems.{item_name}
+use Rattle.rx_history.proofs.Givings.{next_is, poll_gives}
 use Rattle.rx_law.proofs.Joint.{client-name, gives-at, polled-is, server-name}
-use Rattle.rx_law.proofs.OrderlyHistory.{orderly_history}
-use Rattle.rx_law.proofs.PlainBodies.{IsSent}
-use Rattle.rx_law.proofs.SoundLaws.{Below}
+use Rattle.rx_history.proofs.OrderlyHistory.{orderly_history}
+use Rattle.rx_history.proofs.PlainBodies.{IsSent}
+use Rattle.rx_history.proofs.SoundLaws.{Below}
 use Rattle.rx_law.proofs.World.{Giver, giver-client, if-some}
 use Rattle.rx_plan.proofs.AbortCauses.{LaterBy}
 use Rattle.rx_plan.proofs.AbortComes.{contains_in, giver_of}

@@ -27,16 +27,16 @@ use Rattle.rx_rules.specs.Setup.{IsServer, Setup, named, nonce_of}
 use Rattle.rx_rules.proofs.ConnsLaws.{number_of}
 use Rattle.rx_rules.proofs.EveryLaws.{Every}
 use Rattle.rx_rules.proofs.FindLaws.{find_passes}
-use Rattle.rx_law.specs.Starts.{StartsOnce}
-use Rattle.rx_law.proofs.Differ.{Differ, by_connection, every_found}
-use Rattle.rx_law.proofs.OnceLaw.{served}
-use Rattle.rx_law.proofs.TakenLaws.{abort-number, again-number}
+use Rattle.rx_history.specs.Starts.{StartsOnce}
+use Rattle.rx_history.proofs.Differ.{Differ, by_connection, every_found}
+use Rattle.rx_history.proofs.OnceLaw.{served}
+use Rattle.rx_history.proofs.TakenLaws.{abort-number, again-number}
 use Rattle.rx_plan.proofs.ChannelsHold.{Channels, channel_changed, channels_changed, fresh_channels}
 use Rattle.rx_plan.proofs.ConnsHold.{Bears, Lasts, MayTake, MayTakeFrom, MayTell, hold_after}
 use Rattle.rx_plan.proofs.Holding.{holds-on_call, holds-on_life, holds_after}
 use Rattle.rx_plan.proofs.Passed.{LeavesStreams, StartsAnewAt, StartsAnewBy, StartsAnewOf, prepared-calls}
 use Rattle.rx_plan.proofs.Passing.{starts_anew}
-use Rattle.rx_law.proofs.LifeFalls.{end_falls}
+use Rattle.rx_history.proofs.LifeFalls.{end_falls}
 
 -- a call that is there
 abbrev IsSome : Option CallRecord → Type 0

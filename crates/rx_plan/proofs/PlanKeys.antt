@@ -5,7 +5,7 @@ use Rattle.std.proofs.Common.{zero, ℕ, ◌==◌, ◌∙◌, ◌∷◌, ◌≡�
 use Rattle.rx_model.specs.declared.event.Noted.{Noted}
 use Rattle.rx_rules.specs.Setup.{Kind, Server}
 use Rattle.rx_rules.proofs.EveryLaws.{Every}
-use Rattle.rx_law.specs.Sides.{Node, side}
+use Rattle.rx_history.specs.Sides.{Node, side}
 use Rattle.rx_script.specs.declared.plan.Numbered.{Numbered}
 use Rattle.rx_script.specs.declared.plan.PlanLine.{PlanLine}
 use Rattle.rx_script.specs.declared.plan.PlanLine.TheVariants as lines

@@ -8,13 +8,14 @@ use Rattle.rx_rules.specs.Classes.{token}
 use Rattle.rx_rules.specs.Rules.{Legal}
 use Rattle.rx_rules.specs.Setup.{IsServer}
 use Rattle.rx_jobs.specs.Handlers.{Handlers}
-use Rattle.rx_law.specs.Counts.{Once}
-use Rattle.rx_law.specs.Promises.{Entered, LawIn, LawOf, ends_in}
-use Rattle.rx_law.specs.Sides.{Node, side}
-use Rattle.rx_law.specs.Times.{ForgotNone}
+use Rattle.rx_history.specs.Counts.{Once}
+use Rattle.rx_law.specs.Promises.{LawIn, LawOf, ends_in}
+use Rattle.rx_history.specs.Alone.{Entered}
+use Rattle.rx_history.specs.Sides.{Node, side}
+use Rattle.rx_history.specs.Alone.{ForgotNone}
 use Rattle.rx_law.specs.Worlds.{Carried, Sides, TwoEnds, World}
-use Rattle.rx_law.proofs.EnteredLaw.{entered_when_proved}
-use Rattle.rx_law.proofs.OnceLaw.{once_under_forgery}
+use Rattle.rx_history.proofs.EnteredLaw.{entered_when_proved}
+use Rattle.rx_history.proofs.OnceLaw.{once_under_forgery}
 use Rattle.rx_law.proofs.WorldLaw.{world-law}
 use Rattle.rx_script.specs.declared.plan.Numbered.{Numbered}
 use Rattle.rx_plan.specs.Follows.{Went, Whole, plan_goes}

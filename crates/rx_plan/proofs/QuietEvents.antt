@@ -6,7 +6,7 @@ use Rattle.rx_model.specs.declared.event.Noted.{Noted}
 use Rattle.rx_model.specs.declared.names.CallName.{CallName}
 use Rattle.rx_model.specs.declared.names.Host.{Host}
 use Rattle.rx_rules.proofs.EveryLaws.{Every}
-use Rattle.rx_law.specs.Sides.{Node}
+use Rattle.rx_history.specs.Sides.{Node}
 use Rattle.rx_asks.specs.Asks.{Asking, Cancels, IsAsked as IsAskedOf, Offers, Reads, Shuts}
 use Rattle.rx_jobs.specs.Jobs.{Ask, IsCall, accept, finish, read, write}
 use Rattle.rx_events.specs.Events.{IsAsked, IsCancelled, IsClocked, IsLinked, IsPolled, IsTaken}

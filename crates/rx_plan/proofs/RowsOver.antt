@@ -20,8 +20,8 @@ use Rattle.rx_rules.specs.Records.{started_later}
 use Rattle.rx_rules.specs.Sent.{is_all_given, is_strange_ack}
 use Rattle.rx_rules.specs.Setup.{Setup, Kind, Server, Client, sending_window}
 use Rattle.rx_rules.specs.Slots.{node_view}
-use Rattle.rx_law.proofs.FitConnTaken.{may_abort}
-use Rattle.rx_law.proofs.Takes.{call_at-any}
+use Rattle.rx_history.proofs.FitConnTaken.{may_abort}
+use Rattle.rx_history.proofs.Takes.{call_at-any}
 
 -- ---- the row of a live call says never that it is over
 

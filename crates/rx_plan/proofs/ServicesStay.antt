@@ -20,11 +20,11 @@ use Rattle.rx_rules.specs.Looks.{ChannelLooks, ConnLooks, Looks, fresh_channel}
 use Rattle.rx_rules.specs.Rules.{AllowedAt, Legal}
 use Rattle.rx_rules.specs.Setup.{Client, FitsSetup, IsServer, Kind, Server, Setup, named}
 use Rattle.rx_rules.proofs.EveryLaws.{Every}
-use Rattle.rx_law.specs.Givings.{GivesItem, GivesStray}
-use Rattle.rx_law.specs.Sides.{GivesTo}
+use Rattle.rx_history.specs.Givings.{GivesItem, GivesStray}
+use Rattle.rx_history.specs.Sides.{GivesTo}
 use Rattle.rx_law.specs.Worlds.{Gave}
-use Rattle.rx_law.proofs.Differ.{every_found}
-use Rattle.rx_law.proofs.Givings.{poll_gives}
+use Rattle.rx_history.proofs.Differ.{every_found}
+use Rattle.rx_history.proofs.Givings.{poll_gives}
 use Rattle.rx_law.proofs.Joint.{gives-at, polled-is}
 use Rattle.rx_plan.proofs.ConnsHold.{Bears, Lasts, MayLink, MayTake, MayTakeFrom, MayTell, bears_any, hold_after}
 

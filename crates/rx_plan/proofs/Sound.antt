@@ -8,7 +8,7 @@ use Rattle.rx_model.specs.declared.event.Event.{Event}
 use Rattle.rx_model.specs.declared.event.Event.TheVariants as events
 use Rattle.rx_model.specs.declared.event.Noted.{Noted}
 use Rattle.rx_model.specs.declared.names.Host.{Host}
-use Rattle.rx_law.specs.Sides.{Node}
+use Rattle.rx_history.specs.Sides.{Node}
 use Rattle.rx_law.specs.Worlds.{Carried, Datagram, IsFrom, bag}
 use Rattle.rx_events.specs.Joint.{IsAllowedAt}
 use Rattle.rx_wire.specs.Turns.{noted}

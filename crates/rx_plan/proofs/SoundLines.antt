@@ -12,7 +12,7 @@ use Rattle.rx_model.specs.declared.names.CallName.{CallName}
 use Rattle.rx_model.specs.declared.names.Host.{Host}
 use Rattle.rx_jobs.specs.Handlers.{Handlers}
 use Rattle.rx_jumbo.specs.Parts.{parts_of}
-use Rattle.rx_law.specs.Sides.{Node, moment}
+use Rattle.rx_history.specs.Sides.{Node, moment}
 use Rattle.rx_law.specs.Worlds.{Datagram, bag, given_at}
 use Rattle.rx_events.specs.Events.{IsAccepted, IsAsked, IsCalled, IsCancelled, IsClocked, IsFinished, IsLinked}
 use Rattle.rx_events.specs.Events.{IsPolled}

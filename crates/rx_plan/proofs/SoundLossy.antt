@@ -5,7 +5,7 @@ use Rattle.rand_pcg.specs.Lcg.{Lcg}
 use Rattle.rand_pcg.specs.Pcg.{pcg32}
 use Rattle.rx_model.specs.declared.event.Noted.{Noted}
 use Rattle.rx_jobs.specs.Handlers.{Handlers}
-use Rattle.rx_law.specs.Sides.{Node}
+use Rattle.rx_history.specs.Sides.{Node}
 use Rattle.rx_law.specs.Worlds.{Datagram}
 use Rattle.rx_events.specs.Waits.{any_lives}
 use Rattle.rx_plan.specs.Lossy.{Lossy, comes, fate_of, fated, gathered, lossy, lossy_round, lossy_rounds, stays}

@@ -13,7 +13,7 @@ use Rattle.rx_rules.specs.Setup.{FitsLimits, FitsSetup, IsServer}
 use Rattle.rx_class.specs.NullLaws.{null_fits}
 use Rattle.rx_token.specs.TokenLaws.{token_fits}
 use Rattle.rx_jobs.specs.Handlers.{Handlers}
-use Rattle.rx_law.specs.Sides.{IsClientAt, Node}
+use Rattle.rx_history.specs.Sides.{IsClientAt, Node}
 use Rattle.rx_law.specs.Worlds.{AreNodes}
 use Rattle.rx_script.specs.declared.outcome.PlanWhy.TheVariants as causes
 use Rattle.rx_script.specs.declared.plan.Numbered.{Numbered}

@@ -10,7 +10,7 @@ use Rattle.rx_model.specs.declared.names.Host.{Host}
 use Rattle.rx_model.specs.Names.{same_host}
 use Rattle.rx_model.proofs.NameLaws.{host_is}
 use Rattle.rx_jobs.specs.Handlers.{Handlers}
-use Rattle.rx_law.specs.Sides.{Node, moment}
+use Rattle.rx_history.specs.Sides.{Node, moment}
 use Rattle.rx_law.specs.Worlds.{Datagram, IsFrom, bag, given_at}
 use Rattle.rx_events.specs.Events.{IsClocked, IsPolled, IsTaken}
 use Rattle.rx_events.specs.Waits.{any_lives, least_wait}

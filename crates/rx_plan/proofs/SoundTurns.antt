@@ -7,7 +7,7 @@ use Rattle.rx_asks.specs.declared.ask.TheConstants.{REPLY_BYTES}
 use Rattle.rx_jobs.specs.Dispatching.{accepts, dispatching}
 use Rattle.rx_jobs.specs.Handlers.{Handlers}
 use Rattle.rx_jobs.specs.Jobs.{Ask, IsCall, accept, finish, read, write}
-use Rattle.rx_law.specs.Sides.{Node}
+use Rattle.rx_history.specs.Sides.{Node}
 use Rattle.rx_wire.specs.Turns.{Program, noted}
 use Rattle.rx_plan.specs.Network.{below}
 use Rattle.rx_plan.specs.Parts.{Came, To, Part, by_test, each, ends}

@@ -12,7 +12,7 @@ use Rattle.rx_rules.specs.Judging.{outer_row}
 use Rattle.rx_rules.specs.Rules.{Legal}
 use Rattle.rx_rules.specs.Setup.{Client, FitsSetup, IsServer, Kind, Server}
 use Rattle.rx_rules.proofs.EveryLaws.{Every}
-use Rattle.rx_law.specs.Sides.{Node, side}
+use Rattle.rx_history.specs.Sides.{Node, side}
 use Rattle.rx_law.specs.Worlds.{AreApart, AreNodes, Carried, Gave, IsFrom, bag}
 use Rattle.rx_law.proofs.Joint.{legal-before}
 use Rattle.rx_law.proofs.World.{Giver, Mine, gave-mine, if-some}

@@ -27,8 +27,8 @@ use Rattle.rx_rules.specs.Looks.{Looks, on_channel, on_looks}
 use Rattle.rx_rules.specs.Records.{silenced}
 use Rattle.rx_rules.specs.Setup.{Client, Kind, Server, Setup, named}
 use Rattle.rx_rules.proofs.EveryLaws.{Every, every-append}
-use Rattle.rx_law.proofs.ForgotLaws.{with-strays}
-use Rattle.rx_law.proofs.World.{strays-prepared}
+use Rattle.rx_history.proofs.ForgotLaws.{with-strays}
+use Rattle.rx_history.proofs.StraysStay.{strays-prepared}
 
 -- the DATA of another service or class that owes it
 pub record CameStray (s : Setup) (h : List Event) (x : Stray) : Type 0 where

@@ -40,8 +40,8 @@ use Rattle.rx_rules.specs.Slots.{node_view}
 use Rattle.rx_rules.proofs.CallsLaws.{KeepsNames, call_at-on_calls}
 use Rattle.rx_rules.proofs.FindLaws.{find_passes}
 use Rattle.rx_rules.proofs.StartLaws.{call_at-other}
-use Rattle.rx_law.proofs.Calls.{call-changed}
-use Rattle.rx_law.proofs.Takes.{call_at-any}
+use Rattle.rx_history.proofs.Calls.{call-changed}
+use Rattle.rx_history.proofs.Takes.{call_at-any}
 use Rattle.rx_plan.proofs.Passed.{challenged-calls, prepared-calls, turned-calls}
 use Rattle.rx_plan.proofs.ToldLives.{Tells, tells_accept, tells_acks, tells_cancel, tells_code, tells_end}
 use Rattle.rx_plan.proofs.ToldLives.{tells_finish, tells_gone, tells_later, tells_silence}

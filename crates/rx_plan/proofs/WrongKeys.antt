@@ -18,12 +18,12 @@ use Rattle.rx_rules.specs.Looks.{Looks, conn_at}
 use Rattle.rx_rules.specs.Rules.{Legal}
 use Rattle.rx_rules.specs.Setup.{Client, FitsSetup, IsServer, Kind, Server, is_client, named, nonce_of}
 use Rattle.rx_rules.proofs.ConnsLaws.{channel_number, number_of}
-use Rattle.rx_law.specs.Sides.{IsClientAt, Node, side}
-use Rattle.rx_law.specs.Starts.{StartsOnce}
+use Rattle.rx_history.specs.Sides.{IsClientAt, Node, side}
+use Rattle.rx_history.specs.Starts.{StartsOnce}
 use Rattle.rx_law.specs.Worlds.{AreApart, AreNodes, Carried, Gave, IsFrom, bag}
-use Rattle.rx_law.proofs.Data.{OwnName}
+use Rattle.rx_history.proofs.Data.{OwnName}
 use Rattle.rx_law.proofs.Joint.{client-name, legal-before, server-name}
-use Rattle.rx_law.proofs.OrderlyHistory.{orderly_history}
+use Rattle.rx_history.proofs.OrderlyHistory.{orderly_history}
 use Rattle.rx_law.proofs.World.{Giver, at-home, client-address, flagged-any, flagged-server, gave-mine, giver-server}
 use Rattle.rx_law.proofs.World.{if-some}
 use Rattle.rx_class.specs.NullLaws.{null_is_lawful}

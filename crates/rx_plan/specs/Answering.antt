@@ -17,8 +17,8 @@ use Rattle.rx_model.specs.Text.{end_text}
 use Rattle.rx_rules.specs.After.{looks}
 use Rattle.rx_asks.specs.declared.ask.TheConstants.{CC_UNMARSHAL}
 use Rattle.rx_law.specs.Promises.{EndsAs, ends_in}
-use Rattle.rx_law.specs.Sides.{Node, side}
-use Rattle.rx_law.specs.Streams.{said}
+use Rattle.rx_history.specs.Sides.{Node, side}
+use Rattle.rx_history.specs.Streams.{said}
 use Rattle.rx_jobs.specs.Handlers.{Handlers, served_for, wait_of}
 use Rattle.rx_reply.specs.Replies.{Returned, reply_line}
 use Rattle.rx_reply.specs.Sent.{sent_spelling}

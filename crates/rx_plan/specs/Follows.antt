@@ -7,7 +7,7 @@ use Rattle.rx_model.specs.declared.names.Limits.{Limits}
 use Rattle.rx_model.specs.declared.wire.TheConstants.{MIN_WINDOW, MAX_WINDOW}
 use Rattle.rx_rules.specs.Classes.{Class, null, token}
 use Rattle.rx_rules.specs.Setup.{Client, Server, unprompted}
-use Rattle.rx_law.specs.Sides.{Node}
+use Rattle.rx_history.specs.Sides.{Node}
 use Rattle.rx_jobs.specs.Handlers.{Handlers}
 use Rattle.rx_script.specs.declared.outcome.PlanWhy.{PlanWhy}
 use Rattle.rx_script.specs.declared.outcome.PlanWhy.TheVariants as causes

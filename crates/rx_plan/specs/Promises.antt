@@ -4,9 +4,10 @@ use Rattle.rx_model.specs.declared.event.Noted.{Noted}
 use Rattle.rx_model.specs.declared.names.CallName.{CallName}
 use Rattle.rx_rules.specs.Classes.{token}
 use Rattle.rx_rules.specs.Setup.{FitsKind}
-use Rattle.rx_law.specs.Counts.{Once}
-use Rattle.rx_law.specs.Promises.{Entered, LawIn, ServerForgotNone}
-use Rattle.rx_law.specs.Sides.{Node, side}
+use Rattle.rx_history.specs.Counts.{Once}
+use Rattle.rx_law.specs.Promises.{LawIn, ServerForgotNone}
+use Rattle.rx_history.specs.Alone.{Entered}
+use Rattle.rx_history.specs.Sides.{Node, side}
 use Rattle.rx_law.specs.Times.{Timely}
 use Rattle.rx_law.specs.Worlds.{AreApart}
 use Rattle.rx_script.specs.declared.plan.Numbered.{Numbered}

@@ -5,7 +5,7 @@ use Rattle.std.specs.List.{list_any}
 use Rattle.rx_model.specs.declared.event.Event.{Event}
 use Rattle.rx_model.specs.declared.event.Event.TheVariants as events
 use Rattle.rx_model.specs.declared.names.Host.{Host}
-use Rattle.rx_law.specs.Sides.{moment}
+use Rattle.rx_history.specs.Sides.{moment}
 use Rattle.rx_law.specs.Worlds.{Datagram}
 use Rattle.rx_jobs.specs.Handlers.{Handlers}
 use Rattle.rx_events.specs.Events.{IsClocked, IsPolled}

@@ -8,7 +8,7 @@ use Rattle.rx_model.specs.declared.names.CallName.{CallName}
 use Rattle.rx_model.specs.declared.names.Host.{Host}
 use Rattle.rx_asks.specs.View.{CallerState}
 use Rattle.rx_jobs.specs.Jobs.{JobState}
-use Rattle.rx_law.specs.Sides.{Node}
+use Rattle.rx_history.specs.Sides.{Node}
 use Rattle.rx_law.specs.Worlds.{Datagram}
 use Rattle.rx_events.specs.Joint.{IsAllowedAt}
 use Rattle.rx_rules.specs.Setup.{Kind, Server, Client}

@@ -13,7 +13,7 @@ use Rattle.rx_rules.specs.Received.{Received, front_of, packet_at, used_of}
 use Rattle.rx_rules.specs.Sent.{given_of, lowest_of}
 use Rattle.rx_rules.specs.Setup.{Kind, Client, Server, IsServer, is_client, named}
 use Rattle.rx_law.specs.Promises.{ends_in}
-use Rattle.rx_law.specs.Sides.{side}
+use Rattle.rx_history.specs.Sides.{side}
 use Rattle.rx_law.specs.Worlds.{Gave, TwoEnds}
 use Rattle.rx_law.proofs.Joint.{Fed, between}
 use Rattle.rx_between.specs.Acknowledged.{AreTrue, received_by, sent_by}

@@ -15,7 +15,7 @@ use Rattle.rx_rules.specs.CallLooks.{CallLooks, NodeView, after_chunk, after_tak
 use Rattle.rx_rules.specs.Received.{Packet, Received, arrival_row, front_of, greatest, packet_at, used_of}
 use Rattle.rx_rules.specs.Sent.{Sent, given_of, held_pieces, is_acked, lowest_of, pieces_by, pieces_of}
 use Rattle.rx_rules.proofs.PacketLaws.{kept_within}
-use Rattle.rx_law.proofs.UsedLaws.{front_next}
+use Rattle.rx_history.proofs.UsedLaws.{front_next}
 use Rattle.rx_between.specs.Acknowledged.{AreTrue}
 use Rattle.rx_between.specs.Agreed.{MakesSense}
 use Rattle.rx_between.proofs.Counting.{reach_fails, reach_least, reach_passes}

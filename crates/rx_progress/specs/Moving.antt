@@ -14,7 +14,7 @@ use Rattle.rx_rules.specs.Sent.{Sent, given_of, lowest_of}
 use Rattle.rx_rules.specs.Setup.{Setup, Client, is_client, named, receiving_window}
 use Rattle.rx_law.specs.Premises.{Held, HeldOnce}
 use Rattle.rx_law.specs.Promises.{ServerForgotNone, at_client, at_server, ends_in}
-use Rattle.rx_law.specs.Sides.{Node, side}
+use Rattle.rx_history.specs.Sides.{Node, side}
 use Rattle.rx_law.specs.Times.{Timely}
 use Rattle.rx_law.specs.Worlds.{Gave, TwoEnds, World}
 use Rattle.rx_between.specs.Acknowledged.{received_by, sent_by}

@@ -17,9 +17,9 @@ use Rattle.rx_rules.specs.Life as lives
 use Rattle.rx_rules.specs.Looks.{CallRecord, Looks, call_at}
 use Rattle.rx_rules.specs.Received.{Piece, packet_at}
 use Rattle.rx_rules.proofs.EveryLaws.{Every, every-append}
-use Rattle.rx_law.specs.Sides.{Node, side}
+use Rattle.rx_history.specs.Sides.{Node, side}
 use Rattle.rx_law.specs.Worlds.{World}
-use Rattle.rx_law.proofs.Ends.{ends_of}
+use Rattle.rx_history.proofs.Ends.{ends_of}
 use Rattle.rx_script.specs.declared.plan.Numbered.{Numbered}
 use Rattle.rx_script.specs.declared.plan.PlanLine.TheVariants as lines
 use Rattle.rx_jobs.specs.Handlers.{Handlers}

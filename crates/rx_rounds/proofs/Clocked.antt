@@ -6,8 +6,8 @@ use Rattle.std.proofs.lemmas.Bool.{ne_eqb}
 use Rattle.rx_model.specs.declared.event.Event.{Event}
 use Rattle.rx_model.specs.declared.event.Event.TheVariants as events
 use Rattle.rx_rules.specs.Looks.{Looks}
-use Rattle.rx_law.proofs.Moments.{now-side}
-use Rattle.rx_law.specs.Sides.{Node, moment}
+use Rattle.rx_history.proofs.Moments.{now-side}
+use Rattle.rx_history.specs.Sides.{Node, moment}
 use Rattle.rx_jobs.specs.Jobs.{JobState}
 use Rattle.rx_events.specs.Events.{IsClocked}
 use Rattle.rx_events.specs.Waits.{least_wait}

@@ -7,8 +7,8 @@ use Rattle.rx_model.specs.declared.event.Event.{Event}
 use Rattle.rx_model.specs.declared.event.Event.TheVariants as events
 use Rattle.rx_rules.specs.After.{looks}
 use Rattle.rx_rules.specs.Setup.{Setup}
-use Rattle.rx_law.proofs.Moments.{now-side}
-use Rattle.rx_law.specs.Sides.{moment, side}
+use Rattle.rx_history.proofs.Moments.{now-side}
+use Rattle.rx_history.specs.Sides.{moment, side}
 use Rattle.rx_events.specs.Events.{IsClocked}
 use Rattle.rx_events.specs.Waits.{least_wait}
 use Rattle.rx_plan.proofs.Callers.{side_other, side_own}

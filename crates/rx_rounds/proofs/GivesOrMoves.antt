@@ -15,8 +15,8 @@ use Rattle.rx_rules.specs.Setup.{is_client}
 use Rattle.rx_rules.specs.Least.{least_by}
 use Rattle.rx_rules.proofs.EveryLaws.{Every}
 use Rattle.rx_rules.specs.Records.{is_silent, silenced}
-use Rattle.rx_law.proofs.Moments.{now-side}
-use Rattle.rx_law.specs.Sides.{Node, moment, side}
+use Rattle.rx_history.proofs.Moments.{now-side}
+use Rattle.rx_history.specs.Sides.{Node, moment, side}
 use Rattle.rx_law.specs.Worlds.{Datagram}
 use Rattle.rx_jobs.specs.Handlers.{Handlers}
 use Rattle.rx_events.specs.Waits.{least_wait, over_nodes, wait_at}

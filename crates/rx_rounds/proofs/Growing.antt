@@ -5,7 +5,7 @@ use Rattle.std.specs.Prelude.{set, slice_get}
 use Rattle.rx_model.specs.declared.event.Event.{Event}
 use Rattle.rx_model.specs.declared.event.Noted.{Noted}
 use Rattle.rx_model.specs.declared.names.Host.{Host}
-use Rattle.rx_law.specs.Sides.{moment, side}
+use Rattle.rx_history.specs.Sides.{moment, side}
 use Rattle.rx_law.specs.Worlds.{Datagram}
 use Rattle.rx_asks.specs.declared.ask.TheConstants.{REPLY_BYTES}
 use Rattle.rx_asks.specs.Asks.{Asking, Cancels, IsAsked, Offers, Reads, Shuts, begun, calling}

@@ -11,7 +11,7 @@ use Rattle.rx_model.specs.declared.answers.Took.TheVariants as tooks
 use Rattle.rx_model.specs.declared.wire.TheConstants.{LAST_PACKET, REQUEST_ACK, ACK_REQUESTED}
 use Rattle.rx_model.specs.Body as bodies
 use Rattle.rx_model.specs.Message.{Message, has_flag}
-use Rattle.rx_law.proofs.UsedLaws.{used_within}
+use Rattle.rx_history.proofs.UsedLaws.{used_within}
 use Rattle.rx_rules.proofs.PacketLaws.{bytes_split, end_is}
 use Rattle.rx_rules.specs.CallLooks.{CallLooks, NodeView, after_taken, fresh_call, freed, has_lead, held, lead}
 use Rattle.rx_rules.specs.Owing.{Owed, at_once, delayed}

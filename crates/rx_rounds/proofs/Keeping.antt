@@ -17,7 +17,7 @@ use Rattle.rx_jobs.specs.Jobs.{JobState}
 use Rattle.rx_events.specs.Events.{IsTaken, IsClocked}
 use Rattle.rx_events.specs.Waits.{any_lives, least_wait}
 use Rattle.rx_wire.specs.Turns.{Program}
-use Rattle.rx_law.specs.Sides.{moment}
+use Rattle.rx_history.specs.Sides.{moment}
 use Rattle.rx_plan.specs.Network.{all_nodes, below, comes_to, delivers, is_for}
 use Rattle.rx_plan.specs.Parts.{Came, To, Then, by_test, each, ends}
 use Rattle.rx_plan.specs.Programs.{Turn, cut_there, goes, is_endless, is_over}

@@ -30,16 +30,16 @@ use Rattle.rx_rules.specs.Sent.{after_shut, after_write, nothing_sent, piece_at}
 use Rattle.rx_rules.specs.Setup.{Setup, Kind, Server, Client, FitsSetup, IsServer, is_client, named}
 use Rattle.rx_rules.proofs.EveryLaws.{Every}
 use Rattle.rx_law.specs.Promises.{ends_in}
-use Rattle.rx_law.specs.Sides.{Node, side}
-use Rattle.rx_law.specs.Starts.{StartsOnce}
+use Rattle.rx_history.specs.Sides.{Node, side}
+use Rattle.rx_history.specs.Starts.{StartsOnce}
 use Rattle.rx_law.specs.Worlds.{AreApart, AreNodes, Carried, Gave, IsFrom, World, bag}
 use Rattle.rx_law.proofs.Asks.{data-is}
-use Rattle.rx_law.proofs.Ends.{Ends, OneMore, ends_of}
+use Rattle.rx_history.proofs.Ends.{Ends, OneMore, ends_of}
 use Rattle.rx_law.proofs.Fronts.{ArePieces}
-use Rattle.rx_law.proofs.Server.{Arrives}
+use Rattle.rx_history.proofs.Server.{Arrives}
 use Rattle.rx_law.specs.Pieces.{IsAt, IsPiece}
 use Rattle.rx_law.proofs.Joint.{Fed, Grown, between, client-grown, client-name, legal-before, of_call, server-name}
-use Rattle.rx_law.proofs.OnceLaw.{served}
+use Rattle.rx_history.proofs.OnceLaw.{served}
 use Rattle.rx_law.proofs.ServerHistory.{server-serves, served-turn, spared-once}
 use Rattle.rx_law.proofs.World.{Giver, client-address, flagged-any, flagged-server, gave-mine, if-some, is_server}
 use Rattle.rx_law.proofs.World.{world-fed-by}

@@ -8,7 +8,7 @@ use Rattle.rx_model.specs.declared.answers.Took.{Took}
 use Rattle.rx_model.specs.declared.answers.Took.TheVariants as tooks
 use Rattle.rx_model.specs.Message.{Message, has_flag}
 use Rattle.rx_model.specs.declared.wire.TheConstants.{LAST_PACKET}
-use Rattle.rx_law.proofs.UsedLaws.{front_next, used_within}
+use Rattle.rx_history.proofs.UsedLaws.{front_next, used_within}
 use Rattle.rx_rules.specs.CallItems.{can_give}
 use Rattle.rx_rules.specs.CallLooks.{CallLooks, has_lead, after_taken}
 use Rattle.rx_rules.specs.Received.{Received, front_of, greatest, marks_of, packet_at, used_of}

@@ -11,7 +11,7 @@ use Rattle.rx_rules.specs.CallLooks.{CallLooks, after_read}
 use Rattle.rx_rules.specs.Life as lives
 use Rattle.rx_rules.specs.Looks.{CallRecord, Looks}
 use Rattle.rx_rules.specs.Rules.{Allowed, served_finish}
-use Rattle.rx_law.specs.Sides.{side}
+use Rattle.rx_history.specs.Sides.{side}
 use Rattle.rx_jobs.specs.declared.job.Phase.TheVariants as phases
 use Rattle.rx_jobs.specs.Dispatching.{Turning, dispatching, settle}
 use Rattle.rx_jobs.specs.Handlers.{Handlers, early_code}

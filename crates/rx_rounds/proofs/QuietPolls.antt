@@ -11,7 +11,7 @@ use Rattle.rx_rules.specs.After.{looks}
 use Rattle.rx_rules.specs.Items.{poll_answer}
 use Rattle.rx_rules.specs.Rules.{Allowed}
 use Rattle.rx_law.proofs.Joint.{polled-is}
-use Rattle.rx_law.specs.Sides.{Node, side}
+use Rattle.rx_history.specs.Sides.{Node, side}
 use Rattle.rx_law.specs.Worlds.{Datagram}
 use Rattle.rx_plan.proofs.Callers.{side_other, side_own}
 use Rattle.rx_plan.specs.Parts.{Came, To, each}

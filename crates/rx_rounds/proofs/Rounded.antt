@@ -2,7 +2,7 @@
 use Rattle.std.proofs.Common.{◌≡◌, ◌==◌, ℕ, zero, suc, not, ◌&&◌, Bool, true, false, List, [], ◌∷◌, Option, Some, ap}
 use Rattle.std.proofs.Common.{subst, ◌∙◌, length}
 use Rattle.rx_model.specs.declared.event.Noted.{Noted}
-use Rattle.rx_law.specs.Sides.{Node}
+use Rattle.rx_history.specs.Sides.{Node}
 use Rattle.rx_jobs.specs.Dispatching.{Turning, accepts, dispatching}
 use Rattle.rx_jobs.specs.Handlers.{Handlers}
 use Rattle.rx_asks.specs.declared.ask.TheConstants.{REPLY_BYTES}

@@ -16,7 +16,7 @@ use Rattle.rx_rules.specs.Life.{Life, is_active, is_live}
 use Rattle.rx_rules.specs.Life as lives
 use Rattle.rx_rules.specs.Looks.{CallRecord, Looks}
 use Rattle.rx_rules.specs.Setup.{Setup}
-use Rattle.rx_law.specs.Sides.{Node, moment}
+use Rattle.rx_history.specs.Sides.{Node, moment}
 use Rattle.rx_jobs.specs.Jobs.{JobState}
 use Rattle.rx_events.specs.Waits.{least_of, least_wait, over_nodes, wait_at}
 use Rattle.rx_plan.specs.Rounds.{may_move, settles}

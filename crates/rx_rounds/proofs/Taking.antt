@@ -16,7 +16,7 @@ use Rattle.rx_rules.specs.Sent.{held_pieces, is_all_given}
 use Rattle.rx_rounds.proofs.Exchange.{Burst, a_piece, ack_with, no_piece, piece_with}
 use Rattle.rx_rounds.proofs.Flow.{total}
 use Rattle.rx_rounds.proofs.Keeper.{count_kept, front_kept, greatest_kept, last_kept, packet_past, part_read, piece, used_few}
-use Rattle.rx_law.proofs.UsedLaws.{used_keeps}
+use Rattle.rx_history.proofs.UsedLaws.{used_keeps}
 use Rattle.rx_rounds.proofs.OneWay.{IsOwedBy, IsPlainOwed}
 use Rattle.rx_rounds.proofs.Pair.{Place, row_of, view_of}
 

@@ -14,7 +14,7 @@ use Rattle.rx_rules.specs.Items.{poll_answer}
 use Rattle.rx_rules.specs.Judging.{took_of}
 use Rattle.rx_rules.specs.Looks.{Looks}
 use Rattle.rx_rules.specs.Rules.{Allowed}
-use Rattle.rx_law.specs.Sides.{Node, side}
+use Rattle.rx_history.specs.Sides.{Node, side}
 use Rattle.rx_law.specs.Worlds.{Datagram}
 use Rattle.rx_jobs.specs.Jobs.{JobState}
 use Rattle.rx_events.specs.Events.{IsPolled, IsTaken}

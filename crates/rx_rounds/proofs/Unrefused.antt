@@ -6,7 +6,7 @@ use Rattle.std.specs.Prelude.{set, slice_get}
 use Rattle.rx_model.specs.declared.event.Event.{Event}
 use Rattle.rx_model.specs.declared.event.Noted.{Noted}
 use Rattle.rx_model.specs.declared.names.Host.{Host}
-use Rattle.rx_law.specs.Sides.{moment}
+use Rattle.rx_history.specs.Sides.{moment}
 use Rattle.rx_law.specs.Worlds.{Datagram}
 use Rattle.rx_script.specs.declared.outcome.PlanWhy.{PlanWhy}
 use Rattle.rx_asks.specs.Asks.{begun, calling}

@@ -10,7 +10,7 @@ use Rattle.rx_rules.specs.After.{looks}
 use Rattle.rx_rules.specs.Looks.{call_at}
 use Rattle.rx_rules.specs.Received.{packet_at}
 use Rattle.rx_rules.specs.Sent.{Sent, piece_at, nothing_sent, after_write, after_shut}
-use Rattle.rx_law.specs.Sides.{Node, side}
+use Rattle.rx_history.specs.Sides.{Node, side}
 use Rattle.rx_script.specs.declared.plan.Numbered.{Numbered}
 use Rattle.rx_script.specs.declared.plan.PlanLine.TheVariants as lines
 use Rattle.rx_jobs.specs.Handlers.{Handlers}

@@ -7,7 +7,7 @@ use Rattle.rx_rules.specs.Items.{due, poll_answer}
 use Rattle.rx_rules.specs.Looks.{Looks}
 use Rattle.rx_rules.specs.Records.{is_silent, silenced}
 use Rattle.rx_rules.specs.Setup.{Setup}
-use Rattle.rx_law.specs.Sides.{moment, side}
+use Rattle.rx_history.specs.Sides.{moment, side}
 use Rattle.rx_events.specs.Waits.{least_wait}
 use Rattle.rx_plan.specs.Parts.{To}
 use Rattle.rx_plan.specs.Rounds.{Polled, may_move, polls, settles}

@@ -20,13 +20,13 @@ use Rattle.rx_rules.specs.Received.{front_of, used_of}
 use Rattle.rx_rules.specs.Rules.{served_by, served_finish}
 use Rattle.rx_rules.specs.Setup.{Client, Kind, Server, Setup, is_client}
 use Rattle.rx_rules.proofs.CallsLaws.{changed_if}
-use Rattle.rx_law.proofs.Differ.{every_found}
-use Rattle.rx_law.proofs.DimsEvents.{finish_dims}
-use Rattle.rx_law.proofs.LifeFalls.{is_begun}
-use Rattle.rx_law.proofs.RoomShut.{roomy_finished}
-use Rattle.rx_law.proofs.RoomStarts.{RoomyAt}
-use Rattle.rx_law.proofs.TakenLaws.{abort-number}
-use Rattle.rx_law.proofs.Tight.{TightOf}
+use Rattle.rx_history.proofs.Differ.{every_found}
+use Rattle.rx_history.proofs.DimsEvents.{finish_dims}
+use Rattle.rx_history.proofs.LifeFalls.{is_begun}
+use Rattle.rx_history.proofs.RoomShut.{roomy_finished}
+use Rattle.rx_history.proofs.RoomStarts.{RoomyAt}
+use Rattle.rx_history.proofs.TakenLaws.{abort-number}
+use Rattle.rx_history.proofs.Tight.{TightOf}
 use Rattle.rx_recvwin.specs.Places.{leading}
 use Rattle.rx_recvwin.specs.Window.{window_of}
 use Rattle.rx_recvwin.proofs.Nearness.{front_is, used_is}

@@ -21,10 +21,10 @@ use Rattle.rx_rules.specs.Records.{started}
 use Rattle.rx_rules.specs.Setup.{Setup, sending_window}
 use Rattle.rx_rules.proofs.ConnsLaws.{channel_number, conn_if}
 use Rattle.rx_rules.proofs.EveryLaws.{Every, every-append, every-filter}
-use Rattle.rx_law.proofs.Dims.{Dims, Fades, Same, has_first}
-use Rattle.rx_law.proofs.DimsLeave.{numbers_stay}
-use Rattle.rx_law.proofs.Orderly.{Orderly}
-use Rattle.rx_law.proofs.Pairwise.{Pairwise}
+use Rattle.rx_history.proofs.Dims.{Dims, Fades, Same, has_first}
+use Rattle.rx_history.proofs.DimsLeave.{numbers_stay}
+use Rattle.rx_history.proofs.Orderly.{Orderly}
+use Rattle.rx_history.proofs.Pairwise.{Pairwise}
 use Rattle.rx_rules.proofs.StartLaws.{call_at-other}
 use Rattle.rx_node.proofs.ChannelSteps.{channel_unstarted, latest_unstarted, place_is}
 use Rattle.rx_node.specs.Mirrors.{IsChannel, channel_in}

@@ -30,9 +30,9 @@ use Rattle.rx_rules.specs.Slots.{node_view}
 use Rattle.rx_rules.proofs.CallsLaws.{call_at-on_call, changed_if}
 use Rattle.rx_rules.proofs.EveryLaws.{Every}
 use Rattle.rx_rules.proofs.FindLaws.{find_passes}
-use Rattle.rx_law.proofs.Dims.{Dims, Same, has_first}
-use Rattle.rx_law.proofs.DimsTaken.{data_dims, with_dims}
-use Rattle.rx_law.proofs.Events.{call-by}
+use Rattle.rx_history.proofs.Dims.{Dims, Same, has_first}
+use Rattle.rx_history.proofs.DimsTaken.{data_dims, with_dims}
+use Rattle.rx_history.proofs.Events.{call-by}
 use Rattle.rx_node.specs.Mirrors.{IsChannel, Mirrors, channel_in}
 use Rattle.rx_node.specs.Node.{NodeState, setup_of}
 use Rattle.rx_node.specs.Steps.{is_response}

@@ -18,9 +18,9 @@ use Rattle.rx_rules.specs.Looks.{CallRecord, ChannelLooks, Looks, call_at, call_
 use Rattle.rx_rules.specs.Looks.{fresh_channel, is_call, latest_name, on_life}
 use Rattle.rx_rules.specs.Records.{entered, started_later, used}
 use Rattle.rx_rules.specs.Setup.{FitsLimits, Kind, Setup, Server, Client, IsServer, receiving_window}
-use Rattle.rx_law.proofs.Events.{call-by, calls-prepared}
-use Rattle.rx_law.proofs.Openings.{channel_prepared}
-use Rattle.rx_law.proofs.Places.{is_none}
+use Rattle.rx_history.proofs.Events.{call-by, calls-prepared}
+use Rattle.rx_history.proofs.Openings.{channel_prepared}
+use Rattle.rx_history.proofs.Places.{is_none}
 use Rattle.rx_node.specs.Node.{setup_of}
 use Rattle.rx_node.proofs.ChannelSteps.{IsThere, channel_started}
 use Rattle.rx_node.proofs.KeptKeys.{key_on_channel}

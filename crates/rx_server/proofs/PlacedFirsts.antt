@@ -19,8 +19,8 @@ use Rattle.rx_rules.specs.Records.{fresh_conn, has_live, is_idle, placed}
 use Rattle.rx_rules.specs.Setup.{Setup}
 use Rattle.rx_rules.proofs.EveryLaws.{Every}
 use Rattle.rx_rules.proofs.FindLaws.{find-before, find-last}
-use Rattle.rx_law.proofs.Orderly.{Orderly}
-use Rattle.rx_law.proofs.Dims.{has_first}
+use Rattle.rx_history.proofs.Orderly.{Orderly}
+use Rattle.rx_history.proofs.Dims.{has_first}
 use Rattle.rx_node.specs.Mirrors.{channel_in}
 use Rattle.rx_queue.specs.Queue.{QueueState}
 use Rattle.rx_server.specs.Server.{FirstsStand, ReadyStand, lacks_at, lacks_on, waits, waits_at, waits_on}

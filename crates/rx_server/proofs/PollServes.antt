@@ -6,7 +6,7 @@ use Rattle.rx_rules.specs.After.{after, looks}
 use Rattle.rx_rules.specs.Classes.{Class}
 use Rattle.rx_rules.specs.Looks.{Looks}
 use Rattle.rx_rules.specs.Setup.{Setup}
-use Rattle.rx_law.proofs.DimsEvents.{polled_dims}
+use Rattle.rx_history.proofs.DimsEvents.{polled_dims}
 use Rattle.rx_node.specs.Mirrors.{Mirrors}
 use Rattle.rx_node.specs.Node.{KeepsNode, NodeState, setup_of}
 use Rattle.rx_node.specs.Steps.{AnswersNode}

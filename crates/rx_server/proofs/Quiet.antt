@@ -6,7 +6,7 @@ use Rattle.rx_rules.specs.Classes.{Class}
 use Rattle.rx_rules.specs.Looks.{Looks}
 use Rattle.rx_rules.specs.Rules.{Allowed, AllowedAt, AllowedServer}
 use Rattle.rx_rules.specs.Setup.{Client, Kind, Server}
-use Rattle.rx_law.proofs.Dims.{Dims}
+use Rattle.rx_history.proofs.Dims.{Dims}
 use Rattle.rx_node.specs.Mirrors.{Mirrors}
 use Rattle.rx_node.specs.Node.{NodeState, setup_of}
 use Rattle.rx_server.specs.Server.{Answered, IsServerOf, IsServing, ServerState, Serves}

@@ -15,8 +15,8 @@ use Rattle.rx_rules.specs.Rules.{can_enter}
 use Rattle.rx_rules.specs.Setup.{Setup}
 use Rattle.rx_rules.proofs.ConnsLaws.{conn_if}
 use Rattle.rx_rules.proofs.EveryLaws.{Every, every-append, every-filter, filter-passes}
-use Rattle.rx_law.proofs.Dims.{Dims}
-use Rattle.rx_law.proofs.Orderly.{Orderly}
+use Rattle.rx_history.proofs.Dims.{Dims}
+use Rattle.rx_history.proofs.Orderly.{Orderly}
 use Rattle.rx_due.specs.Book.{moment_of}
 use Rattle.rx_queue.specs.Queue.{QueueState, is_listed, is_ready}
 use Rattle.rx_node.specs.Mirrors.{IsChannel, channel_in}

@@ -27,7 +27,7 @@ use Rattle.rx_rules.specs.Looks.{CallRecord, ChannelLooks, Looks, call_at, is_ca
 use Rattle.rx_rules.specs.Looks.{on_life, on_looks}
 use Rattle.rx_rules.specs.Records.{silenced}
 use Rattle.rx_rules.specs.Setup.{Setup, is_client, named}
-use Rattle.rx_law.proofs.RowsInFront.{may_start}
+use Rattle.rx_history.proofs.RowsInFront.{may_start}
 use Rattle.rx_node.specs.Steps.{is_response}
 use Rattle.rx_books.specs.Polled.{proofs_of}
 use Rattle.rx_books.proofs.ProvedClients.{proofs_channel, proofs_conn}

@@ -19,7 +19,7 @@ use Rattle.rx_rules.specs.Records.{entered, used}
 use Rattle.rx_rules.specs.Setup.{Setup, is_client, receiving_window}
 use Rattle.rx_rules.specs.Received.{Arrival, Packet, arrival_row}
 use Rattle.rx_model.specs.declared.wire.TheConstants.{LAST_SEQ}
-use Rattle.rx_law.proofs.RowsInFront.{may_start}
+use Rattle.rx_history.proofs.RowsInFront.{may_start}
 use Rattle.rx_rules.specs.Slots.{node_view}
 
 -- ---- a place for the connection is looked for last

@@ -18,9 +18,9 @@ use Rattle.rx_rules.specs.Setup.{FitsLimits, Kind, Setup, nonce_of}
 use Rattle.rx_rules.proofs.ConnsLaws.{conn_if}
 use Rattle.rx_rules.proofs.EveryLaws.{Every, every-append, every-filter}
 use Rattle.rx_rules.proofs.FindLaws.{list_any-none}
-use Rattle.rx_law.proofs.Differ.{every_other}
-use Rattle.rx_law.proofs.DimsTaken.{used_dims, with_dims}
-use Rattle.rx_law.proofs.Dims.{Dims}
+use Rattle.rx_history.proofs.Differ.{every_other}
+use Rattle.rx_history.proofs.DimsTaken.{used_dims, with_dims}
+use Rattle.rx_history.proofs.Dims.{Dims}
 use Rattle.rx_queue.specs.Queue.{QueueState}
 use Rattle.rx_table.specs.Records.{ConnRecord}
 use Rattle.rx_node.specs.Mirrors.{IsChannel, IsKey, Mirrors}

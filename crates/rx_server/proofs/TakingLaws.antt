@@ -24,12 +24,12 @@ use Rattle.rx_rules.specs.Records.{entered, fresh_conn, has_place, idle_conn, is
 use Rattle.rx_rules.specs.Records.{with_conn}
 use Rattle.rx_rules.specs.Setup.{Setup, Kind, Server, Client, IsServer, is_client, receiving_window, sending_window}
 use Rattle.rx_rules.proofs.ConnsLaws.{channel_number, number_of}
-use Rattle.rx_law.proofs.Events.{call-by}
-use Rattle.rx_law.proofs.Places.{is_none}
-use Rattle.rx_law.proofs.Openings.{calls_ready, channel_prepared}
-use Rattle.rx_law.proofs.OrderlyOpens.{Opens}
-use Rattle.rx_law.proofs.OrderlyTaken.{opens_ready}
-use Rattle.rx_law.proofs.RowsInFront.{may_start}
+use Rattle.rx_history.proofs.Events.{call-by}
+use Rattle.rx_history.proofs.Places.{is_none}
+use Rattle.rx_history.proofs.Openings.{calls_ready, channel_prepared}
+use Rattle.rx_history.proofs.OrderlyOpens.{Opens}
+use Rattle.rx_history.proofs.OrderlyTaken.{opens_ready}
+use Rattle.rx_history.proofs.RowsInFront.{may_start}
 use Rattle.rx_node.proofs.ChannelSteps.{IsThere, channel_started, latest_started}
 use Rattle.rx_node.proofs.UsedConns.{live_by, used_same}
 use Rattle.rx_server.proofs.RowLaws.{early, fresh_row, prepared_enters, prepared_known, row_placed}

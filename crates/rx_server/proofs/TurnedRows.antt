@@ -16,7 +16,7 @@ use Rattle.rx_rules.specs.Judging.{Facts, facts_of, is_data, opened, own_row, se
 use Rattle.rx_rules.specs.Looks.{ConnLooks, Looks, channel_at, conn_at}
 use Rattle.rx_rules.specs.Setup.{Kind, Setup, Server, Client, IsServer}
 use Rattle.rx_rules.proofs.ConnsLaws.{channel_number, number_of}
-use Rattle.rx_law.proofs.Places.{is_none}
+use Rattle.rx_history.proofs.Places.{is_none}
 use Rattle.rx_server.proofs.RowLaws.{early, row_full, row_placed}
 
 -- ---- a row that is the same whatever the call answers

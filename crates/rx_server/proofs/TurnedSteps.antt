@@ -18,11 +18,11 @@ use Rattle.rx_rules.specs.Looks.{ChannelLooks, Looks, call_at, call_named, chann
 use Rattle.rx_rules.specs.Looks.{on_life}
 use Rattle.rx_rules.specs.Records.{used}
 use Rattle.rx_rules.specs.Setup.{Kind, Setup, Server, Client, IsServer}
-use Rattle.rx_law.proofs.Dims.{dims_channel, dims_life}
-use Rattle.rx_law.proofs.DimsTaken.{with_dims}
-use Rattle.rx_law.proofs.LifeFalls.{Falls}
-use Rattle.rx_law.proofs.Openings.{channel_prepared}
-use Rattle.rx_law.proofs.Places.{is_none}
+use Rattle.rx_history.proofs.Dims.{dims_channel, dims_life}
+use Rattle.rx_history.proofs.DimsTaken.{with_dims}
+use Rattle.rx_history.proofs.LifeFalls.{Falls}
+use Rattle.rx_history.proofs.Openings.{channel_prepared}
+use Rattle.rx_history.proofs.Places.{is_none}
 use Rattle.rx_node.specs.Mirrors.{Mirrors}
 use Rattle.rx_node.specs.Node.{NodeState, setup_of}
 use Rattle.rx_server.specs.Server.{IsServerOf, ServerState, Serves}

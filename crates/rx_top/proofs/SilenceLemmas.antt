@@ -3,9 +3,9 @@ use Rattle.std.proofs.Common.{◌≡◌, ◌⊎◌, ◌≤◌, ℕ, List, [], �
 use Rattle.std.proofs.Common.{IfOk, inl, inr, refl, subst}
 use Rattle.rx_asks.specs.View.{CallerState}
 use Rattle.rx_asks.specs.declared.ask.TheConstants.{CC_UNMARSHAL}
-use Rattle.rx_law.proofs.Client.{Silences}
-use Rattle.rx_law.proofs.ClientHistory.{called-turn, client-calls}
-use Rattle.rx_law.specs.Streams.{end_at}
+use Rattle.rx_history.proofs.Client.{Silences}
+use Rattle.rx_history.proofs.ClientHistory.{called-turn, client-calls}
+use Rattle.rx_history.specs.Streams.{end_at}
 use Rattle.rx_model.specs.declared.answers.End.{End}
 use Rattle.rx_model.specs.declared.answers.End.TheVariants as ends
 use Rattle.rx_model.specs.declared.event.Event.{Event}

@@ -11,7 +11,7 @@ use Rattle.std.proofs.lemmas.List.{length-map, length_push}
 use Rattle.rx_model.specs.declared.event.Noted.{Noted}
 use Rattle.rx_model.specs.declared.names.Host.{Host}
 use Rattle.rx_model.specs.declared.names.Limits.{Limits}
-use Rattle.rx_law.specs.Sides.{Node}
+use Rattle.rx_history.specs.Sides.{Node}
 use Rattle.rx_law.specs.Worlds.{AreOf}
 use Rattle.rx_nodes.specs.Nodes as nodes
 use Rattle.rx_nodes.specs.Nodes.{NodesState, Standing, nodes_of}

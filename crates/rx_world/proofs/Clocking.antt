@@ -7,7 +7,7 @@ use Rattle.std.proofs.Common.{◌+◌, ◌++◌, Result}
 use Rattle.std.specs.Result.{IsErr, IsErrAnd}
 use Rattle.std.proofs.lemmas.List.{length-map}
 use Rattle.std.proofs.lemmas.Bool.Decides.{nat_tests}
-use Rattle.rx_law.specs.Sides.{moment}
+use Rattle.rx_history.specs.Sides.{moment}
 use Rattle.rx_events.specs.Events.{IsClocked}
 use Rattle.rx_nodes.specs.Nodes.{IsNodeThere, KeepsOthers, NodesState, client_node, moment_of, nodes_of}
 use Rattle.rx_script.specs.declared.outcome.PlanWhy.TheVariants as causes

@@ -4,7 +4,7 @@ use Rattle.std.proofs.Common.{Option, Some}
 use Rattle.std.proofs.Common.{refl, sym, subst, ap, length, map, drop, arith, add-one, append_assoc}
 use Rattle.std.specs.Prelude.{slice_get, option_map, unwrap_or}
 use Rattle.std.proofs.lemmas.List.{drop-append-le, length-append, length-map}
-use Rattle.rx_law.specs.Sides.{Node}
+use Rattle.rx_history.specs.Sides.{Node}
 use Rattle.rx_law.specs.Worlds.{Datagram}
 use Rattle.rx_model.specs.declared.names.Host.{Host}
 use Rattle.rx_node.proofs.TableSteps.{decided}

@@ -8,7 +8,7 @@ use Rattle.std.specs.Prelude.{IsErr, IsErrAnd, nat_le, slice_get, option_map, un
 use Rattle.std.specs.List.{list_any}
 use Rattle.std.proofs.lemmas.Bool.Decides.{nat_tests}
 use Rattle.rx_model.specs.declared.event.Noted.{Noted}
-use Rattle.rx_law.specs.Sides.{moment}
+use Rattle.rx_history.specs.Sides.{moment}
 use Rattle.rx_law.specs.Worlds.{Datagram}
 use Rattle.rx_jobs.specs.Handlers.{Handlers}
 use Rattle.rx_events.specs.Events.{IsClocked}

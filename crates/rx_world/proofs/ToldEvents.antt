@@ -8,7 +8,7 @@ use Rattle.rx_model.specs.Telling.{FitsEvent, IsTold, IsToldNoted}
 use Rattle.rx_rules.specs.After.{looks}
 use Rattle.rx_rules.specs.Rules.{Allowed, Legal}
 use Rattle.rx_rules.specs.Setup.{Kind, Server, Client, IsServer, is_client}
-use Rattle.rx_law.specs.Sides.{IsClientAt, Node, side}
+use Rattle.rx_history.specs.Sides.{IsClientAt, Node, side}
 use Rattle.rx_law.specs.Worlds.{AreNodes}
 use Rattle.rx_law.proofs.LegalTold.{legal_told}
 use Rattle.rx_jobs.specs.Handlers.{Handlers}

@@ -8,7 +8,7 @@ ghost use Rattle.rx_rules.specs.Looks.{Looks, CallRecord, ConnLooks, call_named,
 ghost use Rattle.rx_rules.specs.Records.{fresh_conn, placed, used, started};
 ghost use Rattle.rx_rules.specs.Life.{after_code, is_active};
 ghost use Rattle.rx_rules.specs.Setup.{nonce_of, is_client};
-ghost use Rattle.rx_law.proofs.Orderly.{Orderly};
+ghost use Rattle.rx_history.proofs.Orderly.{Orderly};
 ghost use Rattle.rx_table.specs.Records.{IsLongestIdle, idle_since, place_of, seat_at};
 ghost use Rattle.rx_node.specs.Mirrors.{IsChannel, IsKey, Mirrors, StepsNode, IsActiveAt, StepsAt};
 ghost use Rattle.rx_node.specs.Node.{KeepsNode, KeepsSetup, setup_of, is_active_life, life_at};
@@ -16,7 +16,7 @@ ghost use Rattle.rx_rules.specs.After.{read_done, stopped_all, owing_abort, owin
 ghost use Rattle.rx_rules.specs.CallLooks.{after_shut, after_write};
 ghost use Rattle.rx_rules.specs.Received.{read_of};
 ghost use Rattle.rx_rules.specs.Slots.{room};
-ghost use Rattle.rx_law.proofs.RoomStarts.{RoomyAt};
+ghost use Rattle.rx_history.proofs.RoomStarts.{RoomyAt};
 ghost use Rattle.rx_recvwin.specs.Window.{given_count, tells_end};
 ghost use Rattle.rx_ends.specs.Ends.{HasShutSlot, IsUnshut};
 ghost use Rattle.rx_node.specs.Lives.{after_turn, is_of, life_of};

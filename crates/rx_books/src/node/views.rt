@@ -179,13 +179,7 @@ impl<C: Class> Node<C> {
     }
 
     /// What decides the rows of a message's connection and channel, by what a look-up of the channel gave.
-    pub fn facts(
-        &self,
-        channel: Option<u32>,
-        c: &CallName,
-        head: &Head,
-        body: &Body<'_>,
-    ) -> Facts
+    pub fn facts(&self, channel: Option<u32>, c: &CallName, head: &Head, body: &Body<'_>) -> Facts
         requires { IsFound C.class_of self.now c.now channel }
         ensures { (l : Looks) → Mirrors C.class_of self.now l → facts_seen result
             ≡ record (facts_of (setup_of C.class_of self.now) l c.now (message_of head.now body.now))

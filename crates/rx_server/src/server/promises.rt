@@ -3,9 +3,9 @@ ghost use Rattle.std.specs.Prelude.{◌≡◌, ℕ, List};
 ghost use Rattle.rx_model.specs.declared.event.Event.{Event};
 ghost use Rattle.rx_model.specs.declared.names.CallName.{CallName};
 ghost use Rattle.rx_rules.specs.Classes.{token};
-ghost use Rattle.rx_law.specs.Counts.{Once};
-ghost use Rattle.rx_law.specs.Promises.{Entered};
-ghost use Rattle.rx_law.specs.Times.{ForgotNone};
+ghost use Rattle.rx_history.specs.Counts.{Once};
+ghost use Rattle.rx_history.specs.Alone.{Entered};
+ghost use Rattle.rx_history.specs.Alone.{ForgotNone};
 ghost use Rattle.rx_node.specs.Node.{setup_of};
 ghost use Rattle.rx_server.specs.Server.{Stands};
 

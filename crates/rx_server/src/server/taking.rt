@@ -223,7 +223,14 @@ impl<C: Class> Server<C> {
     }
 
     /// A message for its channel's live call, or a data packet of a call with a higher number, which starts.
-    fn take_own(&mut self, is_above: bool, channel: Option<u32>, c: &CallName, head: &Head, body: &Body<'_>) -> Took
+    fn take_own(
+        &mut self,
+        is_above: bool,
+        channel: Option<u32>,
+        c: &CallName,
+        head: &Head,
+        body: &Body<'_>,
+    ) -> Took
         requires chan { c.now.chan < 4 }
         requires found { IsFound C.class_of self.old.node c.now channel }
         requires cid { c.now.cid + 3 < 2 ^ 32 }

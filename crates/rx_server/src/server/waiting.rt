@@ -20,7 +20,11 @@ use std::sync::ledger::Ledger;
 
 /// The first of the channels whose call may be given to a handler. Those that are ready before it, and whose call may
 /// not be given to one, are held.
-pub fn next_waiting<C: Class, L: Ledger>(firsts: &mut Queue, node: &Node<C>, steps: &mut Steps<L>) -> Option<u32>
+pub fn next_waiting<C: Class, L: Ledger>(
+    firsts: &mut Queue,
+    node: &Node<C>,
+    steps: &mut Steps<L>,
+) -> Option<u32>
     requires { Every (IsKey node.now) firsts.old.order }
     ensures order { firsts.new.order ≡ firsts.old.order }
     ensures room { length firsts.new.ready ≡ length firsts.old.ready }

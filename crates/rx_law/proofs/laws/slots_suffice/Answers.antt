@@ -1,4 +1,4 @@
-use Rattle.rx_law.proofs.Suffice.{slots_suffice}
+use Rattle.rx_history.proofs.Suffice.{slots_suffice}
 use Rattle.rx_law.proofs.laws.slots_suffice.Goals as goal
 
 pub returns : goal.returns

@@ -1,6 +1,6 @@
 use Rattle.std.proofs.Common.{arith, take}
 use Rattle.rx_rules.specs.CallLooks.{after_read}
-use Rattle.rx_law.proofs.HeldLaws.{beside_read}
+use Rattle.rx_history.proofs.HeldLaws.{beside_read}
 use Rattle.rx_recvwin.specs.Window.{given_count, tells_end}
 use Rattle.rx_ends.proofs.Changing.{counted_fits, counted_keeps, counted_steps, holds_of}
 use Rattle.rx_ends.proofs.ends.Ends.read_counted.Goals as goal

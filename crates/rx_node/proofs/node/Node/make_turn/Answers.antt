@@ -1,7 +1,7 @@
 use Rattle.std.proofs.Common.{◌≡◌, Some, true, subst}
 use Rattle.rx_rules.specs.Life.{Life, is_live}
 use Rattle.rx_rules.specs.Looks.{CallRecord, latest, latest_name, on_life}
-use Rattle.rx_law.proofs.LifeFalls.{Falls}
+use Rattle.rx_history.proofs.LifeFalls.{Falls}
 use Rattle.rx_node.specs.Lives.{after_turn, life_of}
 use Rattle.rx_node.specs.Mirrors.{Mirrors}
 use Rattle.rx_node.proofs.ActiveSteps.{no_call, reached_by}

@@ -6,8 +6,8 @@ use Rattle.rx_rules.specs.Life as lives
 use Rattle.rx_rules.specs.Looks.{Looks, call_named, latest_name, on_life}
 use Rattle.rx_rules.specs.Records.{started}
 use Rattle.rx_rules.specs.Setup.{Setup}
-use Rattle.rx_law.proofs.Orderly.{Orderly}
-use Rattle.rx_law.proofs.RoomStarts.{RoomyAt}
+use Rattle.rx_history.proofs.Orderly.{Orderly}
+use Rattle.rx_history.proofs.RoomStarts.{RoomyAt}
 use Rattle.rx_node.specs.Mirrors.{IsChannel, Mirrors}
 use Rattle.rx_node.specs.Node.{setup_of}
 use Rattle.rx_server.specs.Server.{ServerState, Serves}

@@ -51,8 +51,8 @@ invariant_of-self g c =
     c.requires.own in
     let firsts = c.list_behind.new.firsts in (
       first_serving class _ c.take-took.new.self c.args.key c.args.c.now
-    (message_of c.args.head.now c.args.body.now) c.take-took.result c.take-took.ensures.same
-    c.take-took.ensures.answered c.take-took.ensures.steps
+          (message_of c.args.head.now c.args.body.now) c.take-took.result c.take-took.ensures.same
+          c.take-took.ensures.answered c.take-took.ensures.steps
           (sym c.is_first.ensures ∙ c.if-is_first.true) firsts c.list_behind.ensures.order c.list_behind.ensures.keeps
           c.list_behind.ensures.ready some its c.self.invariant.0,
       subst (λ (k : Limits). 4 * k.conns ≤ length firsts.ready) (sym c.take-took.ensures.same.limits)
@@ -81,8 +81,8 @@ invariant_of-self-then-proves g c =
     c.requires.own in
     let firsts = c.admit_place.new.firsts in (
       proof_serving class _ c.take-took.new.self c.args.key c.args.c.now
-    (message_of c.args.head.now c.args.body.now) c.take-took.result c.take-took.ensures.same
-    c.take-took.ensures.answered c.take-took.ensures.steps
+          (message_of c.args.head.now c.args.body.now) c.take-took.result c.take-took.ensures.same
+          c.take-took.ensures.answered c.take-took.ensures.steps
           (sym c.proves.ensures ∙ c.if-proves.true) firsts c.admit_place.ensures.order c.admit_place.ensures.keeps
           c.admit_place.ensures.ready some c.self.invariant.0,
       subst (λ (k : Limits). 4 * k.conns ≤ length firsts.ready) (sym c.take-took.ensures.same.limits)
@@ -110,8 +110,8 @@ invariant_of-self-else-proves g c =
     let some = subst (λ (sv : ServerState). OwnsSome class sv c.args.key c.args.c.now) (sym c.self.view_is)
     c.requires.own in (
       other_serving class _ c.take-took.new.self c.args.key c.args.c.now
-    (message_of c.args.head.now c.args.body.now) c.take-took.result c.take-took.ensures.same
-    c.take-took.ensures.answered c.take-took.ensures.steps
+          (message_of c.args.head.now c.args.body.now) c.take-took.result c.take-took.ensures.same
+          c.take-took.ensures.answered c.take-took.ensures.steps
           (sym c.is_first.ensures ∙ c.if-is_first.false) (sym c.proves.ensures ∙ c.if-proves.false) some
           c.self.invariant.0,
       subst (λ (k : Limits). 4 * k.conns ≤ length c.self.inside.firsts.ready) (sym c.take-took.ensures.same.limits)

@@ -4,7 +4,7 @@ use Rattle.rx_model.specs.declared.names.Limits.{Limits}
 use Rattle.rx_model.specs.Names.{Channel, channel_of, connection_of}
 use Rattle.rx_model.specs.declared.wire.TheConstants.{RX_CALL_DEAD}
 use Rattle.rx_rules.specs.Life.{after_code}
-use Rattle.rx_law.proofs.LifeFalls.{code_falls}
+use Rattle.rx_history.proofs.LifeFalls.{code_falls}
 use Rattle.rx_rules.specs.Looks.{latest_name, on_life}
 use Rattle.rx_rules.specs.After.{owing_busy}
 use Rattle.rx_rules.specs.Looks.{Looks, on_channel}
