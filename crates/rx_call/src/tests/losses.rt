@@ -82,12 +82,6 @@ fn a_prompt_end_tells_a_hole_again_while_nothing_comes(rt: HostRuntime) -> Resul
         ] {
             assert_eq!(rt; reason_at(&mut call, now), reason);
         }
-        assert_eq!(rt;
-            take(&mut call, &mut pool, 50, &head(1, 9, 3), b"x"),
-            Took::Kept
-        );
-        assert_eq!(rt; reason_at(&mut call, 51), Some(1));
-        assert_eq!(rt; call.due(), None);
     }
     Ok(())
 }
