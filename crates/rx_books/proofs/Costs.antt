@@ -5,10 +5,8 @@ use Rattle.std.proofs.lemmas.List.{length-map}
 use Rattle.rx_due.specs.Book.{moment_of}
 use Rattle.rx_due.specs.Cost.{AtMost}
 use Rattle.rx_model.specs.Names.{Connection}
-use Rattle.rx_rules.specs.Classes.{Class}
 use Rattle.rx_rules.specs.Looks.{Looks}
-use Rattle.rx_table.specs.Records.{names}
-use Rattle.rx_node.specs.Mirrors.{IsKey, Mirrors}
+use Rattle.rx_node.specs.Mirrors.{IsKey}
 use Rattle.rx_node.specs.Node.{KeepsNode, NodeState}
 use Rattle.rx_books.specs.Books.{BooksState, HasEntries, IsBooked}
 use Rattle.rx_books.specs.Costs.{AtMostForPoll, silent_count}

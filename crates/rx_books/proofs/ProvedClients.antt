@@ -1,5 +1,5 @@
 -- Changes that leave which clients are proved.
-use Rattle.std.proofs.Common.{◌≡◌, ◌∷◌, [], if◌then◌else◌, ℕ, Bool, true, false, List, map, refl}
+use Rattle.std.proofs.Common.{◌≡◌, ◌∷◌, [], if◌then◌else◌, Bool, true, false, List, map, refl}
 use Rattle.rx_model.specs.Names.{Channel, Connection, same_connection}
 use Rattle.rx_rules.specs.Looks.{ChannelLooks, ConnLooks, Looks, changed_at, on_channel, on_conn}
 use Rattle.rx_books.specs.Polled.{proofs_of}

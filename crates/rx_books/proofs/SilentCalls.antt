@@ -1,5 +1,5 @@
 -- Silent calls end one by one, as the book of silences names them.
-use Rattle.std.proofs.Common.{◌≡◌, ◌≤◌, ◌<◌, ◌+◌, ◌-◌, ◌*◌, ◌^◌, ◌/◌, ◌&&◌, ℕ, Bool, true, false, cond}
+use Rattle.std.proofs.Common.{◌≡◌, ◌≤◌, ◌<◌, ◌+◌, ◌-◌, ◌*◌, ◌^◌, ◌&&◌, ℕ, Bool, true, false, cond}
 use Rattle.std.proofs.Common.{List, [], ◌∷◌, length, map, Option, Some, None, refl, ◌∙◌, ap, sym, subst, arith}
 use Rattle.std.proofs.Common.{if◌then◌else◌, nat_le}
 use Rattle.std.proofs.Math.Nat.{mul-le-mul_right}
@@ -17,7 +17,7 @@ use Rattle.rx_rules.specs.Life.{after_silence, is_active}
 use Rattle.rx_rules.specs.Looks.{CallRecord, Looks, call_at, latest, latest_name, on_call}
 use Rattle.rx_rules.specs.Records.{is_silent, silence_of, silenced, unless_silent}
 use Rattle.rx_node.specs.Due.{death_of}
-use Rattle.rx_node.specs.Mirrors.{IsKey, Mirrors, StepsAt}
+use Rattle.rx_node.specs.Mirrors.{Mirrors, StepsAt}
 use Rattle.rx_node.specs.Moments.{silence_at}
 use Rattle.rx_node.specs.Node.{NodeState, setup_of}
 use Rattle.rx_node.proofs.CallChanges.{FoundIn, every_own, every_then, map_same}

@@ -1,4 +1,4 @@
-ghost use Rattle.std.specs.Prelude.{◌≡◌, ◌≤◌, ◌<◌, ◌+◌, ◌*◌, ◌/◌, ◌^◌, ◌↔◌, ℕ, None, Some, length, option_map, replicate};
+ghost use Rattle.std.specs.Prelude.{◌≡◌, ◌≤◌, ◌<◌, ◌+◌, ◌*◌, ◌/◌, ◌^◌, ◌↔◌, ℕ, None, Some, length, replicate};
 ghost use Rattle.std.specs.Prelude.{slice_set, IfOk, IfSome, IsNone};
 ghost use Rattle.rx_due.specs.Book.{entries_of, moment_of, IsLeast};
 ghost use Rattle.rx_due.specs.Cost.{AtMost, AtMostForEntries};
@@ -8,7 +8,7 @@ ghost use Rattle.rx_books.specs.Books.{HasEntries, IsNoted, IsSilentAt, KeepsKey
 
 use rx_class::Class;
 use rx_due::{DueBook, Steps};
-use rx_node::{Due, Node as Core};
+use rx_node::Node as Core;
 use rx_table::CHANNELS;
 use std::alloc::{AllocError, Global};
 use std::marker::{Brand, Model};
@@ -89,8 +89,8 @@ impl Books {
             AtMost (16 * d + 18) steps.old steps.new }
     {
         let _conns = node.conns();
-        let due = node.due_on(key, steps);
-        note(&mut self.ranks, key, rank_of(&due), steps);
+        let rank = node.rank_on(key, steps);
+        note(&mut self.ranks, key, rank, steps);
         let death = node.death_on(key, steps);
         note(&mut self.silences, key, death, steps);
     }
@@ -132,16 +132,6 @@ impl Books {
         for chan in 0..CHANNELS {
             self.refresh_now(node, CHANNELS * place + chan);
         }
-    }
-}
-
-/// The rank of what is due.
-fn rank_of(due: &Option<Due>) -> Option<u64>
-    ensures { result ≡ option_map (λ due. due.rank) due.now }
-{
-    match due {
-        Some(due) => Some(due.rank),
-        None => None,
     }
 }
 

@@ -231,7 +231,21 @@ impl Heap {
         }
     }
 
-    /// Gives a key a moment, in place of the one that it may have.
+    /// Whether a key has this moment.
+    fn has<L: Ledger>(&self, key: u32, moment: u64, steps: &mut Steps<L>) -> bool
+        requires heap { IsHeap self.now }
+        requires key { key < length self.now.places }
+        ensures has { IsTrue result → moment_in self.now key ≡ Some moment }
+        ensures len { IsTrue result → len_with self.now key ≡ self.now.len }
+        ensures steps { AtMost 2 steps.old steps.new }
+    {
+        match self.place_of(key, steps) {
+            Some(place) => self.entries.at(place, steps).0 == moment,
+            None => false,
+        }
+    }
+
+    /// Gives a key a moment, in place of the one that it may have. Where it has that one, nothing is written.
     pub fn set<L: Ledger>(&mut self, key: u32, moment: u64, steps: &mut Steps<L>)
         requires heap { IsHeap self.old }
         requires key { key < length self.old.places }
@@ -241,6 +255,9 @@ impl Heap {
         ensures keeps { KeepsOthers (record self.old { len = len_with self.old key }) self.new key }
         ensures steps { AtMostForEntries self.new.len steps.old steps.new }
     {
+        if self.has(key, moment, steps) {
+            return;
+        }
         let hole = self.hole_for(key, steps);
         self.settle(hole, (moment, key), steps);
     }

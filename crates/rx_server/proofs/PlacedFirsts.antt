@@ -17,7 +17,6 @@ use Rattle.rx_rules.specs.Looks.{fresh_channel}
 use Rattle.rx_rules.specs.Looks.{is_call, latest, latest_name}
 use Rattle.rx_rules.specs.Records.{fresh_conn, has_live, is_idle, placed}
 use Rattle.rx_rules.specs.Setup.{Setup}
-use Rattle.rx_rules.proofs.EveryLaws.{Every}
 use Rattle.rx_rules.proofs.FindLaws.{find-before, find-last}
 use Rattle.rx_history.proofs.Orderly.{Orderly}
 use Rattle.rx_history.proofs.Dims.{has_first}

@@ -1,5 +1,5 @@
 -- Which of the channels that are listed are ready, where a call starts on another one.
-use Rattle.std.proofs.Common.{◌≡◌, ◌<◌, ◌||◌, ◌==◌, ◌/◌, ◌∙◌, ℕ, not, is_some, Bool, true, false, List, Option, ap, sym}
+use Rattle.std.proofs.Common.{◌≡◌, ◌<◌, ◌||◌, ◌==◌, ◌/◌, ◌∙◌, ℕ, not, is_some, Bool, false, List, Option, ap, sym}
 use Rattle.std.specs.Prelude.{slice_get, unwrap_or}
 use Rattle.rx_model.specs.declared.names.CallName.{CallName}
 use Rattle.rx_model.specs.Names.{channel_of}
@@ -11,7 +11,6 @@ use Rattle.rx_rules.proofs.EveryLaws.{Every}
 use Rattle.rx_history.proofs.Orderly.{Orderly}
 use Rattle.rx_queue.specs.Queue.{QueueState}
 use Rattle.rx_node.specs.Mirrors.{IsChannel}
-use Rattle.rx_books.specs.Polled.{proofs_of}
 use Rattle.rx_books.proofs.ProvedClients.{proofs_channel}
 use Rattle.rx_server.specs.Server.{ReadyStand}
 use Rattle.rx_server.proofs.FirstsLaws.{at_alike}

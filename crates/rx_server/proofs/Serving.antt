@@ -1,8 +1,8 @@
 -- A server behind a change of its node.
-use Rattle.std.proofs.Common.{◌≡◌, ◌<◌, ◌≤◌, ◌+◌, ◌/◌, ◌==◌, ◌||◌, ◌*◌, ◌++◌, ℕ, ℤ, if◌then◌else◌, not, filter, Bool, true}
+use Rattle.std.proofs.Common.{◌≡◌, ◌<◌, ◌≤◌, ◌+◌, ◌/◌, ◌==◌, ◌*◌, ◌++◌, ℕ, ℤ, if◌then◌else◌, not, filter, Bool}
 use Rattle.std.proofs.Common.{false, List, [], ◌∷◌, length, map, Some, None, refl, ◌∙◌, ap, sym, subst, arith}
 use Rattle.std.specs.Prelude.{slice_get}
-use Rattle.std.proofs.lemmas.List.{length-append, length-map}
+use Rattle.std.proofs.lemmas.List.{length-map}
 use Rattle.rx_model.specs.declared.event.Event.{Event}
 use Rattle.rx_model.specs.declared.answers.Took.TheVariants as tooks
 use Rattle.rx_model.specs.declared.names.CallName.{CallName}

@@ -1,5 +1,5 @@
 -- A server behind a message that its channel's live call took.
-use Rattle.std.proofs.Common.{◌≡◌, ◌/◌, ◌++◌, ◌∷◌, ℕ, Bool, true, false, List, [], Option, Some, sym, subst}
+use Rattle.std.proofs.Common.{◌≡◌, ◌/◌, ◌++◌, ◌∷◌, ℕ, true, false, List, [], Some, sym, subst}
 use Rattle.rx_model.specs.declared.answers.Took.{Took}
 use Rattle.rx_model.specs.declared.names.CallName.{CallName}
 use Rattle.rx_model.specs.Message.{Message}

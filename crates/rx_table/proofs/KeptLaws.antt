@@ -1,10 +1,10 @@
 -- What a table keeps true, where one connection changes and keeps its name, and how its fields give its records.
 use Rattle.std.proofs.Common.{◌≡◌, ◌<◌, ◌≤◌, ◌^◌, ℕ, Bool, true, position, Option, None, List, length, set, get_or}
-use Rattle.std.proofs.Common.{map, Some, ap, sym, ◌∙◌, arith, subst}
-use Rattle.std.specs.Option.{IsSomeAnd}
+use Rattle.std.proofs.Common.{map, Some, ap, sym, ◌∙◌, arith, slice_get, subst}
+use Rattle.std.specs.Option.{IsSomeAnd, option_map}
 use Rattle.std.proofs.lemmas.List.{length-set}
 use Rattle.std.proofs.lemmas.List.{length-map}
-use Rattle.std.proofs.lemmas.Option.{slice_get_within}
+use Rattle.std.proofs.lemmas.Option.{slice_get-map, slice_get_within}
 use Rattle.rx_model.specs.Names.{Connection, same_connection}
 use Rattle.rx_table.specs.declared.conn.Conn.{Conn}
 use Rattle.rx_table.specs.declared.key.Key.{Key}
@@ -13,7 +13,7 @@ use Rattle.rx_table.specs.Layout.{joined, name_in, record_of, IsKept, IsIndex}
 use Rattle.rx_table.specs.Names.{key_of, place_under}
 use Rattle.rx_table.specs.Records.{ConnRecord, Records, names, place_of, record_at, on_place, IsDistinct}
 use Rattle.rx_table.proofs.IndexLaws.{index_finds, index_lacks}
-use Rattle.rx_table.proofs.PlaceLaws.{place, position-map, is_there}
+use Rattle.rx_table.proofs.PlaceLaws.{place, position-map, is_found, is_there}
 use Rattle.rx_table.proofs.JoinedLaws.{length-joined, names-joined, names-set, joined-changed, record-joined, seats_of}
 
 -- how many records there are
@@ -101,6 +101,15 @@ pub found_is : (cs : List Conn) (ss : List Seat) (index : List (Key × ℕ)) (co
     → place_under index (key_of x) ≡ Some p → Some p ≡ place_of t x
 found_is cs ss index complete room p t x is kept found =
     sym (place_is cs ss room t x is ∙ index_finds (map name_in cs) index complete x p kept.indexed kept.distinct found)
+
+-- where it stands is its place
+pub stands_is : (cs seen : List Conn) (ss : List Seat) (index : List (Key × ℕ)) (complete : Bool) (room p : ℕ)
+    (t : Records) (x : Connection) → record { room = room; conns = joined cs ss } ≡ t
+    → IsKept cs ss index complete room → seen ≡ cs → option_map name_in (slice_get seen p) ≡ Some x
+    → Some p ≡ place_of t x
+stands_is cs seen ss index complete room p t x is kept all at =
+    let there = slice_get-map name_in cs p ∙ ap (λ xs. option_map name_in (slice_get xs p)) (sym all) ∙ at in
+    sym (place_is cs ss room t x is ∙ is_found (map name_in cs) x p kept.distinct there)
 
 -- where a complete index has none, none is there
 pub lacked_is : (cs : List Conn) (ss : List Seat) (index : List (Key × ℕ)) (complete : Bool) (room : ℕ) (t : Records)

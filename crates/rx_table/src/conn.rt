@@ -1,4 +1,4 @@
-ghost use Rattle.std.specs.Prelude.{◌≡◌, position};
+ghost use Rattle.std.specs.Prelude.{◌≡◌, Some, true, option_map, position, slice_get};
 ghost use Rattle.rx_model.specs.Names.{same_connection};
 ghost use Rattle.rx_table.specs.Layout.{name_in, record_of};
 ghost use Rattle.rx_table.specs.Names.{key_of};
@@ -60,4 +60,15 @@ pub fn place_among(conns: &[Conn], host: Host, epoch: u32, cid: u32) -> Option<u
         (record { host = host; epoch = epoch; cid = cid })) conns.now }
 {
     conns.iter().position(|conn| conn.is(host, epoch, cid))
+}
+
+/// Whether a connection stands at a place in a list.
+pub fn stands_at(conns: &[Conn], place: u32, host: Host, epoch: u32, cid: u32) -> bool
+    ensures { result ≡ true → option_map name_in (slice_get conns.now place)
+        ≡ Some (record { host = host; epoch = epoch; cid = cid }) }
+{
+    match conns.get(place as usize) {
+        Some(conn) => conn.is(host, epoch, cid),
+        None => false,
+    }
 }

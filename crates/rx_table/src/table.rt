@@ -7,7 +7,7 @@ ghost use Rattle.rx_table.specs.Lending.{LendsSeat};
 ghost use Rattle.rx_table.specs.Records.{seat_at, names, place_of, record_at, on_place, fresh_record, next_serial};
 ghost use Rattle.rx_table.specs.Records.{held_count, idle_since, IsDistinct, IsLongestIdle};
 
-use crate::conn::{Conn, place_among};
+use crate::conn::{Conn, place_among, stands_at};
 use crate::index::Index;
 use crate::key::Key;
 use crate::seat::{CHANNELS, Seat};
@@ -29,6 +29,8 @@ pub struct Table {
     /// Whether the index has taken the key of each connection.
     complete: bool,
     uses: Uses,
+    /// The place of the connection that was used last.
+    latest: u32,
     room: u32,
 }
 
@@ -66,6 +68,7 @@ impl Table {
             index,
             complete: true,
             uses,
+            latest: 0,
             room,
         })
     }
@@ -76,6 +79,9 @@ impl Table {
         ensures within { IfSome result (λ place. place < length self.now.conns) }
         ensures distinct { IsDistinct (names self.now) }
     {
+        if stands_at(&self.conns, self.latest, host, epoch, cid) {
+            return Some(self.latest);
+        }
         match self.index.place(&Key::of(host, epoch, cid)) {
             Some(place) => Some(place),
             None if self.complete => None,
@@ -119,6 +125,7 @@ impl Table {
         push_fresh(&mut self.seats);
         self.uses.enter(place, now);
         self.complete &= self.index.take(Key::of(host, epoch, cid), place);
+        self.latest = place;
         Ok(place)
     }
 
@@ -131,6 +138,7 @@ impl Table {
         let conn = &mut self.conns[position as usize];
         self.uses.renew(position, conn.last_use, now, steps);
         conn.last_use = now;
+        self.latest = position;
     }
 
     /// The same, with a counter of its own.
@@ -199,6 +207,7 @@ impl Table {
         renew(&mut self.seats, position as usize * CHANNELS as usize);
         self.uses.enter(position, now);
         self.complete &= self.index.take(Key::of(host, epoch, cid), position);
+        self.latest = position;
     }
 
     /// The nonce of a connection's challenges.

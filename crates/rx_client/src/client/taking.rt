@@ -31,9 +31,9 @@ impl<C: Class> Client<C> {
         ensures answered { AnswersNode C.class_of self.old self.new (events.Taken from bytes.now result) }
         ensures setup { setup_of C.class_of self.new ≡ setup_of C.class_of self.old }
     {
-        match read_msg(bytes) {
-            Ok((head, body)) => take_message(&mut self.node, from, &head, &body),
-            Err(bad) => Took::Bad(bad),
+        match &read_msg(bytes) {
+            Ok((head, body)) => take_message(&mut self.node, from, head, body),
+            Err(bad) => Took::Bad(*bad),
         }
     }
 }

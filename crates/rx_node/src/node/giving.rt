@@ -11,7 +11,10 @@ ghost use Rattle.rx_model.specs.Spelling.{made};
 ghost use Rattle.rx_model.specs.Strays.{stray_message};
 ghost use Rattle.rx_packet.specs.Seen.{message_with_head};
 ghost use Rattle.rx_due.specs.Cost.{AtMost, AtMostForEntries};
+ghost use Rattle.rx_ends.specs.Ends.{IsThere, StandsEnd};
 ghost use Rattle.rx_rules.specs.After.{counted};
+ghost use Rattle.rx_rules.specs.CallItems.{ack_body};
+ghost use Rattle.rx_rules.specs.CallLooks.{CallLooks};
 ghost use Rattle.rx_rules.specs.Items.{Item as RulesItem, channel_items, deaths, due as rules_due, items, message_on};
 ghost use Rattle.rx_rules.specs.Least.{least_by};
 ghost use Rattle.rx_rules.specs.Looks.{Looks, channel_at, conn_at, latest, latest_name, on_channel};
@@ -28,10 +31,11 @@ ghost use Rattle.rx_node.specs.Steps.{AnswersNode, Dimmed, given_count, given_fr
 
 use crate::item::{Due, Item};
 use crate::node::Node;
-use crate::strays::{ABORT, stray_head};
+use crate::strays::write_stray;
 use rx_call::Giving;
 use rx_class::Class;
 use rx_due::Steps;
+use rx_ends::Ends;
 use rx_model::wire::{ACK_PING, LAST_PACKET, PAYLOAD_BYTES, REQUEST_ACK, SECURITY_BYTES};
 use rx_model::{CallName, Host};
 use rx_packet::{AckBody, Body, Head, write_msg};
@@ -59,7 +63,7 @@ impl<C: Class> Node<C> {
         ensures rest { drop (given_count result) to.new ≡ drop (given_count result) to.old }
     {
         let stray = self.strays.pop_front()?;
-        let count = write_msg(&stray_head(&stray), &ABORT, to);
+        let count = write_stray(&stray, to);
         Some((stray.host, count))
     }
 
@@ -96,6 +100,19 @@ impl<C: Class> Node<C> {
             key,
             item: Item::Sending(end),
         })
+    }
+
+    /// From when on a channel has something to give: the rank of its first item.
+    pub fn rank_on<L: Ledger>(&self, key: u32, steps: &mut Steps<L>) -> Option<u64>
+        requires { IsKey self.now key }
+        ensures rank { IsRankAt self.now key result }
+        ensures steps_taken { AtMost 1 steps.old steps.new }
+    {
+        if let Some(_item) = self.owed_on(key) {
+            return Some(0);
+        }
+        let end = self.active(key)?;
+        self.ends.due(end, steps)
     }
 
     /// The first of what a channel owes at once, beside what its call sends.
@@ -355,20 +372,43 @@ impl<C: Class> Node<C> {
             }
             Some(Giving::Ack { reason, serial }) => {
                 let flags = head.flags | flag_where(reason == ACK_PING, REQUEST_ACK);
-                let view = self.ends.ack_view(end, steps);
-                let ack = AckBody {
-                    first: view.first,
-                    previous: view.previous,
-                    serial,
-                    reason,
-                    marks: view.marks,
-                    window: Some(self.limits.window),
-                };
-                write_msg(&Head { flags, ..*head }, &Body::Ack(ack), to)
+                let head = Head { flags, ..*head };
+                let window = self.limits.window;
+                write_ack(&self.ends, end, window, reason, serial, &head, to, steps)
             }
             None => 0,
         }
     }
+}
+
+/// Writes an ACK of a call behind a header, and answers its length.
+fn write_ack<L: Ledger>(
+    ends: &Ends,
+    end: usize,
+    window: u32,
+    reason: u8,
+    serial: u32,
+    head: &Head,
+    to: &mut [u8],
+    steps: &mut Steps<L>,
+) -> usize
+    requires room { DATAGRAM_BYTES ≤ length to.old }
+    requires there { IsThere ends.now end }
+    ensures written { (k : CallLooks) → StandsEnd ends.now end k → take result to.new
+        ≡ made (message_with_head head.now (models.Ack (ack_body window reason serial k.received))) }
+    ensures rest { drop result to.new ≡ drop result to.old }
+    ensures steps { steps.new ≡ steps.old + 1 }
+{
+    let view = ends.ack_view(end, steps);
+    let ack = AckBody {
+        first: view.first,
+        previous: view.previous,
+        serial,
+        reason,
+        marks: view.marks,
+        window: Some(window),
+    };
+    write_msg(head, &Body::Ack(ack), to)
 }
 
 /// The first of what a seat owes at once, by whether the client of its connection is proved.

@@ -35,9 +35,9 @@ impl<C: Class> Server<C> {
         ensures setup { setup_of C.class_of self.new.node ≡ setup_of C.class_of self.old.node }
     {
         let _ = &self.node;
-        match read_msg(bytes) {
-            Ok((head, body)) => self.take_message(from, &head, &body),
-            Err(bad) => Took::Bad(bad),
+        match &read_msg(bytes) {
+            Ok((head, body)) => self.take_message(from, head, body),
+            Err(bad) => Took::Bad(*bad),
         }
     }
 

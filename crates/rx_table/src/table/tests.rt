@@ -131,6 +131,7 @@ fn a_connection_whose_key_the_index_refused_is_found(rt: HostRuntime) -> Result<
         index: Index::make(rt.alloc(), 2)?,
         complete: true,
         uses: Uses::make(rt.alloc(), 3)?,
+        latest: 0,
         room: 3,
     };
     enter(&rt, &mut table, 4, 0);

@@ -28,10 +28,9 @@ returns-clause-noted g c =
     record {
       rank = subst (λ (r : Option ℕ). IsRankAt node key r)
           (sym (ap (λ (b : _). moment_of b key) c.note.ensures.updates
-          ∙ set_here c.self.inside.ranks key c.rank_of.result None
-          (omega (arith, ranks, c.requires.ranks, c.requires.key, c.conns-conns.ensures.room))
-          ∙ c.rank_of.ensures))
-          c.due_on-due.ensures.rank;
+          ∙ set_here c.self.inside.ranks key c.rank_on-rank.result None
+          (omega (arith, ranks, c.requires.ranks, c.requires.key, c.conns-conns.ensures.room))))
+          c.rank_on-rank.ensures.rank;
       silence = ap (λ (b : _). moment_of b key) c.note-2.ensures.updates
           ∙ set_here c.self.inside.silences key c.death_on-death.result None
           (omega (arith, silences, c.requires.silences, c.requires.key, c.conns-conns.ensures.room))
@@ -45,11 +44,11 @@ returns-clause-steps g c =
     subst (λ (b : BooksState). entries_of b.ranks ≤ n) (sym c.self.view_is) before.ranks in
     let silences : entries_of c.self.inside.silences ≤ n =
     subst (λ (b : BooksState). entries_of b.silences ≤ n) (sym c.self.view_is) before.silences in
-    let due = c.due_on-due.ensures.steps_taken in
+    let rank = c.rank_on-rank.ensures.steps_taken in
     let death = c.death_on-death.ensures.steps_taken in
     let one = c.note.ensures.steps n ranks after.ranks d power in
     let two = c.note-2.ensures.steps n silences after.silences d power in
     record {
-      grows = omega (arith, due.grows, death.grows, one.grows, two.grows);
-      most = omega (arith, due.most, death.most, one.most, two.most);
+      grows = omega (arith, rank.grows, death.grows, one.grows, two.grows);
+      most = omega (arith, rank.most, death.most, one.most, two.most);
     })

@@ -1,4 +1,4 @@
-use Rattle.std.proofs.Common.{◌≡◌, ◌*◌, ◌∙◌, ap, refl, sym, subst, length}
+use Rattle.std.proofs.Common.{◌*◌, ◌∙◌, ap, sym, subst, length}
 use Rattle.rx_model.specs.declared.names.Limits.{Limits}
 use Rattle.rx_node.specs.Mirrors.{IsKey}
 use Rattle.rx_node.specs.Node.{NodeState}

@@ -2,8 +2,8 @@ use Rattle.std.proofs.Common.{◌≡◌, ◌==◌, ◌+◌, ◌∙◌, Some, tak
 use Rattle.rx_model.specs.declared.wire.TheConstants.{ACK_PING}
 use Rattle.rx_model.specs.Message.{Message}
 use Rattle.rx_model.specs.Spelling.{made}
-use Rattle.rx_rules.specs.CallItems.{next_sending}
-use Rattle.rx_rules.specs.Received.{Received, marks_of, used_of}
+use Rattle.rx_rules.specs.CallItems.{ack_body, next_sending}
+use Rattle.rx_rules.specs.Received.{Received}
 use Rattle.rx_rules.specs.Setup.{Kind, side_flag}
 use Rattle.rx_call.specs.declared.giving.Giving.{Giving}
 use Rattle.rx_ends.specs.Ends.{view_at}
@@ -65,23 +65,15 @@ returns-clause-gives g c =
             numbered))
         | in-Some-Ack w ↦ (
             let ack = w.in-Some-Ack in
-            let view = w.ack_view-view in
             let received = given_received now next looks in
-            (λ t. take (w.result-is t) (w.to-is t)) ∙ w.write_msg-in-Some-Ack.ensures.written
+            (λ t. take (w.result-is t) (w.to-is t)) ∙ w.write_ack.ensures.written _ after
             ∙ ap (λ (msg : Message). made msg)
             (sent_ack g.C.Class.class_of _ l m key end ch at active i sends due inv.0.client head
             ack.reason ack.serial _
             _ (sym (ack.is ∙ ap (λ (x : Giving). Some x) ack.field-0-is) ∙ answered)
             (or_flag kind (ack.reason == ACK_PING) head.flags w.flag_where-in-Some-Ack.result flagged
             w.flag_where-in-Some-Ack.ensures)
-            (λ t. record {
-              first = (view.ensures.first _ after ∙ ap (λ (r : Received). used_of r + 1) received) t;
-              previous = (view.ensures.previous _ after ∙ ap (λ (r : Received). r.previous) received) t;
-              serial = ack.serial;
-              reason = ack.reason;
-              marks = (view.ensures.marks _ after ∙ ap (λ (r : Received). marks_of r) received) t;
-              window = Some c.self.inside.limits.window;
-            })
+            (ap (λ (r : Received). ack_body c.self.inside.limits.window ack.reason ack.serial r) received)
             numbered seqless))
         | in-None w ↦ absurd (sent_some g.C.Class.class_of _ l m key end ch at active i sends due inv.0.client
             (sym w.in-None.is ∙ answered))

@@ -1,8 +1,7 @@
-use Rattle.std.proofs.Common.{◌≡◌, ◌≤◌, ◌*◌, ◌∙◌, ℕ, List, Option, None, ap, arith, length, sym, subst}
+use Rattle.std.proofs.Common.{◌≤◌, ◌*◌, ◌∙◌, ℕ, List, Option, None, ap, arith, length, sym, subst}
 use Rattle.rx_model.specs.declared.names.Limits.{Limits}
 use Rattle.rx_queue.proofs.Renumbering.{length_set}
-use Rattle.rx_server.specs.Server.{IsServing, ServerState}
-use Rattle.rx_server.specs.Accepting.{ready_count}
+use Rattle.rx_server.specs.Server.{ServerState}
 use Rattle.rx_server.proofs.AcceptCosts.{few_ready, found_cost, none_cost}
 use Rattle.rx_server.proofs.Accepting.{accepted_answers, accepted_none, accepted_serving, held_answers, held_serving}
 use Rattle.rx_server.proofs.Serving.{key_room}

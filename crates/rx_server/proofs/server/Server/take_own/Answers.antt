@@ -1,4 +1,4 @@
-use Rattle.std.proofs.Common.{◌≤◌, ◌∙◌, sym, subst, length}
+use Rattle.std.proofs.Common.{◌≤◌, ◌∙◌, sym, subst}
 use Rattle.rx_model.specs.declared.wire.TheConstants.{LAST_SEQ}
 use Rattle.rx_model.specs.Names.{channel_of, connection_of}
 use Rattle.rx_packet.specs.Seen.{message_of}

@@ -1,4 +1,4 @@
-use Rattle.std.proofs.Common.{◌≡◌, ◌<◌, ◌||◌, ◌∙◌, ◌/◌, ℕ, Bool, List, not, ap, subst, sym}
+use Rattle.std.proofs.Common.{◌<◌, ◌||◌, ◌∙◌, ◌/◌, ℕ, Bool, List, not, ap, subst, sym}
 use Rattle.rx_rules.specs.Looks.{is_proved}
 use Rattle.rx_node.specs.Node.{NodeState, setup_of}
 use Rattle.rx_node.proofs.KeptKeys.{proved_is}

@@ -1,4 +1,4 @@
-use Rattle.std.proofs.Common.{◌≡◌, ◌<◌, ◌&&◌, ◌||◌, ◌∙◌, ◌/◌, ℕ, Bool, List, not, true, false, refl, sym, subst, ap}
+use Rattle.std.proofs.Common.{◌≡◌, ◌&&◌, ◌||◌, ◌∙◌, Bool, not, refl, sym, ap}
 use Rattle.rx_rules.specs.Life.{is_waiting}
 use Rattle.rx_rules.specs.Looks.{is_proved}
 use Rattle.rx_node.specs.Lives.{life_of}

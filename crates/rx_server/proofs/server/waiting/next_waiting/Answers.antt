@@ -1,8 +1,7 @@
-use Rattle.std.proofs.Common.{◌≡◌, ◌+◌, ◌∙◌, ℕ, Bool, List, Option, None, false, true, ap, arith, refl, subst, sym, length}
-use Rattle.std.specs.List.{list_any}
+use Rattle.std.proofs.Common.{◌∙◌, ℕ, List, Option, None, ap, arith, refl, subst, sym, length}
 use Rattle.rx_rules.proofs.EveryLaws.{Every}
 use Rattle.rx_queue.proofs.Renumbering.{length_set}
-use Rattle.rx_queue.specs.Queue.{is_listed, is_ready}
+use Rattle.rx_queue.specs.Queue.{is_ready}
 use Rattle.rx_node.specs.Mirrors.{IsKey}
 use Rattle.rx_node.specs.Node.{setup_of}
 use Rattle.rx_server.specs.Accepting.{Paid}

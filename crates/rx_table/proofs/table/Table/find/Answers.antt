@@ -1,7 +1,21 @@
 use Rattle.std.proofs.Common.{ap, sym, ◌∙◌}
 use Rattle.rx_table.specs.Names.{place_under}
-use Rattle.rx_table.proofs.KeptLaws.{found_is, found_within, lacked_is, distinct_is}
+use Rattle.rx_table.proofs.KeptLaws.{found_is, found_within, lacked_is, distinct_is, stands_is}
 use Rattle.rx_table.proofs.table.Table.find.Goals as goal
+
+pub returns-then-stands_at-clause-found : goal.returns-then-stands_at-clause-found
+returns-then-stands_at-clause-found c =
+    stands_is _ _ _ _ _ _ _ _ _ c.self.view_is c.self.invariant.0 c.deref.ensures.value
+    (c.stands_at.ensures c.if-stands_at.true)
+
+pub returns-then-stands_at-clause-within : goal.returns-then-stands_at-clause-within
+returns-then-stands_at-clause-within c =
+    found_within c.args.self.now _ _
+    (sym (stands_is _ _ _ _ _ _ _ _ _ c.self.view_is c.self.invariant.0 c.deref.ensures.value
+    (c.stands_at.ensures c.if-stands_at.true)))
+
+pub returns-then-stands_at-clause-distinct : goal.returns-then-stands_at-clause-distinct
+returns-then-stands_at-clause-distinct c = distinct_is _ _ _ _ _ _ c.self.view_is c.self.invariant.0
 
 pub returns-in-Some-clause-found : goal.returns-in-Some-clause-found
 returns-in-Some-clause-found c =
