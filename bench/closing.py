@@ -230,12 +230,12 @@ class Runs:
         """In which round a call ended, or None; and whether it ended as it may."""
         name, end = asked.removeprefix(b"c1 ask ").split(b" -> ")
         made, came, heard, read = 0, None, False, b"c1 read " + name
-        cid, number = (int(it) for it in name.split(b"/")[2:5:2])
+        cid, channel, number = (int(it) for it in name.split(b"/")[2:5])
         for line in behind:
             made += line == NONE_LEFT
             if line.startswith(b"c1 take ") and line.rsplit(b" ", 1)[1] in HEARD:
                 octets = bytes.fromhex(line.split(b" ")[3].decode())
-                heard |= octets[8:12] == word(number) and int.from_bytes(octets[4:8], "big") // 4 * 4 == cid
+                heard |= octets[4:12] == word(cid + channel) + word(number)
             if line.startswith(read) and (line.endswith(b" -> end") or b" -> gone " in line):
                 came = made
                 break

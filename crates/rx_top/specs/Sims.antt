@@ -14,6 +14,7 @@ use Rattle.rx_plan.specs.Follows.{Went, Whole}
 use Rattle.rx_plan.specs.Promises.{AreDistinct, Promises, plan_nodes}
 use Rattle.rx_rounds.specs.Arriving.{ArrivesBy, WritesRequest}
 use Rattle.rx_rounds.specs.Completing.{CompletesBy, InvokesOnce}
+use Rattle.rx_closing.specs.Ended.{ClosesBy}
 use Rattle.rx_world.specs.Runs.{RunIs}
 use Rattle.rx_plan.specs.Stages.{Stage}
 use Rattle.rx_world.specs.Tells.{Told}
@@ -51,8 +52,8 @@ AnswersInvokes g lines es went =
     → Answered g lines es s
 
 -- the lines of a plan were run, and the events of that keep the promises of a plan; each is one that its line tells, so
--- no other events have their text; its invokes are answered; a request that it writes before rounds arrives; and one
--- invoke before so many rounds comes to its end
+-- no other events have their text; its invokes are answered; a request that it writes before rounds arrives; one invoke
+-- before so many rounds comes to its end; and behind losses so many rounds end the one call that lives
 pub record Played (g : Handlers) (lines : List Numbered) (ran : Outcome) (before after : Told) : Type 0 where
   pub run : RunIs g lines ran before after
   pub promises : Promises lines run.events
@@ -60,6 +61,7 @@ pub record Played (g : Handlers) (lines : List Numbered) (ran : Outcome) (before
   pub answers : AnswersInvokes g lines run.events run.went
   pub arrives : (offer : List ℕ) (n : ℕ) → WritesRequest lines offer n → ArrivesBy lines offer run.went
   pub completes : (key : Option (List ℕ)) (n : ℕ) → InvokesOnce lines key n → CompletesBy g lines key n run.went
+  pub closes : ClosesBy g lines run.events run.went
 
 -- `sim` ended as the run of the plan of this file did
 abbrev pub EndsAs : SimOutcome → List ℕ → (Outcome → Type 0) → Type 0

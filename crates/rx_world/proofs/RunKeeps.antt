@@ -8,7 +8,8 @@ use Rattle.rx_plan.proofs.Promised.{plan_promises}
 use Rattle.rx_plan.proofs.SoundPlan.{lines_in_range}
 use Rattle.rx_rounds.proofs.Arrive.{arrive}
 use Rattle.rx_rounds.proofs.Complete.{complete}
-use Rattle.rx_world.specs.Runs.{Arrives, Completes, KeepsPromises}
+use Rattle.rx_closing.proofs.PlansClose.{plans_close}
+use Rattle.rx_world.specs.Runs.{Arrives, Closes, Completes, KeepsPromises}
 use Rattle.rx_world.specs.Tells.{Told}
 use Rattle.rx_world.proofs.ToldEvents.{plan_told}
 
@@ -30,3 +31,9 @@ pub run_completes : (g : Handlers) (ls : List Numbered) (outcome : Outcome) (old
     → All (λ l. IsWell g l.what) ls → Completes g ls outcome old new
 run_completes g ls outcome old new well r key n servable short invokes =
     complete g ls key r.events r.went n servable short well invokes r.goes
+
+-- and behind whatever was lost, rounds end the one call that lives
+pub run_closes : (g : Handlers) (ls : List Numbered) (outcome : Outcome) (old new : Told)
+    → All (λ l. IsWell g l.what) ls → Closes g ls outcome old new
+run_closes g ls outcome old new well r servable short =
+    plans_close g ls r.events r.went servable short well r.goes

@@ -14,7 +14,7 @@ ghost use Rattle.rx_world.specs.Ran.{stop_of};
 ghost use Rattle.rx_world.specs.Showing.{AddsNode, IsBegun, IsCounted, MadeLines, MakesLine, RunsOn, ShowsRun};
 ghost use Rattle.rx_world.specs.Showing.{ended_at};
 ghost use Rattle.rx_world.specs.Showing.{has_client_room, has_slots, other_part, outcome_of, started};
-ghost use Rattle.rx_world.specs.Runs.{Arrives, Completes, KeepsPromises, RunIs};
+ghost use Rattle.rx_world.specs.Runs.{Arrives, Closes, Completes, KeepsPromises, RunIs};
 ghost use Rattle.rx_world.specs.Shown.{jobs_of, script_of};
 ghost use Rattle.rx_world.specs.Tells.{told};
 
@@ -37,7 +37,8 @@ use xdr_value::Interface;
 /// Makes the events of a plan's lines on one server and its clients. Each event is noted, and then its line put. Behind
 /// the trace stands an answer line for each invoke that was given a call. The run is out of memory where memory was
 /// wanted, or where one polling or turn went on for 2^64 - 1 events. A request that the plan writes by hand before rounds
-/// arrives, or its handler refuses it; and an invoke before so many rounds comes to its end, with what is served for it.
+/// arrives, or its handler refuses it; an invoke before so many rounds comes to its end, with what is served for it; and
+/// behind whatever a driven plan lost, so many rounds end the one call that lives.
 pub fn run<O: Sink, J: Journal>(
     alloc: Global,
     iface: &Interface,
@@ -57,6 +58,9 @@ pub fn run<O: Sink, J: Journal>(
         (told (J.told book.old) (O.told out.old) (O.faults out.old))
         (told (J.told book.new) (O.told out.new) (O.faults out.new)) }
     ensures completes { Completes (handlers_of iface.now (blocks_of script.blocks.items)) plan.now.lines.items result
+        (told (J.told book.old) (O.told out.old) (O.faults out.old))
+        (told (J.told book.new) (O.told out.new) (O.faults out.new)) }
+    ensures closes { Closes (handlers_of iface.now (blocks_of script.blocks.items)) plan.now.lines.items result
         (told (J.told book.old) (O.told out.old) (O.faults out.old))
         (told (J.told book.new) (O.told out.new) (O.faults out.new)) }
 {

@@ -3,7 +3,7 @@ use Rattle.rx_jobs.specs.Handlers.{handlers_of}
 use Rattle.std.proofs.Common.{◌≡◌, length, subst}
 use Rattle.rx_world.specs.Tells.{told}
 use Rattle.rx_world.proofs.Ending.{run_empty}
-use Rattle.rx_world.proofs.RunKeeps.{run_arrives, run_completes, run_keeps}
+use Rattle.rx_world.proofs.RunKeeps.{run_arrives, run_closes, run_completes, run_keeps}
 use Rattle.rx_world.proofs.runs.run.Goals as goal
 
 pub returns-in-None-clause-run : goal.returns-in-None-clause-run
@@ -40,4 +40,14 @@ returns-in-None-clause-completes g c =
 pub returns-in-Some-clause-completes : goal.returns-in-Some-clause-completes
 returns-in-Some-clause-completes g c =
     run_completes (handlers_of c.args.iface.now (blocks_of c.args.script.blocks.items)) c.args.plan.now.lines.items _ _ _
+    c.requires
+
+pub returns-in-None-clause-closes : goal.returns-in-None-clause-closes
+returns-in-None-clause-closes g c =
+    run_closes (handlers_of c.args.iface.now (blocks_of c.args.script.blocks.items)) c.args.plan.now.lines.items _ _ _
+    c.requires
+
+pub returns-in-Some-clause-closes : goal.returns-in-Some-clause-closes
+returns-in-Some-clause-closes g c =
+    run_closes (handlers_of c.args.iface.now (blocks_of c.args.script.blocks.items)) c.args.plan.now.lines.items _ _ _
     c.requires

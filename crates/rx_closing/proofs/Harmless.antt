@@ -1,0 +1,308 @@
+-- Messages that make nothing owed: each that is neither DATA nor an ACK, and DATA and ACKs of a call beside which none
+-- lives, where its end has no code to tell again.
+use Rattle.std.proofs.Common.{◌≡◌, ◌⊎◌, ◌<◌, ◌≤◌, ◌&&◌, ◌==◌, not, nat_lt, nat_le, ℕ, suc, cond, if◌then◌else◌}
+use Rattle.std.proofs.Common.{Bool, true, false, List, [], ◌∷◌, Option, Some, None, Ok, refl, inl, inr, ap, sym, subst, ◌∙◌}
+use Rattle.std.proofs.Common.{arith}
+use Rattle.std.proofs.lemmas.Bool.{leb-true, ltb-true}
+use Rattle.std.specs.List.{find}
+use Rattle.rx_model.specs.declared.answers.End.TheVariants as ends
+use Rattle.rx_model.specs.declared.answers.Took.{Took}
+use Rattle.rx_model.specs.declared.answers.Took.TheVariants as tooks
+use Rattle.rx_model.specs.declared.event.Event.{Event}
+use Rattle.rx_model.specs.declared.names.CallName.{CallName}
+use Rattle.rx_model.specs.declared.names.Host.{Host}
+use Rattle.rx_model.specs.declared.wire.TheConstants.{CLIENT_INITIATED}
+use Rattle.rx_model.specs.Body.{Body}
+use Rattle.rx_model.specs.Body as bodies
+use Rattle.rx_model.specs.Message.{Message, has_flag}
+use Rattle.rx_model.specs.Names.{channel_of, connection_of, same_name}
+use Rattle.rx_model.specs.Reading.{reading_of}
+use Rattle.rx_model.proofs.NameLaws.{name_is, name_itself}
+use Rattle.rx_rules.specs.After.{is_ok_end, looks, prepared, served_code, told_code}
+use Rattle.rx_rules.specs.Judging.{facts_of, is_data, is_for_clients, is_for_servers, is_peer}
+use Rattle.rx_rules.specs.Judging.{opened, outer_row, own_row, took_of}
+use Rattle.rx_rules.specs.Life.{Life, is_handled, is_live}
+use Rattle.rx_rules.specs.Life as lives
+use Rattle.rx_rules.specs.Looks.{CallRecord, Looks, call_at, channel_at, conn_at, is_call, latest, latest_name}
+use Rattle.rx_rules.specs.Rules.{Legal}
+use Rattle.rx_rules.specs.Setup.{Setup, Kind, Client, FitsSetup, Server, named, receiving_window}
+use Rattle.rx_rules.specs.Slots.{count_live, live}
+use Rattle.rx_rules.proofs.ConnsLaws.{channel_number}
+use Rattle.rx_rules.proofs.EveryLaws.{Every}
+use Rattle.rx_rules.proofs.FindLaws.{find_passes}
+use Rattle.rx_history.proofs.Differ.{Differ, by_name}
+use Rattle.rx_history.proofs.Events.{call-by, calls-prepared}
+use Rattle.rx_history.proofs.OrderlyHistory.{orderly_history}
+use Rattle.rx_history.proofs.Suffice.{roomy_history}
+use Rattle.rx_between.proofs.Onward.{row_named}
+use Rattle.rx_between.proofs.PollSays.{IsStream}
+use Rattle.rx_closing.proofs.ChannelsStay.{IsMute}
+use Rattle.rx_closing.proofs.CrowdedRows.{Crowds, both_true, is_busy, row_calm, side_crowds}
+use Rattle.rx_closing.proofs.Frame.{IsAlone}
+use Rattle.rx_closing.proofs.OwesNone.{IsHarmless, StopsQuietly, TakesQuietly, TellsNone, TurnsQuietly}
+
+-- ---- bodies
+
+data_stream : (body : Body) → is_data body ≡ true → IsStream body
+data_stream (bodies.Chunk payload) is = tt
+data_stream bodies.Busy is = absurd cc
+data_stream (bodies.Ack a) is = absurd cc
+data_stream (bodies.Abort code) is = absurd cc
+data_stream bodies.AckAll is = absurd cc
+data_stream (bodies.Challenge bytes) is = absurd cc
+data_stream (bodies.Response bytes) is = absurd cc
+
+-- no RESPONSE passes the rows in front, where none challenges
+no_response : (s : Setup) (kind : Kind) (l : Looks) (from : Host) (m : Message) → s.class.challenges ≡ false
+    → outer_row s kind l from m ≡ None → StopsQuietly m.body
+no_response s kind l from m still front = by m.body refl
+  where
+    server : (a b : Bool) (rest : Option Took)
+        → (if not a then Some tooks.Foreign else if not b then Some tooks.Strange else rest) ≡ None → b ≡ true
+    server true true rest is = refl
+    server true false rest is = absurd cc
+    server false b rest is = absurd cc
+
+    client : (a b x y : Bool)
+        → (if a then Some tooks.Foreign else if not b then Some tooks.Strange
+        else if not (x && y) then Some tooks.Strange else None) ≡ None
+        → y ≡ true
+    client true b x y is = absurd cc
+    client false false x y is = absurd cc
+    client false true false y is = absurd cc
+    client false true true true is = refl
+    client false true true false is = absurd cc
+
+    of : (kind : Kind) → outer_row s kind l from m ≡ None → (bytes : List ℕ) → m.body ≡ bodies.Response bytes → ⊥
+    of (Server service nonces) front bytes is =
+        (let for : is_for_servers s.class.challenges m.body ≡ true =
+        server (has_flag CLIENT_INITIATED m.flags) (is_for_servers s.class.challenges m.body) _ front in
+        let yes : s.class.challenges ≡ true = sym (ap (is_for_servers s.class.challenges) is) ∙ for in
+        let no : false ≡ true = sym still ∙ yes in cc)
+    of (Client host epoch) front bytes is =
+        (let for : is_for_clients s.class.challenges m.body ≡ true =
+        client (has_flag CLIENT_INITIATED m.flags) (is_peer from (conn_at l (connection_of (named s from m))))
+        (m.index == s.class.index) (is_for_clients s.class.challenges m.body) front in
+        let no : false ≡ true = sym (ap (is_for_clients s.class.challenges) is) ∙ for in cc)
+
+    by : (body : Body) → m.body ≡ body → StopsQuietly body
+    by (bodies.Response bytes) is = of kind front bytes is
+    by (bodies.Chunk payload) is = tt
+    by bodies.Busy is = tt
+    by (bodies.Ack a) is = tt
+    by (bodies.Abort code) is = tt
+    by bodies.AckAll is = tt
+    by (bodies.Challenge bytes) is = tt
+
+-- ---- lives
+
+-- a life that has no code to tell again, and no ACKALL
+pub record IsTame (x : Life) : Type 0 where
+  pub told : told_code x ≡ None
+  pub open_ : is_ok_end x ≡ false
+
+served_none : (x : Life) → told_code x ≡ None → served_code x ≡ None
+served_none (lives.Ended (ends.Cancelled code)) is = refl
+served_none (lives.Ended ends.Ok) is = refl
+served_none (lives.Ended (ends.Abort code)) is = refl
+served_none (lives.Ended (ends.Dead n)) is = refl
+served_none lives.Calling is = is
+served_none lives.Waiting is = is
+served_none lives.Accepted is = is
+served_none lives.Finished is = is
+served_none (lives.Broken code) is = is
+served_none (lives.Over code) is = is
+
+tame_tells : (body : Body) (x : Life) → IsTame x → TellsNone body x
+tame_tells (bodies.Chunk payload) x tame = (tame.told, tame.open_)
+tame_tells (bodies.Ack a) x tame = served_none x tame.told
+tame_tells (bodies.Abort code) x tame = tt
+tame_tells bodies.Busy x tame = tt
+tame_tells bodies.AckAll x tame = tt
+tame_tells (bodies.Challenge bytes) x tame = tt
+tame_tells (bodies.Response bytes) x tame = tt
+
+other_tells : (body : Body) (x : Life) → (IsStream body → ⊥) → TellsNone body x
+other_tells (bodies.Chunk payload) x none = absurd (none tt)
+other_tells (bodies.Ack a) x none = absurd (none tt)
+other_tells (bodies.Abort code) x none = tt
+other_tells bodies.Busy x none = tt
+other_tells bodies.AckAll x none = tt
+other_tells (bodies.Challenge bytes) x none = tt
+other_tells (bodies.Response bytes) x none = tt
+
+handled_live : (x : Life) → is_handled x ≡ true → is_live x ≡ true
+handled_live lives.Calling is = refl
+handled_live (lives.Ended end) is = is
+handled_live lives.Waiting is = refl
+handled_live lives.Accepted is = refl
+handled_live lives.Finished is = refl
+handled_live (lives.Broken code) is = refl
+handled_live (lives.Over code) is = is
+
+-- no call lives, where none that is looked for does
+pub none_live : (ks : List CallRecord) → Differ by_name ks
+    → ((d : CallName) (r : CallRecord) → find (λ k. same_name k.name d) ks ≡ Some r → is_live r.life ≡ true → ⊥)
+    → count_live ks ≡ 0
+none_live [] differ none = refl
+none_live (k ∷ ks) differ none =
+    by (is_live k.life) refl (none_live ks differ.1 rest)
+  where
+    rest : (d : CallName) (r : CallRecord) → find (λ j. same_name j.name d) ks ≡ Some r → is_live r.life ≡ true → ⊥
+    rest d r found living = of (same_name k.name d) refl
+      where
+        apart : (js : List CallRecord) → Every (λ (j : CallRecord). by_name j k ≡ false) js
+            → find (λ j. same_name j.name d) js ≡ Some r → by_name r k ≡ false
+        apart [] all is = absurd cc
+        apart (j ∷ js) all is = here (same_name j.name d) is (λ later. apart js all.1 later)
+          where
+            here : (b : Bool) → cond b (Some j) (find (λ i. same_name i.name d) js) ≡ Some r
+                → (find (λ i. same_name i.name d) js ≡ Some r → by_name r k ≡ false) → by_name r k ≡ false
+            here true same again =
+                (let one : j ≡ r = cc in subst (λ (i : CallRecord). by_name i k ≡ false) one all.0)
+            here false later again = again later
+
+        of : (b : Bool) → same_name k.name d ≡ b → ⊥
+        of true own =
+            (let name : same_name r.name d ≡ true = find_passes (λ j. same_name j.name d) ks r found in
+            let one : r.name ≡ k.name =
+            name_is r.name d name
+            ∙ sym (name_is k.name d own) in
+            let same : by_name r k ≡ true =
+            subst (λ (n : CallName). same_name r.name n ≡ true) one (name_itself r.name) in
+            let no : false ≡ true = sym (apart ks differ.0 found) ∙ same in cc)
+        of false other =
+            none d r (ap (λ (b : Bool). cond b (Some k) (find (λ j. same_name j.name d) ks)) other ∙ found) living
+
+    by : (b : Bool) → is_live k.life ≡ b → count_live ks ≡ 0 → cond b (suc (count_live ks)) (count_live ks) ≡ 0
+    by true living zero_ =
+        absurd (none k.name k
+        (ap (λ (b : Bool). cond b (Some k) (find (λ j. same_name j.name k.name) ks)) (name_itself k.name)) living)
+    by false dead zero_ = zero_
+
+-- ---- a message
+
+module _ (s : Setup) (h : List Event) (fits : FitsSetup s) (legal : Legal s h) (mute : IsMute s.class) (c : CallName)
+    (alone : IsAlone c (looks s h)) where
+  abbrev l : Looks
+  l = looks s h
+
+  -- data of the call never finds its server busy
+  never_crowds : (m : Message) (from : Host) → named s from m ≡ c → Crowds (facts_of s l (named s from m) m) → ⊥
+  never_crowds m from of crowds = by crowds.why
+    where
+      above : nat_lt (channel_at l (channel_of c)).number c.number ≡ true
+      above =
+          subst (λ (d : CallName). nat_lt (channel_at l (channel_of d)).number d.number ≡ true) of crowds.above
+
+      higher : (channel_at l (channel_of c)).number < c.number
+      higher = ltb-true (channel_at l (channel_of c)).number c.number above
+
+      -- the call itself doesn't live
+      dead : (r : CallRecord) → call_at l c ≡ Some r → is_live r.life ≡ true → ⊥
+      dead r there living =
+          (let latest_ = (orderly_history s h legal).latest c (ap (is_call (λ k. is_live k.life)) there ∙ living) in
+          let number : (channel_at l (channel_of c)).number ≡ c.number =
+          channel_number l (channel_of c) ∙ latest_.number in
+          let low = higher in
+          omega arith)
+
+      none : (d : CallName) (r : CallRecord) → call_at l d ≡ Some r → is_live r.life ≡ true → ⊥
+      none d r there living =
+          (let own : d ≡ c = alone d r there living in
+          dead r (subst (λ (n : CallName). call_at l n ≡ Some r) own there) living)
+
+      handled : (o : Option CallRecord) → call_at l (latest_name l (channel_of c)) ≡ o
+          → is_call (λ k. is_handled k.life) o ≡ true → ⊥
+      handled None there is = cc
+      handled (Some r) there is = none (latest_name l (channel_of c)) r there (handled_live r.life is)
+
+      by : ((facts_of s l (named s from m) m).is_handled ≡ true)
+          ⊎ ((facts_of s l (named s from m) m).is_crowded ≡ true) → ⊥
+      by (inl is) =
+          handled (call_at l (latest_name l (channel_of c))) refl
+          (subst (λ (d : CallName). is_call (λ k. is_handled k.life) (latest l (channel_of d)) ≡ true) of is)
+      by (inr is) =
+          (let most : s.limits.calls ≤ live l = leb-true s.limits.calls (live l) is in
+          let no_one : live l ≡ 0 = none_live l.calls (roomy_history s h legal).differ none in
+          let some : 1 ≤ s.limits.calls = fits.limits.some_calls in
+          omega arith)
+
+  -- a message that makes nothing owed: where it is DATA or an ACK it is of the call, which has nothing to tell again, and is
+  -- of a service that is served
+  pub harmless : (from : Host) (bytes : List ℕ) (got : Took) (m : Message) → got ≡ took_of s l from bytes
+      → reading_of bytes ≡ Ok m → (outer_row s s.kind l from m ≡ None → IsStream m.body → named s from m ≡ c)
+      → ((k : CallRecord) → call_at l c ≡ Some k → IsTame k.life)
+      → ((payload : List ℕ) → m.body ≡ bodies.Chunk payload → outer_row s s.kind l from m ≡ Some tooks.Unserved → ⊥)
+      → IsHarmless s mute l from m got
+  harmless from bytes got m is reads of tame served =
+      record { turns = λ row front. turns m.body refl row front; takes = λ front. takes front got refl }
+    where
+      d : CallName
+      d = named s from m
+
+      turns : (body : Body) → m.body ≡ body → (row : Took) → outer_row s s.kind l from m ≡ Some row
+          → TurnsQuietly row m.body
+      turns body same row front = subst (TurnsQuietly row) (sym same) (at row body same front)
+        where
+          at : (row : Took) (body : Body) → m.body ≡ body → outer_row s s.kind l from m ≡ Some row
+              → TurnsQuietly row body
+          at tooks.Unserved (bodies.Chunk payload) same front = served payload same front
+          at tooks.Unserved (bodies.Ack a) same front = tt
+          at tooks.Unserved (bodies.Abort code) same front = tt
+          at tooks.Unserved bodies.Busy same front = tt
+          at tooks.Unserved bodies.AckAll same front = tt
+          at tooks.Unserved (bodies.Challenge given) same front = tt
+          at tooks.Unserved (bodies.Response given) same front = tt
+          at row body same front = tt
+
+      crowded : outer_row s s.kind l from m ≡ None → is_busy got ≡ true → ⊥
+      crowded front busy =
+          (let row = row_named s l from bytes got m is reads front in
+          let crowds = side_crowds s.kind (facts_of s l d m) (own_row s (opened s d l) d m)
+          (row_calm s (opened s d l) (call_at (opened s d l) d) m) (ap is_busy row ∙ busy) in
+          let chunk = both_true (is_data m.body) (nat_le 1 m.seq && nat_le m.seq (receiving_window s)) crowds.starts in
+          never_crowds m from (of front (data_stream m.body chunk.0)) crowds)
+
+      tells : outer_row s s.kind l from m ≡ None → (k : CallRecord)
+          → call_at (prepared s got (connection_of d) l) d ≡ Some k → TellsNone m.body k.life
+      tells front k there = by m.body refl
+        where
+          before : call_at l d ≡ Some k
+          before = call-by d (prepared s got (connection_of d) l) l (sym (calls-prepared s got (connection_of d) l)) ∙ there
+
+          own : IsStream m.body → IsTame k.life
+          own stream =
+              tame k (subst (λ (n : CallName). call_at l n ≡ Some k) (of front stream) before)
+
+          by : (body : Body) → m.body ≡ body → TellsNone m.body k.life
+          by (bodies.Chunk payload) same = tame_tells m.body k.life (own (subst IsStream (sym same) tt))
+          by (bodies.Ack a) same = tame_tells m.body k.life (own (subst IsStream (sym same) tt))
+          by (bodies.Abort code) same = other_tells m.body k.life (λ stream. subst IsStream same stream)
+          by bodies.Busy same = other_tells m.body k.life (λ stream. subst IsStream same stream)
+          by bodies.AckAll same = other_tells m.body k.life (λ stream. subst IsStream same stream)
+          by (bodies.Challenge given) same = other_tells m.body k.life (λ stream. subst IsStream same stream)
+          by (bodies.Response given) same = other_tells m.body k.life (λ stream. subst IsStream same stream)
+
+      takes : outer_row s s.kind l from m ≡ None → (answer : Took) → got ≡ answer
+          → TakesQuietly got d m.body (prepared s got (connection_of d) l)
+      takes front answer same =
+          subst (λ (t : Took). TakesQuietly t d m.body (prepared s got (connection_of d) l)) (sym same) (at answer same)
+        where
+          at : (answer : Took) → got ≡ answer → TakesQuietly answer d m.body (prepared s got (connection_of d) l)
+          at tooks.Busy same = crowded front (ap is_busy same)
+          at tooks.NoRoom same = crowded front (ap is_busy same)
+          at tooks.Over same = tells front
+          at tooks.Stopped same = no_response s s.kind l from m mute.still front
+          at tooks.Kept same = tt
+          at tooks.NoSlot same = tt
+          at tooks.Repeat same = tt
+          at tooks.Beyond same = tt
+          at tooks.Clash same = tt
+          at tooks.Heard same = tt
+          at tooks.Full same = tt
+          at tooks.Old same = tt
+          at tooks.Unserved same = tt
+          at tooks.Foreign same = tt
+          at tooks.Strange same = tt
+          at (tooks.Bad bad) same = tt

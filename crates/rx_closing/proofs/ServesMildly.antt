@@ -1,0 +1,102 @@
+-- What handlers do at a server where the one call that lives is over or broken makes nothing owed.
+use Rattle.std.proofs.Common.{◌≡◌, ◌&&◌, not, ◌||◌, ℕ, ℤ, Bool, true, false, List, Option, Some, None}
+use Rattle.std.proofs.Common.{Result, Ok, Err, refl, ◌∙◌, ap, sym, subst}
+use Rattle.rx_model.specs.declared.answers.CallRead.{CallRead}
+use Rattle.rx_model.specs.declared.answers.ReadGot.TheVariants as readers
+use Rattle.rx_model.specs.declared.answers.ServeRead.{ServeRead}
+use Rattle.rx_model.specs.declared.answers.ServeRefused.{ServeRefused}
+use Rattle.rx_model.specs.declared.event.Event.{Event}
+use Rattle.rx_model.specs.declared.event.Event.TheVariants as events
+use Rattle.rx_model.specs.declared.names.CallName.{CallName}
+use Rattle.rx_rules.specs.After.{is_end, is_zero, looks}
+use Rattle.rx_rules.specs.Life.{Life, is_active, is_calling, is_live}
+use Rattle.rx_rules.specs.Life as lives
+use Rattle.rx_rules.specs.Looks.{CallRecord, Looks, call_at, is_call}
+use Rattle.rx_rules.specs.Received.{read_of}
+use Rattle.rx_rules.specs.Rules.{Allowed, AllowedServer, served_by, served_finish, served_read, served_read_by}
+use Rattle.rx_rules.specs.Setup.{Setup, IsServer}
+use Rattle.rx_history.proofs.OnceLaw.{served}
+use Rattle.rx_jobs.specs.declared.job.TheConstants.{OFFER_BYTES}
+use Rattle.rx_jobs.specs.Jobs.{Ask, IsCall, accept, finish, read, write}
+use Rattle.rx_closing.proofs.ChannelsStay.{IsMute}
+use Rattle.rx_closing.proofs.Frame.{IsAlone}
+use Rattle.rx_closing.proofs.GoesQuiet.{IsIdle}
+use Rattle.rx_closing.proofs.OwesOnly.{GoesMildly}
+
+-- a handler's finish is done of an accepted call alone
+done_accepted : (x : Life) (ended : Bool)
+    → ◌≡◌ {A = Result (Unit {0}) ServeRefused} (served_by x ended tt) (Ok tt) → x ≡ lives.Accepted
+done_accepted lives.Accepted ended is = refl
+done_accepted lives.Calling ended is = absurd cc
+done_accepted (lives.Ended end) ended is = absurd cc
+done_accepted lives.Waiting ended is = absurd cc
+done_accepted lives.Finished ended is = absurd cc
+done_accepted (lives.Broken code) ended is = absurd cc
+done_accepted (lives.Over code) ended is = absurd cc
+
+and_false : (b : Bool) → (b && false) ≡ false
+and_false true = refl
+and_false false = refl
+
+-- a read that answered the end at a server was of an accepted call
+end_accepted : (x : Life) (got : CallRead × List ℕ) (answer : ServeRead) (came : List ℕ)
+    → ◌≡◌ {A = ServeRead × List ℕ} (answer, came) (served_read_by x got)
+    → (is_end (readers.Server answer) && is_calling x) ≡ false
+end_accepted lives.Calling got answer came is =
+    ap (λ (p : ServeRead × List ℕ). is_end (readers.Server p.0) && true) is
+end_accepted (lives.Ended end) got answer came is = and_false (is_end (readers.Server answer))
+end_accepted lives.Waiting got answer came is = and_false (is_end (readers.Server answer))
+end_accepted lives.Accepted got answer came is = and_false (is_end (readers.Server answer))
+end_accepted lives.Finished got answer came is = and_false (is_end (readers.Server answer))
+end_accepted (lives.Broken code) got answer came is = and_false (is_end (readers.Server answer))
+end_accepted (lives.Over code) got answer came is = and_false (is_end (readers.Server answer))
+
+module _ (s : Setup) (h : List Event) (mute : IsMute s.class) (c : CallName) (alone : IsAlone c (looks s h))
+    (idle : IsIdle (looks s h) c) where
+  abbrev l : Looks
+  l = looks s h
+
+  -- no call is accepted
+  none_accepted : (d : CallName) (r : CallRecord) → call_at l d ≡ Some r → r.life ≡ lives.Accepted → ⊥
+  none_accepted d r there is =
+      (let own : d ≡ c = alone d r there (ap is_live is) in
+      let here : call_at l c ≡ Some r = subst (λ (n : CallName). call_at l n ≡ Some r) own there in
+      let one : r ≡ idle.call = some_is r idle.call (sym here ∙ idle.there) in
+      let no : true ≡ false =
+      sym (ap is_active is) ∙ ap (λ (k : CallRecord). is_active k.life) one ∙ idle.idle in cc)
+    where
+      some_is : (x y : CallRecord) → ◌≡◌ {A = Option CallRecord} (Some x) (Some y) → x ≡ y
+      some_is x y same = cc
+
+  finish_mild : (d : CallName) (code : ℤ) (got : Result (Unit {0}) ServeRefused) → got ≡ served_finish (call_at l d) code
+      → GoesMildly s mute c l (events.Finished d code got)
+  finish_mild d code (Err refused) is = tt
+  finish_mild d code (Ok done) is = of (call_at l d) refl is
+    where
+      of : (o : Option CallRecord) → call_at l d ≡ o
+          → ◌≡◌ {A = Result (Unit {0}) ServeRefused} (Ok tt) (served_finish o code) → is_zero code ≡ true
+      of None there same = absurd cc
+      of (Some r) there same =
+          absurd (none_accepted d r there
+          (done_accepted r.life (r.looks.received.ended || not (is_zero code)) (sym same)))
+
+  -- what a handler does
+  pub serve_mild : (a : Ask) (e : Event) → IsServer s.kind → Allowed s l e → IsCall a e → GoesMildly s mute c l e
+  serve_mild accept e server allowed is = subst (GoesMildly s mute c l) (sym is.1) (of is.0)
+    where
+      of : (got : Option CallName) → GoesMildly s mute c l (events.Accepted got)
+      of None = tt
+      of (Some d) = tt
+  serve_mild (write d offer) e server allowed is = subst (GoesMildly s mute c l) (sym is.1) tt
+  serve_mild (read d) e server allowed is =
+      subst (GoesMildly s mute c l) (sym is.2)
+      (of (call_at l d)
+      (subst (λ (f : Event). AllowedServer s l f) is.2 (served s.kind s l e server allowed)).1)
+    where
+      of : (o : Option CallRecord) → ◌≡◌ {A = ServeRead × List ℕ} (is.0, is.1) (served_read o OFFER_BYTES)
+          → (is_end (readers.Server is.0) && is_call (λ k. is_calling k.life) o) ≡ false
+      of None same = and_false (is_end (readers.Server is.0))
+      of (Some r) same = end_accepted r.life (read_of r.looks.received OFFER_BYTES) is.0 is.1 same
+  serve_mild (finish d code) e server allowed is =
+      subst (GoesMildly s mute c l) (sym is.1)
+      (finish_mild d code is.0 (subst (λ (f : Event). AllowedServer s l f) is.1 (served s.kind s l e server allowed)).1)

@@ -1,0 +1,59 @@
+-- The rounds that a plan ends with close the one call that lives as they begin. Public clauses cite this module.
+use Rattle.std.specs.Prelude.{◌≡◌, ◌≤◌, ◌*◌, ◌⊎◌, ℕ, List, [], ◌∷◌, ◌++◌, length, All}
+use Rattle.rx_model.specs.declared.event.Noted.{Noted}
+use Rattle.rx_model.specs.declared.names.CallName.{CallName}
+use Rattle.rx_law.specs.Promises.{ServerForgotNone}
+use Rattle.rx_law.specs.Times.{Timely}
+use Rattle.rx_script.specs.declared.plan.Numbered.{Numbered}
+use Rattle.rx_script.specs.declared.plan.PlanLine.TheVariants as lines
+use Rattle.rx_jobs.specs.Handlers.{Handlers}
+use Rattle.rx_plan.specs.Answering.{AreDriven, AreServable, WaitsShort}
+use Rattle.rx_plan.specs.Follows.{Went, Whole, plan_goes}
+use Rattle.rx_plan.specs.Lines.{IsWell}
+use Rattle.rx_plan.specs.Parts.{To}
+use Rattle.rx_plan.specs.Promises.{AreDistinct, plan_nodes}
+use Rattle.rx_plan.specs.Rounds.{rounds}
+use Rattle.rx_plan.specs.Stages.{Stage}
+use Rattle.rx_closing.specs.Closing.{AreEarly, AreOpen, HasClosed, RepliesFit}
+use Rattle.rx_closing.specs.Living.{all_live}
+use Rattle.rx_closing.specs.Silence.{DeadInSilence}
+use Rattle.rx_closing.specs.Work.{work_of}
+
+-- what is asked of lines, of the stage that they came to and of a later one: the lines are driven; no two clients share
+-- host and epoch, and nodes don't challenge; the server forgot nothing or no datagram is old; no clock of the first stage
+-- is near its end, and what is served there fits its callers
+pub record AreFair (g : Handlers) (ls : List Numbered) (s t : Stage) : Type 0 where
+  pub driven : AreDriven ls
+  pub distinct : AreDistinct (plan_nodes ls)
+  pub open_ : AreOpen (plan_nodes ls)
+  pub kept : ServerForgotNone (plan_nodes ls) t.history ⊎ Timely (plan_nodes ls) t.history
+  pub early : AreEarly s
+  pub replies : RepliesFit g ls s
+
+-- events of these lines and then of so many rounds, to a stage at which the one call is closed that lived as the rounds
+-- began, where there were enough of them; and however many there were, it was found dead only in silence
+pub record EndsInRounds (g : Handlers) (ls : List Numbered) (n : ℕ) (es : List Noted) (t : Stage) : Type 0 where
+  pub begins : Stage
+  pub front : List Noted
+  pub rest : List Noted
+  pub are : es ≡ front ++ rest
+  pub goes : plan_goes g ls front (Whole begins)
+  pub rounds_are : rounds g n begins rest (To t)
+  pub closes :
+      AreFair g ls begins t → (c : CallName) → all_live begins ≡ c ∷ [] → 2000 * work_of g ls begins c ≤ n
+      → HasClosed begins t c
+  pub silent :
+      AreFair g ls begins t → (c : CallName) → length (all_live begins) ≡ 1
+      → DeadInSilence (plan_nodes ls) begins rest t c
+
+-- of a plan whose last line makes rounds, where all of it was made
+abbrev pub ClosesBy : Handlers → List Numbered → List Noted → Went → Type 0
+ClosesBy g ls es went =
+    (before : List Numbered) (line n : ℕ) (t : Stage)
+    → ls ≡ before ++ record { line = line; what = lines.Rounds n } ∷ [] → went ≡ Whole t → EndsInRounds g before n es t
+
+-- whatever such a plan makes
+abbrev pub PlansClose : Type 0
+PlansClose =
+    (g : Handlers) (ls : List Numbered) (es : List Noted) (went : Went) → AreServable g → WaitsShort g
+    → All (λ l. IsWell g l.what) ls → plan_goes g ls es went → ClosesBy g ls es went

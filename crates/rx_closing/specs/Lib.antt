@@ -1,0 +1,5 @@
+pub mod Work
+pub mod Living
+pub mod Closing
+pub mod Silence
+pub mod Ended
