@@ -9,7 +9,8 @@
 # prints a download in hex, here to /dev/null, where the C client adds it up; `rx serve` prints two lines a call, here to
 # a file. An upload is kept whole by `rx serve` and added up by the C server; a download is made before by `rx serve` and
 # as it goes by the C server. All windows are those by default.
-# Wants cc, Debian's libopenafs-dev, the ports 7920 and 7921 of 127.0.0.1, and processors that have nothing else to do.
+# Two rows more each have the same echoes at a server that knows 1,000 clients, beside one that knows one.
+# Wants cc, Debian's libopenafs-dev, the ports 7920 to 7922 of 127.0.0.1, and processors that have nothing else to do.
 set -u
 top=$(cd "$(dirname "$0")/.." && pwd)
 work=$(mktemp -d)
@@ -42,7 +43,10 @@ our_words() {
 # client and the nanoseconds of the server.
 run() {
     local server=theirs port=7920 words before begin end
-    [[ $1 != *', rx serve' ]] || server=ours port=7921
+    case $1 in
+        *', rx serve') server=ours port=7921 ;;
+        *known) server=many port=7922 ;;
+    esac
     case $1 in
         'rx call'*) our_words "$port" "${@:2}" ;;
         *) words=("$client" "$port" 60 "${@:2}") ;;
@@ -56,8 +60,8 @@ run() {
 }
 
 # measure WHAT CALLS SIZE WORD..: a line of the table for each pair of ends. They run in turns, so that all have the
-# machine as it is at the time, with servers that begin with the work: a poll of `rx serve` goes over each client that it
-# has seen. Many calls of one client are those of the C client alone.
+# machine as it is at the time, with servers that begin with the work. Many calls of one client are those of the C client
+# alone.
 measure() {
     local what=$1 calls=$2 size=$3 pairs=('OpenAFS, OpenAFS' 'OpenAFS, rx serve') ends i first
     shift 3
@@ -73,6 +77,28 @@ measure() {
     for ends in "${pairs[@]}"; do
         told "$what" "$ends" "$calls" "$size"
     done
+    rm "$work/runs"*
+    end_all
+}
+
+# known WHAT COUNT WORD..: a line for the work at a server that knows one client, and one for that at a server that knows so
+# many, in turns; the time of both is beside that of the first.
+known() {
+    local what=$1 count=$2 few='OpenAFS, rx serve' ends i first
+    local many="OpenAFS, rx serve, $count clients known"
+    shift 2
+    serve ours "$xg" "$work/script" 127.0.0.1:7921 60 && serve many "$xg" "$work/script" 127.0.0.1:7922 60 || exit
+    for ((i = 1; i < count; i++)); do
+        "$client" 7922 60 echo 1 1 20 >/dev/null || exit
+    done
+    for ((i = 0; i < RUNS; i++)); do
+        for ends in "$few" "$many"; do
+            run "$ends" "$@" >>"$work/runs $ends"
+        done
+    done
+    first=$(sort -n "$work/runs $few" | awk 'NR == 1 { print $1 }')
+    told "$what" "$few" "$ECHOES" 0
+    told "$what" "$many" "$ECHOES" 0
     rm "$work/runs"*
     end_all
 }
@@ -102,6 +128,8 @@ echo '|---|---|---|---|---|---|---|'
 jumbo=1 JUMBO=
 measure "$ECHOES echoes, one at a time" "$ECHOES" 0 echo "$ECHOES" 1 20
 measure "$ECHOES echoes, four at a time" "$ECHOES" 0 echo "$ECHOES" 4 20
+known "$ECHOES echoes, one at a time" 1000 echo "$ECHOES" 1 20
+known "$ECHOES echoes, four at a time" 1000 echo "$ECHOES" 4 20
 one_calls ''
 jumbo=4
 export JUMBO=yes
