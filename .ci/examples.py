@@ -15,6 +15,7 @@ import tempfile
 top = pathlib.Path(__file__).resolve().parent.parent
 failed = []
 OK, REFUSED = 0, 2
+HEAD = r"ends in round (\d+) of ([\d,]+): 2,000 for each of (\d+) \+ (\d+) pieces, (\d+) turns? and 8\."
 
 
 def program():
@@ -70,13 +71,16 @@ def differing(got, wanted):
     return f"line {at} of the trace is {str(line)[:200]}" if at else None
 
 
+def other_sum(got, sum):
+    """What differs in a trace with this sum, or None."""
+    seen = hashlib.sha256(got).hexdigest()
+    return None if seen == sum else f"the sum of the trace is {seen}"
+
+
 def has_sum(got, sum, last):
     """What differs in a trace with this sum and this last line, or None."""
     lines = got.decode().split("\n")
-    if lines[-2:] != [last, ""]:
-        return f"the trace ends with {lines[-2:]}"
-    seen = hashlib.sha256(got).hexdigest()
-    return None if seen == sum else f"the sum of the trace is {seen}"
+    return other_sum(got, sum) if lines[-2:] == [last, ""] else f"the trace ends with {lines[-2:]}"
 
 
 def wide_write(got):
@@ -96,7 +100,35 @@ def wide_client(got):
     return has_sum(got, "71a2a420f93f874169b0c24f5fc11df76f656baf5b70c43ce4fc27d1065edc19", "s accept -> none")
 
 
+def slow(name, sum):
+    """Compares the rounds in a plan's head: those that its last line makes, and the one in which the call ends."""
+    plan = (top / f"examples/{name}.plan").read_text()
+    said = re.search(HEAD, plan)
+    end, promised, asked, served, turns = (int(it.replace(",", "")) for it in said.groups())
+
+    def is_trace(got):
+        behind = re.search(rb"^c1 ask \S+ -> live$(.*?)^c1 read \S+ 4096 -> end$", got, flags=re.M | re.S)
+        seen = behind and behind[1].count(b"\ns poll -> none\n")
+        if promised != 2_000 * (asked + served + turns + 8) or not plan.endswith(f"\nrounds {promised}\n"):
+            return f"{promised} rounds aren't what is promised and made"
+        return other_sum(got, sum) if seen == end else f"the call ends in round {seen}"
+
+    return is_trace
+
+
 # The sums are those of traces that another program made, which plays plans by the rules of docs/PROTOCOL.md alone.
+SLOW = {
+    "slow-ack-lost": "ee6e7802c1db0c6e40d0b6e060a654ae2aa4663fa6d1f24a7db3eefb6ee98466",
+    "slow-both-ways": "7a1338c208c1eb56541ee1aed62707b32e970b59c456d74ce9b1815e0fc439a7",
+    "slow-clock-ahead": "f64c11c261a75a3204aeb55f40c6bf0841310c235410dea6cc53d757e5d7d7ea",
+    "slow-first-lost": "89a0212bf7e206b6008d870e89deedea3f69b88fd6da5c30b23d97d3f0ebda6b",
+    "slow-first-repeated": "61d2895ef70be6baae0ce8d4a8f16df4b117d9c60625c96a88016364b1f9efb1",
+    "slow-long-wait": "454eb12af31dffbb2560d7b9ce1d6d030535e77f931a7a7bb819473e1ccc9d23",
+    "slow-no-slot-at-client": "216da58cbed42a46de4fa2a026a143664eb87c0c7bca42bd6c69c394e463337a",
+    "slow-no-slot-at-server": "b1e0240ce9a9fa777abbd33043208a743c2863aee1e963fd3e328ed165283889",
+    "slow-one-by-one": "e1101870b98a89ff6bdaf67ddd193d5062e44cf50b2866d665be5c0ae836cfc0",
+    "slow-two-slots": "1dc1e2402949034f9ecc7f87afeb68931cd0f3acf39da33a5b600626250c03f0",
+}
 LARGE = {
     "wide-write": wide_write,
     "wide-client": wide_client,
@@ -104,6 +136,7 @@ LARGE = {
         got, "bd0a1be162eb9e674f782074e1452ba08f2883e232c3841594ebe1fd2efced9f", "answer #1 ok [1000000]"),
     "after-losses": lambda got: has_sum(
         got, "bca2ffb79be6852ba6bbcfa831b12a924275ea27a1cb6615b8af6c9f8e8b2a12", "answer #1 ok [1000000]"),
+    **{name: slow(name, sum) for name, sum in SLOW.items()},
 }
 PROGRAM = program()
 if PROGRAM is None:
