@@ -72,7 +72,3 @@ far r =
 abbrev pub far_of : Option CallRecord → ℕ
 far_of None = 0
 far_of (Some r) = suc (far r)
-
--- no step of the call was made between two moments at a node, by what counts
-pub record Stands (a b : Option CallRecord) : Type 0 where
-  pub same : far_of a ≡ far_of b

@@ -1,5 +1,6 @@
 -- A plan whose last line makes rounds: the lines before it, and the rounds from the stage that they came to.
-use Rattle.std.proofs.Common.{◌≡◌, ◌++◌, ℕ, suc, true, false, List, [], ◌∷◌, refl, ap, sym, subst, ◌∙◌, inl, inr, append_assoc, All}
+use Rattle.std.proofs.Common.{◌≡◌, ◌++◌, ℕ, suc, true, false, List, [], ◌∷◌, refl, ap, sym, subst, ◌∙◌, inl, inr}
+use Rattle.std.proofs.Common.{append_assoc, All}
 use Rattle.std.proofs.lemmas.List.Elements.{All-cons, All-head, All-nil, All-tail}
 use Rattle.rx_model.specs.declared.event.Noted.{Noted}
 use Rattle.rx_script.specs.declared.plan.Numbered.{Numbered}
@@ -14,8 +15,8 @@ use Rattle.rx_plan.specs.Stages.{Stage}
 use Rattle.rx_rounds.proofs.Making.{ends_cut, ends_endless, ends_refused, ends_to}
 use Rattle.rx_closing.specs.Closing.{RoundsBehind}
 use Rattle.rx_closing.specs.Ended.{AreFair, PlansClose}
-use Rattle.rx_closing.proofs.ClosesOne.{closes_one}
-use Rattle.rx_closing.proofs.DeadUnknown.{dead_one_in_silence}
+use Rattle.rx_closing.proofs.Silence.DeadUnknown.{dead_one_in_silence}
+use Rattle.rx_closing.proofs.Sums.ClosesOne.{closes_one}
 
 -- ---- a line and the others
 
@@ -48,7 +49,8 @@ one_made g l ls p es t made = of (l ∷ ls) p es (Whole t) made refl refl
           more = hs;
           are = refl;
           made = subst (λ (i : Numbered). next_part g i.what q front (To r)) one made_;
-          others = subst (λ (v : Went). Goes g ls r hs v) at (subst (λ (ns : List Numbered). Goes g ns r hs w) rest others);
+          others =
+              subst (λ (v : Went). Goes g ls r hs v) at (subst (λ (ns : List Numbered). Goes g ns r hs w) rest others);
         })
     of ks o fs went (refused k more q gs why made_) is at = absurd cc
     of ks o fs went (cut k more q gs made_) is at = absurd cc

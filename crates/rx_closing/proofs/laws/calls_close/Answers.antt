@@ -1,5 +1,5 @@
-use Rattle.rx_closing.proofs.ClosesOne.{closes_one}
 use Rattle.rx_closing.proofs.PlansClose.{plans_close}
+use Rattle.rx_closing.proofs.Sums.ClosesOne.{closes_one}
 use Rattle.rx_closing.proofs.laws.calls_close.Goals as goal
 
 pub returns-clause-one : goal.returns-clause-one

@@ -1,0 +1,23 @@
+-- The two ends of a call by themselves, along rounds that are all they see.
+pub mod NextGiven
+pub mod FrozenPolls
+pub mod FrozenTakes
+pub mod LowestAgain
+pub mod FrozenRound
+pub mod FrozenSteps
+pub mod BothEnds
+pub mod Resting
+pub mod AtRest
+pub mod FitGives
+pub mod EndFacts
+pub mod OwedPlain
+pub mod FitAlways
+pub mod LinkedAt
+pub mod LoneEnd
+pub mod Speaks
+pub mod SaysPieces
+pub mod HeardSoon
+pub mod RoomLaws
+pub mod TurnLaws
+pub mod LastOnly
+pub mod ReplyLate

@@ -1,0 +1,26 @@
+-- Rounds behind a driven plan: their events, their scenes, and their clocks.
+pub mod RoundCarries
+pub mod PlanCarries
+pub mod RoundEvents
+pub mod Chains
+pub mod Tracks
+pub mod LastLife
+pub mod HeardCuts
+pub mod KeptBefore
+pub mod LoneSteps
+pub mod LoneWorld
+pub mod LoneRounds
+pub mod Scenes
+pub mod TameParts
+pub mod RoundMoments
+pub mod RoundAwake
+pub mod RoundClocks
+pub mod RoundsEarly
+pub mod EarlyClocks
+pub mod SpokeHolds
+pub mod SpokeRises
+pub mod Begins
+pub mod BehindLone
+pub mod LoneChain
+pub mod SceneEnds
+pub mod ServerKnows

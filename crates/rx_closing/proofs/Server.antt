@@ -1,0 +1,25 @@
+-- The turn of a dispatcher, seen from one call of its server.
+pub mod JobSteps
+pub mod JobCalls
+pub mod JobSeen
+pub mod OneJob
+pub mod JobAnswers
+pub mod JobHeld
+pub mod JobsLow
+pub mod JobsStay
+pub mod HandlerKeeps
+pub mod StayingJobs
+pub mod OwnEvents
+pub mod OwnStep
+pub mod OwnReads
+pub mod OwnBroken
+pub mod OwnSeen
+pub mod Accepts
+pub mod FirstsHold
+pub mod ServerTurn
+pub mod ServerWay
+pub mod ServerScene
+pub mod TurnDrained
+pub mod SceneRest
+pub mod RestOver
+pub mod WaitingFresh
