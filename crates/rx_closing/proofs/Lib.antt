@@ -15,3 +15,6 @@ pub mod Unknown
 pub mod Silence
 pub mod Sums
 pub mod PlansClose
+pub mod NoMore
+pub mod LeftScene
+pub mod LeftLive

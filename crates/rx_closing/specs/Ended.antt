@@ -30,6 +30,17 @@ pub record AreFair (g : Handlers) (ls : List Numbered) (s t : Stage) : Type 0 wh
   pub early : AreEarly s
   pub replies : RepliesFit g ls s
 
+-- what is said of a stage and of the one behind so many rounds: the one call that lives at the first is closed at the
+-- second, where there were enough of them
+abbrev pub ClosesFrom : Handlers → List Numbered → ℕ → Stage → Stage → Type 0
+ClosesFrom g ls n s t =
+    AreFair g ls s t → (c : CallName) → all_live s ≡ c ∷ [] → 2000 * work_of g ls s c ≤ n → HasClosed s t c
+
+-- and however many there were, of their events: it was found dead only in silence
+abbrev pub SilentFrom : Handlers → List Numbered → Stage → List Noted → Stage → Type 0
+SilentFrom g ls s es t =
+    AreFair g ls s t → (c : CallName) → length (all_live s) ≡ 1 → DeadInSilence (plan_nodes ls) s es t c
+
 -- events of these lines and then of so many rounds, to a stage at which the one call is closed that lived as the rounds
 -- began, where there were enough of them; and however many there were, it was found dead only in silence
 pub record EndsInRounds (g : Handlers) (ls : List Numbered) (n : ℕ) (es : List Noted) (t : Stage) : Type 0 where
@@ -39,12 +50,8 @@ pub record EndsInRounds (g : Handlers) (ls : List Numbered) (n : ℕ) (es : List
   pub are : es ≡ front ++ rest
   pub goes : plan_goes g ls front (Whole begins)
   pub rounds_are : rounds g n begins rest (To t)
-  pub closes :
-      AreFair g ls begins t → (c : CallName) → all_live begins ≡ c ∷ [] → 2000 * work_of g ls begins c ≤ n
-      → HasClosed begins t c
-  pub silent :
-      AreFair g ls begins t → (c : CallName) → length (all_live begins) ≡ 1
-      → DeadInSilence (plan_nodes ls) begins rest t c
+  pub closes : ClosesFrom g ls n begins t
+  pub silent : SilentFrom g ls begins rest t
 
 -- of a plan whose last line makes rounds, where all of it was made
 abbrev pub ClosesBy : Handlers → List Numbered → List Noted → Went → Type 0

@@ -3,3 +3,4 @@ pub mod Living
 pub mod Closing
 pub mod Silence
 pub mod Ended
+pub mod Left

@@ -1,6 +1,7 @@
 //! Laws of the calls that live as fair rounds begin.
 ghost use Rattle.rx_closing.specs.Closing.{ClosesOne};
 ghost use Rattle.rx_closing.specs.Ended.{PlansClose};
+ghost use Rattle.rx_closing.specs.Left.{NoneDiesHeard, NoneLivesOn};
 ghost use Rattle.rx_closing.specs.Silence.{DeadOneInSilence};
 
 /// Behind the lines of a driven plan, whatever was lost, repeated and reordered in them, one call lives, and then fair
@@ -25,4 +26,15 @@ pub fn calls_close()
 /// So it is under the same conditions, and of the run of a plan whose last line makes the rounds.
 pub fn dead_only_in_silence()
     ensures { DeadOneInSilence }
+{}
+
+/// What is said of the rounds that a plan ends with says of their two stages and the events between them alone, whatever
+/// these are, that neither is left of the one call that lived as they began: that it lives at its client still, where there
+/// were enough rounds; and that its client found it dead of silence, though a message of it was heard in them and none came
+/// to the server that had no place for it. So it refuses what is left by an end that gives a lost piece again only once, a
+/// server that takes what lies below a mark for acknowledged, one that forgets a reply of which a part is marked, and a
+/// client that asks for no sign of life.
+pub fn closed_calls_live_no_more()
+    ensures lives { NoneLivesOn }
+    ensures dies { NoneDiesHeard }
 {}

@@ -1,5 +1,5 @@
 -- What a turn of a handler or of a caller leaves of an end of a call, which it reads, writes and shuts.
-use Rattle.std.proofs.Common.{◌≡◌, ◌≤◌, ◌+◌, ◌||◌, ℕ, Bool, true, false, List, ◌++◌, length, refl, ap, ◌∙◌, arith}
+use Rattle.std.proofs.Common.{◌≡◌, ◌≤◌, ◌||◌, ℕ, Bool, true, false, List, ◌++◌, length, refl, ap, ◌∙◌, arith}
 use Rattle.std.proofs.lemmas.List.{length-append}
 use Rattle.rx_rules.specs.CallLooks.{CallLooks, after_read, after_shut, after_write}
 use Rattle.rx_rules.specs.Looks.{CallRecord}

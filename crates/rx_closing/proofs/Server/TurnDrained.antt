@@ -5,7 +5,6 @@ use Rattle.std.proofs.Common.{List, [], length, refl, ap, sym, subst, ◌∙◌,
 use Rattle.std.proofs.lemmas.Bool.Decides.{nat_tests}
 use Rattle.rx_model.specs.declared.names.CallName.{CallName}
 use Rattle.rx_model.proofs.NameLaws.{same_number}
-use Rattle.rx_rules.specs.After.{looks}
 use Rattle.rx_rules.specs.Life.{is_active, is_handled}
 use Rattle.rx_rules.specs.Life as lives
 use Rattle.rx_rules.specs.Looks.{CallRecord, is_call}

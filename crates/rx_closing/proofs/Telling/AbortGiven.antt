@@ -1,5 +1,5 @@
 -- A server that owes an ABORT to the latest call of a channel gives it in the polls of the next round.
-use Rattle.std.proofs.Common.{◌≡◌, ◌≢◌, ◌⊎◌, ◌++◌, ◌==◌, ℕ, Bool, true, false, List, [], ◌∷◌, Option, Some, None}
+use Rattle.std.proofs.Common.{◌≡◌, ◌≢◌, ◌++◌, ◌==◌, ℕ, Bool, true, false, List, [], ◌∷◌, Option, Some, None}
 use Rattle.std.proofs.Common.{option_map, refl, ◌∙◌, ap, sym, subst, inl, inr, ⊎_elim, append_assoc, append-nil}
 use Rattle.std.specs.Prelude.{drop, slice_get, IsSomeAnd}
 use Rattle.rx_model.specs.declared.event.Event.{Event}

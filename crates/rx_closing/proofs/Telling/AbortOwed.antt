@@ -35,7 +35,6 @@ use Rattle.rx_history.proofs.Orderly.{HasFour}
 use Rattle.rx_history.proofs.OrderlyHistory.{orderly_history}
 use Rattle.rx_law.proofs.World.{gave-mine}
 use Rattle.rx_law.specs.Worlds.{Datagram}
-use Rattle.rx_plan.specs.Rounds.{Polled}
 use Rattle.rx_rounds.proofs.EachItem.{In, in_behind, in_filter, in_front, in_items, is_due, least_none}
 use Rattle.rx_rounds.proofs.PolledOut.{polled_out}
 use Rattle.rx_rounds.proofs.Two.{sent}
