@@ -69,25 +69,25 @@ fn make_at_once<L: Ledger>(
 
 /// Starts a call, whose request is a number.
 pub fn start(joined: &mut Joined, cid: u32, number: u32) -> Option<CallName> {
-    let c = joined.client.call(cid).ok()?;
-    joined.client.write(&c, &number.to_be_bytes()).ok()?;
-    joined.client.shut(&c).ok()?;
+    let c = joined.call(cid)?;
+    let _accepted = joined.write_request(&c, &number.to_be_bytes());
+    joined.shut(&c);
     Some(c)
 }
 
 /// A handler takes the next call, reads its request and gives it back. Answers the checksum.
 fn serve(joined: &mut Joined, sum: u64) -> u64 {
-    let Some(c) = joined.server.accept() else {
+    let Some(c) = joined.accept() else {
         return sum;
     };
     let mut room = [0; ROOM];
-    let ServeRead::Got(count) = joined.server.read(&c, &mut room) else {
+    let ServeRead::Got(count) = joined.read_request(&c, &mut room) else {
         return sum;
     };
-    let _end = joined.server.read(&c, &mut [0]);
+    let _end = joined.read_request(&c, &mut [0]);
     let (request, _rest) = room.split_at(TINY);
-    let _said = joined.server.write(&c, request);
-    let _finished = joined.server.finish(&c, 0);
+    let _accepted = joined.write_reply(&c, request);
+    joined.finish(&c);
     fold(sum, &room, count)
 }
 
@@ -97,11 +97,11 @@ fn read(joined: &mut Joined, call: &Option<CallName>, before: Counts) -> Counts 
         return before;
     };
     let mut room = [0; ROOM];
-    let ReadAns::Got(count) = joined.client.read(c, &mut room) else {
+    let ReadAns::Got(count) = joined.read_reply(c, &mut room) else {
         return before;
     };
     let sum = fold(before.sum, &room, count);
-    if joined.client.read(c, &mut room) != ReadAns::End {
+    if joined.read_reply(c, &mut room) != ReadAns::End {
         return Counts { sum, ..before };
     }
     Counts {

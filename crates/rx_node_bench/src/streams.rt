@@ -26,7 +26,7 @@ pub fn make_streams<L: Ledger>(
     steps: &mut Steps<L>,
 ) -> Result<Counts, AllocError> {
     let block = block(alloc)?;
-    let Ok(c) = joined.client.call(cid) else {
+    let Some(c) = joined.call(cid) else {
         return Ok(before);
     };
     let request = move_request(joined, &c, &block, bytes, before.sum, steps);
@@ -58,7 +58,7 @@ fn move_request<L: Ledger>(
     for _ in 0..u32::MAX {
         said = say_request(joined, c, block, said, bytes);
         joined.client_gives(steps);
-        let _accepted = joined.server.accept();
+        let _accepted = joined.accept();
         heard = hear_request(joined, c, heard.sum);
         joined.server_gives(steps);
         joined.wait(ACK_DELAY_MS);
@@ -78,10 +78,10 @@ fn say_request(joined: &mut Joined, c: &CallName, block: &[u8], from: u64, bytes
     let mut said = from;
     for _ in 0..MAX_WINDOW {
         let next = next_bytes(block, said, bytes);
-        let count = joined.client.write(c, next).unwrap_or(0).min(next.len());
+        let count = joined.write_request(c, next).min(next.len());
         said += count as u64;
         if said == bytes {
-            let _shut = joined.client.shut(c);
+            joined.shut(c);
         }
         if count < next.len() || said == bytes {
             return said;
@@ -95,7 +95,7 @@ fn hear_request(joined: &mut Joined, c: &CallName, before: u64) -> Heard {
     let mut room = [0; OFFER];
     let mut sum = before;
     for _ in 0..MAX_WINDOW {
-        match joined.server.read(c, &mut room) {
+        match joined.read_request(c, &mut room) {
             ServeRead::Got(count) => sum = fold(sum, &room, count),
             ServeRead::End => return Heard { sum, ended: true },
             ServeRead::NotYet | ServeRead::Gone(_) | ServeRead::NotOpen => {
@@ -142,10 +142,10 @@ fn say_reply(joined: &mut Joined, c: &CallName, block: &[u8], from: u64, bytes: 
     let mut said = from;
     for _ in 0..MAX_WINDOW {
         let next = next_bytes(block, said, bytes);
-        let count = joined.server.write(c, next).unwrap_or(0).min(next.len());
+        let count = joined.write_reply(c, next).min(next.len());
         said += count as u64;
         if said == bytes {
-            let _finished = joined.server.finish(c, 0);
+            joined.finish(c);
         }
         if count < next.len() || said == bytes {
             return said;
@@ -159,7 +159,7 @@ fn hear_reply(joined: &mut Joined, c: &CallName, before: u64) -> Heard {
     let mut room = [0; OFFER];
     let mut sum = before;
     for _ in 0..MAX_WINDOW {
-        match joined.client.read(c, &mut room) {
+        match joined.read_reply(c, &mut room) {
             ReadAns::Got(count) => sum = fold(sum, &room, count),
             ReadAns::End => return Heard { sum, ended: true },
             ReadAns::NotYet | ReadAns::Gone(_) | ReadAns::Unknown => {

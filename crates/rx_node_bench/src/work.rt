@@ -1,7 +1,7 @@
 ghost use Rattle.std.specs.Prelude.{◌≡◌, ◌<◌};
 
 use crate::calls::{Counts, make_calls, start};
-use crate::joined::{Joined, MAX_IDLE, MAX_LIVE, SERVER, SERVICE};
+use crate::joined::{Joined, MAX_IDLE, MAX_LIVE};
 use crate::streams::make_streams;
 use rx_due::Steps;
 use std::alloc::{AllocError, Global};
@@ -50,7 +50,7 @@ pub fn measured<L: Ledger>(
     let mut joined = Joined::make(alloc, work.idle, work.live)?;
     let idled = idle(&mut joined, work.idle, &mut steps);
     live(&mut joined, work.live, &mut steps);
-    let Ok(cid) = joined.client.connect(SERVER, SERVICE, 1) else {
+    let Some(cid) = joined.connect() else {
         return Ok(None);
     };
     let called = make_calls(
@@ -77,7 +77,7 @@ pub fn measured<L: Ledger>(
 fn idle<L: Ledger>(joined: &mut Joined, conns: u32, steps: &mut Steps<L>) -> Counts {
     let mut counts = Counts { sum: 0, calls: 0 };
     for _ in 0..conns {
-        if let Ok(cid) = joined.client.connect(SERVER, SERVICE, 1) {
+        if let Some(cid) = joined.connect() {
             counts = make_calls(joined, cid, 1, 1, counts, steps);
         }
     }
@@ -87,10 +87,10 @@ fn idle<L: Ledger>(joined: &mut Joined, conns: u32, steps: &mut Steps<L>) -> Cou
 /// Makes so many connections with a call on each, which a handler takes and leaves as it is.
 fn live<L: Ledger>(joined: &mut Joined, conns: u32, steps: &mut Steps<L>) {
     for number in 0..conns {
-        if let Ok(cid) = joined.client.connect(SERVER, SERVICE, 1) {
+        if let Some(cid) = joined.connect() {
             let _call = start(joined, cid, number);
             joined.client_gives(steps);
-            let _handled = joined.server.accept();
+            let _handled = joined.accept();
         }
     }
 }
