@@ -23,11 +23,13 @@ use crate::stop::Stop;
 use crate::trace::Trace;
 use crate::world::World;
 use rx_base::Sink;
+use rx_closing::calls_close;
 use rx_dispatch::Dispatcher;
 use rx_model::wire::{MAX_WINDOW, MIN_WINDOW};
 use rx_model::{Host, Limits};
 use rx_nodes::{Nodes, SERVER};
 use rx_plan::{MAX_CLIENTS, MAX_SLOTS};
+use rx_rounds::{plans_arrive, plans_complete};
 use rx_script::{Numbered, Outcome, Plan, PlanLine, PlanWhy, Script};
 use rx_token::{Chosen, KEY_BYTES, Token};
 use rx_wire::Journal;
@@ -64,6 +66,9 @@ pub fn run<O: Sink, J: Journal>(
         (told (J.told book.old) (O.told out.old) (O.faults out.old))
         (told (J.told book.new) (O.told out.new) (O.faults out.new)) }
 {
+    plans_arrive();
+    plans_complete();
+    calls_close();
     match plan.lines.split_first() {
         None => Outcome::Ran,
         Some((first, rest)) => outcome_of(run_lines(

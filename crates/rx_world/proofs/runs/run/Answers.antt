@@ -24,30 +24,30 @@ returns-in-Some-clause-headline g c =
 
 pub returns-in-None-clause-arrives : goal.returns-in-None-clause-arrives
 returns-in-None-clause-arrives g c =
-    run_arrives (handlers_of c.args.iface.now (blocks_of c.args.script.blocks.items)) c.args.plan.now.lines.items _ _ _
-    c.requires
+    run_arrives c.plans_arrive.ensures (handlers_of c.args.iface.now (blocks_of c.args.script.blocks.items))
+    c.args.plan.now.lines.items _ _ _ c.requires
 
 pub returns-in-Some-clause-arrives : goal.returns-in-Some-clause-arrives
 returns-in-Some-clause-arrives g c =
-    run_arrives (handlers_of c.args.iface.now (blocks_of c.args.script.blocks.items)) c.args.plan.now.lines.items _ _ _
-    c.requires
+    run_arrives c.plans_arrive.ensures (handlers_of c.args.iface.now (blocks_of c.args.script.blocks.items))
+    c.args.plan.now.lines.items _ _ _ c.requires
 
 pub returns-in-None-clause-completes : goal.returns-in-None-clause-completes
 returns-in-None-clause-completes g c =
-    run_completes (handlers_of c.args.iface.now (blocks_of c.args.script.blocks.items)) c.args.plan.now.lines.items _ _ _
-    c.requires
+    run_completes c.plans_complete.ensures (handlers_of c.args.iface.now (blocks_of c.args.script.blocks.items))
+    c.args.plan.now.lines.items _ _ _ c.requires
 
 pub returns-in-Some-clause-completes : goal.returns-in-Some-clause-completes
 returns-in-Some-clause-completes g c =
-    run_completes (handlers_of c.args.iface.now (blocks_of c.args.script.blocks.items)) c.args.plan.now.lines.items _ _ _
-    c.requires
+    run_completes c.plans_complete.ensures (handlers_of c.args.iface.now (blocks_of c.args.script.blocks.items))
+    c.args.plan.now.lines.items _ _ _ c.requires
 
 pub returns-in-None-clause-closes : goal.returns-in-None-clause-closes
 returns-in-None-clause-closes g c =
-    run_closes (handlers_of c.args.iface.now (blocks_of c.args.script.blocks.items)) c.args.plan.now.lines.items _ _ _
-    c.requires
+    run_closes c.calls_close.ensures.plans (handlers_of c.args.iface.now (blocks_of c.args.script.blocks.items))
+    c.args.plan.now.lines.items _ _ _ c.requires
 
 pub returns-in-Some-clause-closes : goal.returns-in-Some-clause-closes
 returns-in-Some-clause-closes g c =
-    run_closes (handlers_of c.args.iface.now (blocks_of c.args.script.blocks.items)) c.args.plan.now.lines.items _ _ _
-    c.requires
+    run_closes c.calls_close.ensures.plans (handlers_of c.args.iface.now (blocks_of c.args.script.blocks.items))
+    c.args.plan.now.lines.items _ _ _ c.requires
