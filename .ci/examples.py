@@ -4,7 +4,8 @@
 Compares the bytes of standard output and standard error and the exit status of each, in pipes and in files, with
 NAME.trace and, where a line is refused, NAME.err. A plan that names an interface or a script says so in a comment "# Run
 as: rx sim NAME.plan .."; its words are those of the run, in the folder examples/. Traces that are too large to stand
-there have their sums here. PROGRAM is the one that the gate built, or else the one that ./rx --prove built."""
+there have their sums here. PROGRAM is the one that the gate built, or else the one that ./rx --prove built; with
+tools/player it's the rules alone that all of these are compared with."""
 import hashlib
 import pathlib
 import re
@@ -116,7 +117,7 @@ def slow(name, sum):
     return is_trace
 
 
-# The sums are those of traces that another program made, which plays plans by the rules of docs/PROTOCOL.md alone.
+# The sums are those of traces that tools/player made, which plays plans by the rules of docs/ alone.
 SLOW = {
     "slow-ack-lost": "ee6e7802c1db0c6e40d0b6e060a654ae2aa4663fa6d1f24a7db3eefb6ee98466",
     "slow-both-ways": "7a1338c208c1eb56541ee1aed62707b32e970b59c456d74ce9b1815e0fc439a7",

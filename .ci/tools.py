@@ -1,8 +1,10 @@
 #!/usr/bin/env python3
 """Runs the tools of tools/ on examples, on bad lines and on the list of crates: .ci/tools.py
 
-What a pcap file has is read back by tshark, where that is installed, and compared with what the lines of the trace say,
-which are read here anew. docs/ladder.svg and docs/crates.svg are those that the tools make now."""
+tools/player plays each plan of examples/ whose trace stands beside it, and prints this trace. What a pcap file has is
+read back by tshark, where that is installed, and compared with what the lines of the trace say, which are read here
+anew. docs/ladder.svg and docs/crates.svg are those that the tools make now."""
+import concurrent.futures
 import pathlib
 import re
 import shutil
@@ -13,7 +15,7 @@ import xml.etree.ElementTree
 
 top = pathlib.Path(__file__).resolve().parent.parent
 failed = []
-OK, BAD = 0, 1
+OK, BAD, REFUSED = 0, 1, 2
 HOSTS = {"s": "10.0.0.1:7000", "c1": "10.0.0.2:7001"}
 # how many datagrams are given, how often one is taken, and how many are lost
 EXAMPLES = {"first-lost": (5, 4, 1), "repeats": (5, 9, 0), "reply-lost-twice": (6, 3, 3)}
@@ -35,6 +37,17 @@ BAD_LINES = {
     "c2 poll -> 10.0.0.1:7000 00": "the host of c2 is in no line; --plan PLAN reads it there",
     "": "this is no line of a trace: ",
 }
+# what tools/player refuses, with its place: a plan, an interface, a script
+PLAYER_FAULTS = {
+    ("accept now\n", "", ""): "plan:1: this is no line of a plan here",
+    ("server 10.0.0.1:7000\nclient 10.0.0.2:7001 epoch=1\ninvoke c1 4 P [1]\n", "", ""):
+        "plan:3: this is no line of a plan here",
+    ("", "P(IN hyper A) = 1;\n", ""): "xg:1: the type hyper is left out here, or defined below",
+    ("", "enum E { A };\n", ""): "xg:1: E is refused or left out here",
+    ("", "P(int A, OUT int B) = 1;\n", "on P\n\ncopy A B\n"): "script:3: this is no line of a script here",
+    ("", "P(int A, OUT int B) = 1;\n", "on P\nup\n"):
+        "script: P isn't split, or lacks the `up` or `down` that a line needs",
+}
 
 
 def expect(what, seen, wanted):
@@ -44,9 +57,9 @@ def expect(what, seen, wanted):
         print(f"tools/{what}: {str(seen)[:300]!r}, and not {str(wanted)[:300]!r}")
 
 
-def run(*words):
+def run(*words, folder=top):
     """The status, standard output and standard error of a command."""
-    ended = subprocess.run(words, cwd=top, stdin=subprocess.DEVNULL, capture_output=True, text=True, timeout=100)
+    ended = subprocess.run(words, cwd=folder, stdin=subprocess.DEVNULL, capture_output=True, text=True, timeout=100)
     return ended.returncode, ended.stdout, ended.stderr
 
 
@@ -74,7 +87,33 @@ def fields(moment, source, target, data):
             *map(str, numbers), f"0x{data[21]:02x}", str(int.from_bytes(data[26:28], "big"))]
 
 
-# --- Both tools ------------------------------------------------------------------------------------------------------
+# --- Traces by the rules alone ---------------------------------------------------------------------------------------
+
+
+def try_player(plan):
+    """A plan has its trace, and its refusal where it has one."""
+    as_said = re.search(r"^# Run as: rx (.*)$", plan.read_text(), flags=re.M)
+    words = as_said[1].split(" ") if as_said else ["sim", plan.name]
+    refusal = plan.with_suffix(".err")
+    said = refusal.read_text() if refusal.exists() else ""
+    wanted = REFUSED if said else OK, plan.with_suffix(".trace").read_text(), said
+    expect(f"player: {plan.stem}", run(top / "tools/player", *words, folder=plan.parent), wanted)
+
+
+def try_player_faults(folder):
+    """What it leaves out is refused, and nothing is played."""
+    for texts, why in PLAYER_FAULTS.items():
+        for name, text in zip(("plan", "xg", "script"), texts):
+            (folder / name).write_text(text)
+        words = ["sim", "plan", "--xg", "xg", "--script", "script"]
+        wanted = BAD, "", f"tools/player: {why}\n"
+        expect(f"player: {texts}", run(top / "tools/player", *words, folder=folder), wanted)
+    expect("player: no plan", run("tools/player", "sim", folder / "none"),
+           (BAD, "", f"tools/player: {folder}/none: No such file or directory\n"))
+    expect("player: the help", (*run("tools/player", "--help")[::2],), (OK, ""))
+
+
+# --- Both tools of traces --------------------------------------------------------------------------------------------
 
 
 def read_back(pcap):
@@ -155,10 +194,14 @@ with tempfile.TemporaryDirectory() as name:
         try_ladder(example, folder, *counts)
     try_faults(folder)
     try_pcap_limits(folder)
+    try_player_faults(folder)
+    plans = [plan for plan in sorted((top / "examples").glob("*.plan")) if plan.with_suffix(".trace").exists()]
+    with concurrent.futures.ThreadPoolExecutor(4) as pool:
+        list(pool.map(try_player, plans))
     expect("ladder: docs/ladder.svg, which tools/ladder makes of examples/first-lost.trace",
            (top / "docs/ladder.svg").read_text(), (folder / "first-lost.svg").read_text())
 expect("crates.py --check", run("tools/crates.py", "--check"), (OK, "", ""))
 if not shutil.which("tshark"):
     print("skipped, as tshark isn't installed: what pcap files of traces are read as")
-print(f"the tools: {len(EXAMPLES)} traces, {len(set(failed))} failed")
+print(f"the tools: {len(EXAMPLES)} traces, {len(plans)} plans, {len(set(failed))} failed")
 sys.exit(bool(failed))

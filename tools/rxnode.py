@@ -13,10 +13,11 @@ from rxtrace import (ABORT, ACK, CHANNELS, CLIENT_INITIATED, CODE_BYTES, DATA, F
 BUSY, ACKALL, CHALLENGE, RESPONSE = (KINDS.index(it) for it in ("BUSY", "ACKALL", "CHALLENGE", "RESPONSE"))
 REQUESTED, DUPLICATE, OUT_OF_SEQUENCE, EXCEEDS_WINDOW, NO_SPACE, PING, PING_RESPONSE, DELAY = range(1, len(REASONS))
 JUMBO = 0x20
+SEQ_AT, SERIAL_AT, KIND_AT, FLAGS_AT, STATUS_AT, CHECKSUM_AT, SERVICE_AT = 12, 16, 20, 21, 22, 24, 26
 PIECE_BYTES, PART_BYTES, MOST_PARTS, MOST_PAYLOAD = 1412, 1416, 16, 1444
 WORD_END = 2**32
 LAST_SEQ, LAST_NUMBER = WORD_END - 2, WORD_END - 1
-MAX_WINDOW, FIRST_PEER_WINDOW, FIRST_CONGESTION_WINDOW = 255, 32, 2
+LEAST_WINDOW, MOST_WINDOW, FIRST_PEER_WINDOW, FIRST_CONGESTION_WINDOW = 32, 255, 32, 2
 FIRST_RTO, LEAST_RTO, MOST_RTO, MOST_ROUND_TRIP = 1_000, 350, 4_000, 60_000
 ACK_DELAY, PING_AFTER, SILENCE, IDLE = 100, 2_000, 12_000, 600_000
 STRAYS, KEYED_INDEX, NONCE_BYTES = 64, 200, 8
@@ -73,7 +74,7 @@ def fault_of(data):
     """The first fault of bytes that spell no message, or None."""
     if len(data) < HEADER_BYTES:
         return f"short {len(data)}"
-    kind, flags, body = data[20], data[21], data[HEADER_BYTES:]
+    kind, flags, body = data[KIND_AT], data[FLAGS_AT], data[HEADER_BYTES:]
     if not 0 < kind < len(KINDS):
         return f"kind {kind}"
     if kind == DATA and flags & JUMBO:
@@ -116,8 +117,8 @@ def part_place(k):
 
 
 def flags_place(k):
-    """Where its flags stand: in the header, or in the four bytes before it."""
-    return part_place(k) - 4 if k else 21
+    """Where its flags stand: in the header, or in the four bytes before it, which have a spare one and its checksum."""
+    return part_place(k) - 4 if k else FLAGS_AT
 
 
 def is_followed(data, k):
@@ -127,16 +128,17 @@ def is_followed(data, k):
 
 def part_of(data, k):
     """Part k as a datagram: the header with its own seq, serial, flags and checksum, and its bytes."""
-    place, flags = part_place(k), flags_place(k)
-    checksum = data[flags + 2:flags + 4] if k else data[24:26]
+    place, flags_at = part_place(k), flags_place(k)
+    checksum_at = flags_at + 2 if k else CHECKSUM_AT
     end = place + PIECE_BYTES if is_followed(data, k) else len(data)
-    return (data[:12] + word(number_at(data, 12, 4) + k) + word(number_at(data, 16, 4) + k)
-            + bytes([DATA, data[flags] & ~JUMBO]) + data[22:24] + checksum + data[26:28] + data[place:end])
+    return (data[:SEQ_AT] + word(number_at(data, SEQ_AT, 4) + k) + word(number_at(data, SERIAL_AT, 4) + k)
+            + bytes([DATA, data[flags_at] & ~JUMBO]) + data[STATUS_AT:CHECKSUM_AT]
+            + data[checksum_at:checksum_at + 2] + data[SERVICE_AT:HEADER_BYTES] + data[place:end])
 
 
 def is_jumbo(data):
     """Whether bytes say that they carry more packets than one."""
-    return len(data) >= HEADER_BYTES and data[20] == DATA and is_followed(data, 0)
+    return len(data) >= HEADER_BYTES and data[KIND_AT] == DATA and is_followed(data, 0)
 
 
 def parts_of(data):
@@ -144,19 +146,19 @@ def parts_of(data):
     if not is_jumbo(data):
         return [data]
     last = next((k for k in range(MOST_PARTS) if not is_followed(data, k)), None)
-    if last is None or part_place(last) > len(data) or number_at(data, 12, 4) + last >= WORD_END:
+    if last is None or part_place(last) > len(data) or number_at(data, SEQ_AT, 4) + last >= WORD_END:
         return [data]
     return [part_of(data, k) for k in range(last + 1)]
 
 
 def can_follow(data, other):
-    """Whether the second datagram can stand behind the first in a jumbo one."""
+    """Whether the second datagram can stand behind the first in a jumbo one: both are DATA of one call."""
     if min(len(data), len(other)) < HEADER_BYTES:
         return False
-    one, two = list(HEADER.unpack(data[:HEADER_BYTES])), list(HEADER.unpack(other[:HEADER_BYTES]))
-    one[3], one[4] = one[3] + 1, one[4] + 1
-    one[6] = one[9] = two[6] = two[9] = None  # each part has its own flags and checksum
-    return one == two and one[5] == DATA and len(data) == HEADER_BYTES + PIECE_BYTES
+    one, two = message_of(data), message_of(other)
+    calls = [(it.kind, it.epoch, it.cid, it.number, it.index, it.service) for it in (one, two)]
+    return (one.kind == DATA and calls[0] == calls[1] and data[STATUS_AT] == other[STATUS_AT]
+            and (one.seq + 1, one.serial + 1) == (two.seq, two.serial) and len(data) == HEADER_BYTES + PIECE_BYTES)
 
 
 # --- Names and moments -----------------------------------------------------------------------------------------------
@@ -182,16 +184,11 @@ class Name(NamedTuple):
 # --- Streams and pieces ----------------------------------------------------------------------------------------------
 
 
-class Sent:
-    """A stream that is said: its pieces, which of them were given and acknowledged, and its rates."""
+class Said:
+    """A stream that is said: what writes accepted, cut into pieces."""
 
-    def __init__(self, window):
+    def __init__(self):
         self.stream, self.is_shut = bytearray(), False
-        self.given, self.givings = 0, {}  # by seq, the moment of the last giving and whether it wasn't the first
-        self.hard, self.soft = 0, set()
-        self.peer_window = FIRST_PEER_WINDOW
-        self.window, self.threshold, self.congestion_window = window, window, FIRST_CONGESTION_WINDOW
-        self.rto, self.smoothed, self.variance = FIRST_RTO, None, None
 
     def pieces(self):
         """How many pieces there are, a last one that doesn't count yet among them."""
@@ -210,90 +207,15 @@ class Sent:
         """Whether a piece is the last one."""
         return self.is_shut and seq == self.pieces()
 
-    def is_all_given(self):
-        """Whether the stream is shut and each of its pieces was given."""
-        return self.is_shut and self.given == self.pieces()
-
-    def is_delivered(self):
-        """Whether the stream is shut and each of its pieces is hard acknowledged."""
-        return self.is_shut and self.hard == self.pieces()
-
-    def held(self):
-        """How many pieces aren't hard acknowledged."""
-        return self.pieces() - self.hard
-
-    # --- Sending
-
-    def acknowledge_all(self):
-        """The other end has all that there is."""
-        self.hard = self.pieces()
-
-    def is_strange(self, ack):
-        """Whether an ACK has no first packet, or speaks of a piece that was never given."""
-        return ack.first == 0 or ack.first - 1 > self.given or any(seq > self.given for seq in ack.marks)
-
-    def acknowledge(self, now, ack):
-        """An ACK came; a stale one changes nothing."""
-        if ack.first - 1 < self.hard:
-            return
-        newly = [seq for seq in self.unacknowledged() if seq < ack.first or seq in ack.marks]
-        self.hard, self.soft = ack.first - 1, ack.marks
-        if ack.window is not None:
-            self.peer_window = max(1, min(ack.window, MAX_WINDOW))
-        if newly:
-            self.measure(now, newly[-1])
-            grown = len(newly) if self.congestion_window < self.threshold else 1
-            self.congestion_window = min(self.congestion_window + grown, self.window)
-
-    def unacknowledged(self):
-        """The seqs that were given and are neither hard nor soft acknowledged, from the lowest on."""
-        return [seq for seq in range(self.hard + 1, self.given + 1) if seq not in self.soft]
-
-    def measure(self, now, seq):
-        """A round trip, where the piece was given once: RTO goes by it."""
-        moment, is_again = self.givings[seq]
-        if is_again:
-            return
-        trip = min(now - moment, MOST_ROUND_TRIP)
-        if self.smoothed is None:
-            self.smoothed, self.variance = 8 * trip, 2 * trip
-        else:
-            error = trip - self.smoothed // 8
-            self.smoothed += error
-            self.variance += abs(error) - self.variance // 4
-        self.rto = max(LEAST_RTO, min(MOST_RTO, self.smoothed // 8 + self.variance))
-
-    def next_seq(self):
-        """The next piece, where it counts and both windows let it go, or None."""
-        seq = self.given + 1
-        is_let = len(self.unacknowledged()) < self.congestion_window and seq <= self.hard + self.peer_window
-        return seq if seq <= self.counting() and is_let else None
-
-    def flags(self, seq, is_again):
-        """The flags of a piece as it's given: LAST_PACKET, and REQUEST_ACK where it asks for an acknowledgement."""
-        is_new = seq > self.given
-        in_flight = len(self.unacknowledged()) + is_new
-        is_full = in_flight >= self.congestion_window or seq == self.hard + self.peer_window
-        asks = self.is_last(seq) or is_again or is_full
-        return (REQUEST_ACK if asks else 0) + (LAST_PACKET if self.is_last(seq) else 0)
-
-    def give(self, now, seq):
-        """A piece is given, for the first time or as its time is up."""
-        if seq <= self.given:
-            self.rto = min(2 * self.rto, MOST_RTO)
-            self.threshold, self.congestion_window = max(2, self.congestion_window // 2), 1
-        self.givings[seq] = now, seq in self.givings
-        self.given = max(self.given, seq)
-
 
 # --- Receiving -------------------------------------------------------------------------------------------------------
 
 
 class Received:
-    """A stream that comes: its packets by seq, each with where it ends in the stream and whether it's the last one."""
+    """A stream that comes: its packets by seq, and how far they stand without a gap, are read and done with."""
 
     def __init__(self):
-        self.packets, self.stream, self.ends = {}, bytearray(), [0]
+        self.packets, self.stream, self.ends = {}, bytearray(), [0]  # packet k ends at ends[k] of the stream
         self.front = self.greatest = self.previous = self.done = 0
         self.last = None
         self.bytes_read, self.is_read_to_end = 0, False
@@ -343,6 +265,94 @@ class Received:
             return "notyet", b""
         self.is_read_to_end = True
         return "end", b""
+
+
+# --- Sending ---------------------------------------------------------------------------------------------------------
+
+
+class Sent(Said):
+    """A stream that is sent: which pieces were given and acknowledged, and its rates."""
+
+    def __init__(self, window):
+        super().__init__()
+        self.given, self.givings = 0, {}  # by seq, the moment of the last giving and whether it wasn't the first
+        self.hard, self.soft = 0, set()
+        self.peer_window = FIRST_PEER_WINDOW
+        self.window, self.threshold, self.congestion_window = window, window, FIRST_CONGESTION_WINDOW
+        self.rto, self.smoothed, self.variance = FIRST_RTO, None, None
+
+    def is_all_given(self):
+        """Whether the stream is shut and each of its pieces was given."""
+        return self.is_shut and self.given == self.pieces()
+
+    def is_delivered(self):
+        """Whether the stream is shut and each of its pieces is hard acknowledged."""
+        return self.is_shut and self.hard == self.pieces()
+
+    def held(self):
+        """How many pieces aren't hard acknowledged."""
+        return self.pieces() - self.hard
+
+    def acknowledge_all(self):
+        """The other end has all that there is."""
+        self.hard = self.pieces()
+
+    def is_strange(self, ack):
+        """Whether an ACK has no first packet, or speaks of a piece that was never given."""
+        return ack.first == 0 or ack.first - 1 > self.given or any(seq > self.given for seq in ack.marks)
+
+    def acknowledge(self, now, ack):
+        """An ACK came; a stale one changes nothing."""
+        if ack.first - 1 < self.hard:
+            return
+        newly = [seq for seq in self.unacknowledged() if seq < ack.first or seq in ack.marks]
+        self.hard, self.soft = ack.first - 1, ack.marks
+        if ack.window is not None:
+            self.peer_window = max(1, min(ack.window, MOST_WINDOW))
+        if newly:
+            self.measure(now, newly[-1])
+            grown = len(newly) if self.congestion_window < self.threshold else 1
+            self.congestion_window = min(self.congestion_window + grown, self.window)
+
+    def unacknowledged(self):
+        """The seqs that were given and are neither hard nor soft acknowledged, from the lowest on."""
+        return [seq for seq in range(self.hard + 1, self.given + 1) if seq not in self.soft]
+
+    def measure(self, now, seq):
+        """A round trip, where the piece was given once: RTO goes by it."""
+        moment, is_again = self.givings[seq]
+        if is_again:
+            return
+        trip = min(now - moment, MOST_ROUND_TRIP)
+        if self.smoothed is None:
+            self.smoothed, self.variance = 8 * trip, 2 * trip
+        else:
+            error = trip - self.smoothed // 8
+            self.smoothed += error
+            self.variance += abs(error) - self.variance // 4
+        self.rto = max(LEAST_RTO, min(MOST_RTO, self.smoothed // 8 + self.variance))
+
+    def next_seq(self):
+        """The next piece, where it counts and both windows let it go, or None."""
+        seq = self.given + 1
+        is_let = len(self.unacknowledged()) < self.congestion_window and seq <= self.hard + self.peer_window
+        return seq if seq <= self.counting() and is_let else None
+
+    def flags(self, seq, is_again):
+        """The flags of a piece as it's given: LAST_PACKET, and REQUEST_ACK where it asks for an acknowledgement."""
+        is_new = seq > self.given
+        in_flight = len(self.unacknowledged()) + is_new
+        is_full = in_flight >= self.congestion_window or seq == self.hard + self.peer_window
+        asks = self.is_last(seq) or is_again or is_full
+        return (REQUEST_ACK if asks else 0) + (LAST_PACKET if self.is_last(seq) else 0)
+
+    def give(self, now, seq):
+        """A piece is given, for the first time or as its time is up."""
+        if seq <= self.given:
+            self.rto = min(2 * self.rto, MOST_RTO)
+            self.threshold, self.congestion_window = max(2, self.congestion_window // 2), 1
+        self.givings[seq] = now, seq in self.givings
+        self.given = max(self.given, seq)
 
 
 # --- One end of a call -----------------------------------------------------------------------------------------------
@@ -550,6 +560,10 @@ class Node:
         call.sent.acknowledge_all()
         return "heard"
 
+    def take_busy(self, connection, channel, call, message):
+        """A BUSY on a live call, which shows that the other end is there."""
+        return "heard"
+
     # --- Slots
 
     def slots_left(self):
@@ -613,12 +627,8 @@ class Node:
         if message.kind == ABORT:
             self.stop(call, code_at(message.body))
             return "stopped"
-        if message.kind == BUSY:
-            got = "heard"
-        else:
-            takes = {DATA: self.take_data, ACK: self.take_ack, ACKALL: self.take_ackall, CHALLENGE: self.take_security,
-                     RESPONSE: self.take_security}
-            got = takes[message.kind](connection, channel, call, message)
+        take = {DATA: self.take_data, ACK: self.take_ack, BUSY: self.take_busy, ACKALL: self.take_ackall}
+        got = take.get(message.kind, self.take_security)(connection, channel, call, message)
         if got in HEARD:
             call.heard = self.now
         return got
@@ -842,7 +852,8 @@ class Server(Node):
         return None
 
     def refusal(self, call, is_read):
-        """What a handler's call is refused with, or None; is_read says whether its request was read so far as needed."""
+        """What a handler's call is refused with, or None; is_read says whether its request was read as far as needed.
+        """
         if call is None or call.life not in HANDLED:
             return "notopen"
         if call.life == BROKEN:
@@ -924,7 +935,8 @@ class Client(Node):
         if len(self.connections) >= self.limits.conns:
             return None
         cid = CHANNELS * (len(self.connections) + 1)
-        self.connections.append(Connection((self.host, self.epoch, cid), server, service, first, self.entered, self.now))
+        name = self.host, self.epoch, cid
+        self.connections.append(Connection(name, server, service, first, self.entered, self.now))
         self.entered += 1
         return cid
 
