@@ -7,7 +7,8 @@ It draws interface files, scripts, plans and words, and spoils some of them (dra
 - it ends within the limit of its kind, and not by a signal;
 - its status is one of 0 to 9, and one that its command can have;
 - its standard error is empty where the status is 0, and else one line in the form of that status (docs/COMMANDS.md);
-- each line of a trace is one (tools/rxtrace.py), and a second run prints the same.
+- each line of a trace is one (tools/rxtrace.py), and a second run prints the same;
+- so does tools/player, which knows the rules alone, of each plan that it plays; some are tried.
 
 Each run that fails is kept in a folder of corpus/, with its files and its words; `--again` runs all of these instead.
 Prints each failure as it's found, each minute how far it is, and last how many runs of each kind there were, and
@@ -38,6 +39,8 @@ sys.path[:0] = [str(top / "tools"), str(top / "bench")]
 import rxtrace  # noqa: E402
 from rounds import program  # noqa: E402
 
+PLAYER = top / "tools/player"
+LEFT_OUT = 1
 LIMITS = {"compile": 10, "sim": 20, "words": 30, "serve": 60, "call": 40}
 # How many of a hundred runs are of each kind.
 SHARES = {"compile": 35, "sim": 45, "words": 16, "serve": 2, "call": 2}
@@ -139,10 +142,23 @@ def printed(run, room, draw):
         return fault
     if run.kind == "sim" and out and draw.random() < 0.2:
         (room / "trace").write_bytes(out)
-        rxtrace.Trace(str(room / "trace"))
+        rxtrace.Trace(str(room / "trace"), str(room / "a.plan"))
     if run.kind == "sim" and draw.random() < 0.1 and ran(run.words, room, LIMITS[run.kind]) != (status, out, said):
         return "a second run prints something else"
-    return None
+    return disagreed(run, room, (status, out, said)) if run.kind == "sim" and draw.random() < 0.1 else None
+
+
+def disagreed(run, room, told):
+    """What is wrong where tools/player and the program differ, if they do; a long plan takes the player too long."""
+    try:
+        done = subprocess.run([PLAYER, *run.words], cwd=room, stdin=subprocess.DEVNULL, capture_output=True,
+                              timeout=LIMITS["sim"])
+    except subprocess.TimeoutExpired:
+        return None
+    said = done.stderr.decode(errors="replace")
+    if done.returncode == LEFT_OUT:
+        return None if said.startswith("tools/player: ") else f"tools/player fails: {said[-300:]}"
+    return None if (done.returncode, done.stdout, said) == told else "tools/player prints something else"
 
 
 def served(run, room, draw):
