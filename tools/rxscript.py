@@ -1,8 +1,9 @@
 """Interfaces, their values as XDR and as JSON, and the scripts of servers, as tools/player has them: docs/FORMATS.md.
 
 Of interfaces it has constants, int and unsigned, opaque and string of variable length, variable arrays, structs,
-typedefs and procedures with an opcode; numbers are decimal, and a name stands below its definition. The rest of the
-language is refused at its first word. No code is shared with the program."""
+typedefs and procedures with an opcode, split or not; numbers are decimal, and a name stands below its definition. The
+rest of the language is refused with its place, but faulty files may be read that the program refuses. No code is shared
+with the program."""
 import json
 import re
 from dataclasses import dataclass
@@ -10,7 +11,7 @@ from dataclasses import dataclass
 from rxnode import WORD_END, word
 from rxtrace import Fault, lines_of
 
-MOST_STREAM, MOST_UPLOAD = 65_536, 16_777_216
+MOST_STREAM, MOST_UPLOAD, MOST_LEVELS = 65_536, 16_777_216, 64
 UNMARSHAL, SERVER_MARSHAL, SERVER_UNMARSHAL, NO_OPCODE, UNKNOWN_OPCODE = -451, -452, -453, -454, -455
 SIGNED, UNSIGNED = ("int", "long", "afs_int32"), ("unsigned", "u_int", "u_long", "afs_uint32")
 TOKENS = re.compile(r"\w+|[^\w \t]")
@@ -58,7 +59,8 @@ class Reader:
 
 
 class Type:
-    """A type of an interface."""
+    """A type of an interface, and how many levels its values have."""
+    levels = 0
 
     def zero(self):
         """Its zero value."""
@@ -147,6 +149,9 @@ class Array(Type):
     element: Type
     most: int
 
+    def __post_init__(self):
+        self.levels = 1 + self.element.levels
+
     def zero(self):
         return []
 
@@ -169,6 +174,9 @@ class Array(Type):
 class Struct(Type):
     """A struct: its fields by name."""
     fields: dict
+
+    def __post_init__(self):
+        self.levels = 1 + max(kind.levels for kind in self.fields.values())
 
     def zero(self):
         return {name: kind.zero() for name, kind in self.fields.items()}
@@ -263,21 +271,19 @@ class Interface:
         number, token = self.last
         raise Fault(f"{self.path}:{number}: {token} is refused or left out here")
 
-    def want(self, *tokens):
-        """One of these tokens."""
-        token = self.take()
-        if token not in tokens:
+    def want(self, token):
+        """This token, which has to be next."""
+        if self.take() != token:
             self.refuse()
-        return token
 
     def skip(self, token):
         """Whether this token is next, which is taken then."""
         return self.peek() == token and bool(self.take())
 
-    def new_name(self, *known):
-        """A name that none of these has."""
+    def new_name(self, known):
+        """A name that isn't among these."""
         name = self.take()
-        if not re.fullmatch(r"[A-Za-z_]\w*", name) or any(name in it for it in known):
+        if not re.fullmatch(r"[A-Za-z_]\w*", name) or name in known:
             self.refuse()
         return name
 
@@ -294,10 +300,11 @@ class Interface:
 
     def item(self):
         """One item of the file."""
-        first = self.peek()
-        if first in ("package", "prefix", "statindex"):
-            self.take()
-            self.take()
+        if self.skip("package") or self.skip("prefix"):
+            self.new_name(())
+            self.skip(";")
+        elif self.skip("statindex"):
+            self.constant()
             self.skip(";")
         elif self.skip("const"):
             name = self.new_name(self.constants)
@@ -322,8 +329,8 @@ class Interface:
             field, kind = self.declaration(fields)
             fields[field] = kind
             self.want(";")
+        self.types[name] = self.level(Struct(fields))
         self.want(";")
-        self.types[name] = Struct(fields)
 
     def declare_procedure(self):
         """A procedure: an argument without a direction has that of the one before it."""
@@ -336,7 +343,7 @@ class Interface:
                 mode = self.take()
             argument, kind = self.declaration(arguments, is_argument=True)
             arguments[argument] = mode, kind
-        is_split = self.skip("split") or self.skip("multi")
+        is_split = self.skip("split")
         self.want("=")
         opcode = self.constant()
         if self.procedure(opcode):
@@ -345,7 +352,7 @@ class Interface:
         self.procedures[name] = Procedure(name, opcode, is_split, arguments)
 
     def declaration(self, known, is_argument=False):
-        """A name that none of these has, and its type; in an argument a star has no bytes."""
+        """A name that isn't among these, and its type; in an argument a star has no bytes."""
         base = self.take()
         if is_argument:
             self.skip("*")
@@ -354,7 +361,13 @@ class Interface:
             self.want("<")
             return name, Octets(self.bound(), base == "string")
         kind = self.base(base)
-        return name, Array(kind, self.bound()) if self.skip("<") else kind
+        return name, self.level(Array(kind, self.bound())) if self.skip("<") else kind
+
+    def level(self, kind):
+        """A type, of no more levels than are read."""
+        if kind.levels > MOST_LEVELS:
+            self.refuse()
+        return kind
 
     def base(self, token):
         """The type of a word, which was taken before the name behind it."""
@@ -367,7 +380,7 @@ class Interface:
         return self.types[token]
 
     def bound(self):
-        """A bound behind its sign."""
+        """A bound, behind the sign that opens it."""
         most = WORD_END - 1 if self.peek() == ">" else self.constant()
         self.want(">")
         return most
