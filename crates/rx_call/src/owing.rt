@@ -1,15 +1,15 @@
-ghost use Rattle.std.specs.Prelude.{◌≡◌, ◌+◌, ◌<◌, ◌^◌, ◌==◌, suc, not, if◌then◌else◌, Some};
+ghost use Rattle.std.specs.Prelude.{◌≡◌, ◌≤◌, ◌+◌, ◌<◌, ◌^◌, ◌==◌, suc, not, if◌then◌else◌, Some};
 ghost use Rattle.rx_model.specs.Body.{Body};
 ghost use Rattle.rx_model.specs.Message.{has_flag};
 ghost use Rattle.rx_packet.specs.Seen.{message_with_head};
-ghost use Rattle.rx_rules.specs.Owing.{at_once, behind_read, delayed, owed_for, owed_for_kept, owed_for_ack};
-ghost use Rattle.rx_rules.specs.Owing.{hastened, owed_for_done, owed_for_given};
+ghost use Rattle.rx_rules.specs.Owing.{at_once, behind_read, delayed, delayed_by, owed_for, owed_for_kept};
+ghost use Rattle.rx_rules.specs.Owing.{ack_delay_of, hastened, owed_for_ack, owed_for_done, owed_for_given};
 ghost use Rattle.rx_call.specs.Standing.{owed_ack, owed_of};
 
 use rx_model::Took;
 use rx_model::wire::{
     ACK_DELAY, ACK_DELAY_MS, ACK_DUPLICATE, ACK_EXCEEDS_WINDOW, ACK_NOSPACE, ACK_OUT_OF_SEQUENCE,
-    ACK_PING, ACK_PING_RESPONSE, ACK_REQUESTED, REQUEST_ACK,
+    ACK_PING, ACK_PING_RESPONSE, ACK_REQUESTED, LAST_PACKET, PROMPT_ACK_DELAY_MS, REQUEST_ACK,
 };
 use rx_packet::Head;
 
@@ -42,19 +42,39 @@ pub fn owe_now(reason: u8, serial: u32) -> Option<OwedAck>
     })
 }
 
-/// A delayed cause counts only where nothing is owed.
-pub fn owe_later(now: u64, serial: u32, owed: Option<OwedAck>) -> Option<OwedAck>
-    requires { now < 2 ^ 62 }
-    ensures { owed_of result ≡ delayed now serial (owed_of owed) }
+/// A delayed cause counts only where nothing is owed: it is due so many milliseconds later.
+fn owe_within(wait: u64, now: u64, serial: u32, owed: Option<OwedAck>) -> Option<OwedAck>
+    requires wait { wait < 2 ^ 62 }
+    requires now { now < 2 ^ 62 }
+    ensures { owed_of result ≡ delayed_by wait now serial (owed_of owed) }
 {
     match owed {
         Some(before) => Some(before),
         None => Some(OwedAck {
             reason: ACK_DELAY,
             serial,
-            rank: now + ACK_DELAY_MS,
+            rank: now + wait,
         }),
     }
+}
+
+/// One that waits as long as any node may, `ACK_DELAY_MS`.
+pub fn owe_later(now: u64, serial: u32, owed: Option<OwedAck>) -> Option<OwedAck>
+    requires { now < 2 ^ 62 }
+    ensures { owed_of result ≡ delayed now serial (owed_of owed) }
+{
+    owe_within(ACK_DELAY_MS, now, serial, owed)
+}
+
+/// How many behind a packet with these flags that doesn't ask: a prompt node waits less where more is to come.
+fn ack_delay(prompt: bool, flags: u8) -> u64
+    ensures value { result ≡ ack_delay_of prompt flags }
+    ensures most { result ≤ ACK_DELAY_MS }
+{
+    if prompt && !has_flag(flags, LAST_PACKET) {
+        return PROMPT_ACK_DELAY_MS;
+    }
+    ACK_DELAY_MS
 }
 
 /// So does one that is told behind the read of what came: a prompt node gives that a millisecond, any other none.
@@ -92,7 +112,7 @@ fn owe_for_kept(
     if prompt && hole {
         return owe_behind_read(now, prompt, ACK_DELAY, head.serial);
     }
-    owe_later(now, head.serial, owed)
+    owe_within(ack_delay(prompt, head.flags), now, head.serial, owed)
 }
 
 /// What is owed behind a data packet with this answer.

@@ -2,7 +2,8 @@
 use Rattle.std.specs.Prelude.{◌≡◌, ◌==◌, ◌*◌, ℕ, Bool, true, false, List, [], ◌∷◌, map, refl, replicate}
 use Rattle.std.specs.Prelude.{Option, Some, None}
 use Rattle.rx_model.specs.declared.answers.Took.TheVariants as tooks
-use Rattle.rx_model.specs.declared.wire.TheConstants.{ACK_DELAY, ACK_OUT_OF_SEQUENCE, ACK_REQUESTED, REQUEST_ACK}
+use Rattle.rx_model.specs.declared.wire.TheConstants.{ACK_DELAY, ACK_OUT_OF_SEQUENCE, ACK_REQUESTED, LAST_PACKET}
+use Rattle.rx_model.specs.declared.wire.TheConstants.{REQUEST_ACK}
 use Rattle.rx_model.specs.Body.{AckBody}
 use Rattle.rx_model.specs.Body as bodies
 use Rattle.rx_model.specs.Message.{Message}
@@ -276,9 +277,13 @@ all_four_lost_rto = refl
 abbrev data_of : ℕ → Message
 data_of seq = record (ack 1 []) { seq = seq; serial = seq; body = bodies.Chunk (97 ∷ []) }
 
--- packet 2 comes at moment 0 and is acknowledged
+-- a packet comes at moment 0
+abbrev came : ℕ → CallLooks → CallLooks
+came seq k = after_taken (view 0) tooks.Kept (data_of seq) k
+
+-- packet 2 comes then, which is acknowledged
 abbrev pub hole_told : Bool → CallLooks
-hole_told prompt = after_ack_given 0 (after_taken (view 0) tooks.Kept (data_of 2) (fresh_call 32 prompt 0))
+hole_told prompt = after_ack_given 0 (came 2 (fresh_call 32 prompt 0))
 
 -- a prompt node tells it again where nothing comes for 10 ms
 hole_told_again : (hole_told true).owed_ack ≡ Some (record { reason = ACK_OUT_OF_SEQUENCE; serial = 0; rank = 10 })
@@ -328,6 +333,21 @@ one_read = refl
 
 one_read_unprompted : (read_second false).owed_ack ≡ Some (record { reason = ACK_DELAY; serial = 0; rank = 170 })
 one_read_unprompted = refl
+
+-- packet 1 comes at moment 0 and asks for none: a prompt node acknowledges it 3 milliseconds later, any other 100
+unasked_ack : (came 1 (fresh_call 32 true 0)).owed_ack ≡ Some (record { reason = ACK_DELAY; serial = 1; rank = 3 })
+unasked_ack = refl
+
+unasked_ack_unprompted : (came 1 (fresh_call 32 false 0)).owed_ack
+    ≡ Some (record { reason = ACK_DELAY; serial = 1; rank = 100 })
+unasked_ack_unprompted = refl
+
+-- where it is the last one, both do so 100 milliseconds later
+abbrev last_came : CallLooks
+last_came = after_taken (view 0) tooks.Kept (record (data_of 1) { flags = LAST_PACKET }) (fresh_call 32 true 0)
+
+last_ack : last_came.owed_ack ≡ Some (record { reason = ACK_DELAY; serial = 1; rank = 100 })
+last_ack = refl
 
 -- packet 1 comes at moment 50 and asks for an acknowledgement
 abbrev asked : Bool → CallLooks

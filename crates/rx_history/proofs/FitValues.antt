@@ -6,15 +6,15 @@ use Rattle.std.proofs.lemmas.Bool.Decides.{nat_tests}
 use Rattle.rx_model.specs.declared.answers.End.TheVariants as ends
 use Rattle.rx_model.specs.declared.answers.Took.{Took}
 use Rattle.rx_model.specs.declared.answers.Took.TheVariants as tooks
-use Rattle.rx_model.specs.declared.wire.TheConstants.{ACK_PING, REQUEST_ACK, RX_CALL_DEAD}
+use Rattle.rx_model.specs.declared.wire.TheConstants.{ACK_DELAY_MS, ACK_PING, REQUEST_ACK, RX_CALL_DEAD}
 use Rattle.rx_model.specs.Message.{Message, has_flag}
 use Rattle.rx_model.specs.Spelling.{IsCode}
 use Rattle.rx_rules.specs.Life.{Life, after_accept, after_acks, after_cancel, after_code, after_end, after_finish}
 use Rattle.rx_rules.specs.Life.{after_gone, after_later}
 use Rattle.rx_rules.specs.Life.{after_silence}
 use Rattle.rx_rules.specs.Life as lives
-use Rattle.rx_rules.specs.Owing.{Owed, at_once, behind_read, delayed, hastened, owed_for, owed_for_ack, owed_for_done}
-use Rattle.rx_rules.specs.Owing.{owed_for_given, owed_for_read}
+use Rattle.rx_rules.specs.Owing.{Owed, ack_delay_of, at_once, behind_read, delayed, delayed_by, hastened, owed_for}
+use Rattle.rx_rules.specs.Owing.{owed_for_ack, owed_for_done, owed_for_given, owed_for_read}
 use Rattle.rx_rules.specs.Received.{Packet, Received, after_packet, after_read, greatest, is_no_seq, nothing_received}
 use Rattle.rx_rules.specs.Received.{packet_at, used_of}
 use Rattle.rx_model.proofs.NameLaws.{neither}
@@ -88,9 +88,10 @@ OwedFits (Some owed) = FitsOwed owed
 once-fits : (reason serial : ℕ) → 1 ≤ reason → reason ≤ 8 → serial < 2 ^ 32 → OwedFits (at_once reason serial)
 once-fits reason serial low high fits = record { low = low; high = high; serial = fits }
 
-delayed-fits : (now serial : ℕ) (o : Option Owed) → serial < 2 ^ 32 → OwedFits o → OwedFits (delayed now serial o)
-delayed-fits now serial (Some owed) fits f = f
-delayed-fits now serial None fits f = record { low = omega arith; high = omega arith; serial = fits }
+delayed-fits : (wait now serial : ℕ) (o : Option Owed) → serial < 2 ^ 32 → OwedFits o
+    → OwedFits (delayed_by wait now serial o)
+delayed-fits wait now serial (Some owed) fits f = f
+delayed-fits wait now serial None fits f = record { low = omega arith; high = omega arith; serial = fits }
 
 if-owed : (b : Bool) (x y : Option Owed) → OwedFits x → OwedFits y → OwedFits (if b then x else y)
 if-owed true x y here there = here
@@ -104,7 +105,8 @@ behind-fits now prompt reason serial low high fits = record { low = low; high = 
 pub owed_fits : (got : Took) (now : ℕ) (prompt hole : Bool) (m : Message) (front : ℕ) (o : Option Owed)
     → m.serial < 2 ^ 32 → OwedFits o → OwedFits (owed_for got now prompt hole m front o)
 owed_fits tooks.Kept now prompt hole m front o low f =
-    let own : Option Owed = delayed now m.serial o in
+    let wait : ℕ = ack_delay_of prompt m.flags in
+    let own : Option Owed = delayed_by wait now m.serial o in
     let filling : Option Owed = behind_read now prompt 8 m.serial in
     let filled : Option Owed = if prompt && hole then filling else own in
     let asked : Option Owed = behind_read now prompt 1 m.serial in
@@ -113,7 +115,7 @@ owed_fits tooks.Kept now prompt hole m front o low f =
     (if-owed (has_flag REQUEST_ACK m.flags) asked filled
     (behind-fits now prompt 1 m.serial (omega arith) (omega arith) low)
     (if-owed (prompt && hole) filling own (behind-fits now prompt 8 m.serial (omega arith) (omega arith) low)
-    (delayed-fits now m.serial o low f)))
+    (delayed-fits wait now m.serial o low f)))
 owed_fits tooks.Repeat now prompt hole m front o low f = once-fits 2 m.serial (omega arith) (omega arith) low
 owed_fits tooks.Beyond now prompt hole m front o low f = once-fits 4 m.serial (omega arith) (omega arith) low
 owed_fits tooks.NoSlot now prompt hole m front o low f = once-fits 5 m.serial (omega arith) (omega arith) low
@@ -138,7 +140,7 @@ given_owed_fits now false silent = tt
 pub read_owed_fits : (now : ℕ) (prompt : Bool) (before after : ℕ) (o : Option Owed) → OwedFits o
     → OwedFits (owed_for_read now prompt before after o)
 read_owed_fits now prompt before after o f =
-    let later : OwedFits (delayed now 0 o) = delayed-fits now 0 o (omega arith) f in
+    let later : OwedFits (delayed now 0 o) = delayed-fits ACK_DELAY_MS now 0 o (omega arith) f in
     if-owed (nat_lt before after) (owed_for_done now prompt o) o
     (if-owed prompt (option_map (hastened now) (delayed now 0 o)) (delayed now 0 o)
     (hastened-fits now (delayed now 0 o) later) later) f

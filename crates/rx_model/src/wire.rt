@@ -87,6 +87,10 @@ pub const FIRST_PEER_WINDOW: u32 = 32;
 /// Milliseconds after which a delayed acknowledgement is due.
 pub const ACK_DELAY_MS: u64 = 100;
 
+/// The same at a prompt node, of a packet behind which more is to come: its sender's window may be full until then. Far
+/// less than the 500 that RFC 5681, section 4.2, allows.
+pub const PROMPT_ACK_DELAY_MS: u64 = 3;
+
 /// Milliseconds after which a packet is sent again, before a round trip was measured.
 pub const FIRST_RTO_MS: u64 = 1000;
 

@@ -13,6 +13,7 @@ ghost use Rattle.rx_model.specs.declared.wire.TheConstants.{LAST_SEQ, DEFAULT_WI
 ghost use Rattle.rx_model.specs.declared.wire.TheConstants.{MAX_WINDOW, FIRST_PEER_WINDOW, FIRST_CWND};
 ghost use Rattle.rx_model.specs.declared.wire.TheConstants.{MIN_SSTHRESH};
 ghost use Rattle.rx_model.specs.declared.wire.TheConstants.{ACK_DELAY_MS, FIRST_RTO_MS, MIN_RTO_MS};
+ghost use Rattle.rx_model.specs.declared.wire.TheConstants.{PROMPT_ACK_DELAY_MS};
 ghost use Rattle.rx_model.specs.declared.wire.TheConstants.{MAX_RTO_MS, MAX_ROUND_TRIP_MS, PING_MS};
 ghost use Rattle.rx_model.specs.declared.wire.TheConstants.{SILENCE_MS, IDLE_MS, LIFETIME_MS};
 ghost use Rattle.rx_model.specs.declared.wire.TheConstants.{SKEW_MS};
@@ -39,7 +40,7 @@ pub fn wire_numbers()
     ensures times { (ACK_DELAY_MS ≡ 100) × (FIRST_RTO_MS ≡ 1000) × (MIN_RTO_MS ≡ 350)
         × (MAX_RTO_MS ≡ 4000) × (MAX_ROUND_TRIP_MS ≡ 60000) × (PING_MS ≡ 2000)
         × (SILENCE_MS ≡ 12000) × (IDLE_MS ≡ 600000) × (LIFETIME_MS ≡ 120000)
-        × (SKEW_MS ≡ 60000) }
+        × (SKEW_MS ≡ 60000) × (PROMPT_ACK_DELAY_MS ≡ 3) }
     ensures limits { (DEFAULT_CONNS ≡ 1024) × (DEFAULT_CALLS ≡ 64) × (DEFAULT_SLOTS ≡ 2048)
         × (STRAYS ≡ 64) }
     ensures security { (NULL_INDEX ≡ 0) × (TOKEN_INDEX ≡ 200) }

@@ -38,7 +38,7 @@ fn hear(call: &mut Call, pool: &mut Pool, now: u32, first: u32, marks: [bool; 4]
 
 #[test]
 fn a_prompt_end_leaves_what_fills_a_hole_a_millisecond(rt: HostRuntime) -> Result<(), Fail> {
-    for (prompt, filled) in [(true, Some(8)), (false, None)] {
+    for (prompt, filled, due) in [(true, Some(8), 8), (false, None, 105)] {
         let mut pool = Pool::make(rt.alloc(), 9)?;
         let mut call = Call::make(rt.alloc(), of_prompt(prompt))?;
         call.start(Side::Server, 0);
@@ -56,7 +56,22 @@ fn a_prompt_end_leaves_what_fills_a_hole_a_millisecond(rt: HostRuntime) -> Resul
             assert_eq!(rt; reason_at(&mut call, 5), first);
             assert_eq!(rt; reason_at(&mut call, 6), second);
         }
-        assert_eq!(rt; call.due(), Some(105));
+        assert_eq!(rt; call.due(), Some(due));
+    }
+    Ok(())
+}
+
+#[test]
+fn a_prompt_end_waits_less_where_more_is_to_come(rt: HostRuntime) -> Result<(), Fail> {
+    for (prompt, flags, due) in [(true, 1, 8), (true, 5, 105), (false, 1, 105)] {
+        let mut pool = Pool::make(rt.alloc(), 9)?;
+        let mut call = Call::make(rt.alloc(), of_prompt(prompt))?;
+        call.start(Side::Server, 0);
+        assert_eq!(rt;
+            take(&mut call, &mut pool, 5, &head(1, 9, flags), b"x"),
+            Took::Kept
+        );
+        assert_eq!(rt; call.due(), Some(due));
     }
     Ok(())
 }
@@ -89,7 +104,7 @@ fn a_prompt_end_tells_a_hole_again_while_nothing_comes(rt: HostRuntime) -> Resul
 #[test]
 fn a_prompt_end_tells_what_was_asked_behind_the_read(rt: HostRuntime) -> Result<(), Fail> {
     for (prompt, before, behind, later) in [
-        (true, None, Some(1), 110),
+        (true, None, Some(1), 13),
         (false, Some(1), None, 105),
     ] {
         let mut pool = Pool::make(rt.alloc(), 9)?;

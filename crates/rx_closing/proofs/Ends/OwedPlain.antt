@@ -5,10 +5,10 @@ use Rattle.rx_model.specs.declared.answers.Took.{Took}
 use Rattle.rx_model.specs.declared.answers.Took.TheVariants as tooks
 use Rattle.rx_model.specs.declared.wire.TheConstants.{ACK_DELAY, ACK_DUPLICATE, ACK_EXCEEDS_WINDOW, ACK_NOSPACE}
 use Rattle.rx_model.specs.declared.wire.TheConstants.{ACK_OUT_OF_SEQUENCE, ACK_DELAY_MS, ACK_PING, ACK_PING_RESPONSE}
-use Rattle.rx_model.specs.declared.wire.TheConstants.{ACK_REQUESTED, REQUEST_ACK}
+use Rattle.rx_model.specs.declared.wire.TheConstants.{ACK_REQUESTED, LAST_PACKET, PROMPT_ACK_DELAY_MS, REQUEST_ACK}
 use Rattle.rx_model.specs.Message.{Message, has_flag}
-use Rattle.rx_rules.specs.Owing.{Owed, at_once, behind_read, delayed, hastened, owed_for, owed_for_ack, owed_for_done}
-use Rattle.rx_rules.specs.Owing.{owed_for_kept, owed_for_read}
+use Rattle.rx_rules.specs.Owing.{Owed, ack_delay_of, at_once, behind_read, delayed, delayed_by, hastened, owed_for}
+use Rattle.rx_rules.specs.Owing.{owed_for_ack, owed_for_done, owed_for_kept, owed_for_read}
 
 some-owed : (a b : Owed) → ◌≡◌ {A = Option Owed} (Some a) (Some b) → a ≡ b
 some-owed a b same = cc
@@ -23,12 +23,20 @@ plain-one now p no_ping soon o is = (
   subst (λ (x : Owed). x.rank ≤ now + ACK_DELAY_MS) (some-owed p o is) soon,
 )
 
-plain-delayed : (now at serial : ℕ) (owed : Option Owed) → at ≤ now → PlainOwed now owed
-    → PlainOwed now (delayed at serial owed)
-plain-delayed now at serial (Some owed) before plain = plain
-plain-delayed now at serial None before plain =
-    plain-one now (record { reason = ACK_DELAY; serial = serial; rank = at + ACK_DELAY_MS }) refl
-    (omega (arith, before))
+plain-delayed : (now wait at serial : ℕ) (owed : Option Owed) → wait ≤ ACK_DELAY_MS → at ≤ now → PlainOwed now owed
+    → PlainOwed now (delayed_by wait at serial owed)
+plain-delayed now wait at serial (Some owed) short before plain = plain
+plain-delayed now wait at serial None short before plain =
+    plain-one now (record { reason = ACK_DELAY; serial = serial; rank = at + wait }) refl
+    (omega (arith, short, before))
+
+-- a prompt end waits no longer than any other
+short-delay : (prompt : Bool) (flags : ℕ) → ack_delay_of prompt flags ≤ ACK_DELAY_MS
+short-delay prompt flags = of (prompt && not (has_flag LAST_PACKET flags))
+  where
+    of : (b : Bool) → (if b then PROMPT_ACK_DELAY_MS else ACK_DELAY_MS) ≤ ACK_DELAY_MS
+    of true = omega arith
+    of false = omega arith
 
 plain-behind : (now at : ℕ) (prompt : Bool) (reason serial : ℕ) → at ≤ now → (reason == ACK_PING) ≡ false
     → PlainOwed now (behind_read at prompt reason serial)
@@ -50,11 +58,12 @@ plain-kept now at prompt hole m front owed before plain =
         → PlainOwed now (if not next then at_once ACK_OUT_OF_SEQUENCE m.serial
         else if asks then behind_read at prompt ACK_REQUESTED m.serial
         else if fills then behind_read at prompt ACK_DELAY m.serial
-        else delayed at m.serial owed)
+        else delayed_by (ack_delay_of prompt m.flags) at m.serial owed)
     of false asks fills = plain-at-once now ACK_OUT_OF_SEQUENCE m.serial refl
     of true true fills = plain-behind now at prompt ACK_REQUESTED m.serial before refl
     of true false true = plain-behind now at prompt ACK_DELAY m.serial before refl
-    of true false false = plain-delayed now at m.serial owed before plain
+    of true false false =
+        plain-delayed now (ack_delay_of prompt m.flags) at m.serial owed (short-delay prompt m.flags) before plain
 
 -- of data, whatever its answer
 pub plain_for : (got : Took) (now at : ℕ) (prompt hole : Bool) (m : Message) (front : ℕ) (owed : Option Owed)
@@ -90,7 +99,10 @@ pub plain_read : (now at : ℕ) (prompt : Bool) (before after : ℕ) (owed : Opt
     → PlainOwed now (owed_for_read at prompt before after owed)
 plain_read now at prompt before after owed early plain = of (nat_lt before after) prompt
   where
+    late : PlainOwed now (delayed at 0 owed)
+    late = plain-delayed now ACK_DELAY_MS at 0 owed (omega arith) early plain
+
     of : (more b : Bool) → PlainOwed now (if more then owed_for_done at b owed else owed)
-    of true true = plain-hastened now at (delayed at 0 owed) (plain-delayed now at 0 owed early plain)
-    of true false = plain-delayed now at 0 owed early plain
+    of true true = plain-hastened now at (delayed at 0 owed) late
+    of true false = late
     of false b = plain

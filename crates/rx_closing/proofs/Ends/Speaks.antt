@@ -13,8 +13,8 @@ use Rattle.rx_rules.specs.CallItems.{Sending, Piece, Ack, after_sending}
 use Rattle.rx_rules.specs.Sent.{piece_at}
 use Rattle.rx_rules.specs.CallLooks.{CallLooks, NodeView, after_chunk, after_data, after_read, after_taken, call_row}
 use Rattle.rx_rules.specs.CallLooks.{found}
-use Rattle.rx_rules.specs.Owing.{Owed, at_once, behind_read, delayed, hastened, owed_for, owed_for_ack, owed_for_done}
-use Rattle.rx_rules.specs.Owing.{owed_for_kept, owed_for_read}
+use Rattle.rx_rules.specs.Owing.{Owed, ack_delay_of, at_once, behind_read, delayed, delayed_by, hastened, owed_for}
+use Rattle.rx_rules.specs.Owing.{owed_for_ack, owed_for_done, owed_for_kept, owed_for_read}
 use Rattle.rx_rules.specs.Received.{front_of, has_hole, used_of}
 use Rattle.rx_rules.specs.Received as packets
 use Rattle.rx_rules.specs.Setup.{Setup}
@@ -122,19 +122,19 @@ soon-delayed now serial None low =
 kept-by : (P : Option Owed → Type 0) (now : ℕ) (prompt hole : Bool) (m : Message) (front : ℕ) (owed : Option Owed)
     → ((reason serial : ℕ) → P (at_once reason serial))
     → ((reason serial : ℕ) → P (behind_read now prompt reason serial))
-    → P (delayed now m.serial owed) → P (owed_for_kept now prompt hole m front owed)
-kept-by P now prompt hole m front owed once behind late =
+    → prompt ≡ false → P (delayed now m.serial owed) → P (owed_for_kept now prompt hole m front owed)
+kept-by P now prompt hole m front owed once behind steady late =
     of (m.seq == suc front) (has_flag REQUEST_ACK m.flags) (prompt && hole)
   where
     of : (next asks fills : Bool)
         → P (if not next then at_once ACK_OUT_OF_SEQUENCE m.serial
         else if asks then behind_read now prompt ACK_REQUESTED m.serial
         else if fills then behind_read now prompt ACK_DELAY m.serial
-        else delayed now m.serial owed)
+        else delayed_by (ack_delay_of prompt m.flags) now m.serial owed)
     of false asks fills = once ACK_OUT_OF_SEQUENCE m.serial
     of true true fills = behind ACK_REQUESTED m.serial
     of true false true = behind ACK_DELAY m.serial
-    of true false false = late
+    of true false false = rw steady late
 
 -- an answer to data that makes sense
 abbrev IsData : Took → Type 0
@@ -147,7 +147,8 @@ due-for : (time : ℕ) (got : Took) (now : ℕ) (prompt hole : Bool) (m : Messag
     → IsData got → prompt ≡ false → DueBy time owed → DueBy time (owed_for got now prompt hole m front owed)
 due-for time tooks.Kept now prompt hole m front owed data_ steady due =
     kept-by (DueBy time) now prompt hole m front owed (λ reason serial. due-at-once time reason serial)
-    (λ reason serial. due-behind time now prompt reason serial steady) (due-delayed time now m.serial owed due)
+    (λ reason serial. due-behind time now prompt reason serial steady) steady
+    (due-delayed time now m.serial owed due)
 due-for time tooks.Repeat now prompt hole m front owed data_ steady due = due-at-once time _ m.serial
 due-for time tooks.NoSlot now prompt hole m front owed data_ steady due = due-at-once time _ m.serial
 due-for time tooks.Beyond now prompt hole m front owed data_ steady due = absurd data_
@@ -159,7 +160,7 @@ soon-for : (got : Took) (now : ℕ) (prompt hole : Bool) (m : Message) (front : 
 soon-for tooks.Kept now prompt hole m front owed data_ steady low =
     kept-by (DueBy (now + ACK_DELAY_MS)) now prompt hole m front owed
     (λ reason serial. due-at-once (now + ACK_DELAY_MS) reason serial)
-    (λ reason serial. due-behind (now + ACK_DELAY_MS) now prompt reason serial steady)
+    (λ reason serial. due-behind (now + ACK_DELAY_MS) now prompt reason serial steady) steady
     (soon-delayed now m.serial owed low)
 soon-for tooks.Repeat now prompt hole m front owed data_ steady low = due-at-once (now + ACK_DELAY_MS) _ m.serial
 soon-for tooks.NoSlot now prompt hole m front owed data_ steady low = due-at-once (now + ACK_DELAY_MS) _ m.serial
