@@ -1,12 +1,12 @@
 -- What is done to one part of a call, seen of the whole call.
-use Rattle.std.proofs.Common.{◌≡◌, ◌&&◌, ◌-◌, inl, inr, ◌<◌, ◌∙◌, cond, not, min, nat_lt, Bool, true, false, ℕ}
+use Rattle.std.proofs.Common.{◌≡◌, ◌-◌, inl, inr, ◌<◌, ◌∙◌, cond, not, min, nat_lt, Bool, true, false, ℕ}
 use Rattle.std.proofs.Common.{Option, None, refl, sym, ap, subst, arith}
 use Rattle.std.proofs.lemmas.Bool.{cases_lt}
 use Rattle.std.proofs.lemmas.Bool.Decides.{nat_tests}
-use Rattle.rx_rules.specs.CallLooks.{CallLooks, found, is_timed_out, slowed, after_piece, after_ack_given}
+use Rattle.rx_rules.specs.CallLooks.{CallLooks, found, is_timed_out, slowed, tells_hole, after_piece, after_ack_given}
 use Rattle.rx_rules.specs.CallItems.{Sending}
 use Rattle.rx_rules.specs.Owing.{Owed, owed_for_given}
-use Rattle.rx_rules.specs.Received.{Received, has_hole}
+use Rattle.rx_rules.specs.Received.{Received}
 use Rattle.rx_rules.specs.Lost.{halves}
 use Rattle.rx_rules.specs.Sent.{Sent, after_all, after_giving, after_time}
 use Rattle.rx_pool.specs.Pool.{Slots}
@@ -165,7 +165,7 @@ cut_some cut x y is same =
 
 -- an acknowledgement was given, and so much is owed behind it
 pub ack_told : (pool : Slots) (c : EndOfCall) (k : CallLooks) (now : ℕ) (o : Option Owed) →
-    o ≡ owed_for_given now (k.cwnd.prompt && has_hole k.received) (now - k.heard) → StandsCall pool c k →
+    o ≡ owed_for_given now (tells_hole k) (now - k.heard) → StandsCall pool c k →
     StandsCall pool (record c { owed = o; spoke = now }) (after_ack_given now k)
 ack_told pool c k now o is st =
     record {

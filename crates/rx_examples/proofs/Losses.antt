@@ -281,9 +281,9 @@ data_of seq = record (ack 1 []) { seq = seq; serial = seq; body = bodies.Chunk (
 abbrev came : ℕ → CallLooks → CallLooks
 came seq k = after_taken (view 0) tooks.Kept (data_of seq) k
 
--- packet 2 comes then, which is acknowledged
+-- packets 1 and 3 come then, which is acknowledged
 abbrev pub hole_told : Bool → CallLooks
-hole_told prompt = after_ack_given 0 (came 2 (fresh_call 32 prompt 0))
+hole_told prompt = after_ack_given 0 (came 3 (came 1 (fresh_call 32 prompt 0)))
 
 -- a prompt node tells it again where nothing comes for 10 ms
 hole_told_again : (hole_told true).owed_ack ≡ Some (record { reason = ACK_OUT_OF_SEQUENCE; serial = 0; rank = 10 })
@@ -303,25 +303,29 @@ hole_told_thrice : (after_ack_given 20 told_twice).owed_ack
     ≡ Some (record { reason = ACK_OUT_OF_SEQUENCE; serial = 0; rank = 40 })
 hole_told_thrice = refl
 
--- then packet 1 comes at moment 50
+-- where packet 2 comes alone, it's told once
+lone_packet_told_once : (after_ack_given 0 (came 2 (fresh_call 32 true 0))).owed_ack ≡ None
+lone_packet_told_once = refl
+
+-- then packet 2 comes at moment 50
 abbrev pub filled : Bool → CallLooks
-filled prompt = after_taken (view 50) tooks.Kept (data_of 1) (hole_told prompt)
+filled prompt = after_taken (view 50) tooks.Kept (data_of 2) (hole_told prompt)
 
 -- a prompt node acknowledges it a millisecond later, any other 100
-hole_filled : (filled true).owed_ack ≡ Some (record { reason = ACK_DELAY; serial = 1; rank = 51 })
+hole_filled : (filled true).owed_ack ≡ Some (record { reason = ACK_DELAY; serial = 2; rank = 51 })
 hole_filled = refl
 
-hole_filled_unprompted : (filled false).owed_ack ≡ Some (record { reason = ACK_DELAY; serial = 1; rank = 150 })
+hole_filled_unprompted : (filled false).owed_ack ≡ Some (record { reason = ACK_DELAY; serial = 2; rank = 150 })
 hole_filled_unprompted = refl
 
 -- a byte of it is read at that moment: a prompt node acknowledges it at once then
 abbrev read_first : Bool → CallLooks
 read_first prompt = after_read 50 false (97 ∷ []) (filled prompt)
 
-behind_the_read : (read_first true).owed_ack ≡ Some (record { reason = ACK_DELAY; serial = 1; rank = 0 })
+behind_the_read : (read_first true).owed_ack ≡ Some (record { reason = ACK_DELAY; serial = 2; rank = 0 })
 behind_the_read = refl
 
-behind_the_read_unprompted : (read_first false).owed_ack ≡ Some (record { reason = ACK_DELAY; serial = 1; rank = 150 })
+behind_the_read_unprompted : (read_first false).owed_ack ≡ Some (record { reason = ACK_DELAY; serial = 2; rank = 150 })
 behind_the_read_unprompted = refl
 
 -- the second is read at moment 70, behind that acknowledgement: nothing was left for it, and both acknowledge it later

@@ -1,6 +1,6 @@
 -- Each event leaves each number of each call within its field.
 use Rattle.rx_rules.specs.Looks.{on_life}
-use Rattle.std.proofs.Common.{◌≡◌, ◌&&◌, ◌-◌, ℕ, ℤ, cond, Bool, true, false, List, drop}
+use Rattle.std.proofs.Common.{◌≡◌, ◌-◌, ℕ, ℤ, cond, Bool, true, false, List, drop}
 use Rattle.std.proofs.Common.{Option, Some, None, Result, Ok, Err, refl}
 use Rattle.rx_model.specs.declared.answers.BadMsg.{BadMsg}
 use Rattle.rx_model.specs.declared.answers.ServeRefused.TheVariants as refusals
@@ -19,10 +19,10 @@ use Rattle.rx_rules.specs.After.{after, acknowledged, counted, finished, given_b
 use Rattle.rx_rules.specs.After.{is_zero, linked}
 use Rattle.rx_rules.specs.After.{owing_abort}
 use Rattle.rx_rules.specs.CallLooks.{after_ack_given, after_piece, after_read, after_shut, after_write}
+use Rattle.rx_rules.specs.CallLooks.{tells_hole}
 use Rattle.rx_rules.specs.Life.{after_accept, after_cancel, after_end, after_finish, after_gone, after_silence}
 use Rattle.rx_rules.specs.Life as lives
 use Rattle.rx_rules.specs.Looks.{CallRecord, Looks, on_channel, on_looks}
-use Rattle.rx_rules.specs.Received.{has_hole}
 use Rattle.rx_rules.specs.Records.{is_silent, silence_of, silenced, unless_silent}
 use Rattle.rx_rules.specs.Setup.{Setup, Kind, Server, Client, FitsSetup, named}
 use Rattle.rx_history.proofs.FitCall.{CallsFit, FitsCall, life_fits, read_fits, write_fits}
@@ -57,7 +57,7 @@ fit-body c m (bodies.Ack a) l all =
     (λ k there f. record {
       received = f.received;
       owed =
-          given_owed_fits l.now (k.looks.cwnd.prompt && has_hole k.looks.received) (l.now - k.looks.heard);
+          given_owed_fits l.now (tells_hole k.looks) (l.now - k.looks.heard);
       said = f.said;
       life = f.life;
       number = f.number;

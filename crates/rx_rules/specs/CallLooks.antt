@@ -174,11 +174,15 @@ after_read now end bytes k =
 
 -- ---- givings
 
--- an ACK was given: whatever was owed is told; a prompt node tells a hole again
+-- a prompt node tells a hole again once it keeps packet 1 too: so a lone packet, which may be forged, is told once
+abbrev pub tells_hole : CallLooks → Bool
+tells_hole k = k.cwnd.prompt && has_hole k.received && nat_lt 0 (front_of k.received.kept)
+
+-- an ACK was given: whatever was owed is told, and a hole maybe again
 abbrev pub after_ack_given : ℕ → CallLooks → CallLooks
 after_ack_given now k =
     record k {
-      owed_ack = owed_for_given now (k.cwnd.prompt && has_hole k.received) (now - k.heard);
+      owed_ack = owed_for_given now (tells_hole k) (now - k.heard);
       spoke = now;
     }
 

@@ -1,9 +1,8 @@
-ghost use Rattle.std.specs.Prelude.{◌≡◌, ◌≤◌, ◌<◌, ◌+◌, ◌&&◌, ◌^◌, nat_le, if◌then◌else◌, true, ℕ, Option, Some, None};
+ghost use Rattle.std.specs.Prelude.{◌≡◌, ◌≤◌, ◌<◌, ◌+◌, ◌^◌, nat_le, if◌then◌else◌, true, ℕ, Option, Some, None};
 ghost use Rattle.rx_rules.specs.CallItems.{call_due, next_sending};
 ghost use Rattle.rx_rules.specs.CallItems as items;
-ghost use Rattle.rx_rules.specs.CallLooks.{CallLooks, after_piece, is_timed_out, slowed};
+ghost use Rattle.rx_rules.specs.CallLooks.{CallLooks, after_piece, is_timed_out, slowed, tells_hole};
 ghost use Rattle.rx_rules.specs.Lost.{halves};
-ghost use Rattle.rx_rules.specs.Received.{has_hole};
 ghost use Rattle.rx_rules.specs.Sent.{piece_at, after_time};
 ghost use Rattle.rx_pool.specs.Pool.{Slots};
 ghost use Rattle.rx_sendwin.specs.Window.{CanBeSent};
@@ -137,12 +136,11 @@ impl Call {
         }
     }
 
-    /// Whether a prompt node keeps a packet above a hole, and so tells of that again.
+    /// Whether it tells again of a packet above a hole: a prompt node's does once it keeps packet 1 too.
     fn tells_hole(&self) -> bool
-        ensures { (pool : Slots) (k : CallLooks) → StandsCall pool self.now k →
-            result ≡ (k.cwnd.prompt && has_hole k.received) }
+        ensures { (pool : Slots) (k : CallLooks) → StandsCall pool self.now k → result ≡ tells_hole k }
     {
-        self.cwnd.recovers() && self.received.has_hole()
+        self.cwnd.recovers() && self.received.has_hole() && self.received.front() > 0
     }
 
     /// What it gives at this moment; none where nothing is due.

@@ -78,12 +78,16 @@ fn a_prompt_end_waits_less_where_more_is_to_come(rt: HostRuntime) -> Result<(), 
 
 #[test]
 fn a_prompt_end_tells_a_hole_again_while_nothing_comes(rt: HostRuntime) -> Result<(), Fail> {
-    for (prompt, again) in [(true, Some(3)), (false, None)] {
+    for (prompt, first, again) in [(true, 1, Some(3)), (true, 2, None), (false, 1, None)] {
         let mut pool = Pool::make(rt.alloc(), 9)?;
         let mut call = Call::make(rt.alloc(), of_prompt(prompt))?;
         call.start(Side::Server, 0);
         assert_eq!(rt;
-            take(&mut call, &mut pool, 5, &head(2, 9, 1), b"x"),
+            take(&mut call, &mut pool, 5, &head(first, 9, 1), b"x"),
+            Took::Kept
+        );
+        assert_eq!(rt;
+            take(&mut call, &mut pool, 5, &head(3, 9, 1), b"x"),
             Took::Kept
         );
         for (now, reason) in [
