@@ -20,7 +20,7 @@ rx_node_bench rx_server_tests rx_nodes    rx_caller  .               rx_udp     
 .             rx_books        rx_progress .          .               .               .              rx_plan
 .             rx_node         rx_between  rx_token   rx_jumbo        .               rx_jobs        rx_run
 rx_call_bench rx_ends         rx_table    rx_class   rx_asks         .               .              .
-.             rx_call         rx_queue    rx_events  rx_wire         rx_script_tests rx_reply       .
+.             rx_call         rx_queue    rx_events  rx_wire         rx_script_tests rx_reply       xg_parse_tests
 rx_recvwin    rx_sendwin      rx_due      rx_law     rx_examples     .               rx_script      xg_compile
 rx_pool       rx_rtt          .           rx_history rx_packet_bench stub_table      xdr_code_bench xg_check
 .             .               rx_packet   rx_rules   .               xdr_code        xdr_json       xg_parse
@@ -28,11 +28,11 @@ rx_pool       rx_rtt          .           rx_history rx_packet_bench stub_table 
 """
 # A wing: its title, its color, its first and last column, and its lowest and highest floor.
 WINGS = [("the program", "#fdeee0", 5, 7, 6, 12), ("the protocol", "#e8f0fb", 0, 4, 0, 9),
-         ("values", "#e9f6ea", 5, 6, 0, 4), ("interface files", "#f5ebf8", 7, 7, 0, 3)]
+         ("values", "#e9f6ea", 5, 6, 0, 4), ("interface files", "#f5ebf8", 7, 7, 0, 4)]
 FLOORS = ["what is said", "rules, bytes", "laws, rates, slots", "windows, moments", "one end of a call",
           "ends, connections", "what both nodes share", "what is due", "the two nodes", "around the nodes", "runs, passes",
           "the commands", "what runs"]
-ASIDE = {"rx_examples", "rx_server_tests", "rx_top_tests", "rx_script_tests"}
+ASIDE = {"rx_examples", "rx_server_tests", "rx_top_tests", "rx_script_tests", "xg_parse_tests"}
 SAID = "rx_model"
 LEGEND = ["A line leads down to a crate that is used, unless another", "one that is used stands on it.",
           "A dot: it uses rx_model, which stands in another wing.", "A broken box: it shows, tests or measures."]

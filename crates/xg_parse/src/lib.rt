@@ -29,6 +29,3 @@ pub use tree::{
     ArgItem, ArmItem, ConstWord, Decl, Form, Item, KindWord, MembItem, ModeWord, Part, Tree,
     TypeWord,
 };
-
-#[cfg(test)]
-mod tests;

@@ -1,10 +1,10 @@
 //! A tree as a text, for the tables of the tests.
 
-use crate::{
+use std::alloc::{AllocError, Global};
+use xg_parse::{
     ArgItem, ArmItem, ConstWord, Decl, Form, Item, KindWord, MembItem, ModeWord, Part, Tree,
     TypeWord,
 };
-use std::alloc::{AllocError, Global};
 
 fn write_const(out: &mut String, value: &ConstWord) -> Result<(), AllocError> {
     match value {

@@ -1,12 +1,12 @@
 mod faults;
 mod printed;
 
-use crate::{ParseFault, parse};
 use printed::tree_text;
 use std::alloc::{AllocError, Global};
 use std::process::Abort;
 use std::test::*;
 use xg_lex::{LexFault, Tokens, lex};
+use xg_parse::{ParseFault, parse};
 
 fn token_fault_text(alloc: Global, fault: LexFault) -> Result<String, AllocError> {
     match fault {
