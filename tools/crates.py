@@ -18,7 +18,7 @@ PLACES = """
 rx_node_bench rx_server_tests rx_nodes    rx_caller  .               rx_udp          rx_dispatch    rx_closing
 .             rx_server       rx_client   .          .               rx_base         .              rx_rounds
 .             rx_books        rx_progress .          .               .               .              rx_plan
-.             rx_node         rx_between  rx_token   rx_jumbo        .               rx_jobs        rx_run
+rx_call_tests rx_node         rx_between  rx_token   rx_jumbo        .               rx_jobs        rx_run
 rx_call_bench rx_ends         rx_table    rx_class   rx_asks         .               .              .
 .             rx_call         rx_queue    rx_events  rx_wire         rx_script_tests rx_reply       xg_parse_tests
 rx_recvwin    rx_sendwin      rx_due      rx_law     rx_examples     .               rx_script      xg_compile
@@ -32,7 +32,7 @@ WINGS = [("the program", "#fdeee0", 5, 7, 6, 12), ("the protocol", "#e8f0fb", 0,
 FLOORS = ["what is said", "rules, bytes", "laws, rates, slots", "windows, moments", "one end of a call",
           "ends, connections", "what both nodes share", "what is due", "the two nodes", "around the nodes", "runs, passes",
           "the commands", "what runs"]
-ASIDE = {"rx_examples", "rx_server_tests", "rx_top_tests", "rx_script_tests", "xg_parse_tests"}
+ASIDE = {"rx_examples", "rx_call_tests", "rx_server_tests", "rx_top_tests", "rx_script_tests", "xg_parse_tests"}
 SAID = "rx_model"
 LEGEND = ["A line leads down to a crate that is used, unless another", "one that is used stands on it.",
           "A dot: it uses rx_model, which stands in another wing.", "A broken box: it shows, tests or measures."]

@@ -115,6 +115,3 @@ impl Calls {
         &mut self.entries[key]
     }
 }
-
-#[cfg(test)]
-mod tests;

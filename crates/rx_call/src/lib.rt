@@ -15,8 +15,6 @@ mod laws;
 mod owing;
 mod pace;
 mod side;
-#[cfg(test)]
-mod tests;
 
 pub use call::Call;
 pub use calls::Calls;

@@ -1,9 +1,0 @@
-use Rattle.rx_pool.specs.Held.{Holds}
-use Rattle.rx_call.specs.Standing.{slots_of}
-use Rattle.rx_call.proofs.tests.acks.round_trips.Given as goal
-
-abbrev pub invariant-loop-now : goal.invariant-loop-now
-invariant-loop-now g l = Holds l.pool (slots_of l.call)
-
-abbrev pub invariant-loop : goal.invariant-loop
-invariant-loop g l = Holds l.pool (slots_of l.call)
