@@ -21,7 +21,7 @@ rx_node_bench rx_server_tests rx_nodes    rx_caller  .               rx_udp     
 rx_call_tests rx_node         rx_between  rx_token   rx_jumbo        .               rx_jobs        rx_run
 rx_call_bench rx_ends         rx_table    rx_class   rx_asks         .               .              .
 .             rx_call         rx_queue    rx_events  rx_wire         rx_script_tests rx_reply       xg_parse_tests
-rx_recvwin    rx_sendwin      rx_due      rx_law     rx_examples     .               rx_script      xg_compile
+rx_recvwin    rx_sendwin      rx_due      rx_law     rx_examples     xdr_tests       rx_script      xg_compile
 rx_pool       rx_rtt          .           rx_history rx_packet_bench stub_table      xdr_code_bench xg_check
 .             .               rx_packet   rx_rules   .               xdr_code        xdr_json       xg_parse
 .             .               rx_model    .          .               xdr_value       .              xg_lex
@@ -32,7 +32,8 @@ WINGS = [("the program", "#fdeee0", 5, 7, 6, 12), ("the protocol", "#e8f0fb", 0,
 FLOORS = ["what is said", "rules, bytes", "laws, rates, slots", "windows, moments", "one end of a call",
           "ends, connections", "what both nodes share", "what is due", "the two nodes", "around the nodes", "runs, passes",
           "the commands", "what runs"]
-ASIDE = {"rx_examples", "rx_call_tests", "rx_server_tests", "rx_top_tests", "rx_script_tests", "xg_parse_tests"}
+ASIDE = {"rx_examples", "rx_call_tests", "rx_server_tests", "rx_top_tests", "rx_script_tests", "xg_parse_tests",
+         "xdr_tests"}
 SAID = "rx_model"
 LEGEND = ["A line leads down to a crate that is used, unless another", "one that is used stands on it.",
           "A dot: it uses rx_model, which stands in another wing.", "A broken box: it shows, tests or measures."]

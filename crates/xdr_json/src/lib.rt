@@ -22,6 +22,3 @@ pub use judging::{MAX_NESTING, from_json};
 pub use laws::{numbers, value_returns};
 pub use printing::to_json;
 pub use type_name::write_type;
-
-#[cfg(test)]
-mod tests;

@@ -42,6 +42,3 @@ pub use soundness::sound;
 pub use ty::{Basic, Ty};
 pub use value::{Value, tag_number};
 pub use zeros::zero;
-
-#[cfg(test)]
-mod tests;

@@ -1,8 +1,10 @@
 //! Types and values of RFC 4506, by example.
 
-use super::*;
 use std::alloc::{AllocError, Global};
 use std::test::*;
+use xdr_value::{
+    Arg, Arm, Def, Field, Interface, Member, Mode, Proc, Shape, Ty, Value, fits, known, sound, zero,
+};
 
 // struct NAME { int v; REST next; }
 fn node(alloc: Global, name: &str, rest: Ty) -> Result<Def, AllocError> {

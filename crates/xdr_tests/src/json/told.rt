@@ -1,9 +1,9 @@
 //! What is read and printed, as texts.
 
 use super::types::{interface, type_named};
-use crate::{JsonFault, from_json, to_json};
 use std::alloc::{AllocError, Global};
 use std::process::Abort;
+use xdr_json::{JsonFault, from_json, to_json};
 use xdr_value::{Value, fits, has_levels_within, known};
 
 fn told(alloc: Global, path: &str, want: &str) -> Result<String, AllocError> {

@@ -5,10 +5,10 @@ ghost use Rattle.xdr_value.specs.Tests.{params_known};
 ghost use Rattle.xdr_value.specs.View.{types_of, param_of};
 
 use super::types::interface;
-use crate::{JsonFault, args_from_json};
 use std::alloc::{AllocError, Global};
 use std::process::Abort;
 use std::test::*;
+use xdr_json::{JsonFault, args_from_json};
 use xdr_value::{Arg, Def, Mode, Ty, known};
 
 // IN int a, OUT int b, INOUT Fid c
