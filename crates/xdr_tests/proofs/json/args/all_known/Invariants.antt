@@ -1,7 +1,7 @@
 use Rattle.std.proofs.Common.{◌≡◌, drop, map}
 use Rattle.xdr_value.specs.Tests.{params_known}
 use Rattle.xdr_value.specs.View.{types_of, param_of}
-use Rattle.xdr_json.proofs.tests.args.all_known.Given as goal
+use Rattle.xdr_tests.proofs.json.args.all_known.Given as goal
 
 abbrev pub invariant-loop-arg : goal.invariant-loop-arg
 invariant-loop-arg l =
