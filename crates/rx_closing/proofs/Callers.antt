@@ -1,12 +1,13 @@
 -- The turns of callers, seen from one call of a client.
+pub mod AmongCallers
 pub mod CallerEvents
+pub mod CallerHeld
 pub mod CallerTurn
 pub mod CallerReads
+pub mod CallerRest
 pub mod CallerSays
-pub mod CallersTurn
 pub mod CallersLeave
-pub mod CallerHeld
+pub mod CallersTurn
 pub mod HasCaller
 pub mod CallersHold
-pub mod CallerRest
 pub mod SceneTurn

@@ -1,17 +1,17 @@
--- Behind a first round no node owes anything beside what its calls give.
+-- Through rounds in which no call comes further nothing is owed but what calls give.
 pub mod ChannelsStay
+pub mod MayOwe
 pub mod OwesNone
+pub mod MayGo
+pub mod EndsThere
+pub mod AreStill
+pub mod NoResponse
 pub mod OutOwesNone
-pub mod OwesOnly
-pub mod OnlyEvents
-pub mod GoesQuiet
-pub mod IdleStays
-pub mod LoneTakes
-pub mod Harmless
-pub mod DoneStays
-pub mod NoGarbage
-pub mod GarbageFree
-pub mod MildTakes
-pub mod ServesMildly
-pub mod NodesOnly
-pub mod OnlyRounds
+pub mod MayNone
+pub mod StillOwed
+pub mod TooMuch
+pub mod MayTakes
+pub mod MayRounds
+pub mod BareRound
+pub mod AllBare
+pub mod StillIn

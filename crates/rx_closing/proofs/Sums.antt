@@ -1,7 +1,11 @@
--- All of it joined: 2,000 rounds for each piece of its work close the call.
+-- So many rounds are enough: what calls may give in rounds through which none comes further, and their work.
+pub mod Counts
 pub mod Enough
-pub mod Epoch
-pub mod EnoughRounds
-pub mod NeverLone
-pub mod NeverTold
-pub mod ClosesOne
+pub mod LonePays
+pub mod RoundLoads
+pub mod NeverLong
+pub mod Pays
+pub mod WorkSmall
+pub mod ClosesSpacious
+pub mod Closes
+pub mod ClosesAll

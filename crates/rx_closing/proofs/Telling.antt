@@ -1,14 +1,20 @@
--- A call that its server is done with, with a code, ends at its client.
+-- What a node owes of a call comes to the call's other end.
 pub mod AbortOwed
 pub mod AbortGiven
 pub mod AbortEnds
-pub mod Told
-pub mod ToldCall
-pub mod ToldChain
-pub mod ToldOver
-pub mod ToldParts
-pub mod ToldStops
-pub mod TurnsKeep
+pub mod AckAllTaken
+pub mod BusyGiven
 pub mod DoneCode
-pub mod DoneCall
-pub mod DoneStops
+pub mod OwedComes
+pub mod DebtTaken
+pub mod PollsGive
+pub mod DebtComes
+pub mod AbortComes
+pub mod AckAllComes
+pub mod BusyComes
+pub mod TurnsKeep
+pub mod BusyOwed
+pub mod ToldOver
+pub mod DoneLate
+pub mod DoneServed
+pub mod ToldStays

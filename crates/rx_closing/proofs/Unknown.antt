@@ -1,9 +1,10 @@
 -- Rounds of a call that its server doesn't know.
-pub mod Unserved
-pub mod UnservedEnd
+pub mod AheadOf
+pub mod AheadRows
+pub mod BegunAmong
+pub mod FullAmong
+pub mod HandledLeft
+pub mod BegunSoon
 pub mod UnservedMeet
-pub mod UnservedRound
-pub mod UnservedRounds
-pub mod UnknownChain
-pub mod UnknownRound
-pub mod BegunRound
+pub mod WaitsOn
+pub mod BegunOwes

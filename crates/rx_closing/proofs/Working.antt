@@ -1,10 +1,11 @@
--- Rounds of a call that is at work at both its ends bring it further.
+-- Rounds as the two ends of one call among others have them.
 pub mod WorkHere
-pub mod WorkGives
 pub mod WorkMeet
-pub mod WorkTurns
-pub mod WorkRound
-pub mod WorkRuns
-pub mod WorkRests
-pub mod WorkWays
-pub mod Works
+pub mod EndRounds
+pub mod ClientRound
+pub mod PassesOf
+pub mod LoneOf
+pub mod SinceRounds
+pub mod StandsFrom
+pub mod MemberRounds
+pub mod StretchStands

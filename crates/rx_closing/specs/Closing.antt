@@ -1,5 +1,5 @@
--- Fair rounds close the one call that lives as they begin, whatever was lost, repeated and reordered before them. Public
--- clauses cite this module.
+-- Fair rounds close the one call that lives as they begin, whatever was lost, repeated and reordered before them.
+-- Public clauses cite this module.
 use Rattle.std.specs.Prelude.{◌≡◌, ◌<◌, ◌≤◌, ◌*◌, ◌^◌, ◌⊎◌, ℕ, suc, true, false, List, [], ◌∷◌, length, IfSome, All}
 use Rattle.std.specs.Prelude.{slice_get}
 use Rattle.rx_model.specs.declared.event.Noted.{Noted}
@@ -19,8 +19,8 @@ use Rattle.rx_plan.specs.Parts.{To}
 use Rattle.rx_plan.specs.Promises.{AreDistinct, plan_nodes}
 use Rattle.rx_plan.specs.Rounds.{rounds}
 use Rattle.rx_plan.specs.Stages.{Stage}
-use Rattle.rx_closing.specs.Living.{all_live, call_lives_at}
 use Rattle.rx_closing.specs.Work.{work_of}
+use Rattle.rx_closing.specs.Living.{all_live, call_lives_at}
 
 -- ---- premises
 

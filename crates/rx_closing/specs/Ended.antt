@@ -14,14 +14,14 @@ use Rattle.rx_plan.specs.Parts.{To}
 use Rattle.rx_plan.specs.Promises.{AreDistinct, plan_nodes}
 use Rattle.rx_plan.specs.Rounds.{rounds}
 use Rattle.rx_plan.specs.Stages.{Stage}
-use Rattle.rx_closing.specs.Closing.{AreEarly, AreOpen, HasClosed, RepliesFit}
-use Rattle.rx_closing.specs.Living.{all_live}
-use Rattle.rx_closing.specs.Silence.{DeadInSilence}
 use Rattle.rx_closing.specs.Work.{work_of}
+use Rattle.rx_closing.specs.Living.{all_live}
+use Rattle.rx_closing.specs.Closing.{AreEarly, AreOpen, HasClosed, RepliesFit}
+use Rattle.rx_closing.specs.Silence.{DeadInSilence}
 
 -- what is asked of lines, of the stage that they came to and of a later one: the lines are driven; no two clients share
--- host and epoch, and nodes don't challenge; the server forgot nothing or no datagram is old; no clock of the first stage
--- is near its end, and what is served there fits its callers
+-- host and epoch, and nodes don't challenge; the server forgot nothing or no datagram is old; no clock of the first
+-- stage is near its end, and what is served there fits its callers
 pub record AreFair (g : Handlers) (ls : List Numbered) (s t : Stage) : Type 0 where
   pub driven : AreDriven ls
   pub distinct : AreDistinct (plan_nodes ls)

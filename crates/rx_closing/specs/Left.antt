@@ -1,5 +1,5 @@
--- What isn't left behind the rounds that a plan ends with: the one call that lived as they began and lives still, or that
--- was heard in them and is dead. Public clauses cite this module.
+-- What isn't left behind the rounds that a plan ends with: the one call that lived as they began and lives still, or
+-- that was heard in them and is dead. Public clauses cite this module.
 use Rattle.std.specs.Prelude.{◌≡◌, ◌≤◌, ◌*◌, ℕ, suc, true, List, [], ◌∷◌, Some, IsSomeAnd, slice_get}
 use Rattle.rx_model.specs.declared.answers.End.TheVariants as ends
 use Rattle.rx_model.specs.declared.answers.Took.TheVariants as tooks
@@ -11,10 +11,10 @@ use Rattle.rx_script.specs.declared.plan.Numbered.{Numbered}
 use Rattle.rx_jobs.specs.Handlers.{Handlers}
 use Rattle.rx_plan.specs.Promises.{plan_nodes}
 use Rattle.rx_plan.specs.Stages.{Stage}
-use Rattle.rx_closing.specs.Ended.{AreFair, ClosesFrom, SilentFrom}
+use Rattle.rx_closing.specs.Work.{work_of}
 use Rattle.rx_closing.specs.Living.{all_live, call_lives_at, looks_of}
 use Rattle.rx_closing.specs.Silence.{CameAmong, is_hearing}
-use Rattle.rx_closing.specs.Work.{work_of}
+use Rattle.rx_closing.specs.Ended.{AreFair, ClosesFrom, SilentFrom}
 
 -- a call lived at a client, and lives there at a later stage
 pub record LivesOn (s t : Stage) (c : CallName) : Type 0 where

@@ -2,5 +2,8 @@ pub mod Work
 pub mod Living
 pub mod Closing
 pub mod Silence
+pub mod Several
 pub mod Ended
+pub mod EndedAll
 pub mod Left
+pub mod LeftAll

@@ -1,5 +1,6 @@
 -- In fair rounds a call of a client is found dead only in silence. Public clauses cite this module.
-use Rattle.std.specs.Prelude.{◌≡◌, ◌++◌, ℕ, suc, Bool, true, false, List, ◌∷◌, length, Some, Ok, IfSome, IsSomeAnd, slice_get}
+use Rattle.std.specs.Prelude.{◌≡◌, ◌++◌, ℕ, suc, Bool, true, false, List, ◌∷◌, length, Some, Ok, IfSome, IsSomeAnd}
+use Rattle.std.specs.Prelude.{slice_get}
 use Rattle.rx_model.specs.declared.answers.End.TheVariants as ends
 use Rattle.rx_model.specs.declared.answers.Took.{Took}
 use Rattle.rx_model.specs.declared.answers.Took.TheVariants as tooks
@@ -18,8 +19,8 @@ use Rattle.rx_jobs.specs.Handlers.{Handlers}
 use Rattle.rx_wire.specs.Turns.{noted}
 use Rattle.rx_plan.specs.Promises.{plan_nodes}
 use Rattle.rx_plan.specs.Stages.{Stage}
-use Rattle.rx_closing.specs.Closing.{RoundsBehind}
 use Rattle.rx_closing.specs.Living.{all_live, call_lives_at, looks_of}
+use Rattle.rx_closing.specs.Closing.{RoundsBehind}
 
 -- an answer with which a message for a live call is heard
 abbrev pub is_hearing : Took → Bool

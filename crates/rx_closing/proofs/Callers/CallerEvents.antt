@@ -1,7 +1,7 @@
 -- The events of callers seen from one call of a client: those of other calls leave it, and its own have the answers of
 -- the rules.
-use Rattle.std.proofs.Common.{◌≡◌, if◌then◌else◌, cond, min, ℕ, ℤ, Bool, true, false, List, take, length}
-use Rattle.std.proofs.Common.{Option, Some, None, option_map, Result, Ok, Err, refl, ap, sym, subst, ◌∙◌}
+use Rattle.std.proofs.Common.{◌≡◌, if◌then◌else◌, cond, min, ℕ, ℤ, Bool, true, false, List, take, length, Option, Some}
+use Rattle.std.proofs.Common.{None, option_map, Result, Ok, Err, refl, ap, sym, subst, ◌∙◌}
 use Rattle.std.proofs.lemmas.Bool.{eq-eqb}
 use Rattle.rx_model.specs.declared.answers.NotOpen.{NotOpen}
 use Rattle.rx_model.specs.declared.answers.ReadAns.{ReadAns}
@@ -27,12 +27,10 @@ use Rattle.rx_rules.proofs.ConnsLaws.{channel_number}
 use Rattle.rx_history.proofs.Calls.{call-changed}
 use Rattle.rx_history.proofs.Dims.{Dims, dims_looks, dims_refl}
 use Rattle.rx_history.proofs.DimsEvents.{cancel_dims, read_dims}
-use Rattle.rx_history.proofs.DimsLeave.{live_stays}
 use Rattle.rx_history.proofs.OrderlyHistory.{orderly_history}
 use Rattle.rx_events.specs.Events.{written_count}
 use Rattle.rx_asks.specs.Asks.{Asking, Cancels, IsAsked, Offers, Reads, Shuts}
 use Rattle.rx_asks.proofs.Asked.{call_in}
-use Rattle.rx_closing.proofs.Frame.{IsAlone}
 
 -- ---- an event of another call
 
@@ -101,25 +99,6 @@ asked_now s (Reads d max) e l is = elim is [ ]
 asked_now s (Cancels d code) (events.Cancelled call told (Ok done)) l is = refl
 asked_now s (Cancels d code) (events.Cancelled call told (Err closed)) l is = refl
 asked_now s (Cancels d code) e l is = elim is [ ]
-
--- a call that lives at a moment
-record Living (l : Looks) (c : CallName) : Type 0 where
-  call : CallRecord
-  there : call_at l c ≡ Some call
-  living : is_live call.life ≡ true
-
-living_of : (l : Looks) (c : CallName) (o : Option CallRecord) → call_at l c ≡ o
-    → is_call (λ k. is_live k.life) o ≡ true
-    → Living l c
-living_of l c None is lives = absurd cc
-living_of l c (Some k) is lives = record { call = k; there = is; living = lives }
-
--- a call that is alone stays so
-pub alone_stays : (c : CallName) (l m : Looks) → Dims l m → IsAlone c l → IsAlone c m
-alone_stays c l m dims alone d r there living =
-    (let now : is_call (λ k. is_live k.life) (call_at m d) ≡ true = ap (is_call (λ k. is_live k.life)) there ∙ living in
-    let before = living_of l d (call_at l d) refl (live_stays l m d dims now) in
-    alone d before.call before.there before.living)
 
 -- ---- an event of the call itself
 

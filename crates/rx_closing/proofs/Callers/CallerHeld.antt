@@ -1,7 +1,7 @@
 -- The callers of a driven plan, and of rounds behind it: each call of a client has one, which isn't finished while the
 -- call lives, and shut where the call is shut.
-use Rattle.std.proofs.Common.{◌≡◌, ◌&&◌, not, ℕ, ℤ, Bool, true, false}
-use Rattle.std.proofs.Common.{List, ◌∷◌, refl, ap, sym, subst, ◌∙◌, Option, Some, None, Result, Ok, Err}
+use Rattle.std.proofs.Common.{◌≡◌, ◌&&◌, not, ℕ, ℤ, Bool, true, false, List, ◌∷◌, refl, ap, sym, subst, ◌∙◌, Option}
+use Rattle.std.proofs.Common.{Some, None, Result, Ok, Err}
 use Rattle.rx_model.specs.declared.answers.End.{End}
 use Rattle.rx_model.specs.declared.answers.NotOpen.{NotOpen}
 use Rattle.rx_model.specs.declared.answers.ReadAns.{ReadAns}

@@ -1,8 +1,8 @@
 -- The reads of a caller's turn: it reads all that stands without a gap, to the end of the reply or until more is to
 -- come; or it gives its call up.
 use Rattle.std.proofs.Common.{◌≡◌, ◌≤◌, ◌-◌, ◌++◌, ℕ, suc, zero, min, Bool, true, false, List, [], ◌∷◌, refl, ap, sym}
-use Rattle.std.proofs.Common.{subst, ◌∙◌, Some, Ok, length, take, drop, arith, append-nil}
-use Rattle.std.proofs.Common.{length-take, length-drop, nat_lt}
+use Rattle.std.proofs.Common.{subst, ◌∙◌, Some, Ok, length, take, drop, arith, append-nil, length-take, length-drop}
+use Rattle.std.proofs.Common.{nat_lt}
 use Rattle.std.proofs.lemmas.List.{drop_min, drop-drop, length-append}
 use Rattle.rx_model.specs.declared.answers.CallRead.{CallRead}
 use Rattle.rx_model.specs.declared.answers.CallRead.TheVariants as callreads
@@ -55,26 +55,26 @@ unread_behind now max k =
     ∙ drop_take max (unread_of k.received)
 
 module _ (node : ℕ) (client : Node) (host : Host) (epoch : ℕ) (kind : client.setup.kind ≡ Client host epoch)
-    (c : CallName) (now : ℕ) (request : List ℕ) (k0 : CallLooks) (name : CallName) (place : ℕ) (w : CallerState)
-    (t : Stage) where
+    (c : CallName) (cs : List CallName) (now : ℕ) (request : List ℕ) (k0 : CallLooks) (name : CallName) (place : ℕ)
+    (w : CallerState) (t : Stage) where
   abbrev looks_on : Stage → Looks
   looks_on s = looks client.setup (side node s.history)
 
   abbrev There : Stage → CallRecord → Type 0
-  There s r = At node client host epoch kind c now s r
+  There s r = At node client host epoch kind c cs now s r
 
   abbrev Goes_ : CallerState → Stage → CallerState → Stage → Type 0
-  Goes_ v s u q = Goes node client host epoch kind c now v s u q
+  Goes_ v s u q = Goes node client host epoch kind c cs now v s u q
 
   abbrev on_call : List ℕ → Bool → List ℕ → Phase → CallerState
   on_call offering shut reply phase =
-      caller_on node client host epoch kind c now place offering shut reply phase
+      caller_on node client host epoch kind c cs now place offering shut reply phase
 
   abbrev Said : Sent → Type 0
-  Said sent = SaidOut node client host epoch kind c now request k0 sent
+  Said sent = SaidOut node client host epoch kind c cs now request k0 sent
 
   abbrev Left : Type 0
-  Left = CallerLeft node client host epoch kind c now request k0 t
+  Left = CallerLeft node client host epoch kind c cs now request k0 t
 
   -- it gives its call up, where its reply passes what it keeps
   pub gives_up : (k : CallLooks) (offering : List ℕ) (shut : Bool) (reply : List ℕ) (phase : Phase) (s : Stage)
@@ -84,11 +84,11 @@ module _ (node : ℕ) (client : Node) (host : Host) (epoch : ℕ) (kind : client
       let v : CallerState = on_call offering shut reply phase in
       let e : Event = events.Cancelled c CC_UNMARSHAL (Ok tt) in
       let own = own_is client.setup (side node s.history) c (calls name k) at.legal at.there refl in
-      let n = next_is node client host epoch kind c now (Cancels c CC_UNMARSHAL) v w s t e (rw long refl) at.first
+      let n = next_is node client host epoch kind c cs now (Cancels c CC_UNMARSHAL) v w s t e (rw long refl) at.first
       (λ f is allowed.
       cancel_is client.setup host epoch c (looks_on s) (calls name k) own CC_UNMARSHAL f refl is allowed) go in
       let behind : There (with_event node e s) (ended name (ends.Cancelled CC_UNMARSHAL) k) =
-      event_at node client host epoch kind c now s (calls name k) (ended name (ends.Cancelled CC_UNMARSHAL) k)
+      event_at node client host epoch kind c cs now s (calls name k) (ended name (ends.Cancelled CC_UNMARSHAL) k)
       (Cancels c CC_UNMARSHAL) e at n.asked
       n.allowed
       (own_change c (λ i. record i { life = after_cancel CC_UNMARSHAL i.life }) (looks_on s) (calls name k) (λ i. refl)
@@ -130,7 +130,7 @@ module _ (node : ℕ) (client : Node) (host : Host) (epoch : ℕ) (kind : client
       let end : Bool = is_end (readers.Client got) in
       let e : Event = events.HasRead c 4096 (readers.Client got) came in
       let own = own_is client.setup (side node s.history) c (calls name k) at.legal at.there refl in
-      let n = next_is node client host epoch kind c now (Reads c 4096) v w s t e asked at.first
+      let n = next_is node client host epoch kind c cs now (Reads c 4096) v w s t e asked at.first
       (λ f is_asked allowed.
       read_is client.setup host epoch c (looks_on s) (calls name k) own 4096 f is_asked allowed
       ∙ ap (λ (p : CallRead × List ℕ). events.HasRead c 4096 (readers.Client (client_read_got p.0)) p.1) is) go in
@@ -138,7 +138,7 @@ module _ (node : ℕ) (client : Node) (host : Host) (epoch : ℕ) (kind : client
       λ moment. record { name = name; life = after_end end lives.Calling; looks = after_read moment end came k } in
       record {
         at =
-            event_at node client host epoch kind c now s (calls name k) (q now) (Reads c 4096) e at n.asked n.allowed
+            event_at node client host epoch kind c cs now s (calls name k) (q now) (Reads c 4096) e at n.asked n.allowed
             (own_read c end came (looks_on s) (calls name k) at.there
             ∙ ap (λ (m : ℕ). Some (q m)) at.moment);
         goes = n.goes;

@@ -1,7 +1,7 @@
--- Where a caller's turn leaves its call: at rest all of its request was written and shut; and where it wasn't, a piece
--- counts that isn't acknowledged.
-use Rattle.std.proofs.Common.{◌≡◌, ◌≤◌, ◌<◌, ◌++◌, ℕ, Bool, true, false, List, [], refl, ap, sym, subst, ◌∙◌}
-use Rattle.std.proofs.Common.{length, arith, inl, inr, length-append}
+-- Where a caller's turn leaves its call, of the calls that may live at a client with room for all of them: at rest all
+-- of its request was written and shut; and where it wasn't, a piece counts that isn't acknowledged.
+use Rattle.std.proofs.Common.{◌≡◌, ◌≤◌, ◌<◌, ◌++◌, ℕ, Bool, true, false, List, [], refl, ap, sym, subst, ◌∙◌, length}
+use Rattle.std.proofs.Common.{arith, inl, inr, length-append}
 use Rattle.rx_model.specs.declared.names.CallName.{CallName}
 use Rattle.rx_model.specs.declared.names.Host.{Host}
 use Rattle.rx_rules.specs.CallLooks.{CallLooks, after_write}
@@ -15,8 +15,10 @@ use Rattle.rx_history.proofs.Suffice.{roomy_history}
 use Rattle.rx_history.proofs.UsedLaws.{used_within}
 use Rattle.rx_closing.proofs.Callers.CallerTurn.{Filled, SaidOut, all_said, calls, fills_up, looks_at}
 use Rattle.rx_closing.proofs.Ends.ReplyLate.{IsLate, reply_late}
-use Rattle.rx_closing.proofs.Ends.RoomLaws.{room_counts, room_free, room_spent}
+use Rattle.rx_closing.proofs.Ends.RoomLaws.{room_free, room_spent}
 use Rattle.rx_closing.proofs.Ends.TurnLaws.{turn_keeps, turn_rises}
+use Rattle.rx_closing.proofs.Frame.{IsSpacious}
+use Rattle.rx_closing.proofs.Room.RoomCounts.{room_counts_among}
 
 opened_rises : (m n : ℕ) → m ≤ n → opened m ≤ opened n
 opened_rises m n low = omega arith
@@ -33,16 +35,16 @@ none_used k none =
     omega arith
 
 module _ (node : ℕ) (client : Node) (host : Host) (epoch : ℕ) (kind : client.setup.kind ≡ Client host epoch)
-    (c : CallName) (now : ℕ) (fits : FitsSetup client.setup) (request : List ℕ)
-    (few : opened (length request) < 4294967294) (k : CallLooks)
+    (c : CallName) (cs : List CallName) (now : ℕ) (fits : FitsSetup client.setup)
+    (space : IsSpacious cs client.setup) (request : List ℕ) (few : opened (length request) < 4294967294) (k : CallLooks)
     (known : k.sent.acked ≤ pieces_of k.sent) where
   -- the last offer, at a turn from this end
   abbrev Offer : Sent → Type 0
-  Offer sent = Filled node client host epoch kind c now request k sent
+  Offer sent = Filled node client host epoch kind c cs now request k sent
 
   -- behind it there is no room; nothing of the reply is kept; and the bytes that were said are few
   record NoRoom (sent : Sent) (o : Offer sent) : Type 0 where
-    full : room client.setup (looks_at node client host epoch kind c now o.behind) (after_write o.took o.before) ≡ 0
+    full : room client.setup (looks_at node client host epoch kind c cs now o.behind) (after_write o.took o.before) ≡ 0
     none : o.before.received.kept ≡ []
     small : opened (length (o.before.sent.said ++ o.took)) < 4294967294
     acked : o.before.sent.acked ≤ opened (length (o.before.sent.said ++ o.took))
@@ -55,7 +57,7 @@ module _ (node : ℕ) (client : Node) (host : Host) (epoch : ℕ) (kind : client
       ap (λ (b : Bool). pieces_by (length o.before.sent.said) b) o.open_ in
       let acked : o.before.sent.acked ≤ opened (length o.before.sent.said) =
       (let more = rises.pieces in omega (arith, keeps.acked, known, more, pieces)) in
-      let spent = room_spent client.setup (looks_at node client host epoch kind c now o.stage) c
+      let spent = room_spent client.setup (looks_at node client host epoch kind c cs now o.stage) c
       (calls o.name o.before) o.took (roomy_history client.setup (side node o.stage.history) o.at.legal) o.at.there refl
       o.open_ acked o.all in
       record {
@@ -85,7 +87,7 @@ module _ (node : ℕ) (client : Node) (host : Host) (epoch : ℕ) (kind : client
       unshut (inr shut) = absurd (let open_ = o.open_ in cc (shut, open_))
 
   abbrev Said : Sent → Type 0
-  Said sent = SaidOut node client host epoch kind c now request k sent
+  Said sent = SaidOut node client host epoch kind c cs now request k sent
 
   -- where all that was said is hard acknowledged, all of the request was said, and it is shut
   pub rests_shut : (sent : Sent) → Said sent → held_pieces sent ≡ 0 → (sent.shut ≡ true) × (sent.said ≡ request)
@@ -95,7 +97,7 @@ module _ (node : ℕ) (client : Node) (host : Host) (epoch : ℕ) (kind : client
       let n = no_room sent o in
       let f : CallLooks = after_write o.took o.before in
       let wide : 1 ≤ client.setup.limits.window = (let low = fits.limits.wide in omega arith) in
-      let free = room_free client.setup (looks_at node client host epoch kind c now o.behind) f wide
+      let free = room_free client.setup (looks_at node client host epoch kind c cs now o.behind) f wide
       (none_used f n.none) (ap held_pieces (sym o.is) ∙ none) o.open_ n.small in
       let full = n.full in
       omega arith)
@@ -107,6 +109,5 @@ module _ (node : ℕ) (client : Node) (host : Host) (epoch : ℕ) (kind : client
       let n = no_room sent o in
       let f : CallLooks = after_write o.took o.before in
       subst (λ (t : Sent). t.acked < counting_of t) (sym o.is)
-      (room_counts client.setup (looks_at node client host epoch kind c now o.behind) c (calls o.name f) fits.limits
-      (roomy_history client.setup (side node o.behind.history) o.at_behind.legal) o.at_behind.alone o.at_behind.there
-      refl o.open_ (none_kept f n.none).1 n.acked n.small n.full)
+      (room_counts_among client.setup (side node o.behind.history) cs c (calls o.name f) fits o.at_behind.legal
+      o.at_behind.among space o.at_behind.there refl o.open_ (none_kept f n.none).1 n.acked n.small n.full)

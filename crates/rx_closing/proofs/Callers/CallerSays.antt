@@ -24,8 +24,8 @@ use Rattle.rx_plan.specs.Programs.{Turn}
 use Rattle.rx_plan.specs.Stages.{Stage, with_event}
 use Rattle.rx_closing.proofs.Callers.CallerEvents.{offer_is, own_change, own_is, shut_is, taken_of}
 use Rattle.rx_closing.proofs.Callers.CallerReads.{begins, gives_up, goes_on, reads_out}
-use Rattle.rx_closing.proofs.Callers.CallerTurn.{At, CallerLeft, Goes, Next, all_said, caller_on, calls}
-use Rattle.rx_closing.proofs.Callers.CallerTurn.{event_at, fills_up, looks_behind, next_is}
+use Rattle.rx_closing.proofs.Callers.CallerTurn.{At, CallerLeft, Goes, Next, all_said, caller_on, calls, event_at}
+use Rattle.rx_closing.proofs.Callers.CallerTurn.{fills_up, looks_behind, next_is}
 use Rattle.rx_closing.proofs.Ends.TurnLaws.{turn_trans}
 use Rattle.rx_closing.proofs.Steps.{TurnsOn, turns_none, turns_shut, turns_write}
 
@@ -43,23 +43,23 @@ first_of (suc n) (suc m) [] = refl
 first_of (suc n) (suc m) (x ∷ xs) = ap (λ (ys : List ℕ). x ∷ ys) (first_of n m xs)
 
 module _ (node : ℕ) (client : Node) (host : Host) (epoch : ℕ) (kind : client.setup.kind ≡ Client host epoch)
-    (c : CallName) (now : ℕ) (request : List ℕ) (k0 : CallLooks) (name : CallName) (place : ℕ) (w : CallerState)
-    (t : Stage) where
+    (c : CallName) (cs : List CallName) (now : ℕ) (request : List ℕ) (k0 : CallLooks) (name : CallName) (place : ℕ)
+    (w : CallerState) (t : Stage) where
   abbrev looks_on : Stage → Looks
   looks_on s = looks client.setup (side node s.history)
 
   abbrev There : Stage → CallRecord → Type 0
-  There s r = At node client host epoch kind c now s r
+  There s r = At node client host epoch kind c cs now s r
 
   abbrev Goes_ : CallerState → Stage → CallerState → Stage → Type 0
-  Goes_ v s u q = Goes node client host epoch kind c now v s u q
+  Goes_ v s u q = Goes node client host epoch kind c cs now v s u q
 
   abbrev on_call : List ℕ → Bool → List ℕ → Phase → CallerState
   on_call offering shut reply phase =
-      caller_on node client host epoch kind c now place offering shut reply phase
+      caller_on node client host epoch kind c cs now place offering shut reply phase
 
   abbrev Left : Type 0
-  Left = CallerLeft node client host epoch kind c now request k0 t
+  Left = CallerLeft node client host epoch kind c cs now request k0 t
 
   -- ---- it offers
 
@@ -70,15 +70,15 @@ module _ (node : ℕ) (client : Node) (host : Host) (epoch : ℕ) (kind : client
   shuts k reply s few open_ said on at go =
       let e : Event = events.Shut c (Ok tt) in
       let own = own_is client.setup (side node s.history) c (calls name k) at.legal at.there refl in
-      let n = next_is node client host epoch kind c now (Shuts c) (on_call [] false reply phases.Offering) w s t e
+      let n = next_is node client host epoch kind c cs now (Shuts c) (on_call [] false reply phases.Offering) w s t e
       (rw few refl) at.first
       (λ f is allowed.
       shut_is client.setup host epoch c (looks_on s) (calls name k) own f (ap not open_) is allowed) go in
       let f : CallLooks = after_shut k in
       let behind : There (with_event node e s) (calls name f) =
-      event_at node client host epoch kind c now s (calls name k) (calls name f) (Shuts c) e at n.asked n.allowed
+      event_at node client host epoch kind c cs now s (calls name k) (calls name f) (Shuts c) e at n.asked n.allowed
       (own_change c (λ i. record i { looks = after_shut i.looks }) (looks_on s) (calls name k) (λ i. refl) at.there) in
-      reads_out node client host epoch kind c now request k0 name place w t (length (unread_of f.received)) f [] true
+      reads_out node client host epoch kind c cs now request k0 name place w t (length (unread_of f.received)) f [] true
       reply phases.Offering (with_event node e s) (omega arith)
       begins (all_said refl (sym (append-nil k.sent.said) ∙ said))
       (turn_trans now k0 k f on (turns_shut k f (turns_none f))) behind n.goes
@@ -117,9 +117,9 @@ module _ (node : ℕ) (client : Node) (host : Host) (epoch : ℕ) (kind : client
       v : CallerState
       v = on_call offering false reply phases.Offering
 
-      next_one : Next node client host epoch kind c now (Offers c block) v w s t e
+      next_one : Next node client host epoch kind c cs now (Offers c block) v w s t e
       next_one =
-          next_is node client host epoch kind c now (Offers c block) v w s t e (rw few refl) at.first
+          next_is node client host epoch kind c cs now (Offers c block) v w s t e (rw few refl) at.first
           (λ g is allowed.
           offer_is client.setup host epoch c (looks_on s) (calls name k)
           (own_is client.setup (side node s.history) c (calls name k) at.legal at.there refl) block g (ap not open_) is
@@ -127,7 +127,7 @@ module _ (node : ℕ) (client : Node) (host : Host) (epoch : ℕ) (kind : client
 
       behind : There (with_event node e s) (calls name f)
       behind =
-          event_at node client host epoch kind c now s (calls name k) (calls name f) (Offers c block) e at
+          event_at node client host epoch kind c cs now s (calls name k) (calls name f) (Offers c block) e at
           next_one.asked next_one.allowed
           (own_change c (λ i. record i { looks = after_write bytes i.looks }) (looks_on s) (calls name k) (λ i. refl)
           at.there)
@@ -163,8 +163,8 @@ module _ (node : ℕ) (client : Node) (host : Host) (epoch : ℕ) (kind : client
                 (on_call rest false reply (cond b phases.Reading phases.Offering)) (with_event node e s)
                 next_one.goes.0 (To (w, t))) part next_one.goes.1,
           ) in
-          reads_out node client host epoch kind c now request k0 name place w t (length (unread_of f.received)) f rest
-          false reply phases.Reading (with_event node e s)
+          reads_out node client host epoch kind c cs now request k0 name place w t (length (unread_of f.received)) f
+          rest false reply phases.Reading (with_event node e s)
           (omega arith) (goes_on false)
           (fills_up (record {
             name = name;
@@ -174,7 +174,7 @@ module _ (node : ℕ) (client : Node) (host : Host) (epoch : ℕ) (kind : client
             at = at;
             behind = with_event node e s;
             at_behind = behind;
-            looks_are = looks_behind node client host epoch kind c now s e;
+            looks_are = looks_behind node client host epoch kind c cs now s e;
             on = on;
             same = same;
             open_ = open_;
@@ -202,8 +202,8 @@ module _ (node : ℕ) (client : Node) (host : Host) (epoch : ℕ) (kind : client
       → (shut ≡ true → offering ≡ []) → k0.sent.said ++ offering ≡ request → There s (calls name k0)
       → Goes_ (on_call offering shut reply phases.Offering) s w t → Left
   turns_own offering true reply s is none said at go =
-      reads_out node client host epoch kind c now request k0 name place w t (length (unread_of k0.received)) k0 offering
-      true reply phases.Offering s (omega arith) begins
+      reads_out node client host epoch kind c cs now request k0 name place w t (length (unread_of k0.received)) k0
+      offering true reply phases.Offering s (omega arith) begins
       (all_said (sym is)
       (sym (append-nil k0.sent.said) ∙ ap (λ (ys : List ℕ). k0.sent.said ++ ys) (sym (none refl)) ∙ said))
       (turns_none k0) at go
@@ -211,7 +211,7 @@ module _ (node : ℕ) (client : Node) (host : Host) (epoch : ℕ) (kind : client
     where
       by : (b : Bool) → nat_lt REPLY_BYTES (length reply) ≡ b → Left
       by true long =
-          gives_up node client host epoch kind c now request k0 name place w t k0 offering false reply phases.Offering s
-          long (turns_none k0) at go
+          gives_up node client host epoch kind c cs now request k0 name place w t k0 offering false reply
+          phases.Offering s long (turns_none k0) at go
       by false few =
           says_out (length offering) k0 offering reply s (omega arith) few (sym is) refl said (turns_none k0) at go

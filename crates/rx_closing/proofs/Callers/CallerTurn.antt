@@ -1,5 +1,5 @@
--- The turn of a caller seen from its call, event by event, and what it comes to: it said its request while there was
--- room and read all that stands without a gap; or its call ended.
+-- The turn of a caller seen from its call, whatever other calls live, event by event, and what it comes to: it said its
+-- request while there was room and read all that stands without a gap; or its call ended.
 use Rattle.std.proofs.Common.{◌≡◌, ◌≤◌, ◌++◌, ℕ, Bool, true, false, List, [], ap, sym, subst, ◌∙◌, Option, Some, None}
 use Rattle.std.proofs.Common.{length, slice_get}
 use Rattle.std.specs.Prelude.{IsSomeAnd}
@@ -29,8 +29,9 @@ use Rattle.rx_plan.specs.Stages.{Stage, with_event}
 use Rattle.rx_plan.proofs.Callers.{side_own}
 use Rattle.rx_plan.proofs.ClientEnds.{by_client}
 use Rattle.rx_rounds.proofs.Making.{turn_goes}
-use Rattle.rx_closing.proofs.Callers.CallerEvents.{alone_stays, asked_dims, asked_now}
-use Rattle.rx_closing.proofs.Frame.{IsAlone}
+use Rattle.rx_closing.proofs.Callers.AmongCallers.{among_stays}
+use Rattle.rx_closing.proofs.Callers.CallerEvents.{asked_dims, asked_now}
+use Rattle.rx_closing.proofs.Frame.{AreAmong}
 use Rattle.rx_closing.proofs.Steps.{TurnsOn}
 
 -- a call of a client that lives, and one that ended
@@ -41,17 +42,17 @@ abbrev pub ended : CallName → End → CallLooks → CallRecord
 ended name end k = record { name = name; life = lives.Ended end; looks = k }
 
 module _ (node : ℕ) (client : Node) (host : Host) (epoch : ℕ) (kind : client.setup.kind ≡ Client host epoch)
-    (c : CallName) (now : ℕ) where
+    (c : CallName) (cs : List CallName) (now : ℕ) where
   abbrev pub looks_at : Stage → Looks
   looks_at s = looks client.setup (side node s.history)
 
-  -- the client of a stage has the call so, at this moment, and no other call lives there
+  -- the client of a stage has the call so, at this moment, and no calls live there but some
   pub record At (s : Stage) (r : CallRecord) : Type 0 where
     pub first : slice_get s.nodes node ≡ Some client
     pub legal : Legal client.setup (side node s.history)
     pub there : call_at (looks_at s) c ≡ Some r
     pub moment : (looks_at s).now ≡ now
-    pub alone : IsAlone c (looks_at s)
+    pub among : AreAmong cs (looks_at s)
 
   -- ---- one event
 
@@ -75,11 +76,10 @@ module _ (node : ℕ) (client : Node) (host : Host) (epoch : ℕ) (kind : client
         legal = subst (Legal client.setup) (sym (side_own node e s.history)) (here s e at.first allowed, at.legal);
         there = ap (λ (l : Looks). call_at l c) (looks_behind s e) ∙ there;
         moment = ap (λ (l : Looks). l.now) (looks_behind s e) ∙ asked_now client.setup a e (looks_at s) is ∙ at.moment;
-        alone =
-            subst (IsAlone c) (sym (looks_behind s e))
-            (alone_stays c (looks_at s) (after client.setup e (looks_at s))
-            (asked_dims client.setup a e (looks_at s) is)
-            at.alone);
+        among =
+            subst (AreAmong cs) (sym (looks_behind s e))
+            (among_stays cs (looks_at s) (after client.setup e (looks_at s))
+            (asked_dims client.setup a e (looks_at s) is) at.among);
       }
 
   -- from here on a turn of a caller of this client goes to this end

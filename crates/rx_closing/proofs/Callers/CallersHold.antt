@@ -1,6 +1,6 @@
 -- At each stage of a driven plan, and of rounds behind it, each call of a client has one caller among the callers.
-use Rattle.std.proofs.Common.{◌≡◌, ◌⊎◌, inl, inr, ◌++◌, ℕ, Bool, true, false, List, [], ◌∷◌, refl, ap, sym}
-use Rattle.std.proofs.Common.{subst, ◌∙◌, Option, Some, Ok, length, arith, set, slice_get, All, length-append}
+use Rattle.std.proofs.Common.{◌≡◌, ◌⊎◌, inl, inr, ◌++◌, ℕ, Bool, true, false, List, [], ◌∷◌, refl, ap, sym, subst, ◌∙◌}
+use Rattle.std.proofs.Common.{Option, Some, Ok, length, arith, set, slice_get, All, length-append}
 use Rattle.rx_model.specs.declared.event.Event.{Event}
 use Rattle.rx_model.specs.declared.event.Event.TheVariants as events
 use Rattle.rx_model.specs.declared.event.Noted.{Noted}
@@ -44,9 +44,9 @@ use Rattle.rx_plan.proofs.Handling as handling
 use Rattle.rx_plan.proofs.QuietEvents.{AreServed, LinksServed}
 use Rattle.rx_rounds.proofs.Rounded.{RoundMade}
 use Rattle.rx_closing.proofs.Callers.CallerHeld.{HoldsBy, holds_driven}
-use Rattle.rx_closing.proofs.Callers.CallersTurn.{AreApart, IsOn}
-use Rattle.rx_closing.proofs.Callers.HasCaller.{EachHas, HasCaller, asked_none, each_event, get_last, has_more}
-use Rattle.rx_closing.proofs.Callers.HasCaller.{has_set, none_called, quiet_none, served_none}
+use Rattle.rx_closing.proofs.Callers.CallersLeave.{AreApart, IsOn}
+use Rattle.rx_closing.proofs.Callers.HasCaller.{EachHas, HasCaller, asked_none, each_event, get_last, has_more, has_set}
+use Rattle.rx_closing.proofs.Callers.HasCaller.{none_called, quiet_none, served_none}
 use Rattle.rx_closing.proofs.Rounds.PlanCarries.{plan_carries}
 use Rattle.rx_closing.proofs.Rounds.RoundCarries.{RoundCarried, round_carries}
 

@@ -1,17 +1,22 @@
 -- The turns of all callers leave the server, the nodes and the dispatcher's jobs.
 use Rattle.std.proofs.Common.{◌≡◌, ◌==◌, not, ℕ, Bool, true, false, List, [], ◌∷◌, refl, ap, sym, ◌∙◌, Option, Some}
-use Rattle.std.proofs.Common.{None, length, nat_lt, slice_get}
+use Rattle.std.proofs.Common.{None, length, nat_lt, slice_get, ◌++◌, inl, set}
 use Rattle.std.proofs.lemmas.Bool.{and_parts, eq-eqb}
 use Rattle.rx_model.specs.declared.event.Event.{Event}
 use Rattle.rx_model.specs.declared.event.Noted.{Noted}
 use Rattle.rx_model.specs.declared.names.CallName.{CallName}
+use Rattle.rx_model.specs.declared.names.Host.{Host}
+use Rattle.rx_model.specs.Names.{same_name}
 use Rattle.rx_model.proofs.NameLaws.{not_true}
 use Rattle.rx_rules.specs.After.{looks}
 use Rattle.rx_rules.specs.Looks.{call_at}
+use Rattle.rx_rules.specs.CallLooks.{CallLooks}
+use Rattle.rx_rules.specs.Setup.{Client}
 use Rattle.rx_history.specs.Sides.{Node, side}
 use Rattle.rx_wire.specs.Turns.{Program}
 use Rattle.rx_asks.specs.declared.ask.TheConstants.{REPLY_BYTES}
 use Rattle.rx_asks.specs.Asks.{begun, calling}
+use Rattle.rx_asks.specs.View.{CallerState}
 use Rattle.rx_plan.specs.Network.{below}
 use Rattle.rx_plan.specs.Parts.{Came, To, by_test, each, ends}
 use Rattle.rx_plan.specs.Programs.{Turn, cut_there, goes, is_endless, is_over}
@@ -20,8 +25,72 @@ use Rattle.rx_plan.specs.Turned.{turns_all, turns_at, turns_of, turns_where}
 use Rattle.rx_plan.proofs.Callers.{side_other}
 use Rattle.rx_rounds.proofs.Making.{ends_to, then_to, to_is}
 use Rattle.rx_rounds.proofs.Rounded.{Made}
-use Rattle.rx_closing.proofs.Callers.CallersTurn.{TurnAt, turn_of}
 use Rattle.rx_closing.proofs.Frame.{served_in}
+
+-- ---- places
+
+-- parts of two lists, one after another
+pub each_split : {X : Type 0} (part : X → Stage → List Noted → Came Stage → Type 0) (xs ys : List X) (s t : Stage)
+    → Made (each part (xs ++ ys)) s t
+    → (u : Stage) × Made (each part xs) s u × Made (each part ys) u t
+each_split part [] ys s t made = (s, ([], (refl, inl refl)), made)
+each_split part (x ∷ xs) ys s t made =
+    let b = then_to (part x s) (each part (xs ++ ys)) made.0 t made.1 in
+    let r = each_split part xs ys b.between t (b.rest, b.goes) in (
+      r.0,
+      (
+        b.front ++ r.1.0,
+        record { front = b.front; rest = r.1.0; are = refl; came = To b.between; made = b.made; goes = r.1.1 },
+      ),
+      r.2,
+    )
+
+-- ---- one turn of a caller
+
+-- the turn of the caller at a place
+pub record TurnAt (place : ℕ) (i : InvokedState) (s t : Stage) : Type 0 where
+  pub view : CallerState
+  pub stage : Stage
+  pub events : List Noted
+  pub turn : Turn (calling REPLY_BYTES) i.node (begun i.caller) s events (To (view, stage))
+  pub then_ : t ≡ record stage { callers = set s.callers place (record i { caller = view }) }
+
+pub turn_of : (place : ℕ) (i : InvokedState) (s t : Stage) (es : List Noted) → turns_of place i s es (To t)
+    → TurnAt place i s t
+turn_of place i s t es made =
+    let b = then_to (Turn (calling REPLY_BYTES) i.node (begun i.caller) s)
+    (λ r. ends (To (record r.1 { callers = set s.callers place (record i { caller = r.0 }) }))) es t made in
+    record {
+      view = b.between.0;
+      stage = b.between.1;
+      events = b.front;
+      turn = b.made;
+      then_ =
+          ends_to (record b.between.1 { callers = set s.callers place (record i { caller = b.between.0 }) }) t b.rest
+          b.goes;
+    }
+
+-- ---- seen from one call
+
+module _ (node : ℕ) (client : Node) (host : Host) (epoch : ℕ) (kind : client.setup.kind ≡ Client host epoch)
+    (c : CallName) (now : ℕ) where
+  -- ---- turns of other callers
+
+  -- each caller of this client at another place has another call
+  abbrev pub AreApart : ℕ → List InvokedState → Type 0
+  AreApart place ks =
+      (j : ℕ) (i : InvokedState) → (j ≡ place → ⊥) → slice_get ks j ≡ Some i → i.node ≡ node
+      → same_name c i.caller.call ≡ false
+
+  -- ---- the turn of its own caller
+
+  -- a caller of the call, which lives: it isn't finished, and what was said and what it has to offer are its request
+  pub record IsOn (request : List ℕ) (v : CallerState) (k : CallLooks) : Type 0 where
+    pub call : v.call ≡ c
+    pub open_ : v.end ≡ None
+    pub shut : v.shut ≡ k.sent.shut
+    pub none : v.shut ≡ true → v.offering ≡ []
+    pub said : k.sent.said ++ v.offering ≡ request
 
 -- ---- a turn of a program
 

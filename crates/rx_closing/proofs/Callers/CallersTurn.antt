@@ -1,8 +1,8 @@
--- The turns of all callers seen from one call of a client: those of others leave it, and its own caller has its turn
--- once.
+-- The turns of all callers seen from one call of a client, whatever other calls live: those of others leave it, and its
+-- own caller has its turn once.
 use Rattle.std.proofs.Common.{◌≡◌, ◌≤◌, ◌<◌, ◌==◌, ◌++◌, ◌&&◌, not, ℕ, suc, zero, Bool, true, false, List, [], ◌∷◌}
-use Rattle.std.proofs.Common.{refl, ap, sym, subst, ◌∙◌, Option, Some, None, length, arith, append_assoc, inl, inr}
-use Rattle.std.proofs.Common.{nat_lt, set, slice_get}
+use Rattle.std.proofs.Common.{refl, ap, sym, subst, ◌∙◌, Option, Some, None, length, arith, append_assoc, inl, inr, set}
+use Rattle.std.proofs.Common.{slice_get, nat_lt}
 use Rattle.std.proofs.lemmas.Bool.{cases_eq, lt-ltb, ne_eqb}
 use Rattle.std.proofs.lemmas.Option.{slice_get_within}
 use Rattle.rx_model.specs.declared.event.Event.{Event}
@@ -17,8 +17,8 @@ use Rattle.rx_rules.specs.Looks.{CallRecord, call_at}
 use Rattle.rx_rules.specs.Rules.{Legal}
 use Rattle.rx_rules.specs.Setup.{Client}
 use Rattle.rx_history.specs.Sides.{Node, side}
-use Rattle.rx_events.specs.Joint.{IsAllowedAt}
 use Rattle.rx_wire.specs.Turns.{noted}
+use Rattle.rx_events.specs.Joint.{IsAllowedAt}
 use Rattle.rx_asks.specs.declared.ask.Phase.TheVariants as phases
 use Rattle.rx_asks.specs.declared.ask.TheConstants.{REPLY_BYTES}
 use Rattle.rx_asks.specs.Asks.{Asking, IsAsked, begun, calling}
@@ -35,9 +35,18 @@ use Rattle.rx_rounds.proofs.Making.{ends_to, then_to, to_is}
 use Rattle.rx_rounds.proofs.Rounded.{Made}
 use Rattle.rx_closing.proofs.Callers.CallerEvents.{asked_stays}
 use Rattle.rx_closing.proofs.Callers.CallerSays.{turns_own}
-use Rattle.rx_closing.proofs.Callers.CallerTurn.{At, CallerLeft, Goes, calls, caller_on, ended_now, event_at, looks_at}
+use Rattle.rx_closing.proofs.Callers.CallerTurn.{At, CallerLeft, Goes, caller_on, calls, ended_now, event_at, looks_at}
 use Rattle.rx_closing.proofs.Callers.CallerTurn.{reads_on}
-use Rattle.rx_closing.proofs.Frame.{IsAlone}
+use Rattle.rx_closing.proofs.Callers.CallersLeave.{AreApart, IsOn, TurnAt, each_split, turn_of}
+use Rattle.rx_closing.proofs.Frame.{AreAmong}
+
+-- ---- seen from one call
+
+-- a client that is there
+pub client_there : (k : ℕ) (n : Node) (s : Stage) → slice_get s.nodes (suc k) ≡ Some n → is_client (suc k) s ≡ true
+client_there k n s there =
+    ap (λ (b : Bool). not b && nat_lt (suc k) (length s.nodes)) (ne_eqb (suc k) 0 (λ (same : suc k ≡ 0). omega arith))
+    ∙ lt-ltb (suc k) (length s.nodes) (slice_get_within s.nodes (suc k) n there)
 
 -- ---- places
 
@@ -84,22 +93,6 @@ below_split place (suc n) low =
           })
     ]
 
--- parts of two lists, one after another
-pub each_split : {X : Type 0} (part : X → Stage → List Noted → Came Stage → Type 0) (xs ys : List X) (s t : Stage)
-    → Made (each part (xs ++ ys)) s t
-    → (u : Stage) × Made (each part xs) s u × Made (each part ys) u t
-each_split part [] ys s t made = (s, ([], (refl, inl refl)), made)
-each_split part (x ∷ xs) ys s t made =
-    let b = then_to (part x s) (each part (xs ++ ys)) made.0 t made.1 in
-    let r = each_split part xs ys b.between t (b.rest, b.goes) in (
-      r.0,
-      (
-        b.front ++ r.1.0,
-        record { front = b.front; rest = r.1.0; are = refl; came = To b.between; made = b.made; goes = r.1.1 },
-      ),
-      r.2,
-    )
-
 -- ---- one turn of a caller
 
 -- it keeps its call
@@ -115,40 +108,17 @@ turn_call j v w s t es turn = of v s es (To (w, t)) turn refl
         of ((calling REPLY_BYTES).heard v e) (with_event j e s) more o rest is ∙ heard_call v e
     of v s es out (is_endless x y fs cut long) is = absurd cc
 
--- the turn of the caller at a place
-pub record TurnAt (place : ℕ) (i : InvokedState) (s t : Stage) : Type 0 where
-  pub view : CallerState
-  pub stage : Stage
-  pub events : List Noted
-  pub turn : Turn (calling REPLY_BYTES) i.node (begun i.caller) s events (To (view, stage))
-  pub then_ : t ≡ record stage { callers = set s.callers place (record i { caller = view }) }
-
-pub turn_of : (place : ℕ) (i : InvokedState) (s t : Stage) (es : List Noted) → turns_of place i s es (To t)
-    → TurnAt place i s t
-turn_of place i s t es made =
-    let b = then_to (Turn (calling REPLY_BYTES) i.node (begun i.caller) s)
-    (λ r. ends (To (record r.1 { callers = set s.callers place (record i { caller = r.0 }) }))) es t made in
-    record {
-      view = b.between.0;
-      stage = b.between.1;
-      events = b.front;
-      turn = b.made;
-      then_ =
-          ends_to (record b.between.1 { callers = set s.callers place (record i { caller = b.between.0 }) }) t b.rest
-          b.goes;
-    }
-
 -- ---- seen from one call
 
 module _ (node : ℕ) (client : Node) (host : Host) (epoch : ℕ) (kind : client.setup.kind ≡ Client host epoch)
-    (c : CallName) (now : ℕ) where
+    (c : CallName) (cs : List CallName) (now : ℕ) where
   abbrev There : Stage → CallRecord → Type 0
-  There s r = At node client host epoch kind c now s r
+  There s r = At node client host epoch kind c cs now s r
 
   -- whatever callers there are
   at_callers : (s : Stage) (ks : List InvokedState) (r : CallRecord) → There s r → There (record s { callers = ks }) r
   at_callers s ks r at =
-      record { first = at.first; legal = at.legal; there = at.there; moment = at.moment; alone = at.alone }
+      record { first = at.first; legal = at.legal; there = at.there; moment = at.moment; among = at.among }
 
   -- an event that another caller asked for
   other_at : (s : Stage) (r : CallRecord) (j : ℕ) (a : Asking) (e : Event)
@@ -160,9 +130,9 @@ module _ (node : ℕ) (client : Node) (host : Host) (epoch : ℕ) (kind : client
       by true same =
           (let own : j ≡ node = same_number j node same in
           subst (λ (i : ℕ). There (with_event i e s) r) (sym own)
-          (event_at node client host epoch kind c now s r r a e at is
+          (event_at node client host epoch kind c cs now s r r a e at is
           (subst (λ (i : ℕ). IsAllowedAt s.nodes s.history i e) own allowed)
-          (asked_stays client.setup c a e (looks_at node client host epoch kind c now s) is (other own) ∙ at.there)))
+          (asked_stays client.setup c a e (looks_at node client host epoch kind c cs now s) is (other own) ∙ at.there)))
       by false differ =
           (let stays : side node (noted j e ∷ s.history) ≡ side node s.history =
           side_other node j e s.history (λ same. (
@@ -173,7 +143,7 @@ module _ (node : ℕ) (client : Node) (host : Host) (epoch : ℕ) (kind : client
             legal = subst (Legal client.setup) (sym stays) at.legal;
             there = ap (λ (h : List Event). call_at (looks client.setup h) c) stays ∙ at.there;
             moment = ap (λ (h : List Event). (looks client.setup h).now) stays ∙ at.moment;
-            alone = subst (λ (h : List Event). IsAlone c (looks client.setup h)) (sym stays) at.alone;
+            among = subst (λ (h : List Event). AreAmong cs (looks client.setup h)) (sym stays) at.among;
           })
 
   -- the turn of another caller
@@ -198,20 +168,22 @@ module _ (node : ℕ) (client : Node) (host : Host) (epoch : ℕ) (kind : client
   -- ---- turns of other callers
 
   -- each caller of this client at another place has another call
-  abbrev pub AreApart : ℕ → List InvokedState → Type 0
-  AreApart place ks =
-      (j : ℕ) (i : InvokedState) → (j ≡ place → ⊥) → slice_get ks j ≡ Some i → i.node ≡ node
-      → same_name c i.caller.call ≡ false
+  abbrev Apart : ℕ → List InvokedState → Type 0
+  Apart place ks = AreApart node client host epoch kind c now place ks
+
+  -- a caller of the call, which lives and isn't finished
+  abbrev On : List ℕ → CallerState → CallLooks → Type 0
+  On request v k = IsOn node client host epoch kind c now request v k
 
   -- the call as it was, and its caller at its place
   record Passed (place : ℕ) (k : InvokedState) (r : CallRecord) (t : Stage) : Type 0 where
     at : There t r
     own : slice_get t.callers place ≡ Some k
-    others : AreApart place t.callers
+    others : Apart place t.callers
 
   -- behind a change of the caller at a place, which keeps its call
   apart_set : (place p : ℕ) (i : InvokedState) (v : CallerState) (ks : List InvokedState) → slice_get ks p ≡ Some i
-      → v.call ≡ i.caller.call → AreApart place ks → AreApart place (set ks p (record i { caller = v }))
+      → v.call ≡ i.caller.call → Apart place ks → Apart place (set ks p (record i { caller = v }))
   apart_set place p i v ks there call others j q differ is of_node = by (p == j) refl
     where
       new : InvokedState
@@ -271,16 +243,8 @@ module _ (node : ℕ) (client : Node) (host : Host) (epoch : ℕ) (kind : client
 
   -- ---- the turn of its own caller
 
-  -- a caller of the call, which lives: it isn't finished, and what was said and what it has to offer are its request
-  pub record IsOn (request : List ℕ) (v : CallerState) (k : CallLooks) : Type 0 where
-    pub call : v.call ≡ c
-    pub open_ : v.end ≡ None
-    pub shut : v.shut ≡ k.sent.shut
-    pub none : v.shut ≡ true → v.offering ≡ []
-    pub said : k.sent.said ++ v.offering ≡ request
-
   abbrev pub Left : List ℕ → CallLooks → Stage → Type 0
-  Left request k t = CallerLeft node client host epoch kind c now request k t
+  Left request k t = CallerLeft node client host epoch kind c cs now request k t
 
   -- what the call comes to stays where the call does
   left_on : (request : List ℕ) (k : CallLooks) (s t : Stage) → ((r : CallRecord) → There s r → There t r)
@@ -294,11 +258,11 @@ module _ (node : ℕ) (client : Node) (host : Host) (epoch : ℕ) (kind : client
     left : Left request k t
     new : InvokedState
     own : slice_get t.callers place ≡ Some new
-    others : AreApart place t.callers
+    others : Apart place t.callers
 
   -- the stage behind a turn of its own caller
   own_behind : (request : List ℕ) (place : ℕ) (i : InvokedState) (view : CallerState) (k : CallLooks) (s u : Stage)
-      → slice_get s.callers place ≡ Some i → AreApart place s.callers → view.call ≡ i.caller.call → Left request k u
+      → slice_get s.callers place ≡ Some i → Apart place s.callers → view.call ≡ i.caller.call → Left request k u
       → OwnTurn request place k (record u { callers = set s.callers place (record i { caller = view }) })
   own_behind request place i view k s u own others call left =
       let ks : List InvokedState = set s.callers place (record i { caller = view }) in
@@ -310,7 +274,7 @@ module _ (node : ℕ) (client : Node) (host : Host) (epoch : ℕ) (kind : client
       }
 
   own_place : (request : List ℕ) (place : ℕ) (i : InvokedState) (name : CallName) (k : CallLooks) (s t : Stage)
-      → is_client node s ≡ true → i.node ≡ node → IsOn request i.caller k → Passed place i (calls name k) s
+      → is_client node s ≡ true → i.node ≡ node → On request i.caller k → Passed place i (calls name k) s
       → Made (turns_at place) s t → OwnTurn request place k t
   own_place request place i name k s t is_there of_node on was made =
       let here : turns_where place (Some i) s made.0 (To t) =
@@ -323,7 +287,7 @@ module _ (node : ℕ) (client : Node) (host : Host) (epoch : ℕ) (kind : client
       by : TurnAt place i s t → OwnTurn request place k t
       by u =
           let begins : begun i.caller
-          ≡ caller_on node client host epoch kind c now i.caller.node i.caller.offering i.caller.shut i.caller.reply
+          ≡ caller_on node client host epoch kind c cs now i.caller.node i.caller.offering i.caller.shut i.caller.reply
           phases.Offering =
           λ j. record {
             node = i.caller.node;
@@ -334,8 +298,8 @@ module _ (node : ℕ) (client : Node) (host : Host) (epoch : ℕ) (kind : client
             end = on.open_ j;
             phase = phases.Offering;
           } in
-          let go : Goes node client host epoch kind c now
-          (caller_on node client host epoch kind c now i.caller.node i.caller.offering i.caller.shut i.caller.reply
+          let go : Goes node client host epoch kind c cs now
+          (caller_on node client host epoch kind c cs now i.caller.node i.caller.offering i.caller.shut i.caller.reply
           phases.Offering) s u.view u.stage = (
             u.events,
             subst (λ (v : CallerState). Turn (calling REPLY_BYTES) node v s u.events (To (u.view, u.stage))) begins
@@ -343,7 +307,7 @@ module _ (node : ℕ) (client : Node) (host : Host) (epoch : ℕ) (kind : client
                 of_node u.turn),
           ) in
           let left : Left request k u.stage =
-          turns_own node client host epoch kind c now request k name i.caller.node u.view u.stage i.caller.offering
+          turns_own node client host epoch kind c cs now request k name i.caller.node u.view u.stage i.caller.offering
           i.caller.shut i.caller.reply s on.shut on.none on.said was.at go in
           subst (OwnTurn request place k) (sym u.then_)
           (own_behind request place i u.view k s u.stage was.own was.others
@@ -361,8 +325,8 @@ module _ (node : ℕ) (client : Node) (host : Host) (epoch : ℕ) (kind : client
 
   -- the call's caller has its turn once
   pub callers_turn : (request : List ℕ) (place : ℕ) (i : InvokedState) (name : CallName) (k : CallLooks) (s t : Stage)
-      → is_client node s ≡ true → slice_get s.callers place ≡ Some i → i.node ≡ node → IsOn request i.caller k
-      → AreApart place s.callers → There s (calls name k) → Made turns_all s t → Left request k t
+      → is_client node s ≡ true → slice_get s.callers place ≡ Some i → i.node ≡ node → On request i.caller k
+      → Apart place s.callers → There s (calls name k) → Made turns_all s t → Left request k t
   callers_turn request place i name k s t is_there own of_node on others at made =
       let b = below_split place (length s.callers) (slice_get_within s.callers place i own) in
       let all : Made (each turns_at (b.front ++ place ∷ b.back)) s t = (
@@ -383,9 +347,3 @@ module _ (node : ℕ) (client : Node) (host : Host) (epoch : ℕ) (kind : client
           (lt-ltb node (length u.nodes) (slice_get_within u.nodes node client first)
           ∙ sym (lt-ltb node (length s.nodes) (slice_get_within s.nodes node client at.first)))
           ∙ is_there
-
--- a client that is there
-pub client_there : (k : ℕ) (n : Node) (s : Stage) → slice_get s.nodes (suc k) ≡ Some n → is_client (suc k) s ≡ true
-client_there k n s there =
-    ap (λ (b : Bool). not b && nat_lt (suc k) (length s.nodes)) (ne_eqb (suc k) 0 (λ (same : suc k ≡ 0). omega arith))
-    ∙ lt-ltb (suc k) (length s.nodes) (slice_get_within s.nodes (suc k) n there)

@@ -1,6 +1,7 @@
--- The callers' turn in a scene: what it makes of the one call at its client.
-use Rattle.std.proofs.Common.{◌≡◌, ◌≤◌, ◌<◌, ℕ, suc, true, false, List, [], refl, ap, ◌∙◌}
-use Rattle.std.proofs.Common.{Option, Some, None, length, arith, slice_get, length-append}
+-- The callers' turn at a stage at which no calls live but some, with room for them: what it makes of each of them at
+-- its client.
+use Rattle.std.proofs.Common.{◌≡◌, ◌≤◌, ◌<◌, ℕ, suc, true, false, List, [], refl, ap, ◌∙◌, Option, Some, None, length}
+use Rattle.std.proofs.Common.{arith, slice_get, length-append}
 use Rattle.rx_model.specs.declared.answers.End.{End}
 use Rattle.rx_model.specs.declared.names.CallName.{CallName}
 use Rattle.rx_rules.specs.CallLooks.{CallLooks}
@@ -28,7 +29,7 @@ use Rattle.rx_closing.proofs.Callers.CallerTurn.{At, CallerLeft, calls, ended, e
 use Rattle.rx_closing.proofs.Callers.CallersHold.{CallerOf, IsHeld, caller_of}
 use Rattle.rx_closing.proofs.Callers.CallersTurn.{callers_turn, client_there}
 use Rattle.rx_closing.proofs.Ends.LastOnly.{one_last, unread_drained}
-use Rattle.rx_closing.proofs.Frame.{IsAlone, Scene, asked_in}
+use Rattle.rx_closing.proofs.Frame.{AreAmong, Crowd, IsSpacious, OneOf, asked_in}
 use Rattle.rx_closing.proofs.Steps.{TurnsOn}
 
 -- ---- a request isn't long
@@ -38,16 +39,23 @@ upload_few : (up : Option (List ℕ)) (t : Types) (p : Procedure) (args : Data) 
 upload_few None t p args can = omega arith
 upload_few (Some up) t p args can = (let low = can.1 in omega (arith, low))
 
-pub request_few : (t : Types) (p : Procedure) (args : Data) (up : Option (List ℕ)) → CanSend t p args up
-    → opened (length (sent_spelling t p args up)) < 4294967294
-request_few t p args up can =
+-- 11,930 pieces at most
+pub request_low : (t : Types) (p : Procedure) (args : Data) (up : Option (List ℕ)) → CanSend t p args up
+    → opened (length (sent_spelling t p args up)) ≤ 11930
+request_low t p args up can =
     let first : length (request_spelling t p args) ≤ 65536 = can.0.1 in
     let second : length (upload_spelling up) ≤ 16777220 = upload_few up t p args can in
     let whole = length-append (request_spelling t p args) (upload_spelling up) in
-    few (length (sent_spelling t p args up)) (omega (arith, first, second, whole))
+    low (length (sent_spelling t p args up)) (omega (arith, first, second, whole))
   where
-    few : (n : ℕ) → n ≤ 16842756 → opened n < 4294967294
-    few n low = omega arith
+    low : (n : ℕ) → n ≤ 16842756 → opened n ≤ 11930
+    low n few = omega arith
+
+-- so its pieces have numbers
+pub request_few : (t : Types) (p : Procedure) (args : Data) (up : Option (List ℕ)) → CanSend t p args up
+    → opened (length (sent_spelling t p args up)) < 4294967294
+request_few t p args up can =
+    (let low = request_low t p args up can in omega (arith, low))
 
 -- ---- the turn
 
@@ -75,28 +83,28 @@ module _ (c : CallName) (k : ℕ) (client server : Node) where
     pub can : CanSend g.types invoke.proc invoke.args invoke.up
     pub left : AskedLeft (request_for g invoke) now a t
 
-  pub asked_turn : (g : Handlers) (ls : List Numbered) (s t : Stage) (r : CallRecord) → Scene c k client server s
-      → IsHeld g ls (seen s) → asked_in c k client s ≡ Some r → r.life ≡ lives.Calling
-      → r.looks.sent.acked ≤ pieces_of r.looks.sent → Made turns_all s t
+  pub asked_turn : (cs : List CallName) (g : Handlers) (ls : List Numbered) (s t : Stage) (r : CallRecord)
+      → OneOf c k client server s → Crowd cs s → IsHeld g ls (seen s) → asked_in c k client s ≡ Some r
+      → r.life ≡ lives.Calling → r.looks.sent.acked ≤ pieces_of r.looks.sent → Made turns_all s t
       → AskedTurn g ls (moment_of s) r.looks t
-  asked_turn g ls s t r scene h there living known made =
+  asked_turn cs g ls s t r one crowd h there living known made =
       record {
         line = o.caller.line;
         invoke = o.is.invoke;
         at = o.is.at;
         can = o.is.can;
         left =
-            of (callers_turn (suc k) client c.host c.epoch scene.client_is c now request o.place o.caller
+            of (callers_turn (suc k) client c.host c.epoch one.client_is c cs now request o.place o.caller
             r.name r.looks s
-            t (client_there k client s scene.client_there) o.there o.of_node o.on o.others begins made);
+            t (client_there k client s one.client_there) o.there o.of_node o.on o.others begins made);
       }
     where
       now : ℕ
       now = moment_of s
 
-      o : CallerOf g ls (suc k) client c.host c.epoch scene.client_is c now s r.looks
-      o = caller_of g ls (suc k) client c.host c.epoch scene.client_is c now s r h scene.world.sides.nodes_are
-          scene.client_there there living
+      o : CallerOf g ls (suc k) client c.host c.epoch one.client_is c now s r.looks
+      o = caller_of g ls (suc k) client c.host c.epoch one.client_is c now s r h one.world.sides.nodes_are
+          one.client_there there living
 
       request : List ℕ
       request = request_for g o.is.invoke
@@ -106,35 +114,42 @@ module _ (c : CallName) (k : ℕ) (client server : Node) where
 
       fits : FitsSetup client.setup
       fits =
-          if-some (slice_get s.nodes (suc k)) client (λ m. FitsSetup m.setup) scene.client_there
-          (scene.world.sides.nodes_are.fits (suc k))
+          if-some (slice_get s.nodes (suc k)) client (λ m. FitsSetup m.setup) one.client_there
+          (one.world.sides.nodes_are.fits (suc k))
+
+      space : IsSpacious cs client.setup
+      space =
+          if-some (slice_get s.nodes (suc k)) client (λ n. IsSpacious cs n.setup) one.client_there
+          (crowd.space (suc k))
 
       legal : Legal client.setup (side (suc k) s.history)
       legal =
-          if-some (slice_get s.nodes (suc k)) client (λ m. Legal m.setup (side (suc k) s.history)) scene.client_there
-          (scene.world.sides.legal (suc k))
+          if-some (slice_get s.nodes (suc k)) client (λ m. Legal m.setup (side (suc k) s.history)) one.client_there
+          (one.world.sides.legal (suc k))
 
       same : r ≡ calls r.name r.looks
       same = λ i. record { name = r.name; life = living i; looks = r.looks }
 
-      begins : At (suc k) client c.host c.epoch scene.client_is c now s (calls r.name r.looks)
+      begins : At (suc k) client c.host c.epoch one.client_is c cs now s (calls r.name r.looks)
       begins =
           record {
-            first = scene.client_there;
+            first = one.client_there;
             legal = legal;
             there = there ∙ ap (λ (q : CallRecord). Some q) same;
             moment = refl;
-            alone =
-                if-some (slice_get s.nodes (suc k)) client (λ n. IsAlone c (looks_of s (suc k) n)) scene.client_there
-                (scene.alone (suc k));
+            among =
+                if-some (slice_get s.nodes (suc k)) client (λ n. AreAmong cs (looks_of s (suc k) n)) one.client_there
+                (crowd.among (suc k));
           }
 
-      of : CallerLeft (suc k) client c.host c.epoch scene.client_is c now request r.looks t
+      of : CallerLeft (suc k) client c.host c.epoch one.client_is c cs now request r.looks t
           → AskedLeft request now r.looks t
       of (reads_on name f at turn none part said) =
           asks_on (calls name f) at.there refl turn none part
           (unread_drained f.received
           (one_last client.setup (side (suc k) t.history) c (calls name f) fits at.legal at.there) none part)
-          (rests_shut (suc k) client c.host c.epoch scene.client_is c now fits request few r.looks known f.sent said)
-          (counts_on (suc k) client c.host c.epoch scene.client_is c now fits request few r.looks known f.sent said)
+          (rests_shut (suc k) client c.host c.epoch one.client_is c cs now fits space request few r.looks known f.sent
+          said)
+          (counts_on (suc k) client c.host c.epoch one.client_is c cs now fits space request few r.looks known f.sent
+          said)
       of (ended_now name f end at turn) = has_ended (ended name end f) end at.there refl turn

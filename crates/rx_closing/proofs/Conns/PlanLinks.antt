@@ -1,11 +1,9 @@
 -- The connections of a driven plan and of rounds behind it are with the server's host, line by line.
 use Rattle.std.proofs.Common.{◌≡◌, ◌⊎◌, ◌==◌, if◌then◌else◌, cond, ℕ, suc, Bool, true, false, List, [], ◌∷◌, ◌++◌}
-use Rattle.std.proofs.Common.{length, Some, refl, inl, inr, ap, sym, subst, slice_get, option_map}
+use Rattle.std.proofs.Common.{length, Some, refl, inl, inr, sym, subst, slice_get, option_map}
 use Rattle.std.proofs.lemmas.List.Elements.{All-head, All-tail}
 use Rattle.rx_model.specs.declared.event.Noted.{Noted}
-use Rattle.rx_model.specs.declared.names.CallName.{CallName}
 use Rattle.rx_model.specs.declared.names.Host.{Host}
-use Rattle.rx_model.specs.Names.{connection_of}
 use Rattle.rx_rules.proofs.EveryLaws.{Every}
 use Rattle.rx_jobs.specs.Handlers.{Handlers}
 use Rattle.rx_history.specs.Sides.{Node, side}
@@ -22,12 +20,8 @@ use Rattle.rx_plan.specs.Stages.{Stage}
 use Rattle.rx_plan.proofs.Leading.{Leads, ends_lead, then_lead}
 use Rattle.rx_plan.proofs.SoundPlan.{IfWhole}
 use Rattle.rx_rounds.proofs.Rounded.{RoundMade}
-use Rattle.rx_plan.proofs.ServicesStay.{LinksTo}
-use Rattle.rx_closing.specs.Living.{looks_of}
-use Rattle.rx_closing.proofs.Conns.PeersTo.{LinksAt, client_conn}
+use Rattle.rx_closing.proofs.Conns.PeersTo.{LinksAt}
 use Rattle.rx_closing.proofs.Conns.PlanPeers.{AreLinked, Linked, LinksHost, line_links, settles_link, tame_step}
-use Rattle.rx_closing.proofs.Frame.{Scene}
-use Rattle.rx_closing.proofs.Polls.OnePoll.{ConnIs}
 use Rattle.rx_closing.proofs.Rounds.TameParts.{deliveries_lead, polls_lead, serve_lead, turns_at_lead}
 
 module _ (g : Handlers) where
@@ -147,13 +141,3 @@ links_side k h nodes (e ∷ es) host links = by (e.node == k) (links_side k h no
     by : (b : Bool) → Every (LinksAt h) (side k es) → Every (LinksAt h) (cond b (e.event ∷ side k es) (side k es))
     by true rest = (links.0 h host, rest)
     by false rest = rest
-
--- at a scene the call's datagrams are for the server
-pub scene_conn : (c : CallName) (k : ℕ) (client server : Node) (s : Stage) (service : ℕ) → Scene c k client server s
-    → AreLinked s → Every (LinksTo service) (side (suc k) s.history)
-    → ConnIs (looks_of s (suc k) client) (connection_of c) server.host service
-scene_conn c k client server s service scene linked served =
-    client_conn client.setup c.host c.epoch scene.client_is server.host service (side (suc k) s.history)
-    (connection_of c)
-    (links_side (suc k) server.host s.nodes s.history
-    (ap (option_map (λ (n : Node). n.host)) scene.server_there) linked) served

@@ -1,5 +1,5 @@
 -- The two ends of a call in rounds in which no number of either moves: what is known of them.
-use Rattle.std.proofs.Common.{◌≡◌, ◌≤◌, ◌+◌, ◌==◌, is_some, ℕ, suc, false, List, [], Some}
+use Rattle.std.proofs.Common.{◌≡◌, ◌≤◌, ◌+◌, ◌==◌, is_some, ℕ, false, List, Some}
 use Rattle.rx_model.specs.declared.wire.TheConstants.{ACK_DELAY_MS, ACK_PING, MAX_RTO_MS, MIN_RTO_MS}
 use Rattle.rx_rules.specs.CallLooks.{CallLooks}
 use Rattle.rx_rules.specs.Owing.{Owed}
@@ -80,14 +80,6 @@ pub record Round (cs ss : Setup) (e f : Ends) : Type 0 where
   pub client_fit : IsFit e.client_now e.client
   pub server_fit : IsFit e.server_now e.server
   pub linked : Linked e.client e.server
-
--- so many of them, of which the next so many may give nothing of the call: at most four in a row
-pub data Runs (cs ss : Setup) : ℕ → ℕ → Ends → Ends → Type 0 where
-  runs_none : (i : ℕ) (e : Ends) → Runs cs ss 0 i e e
-  runs_gives : (n i : ℕ) (e f g : Ends) (r : Round cs ss e f) → (r.passes.out_c ≡ [] → r.passes.out_s ≡ [] → ⊥)
-      → Runs cs ss n 4 f g → Runs cs ss (suc n) i e g
-  runs_quiet : (n i : ℕ) (e f g : Ends) (r : Round cs ss e f) → r.passes.out_c ≡ [] → r.passes.out_s ≡ []
-      → Runs cs ss n i f g → Runs cs ss (suc n) (suc i) e g
 
 -- ---- at rest
 

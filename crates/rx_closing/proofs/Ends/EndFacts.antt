@@ -22,8 +22,8 @@ use Rattle.rx_rules.specs.Sent as streams
 use Rattle.rx_rules.specs.Setup.{Setup}
 use Rattle.rx_closing.proofs.Ends.BothEnds.{GivenBy, IsFit}
 use Rattle.rx_closing.proofs.Ends.OwedPlain.{PlainOwed, plain_ack, plain_for, plain_read}
-use Rattle.rx_closing.proofs.Steps.{TakesIn, TurnsOn, takes_none, takes_one}
-use Rattle.rx_closing.proofs.Steps.{turns_none, turns_read, turns_shut, turns_write}
+use Rattle.rx_closing.proofs.Steps.{TakesIn, TurnsOn, takes_none, takes_one, turns_none, turns_read, turns_shut}
+use Rattle.rx_closing.proofs.Steps.{turns_write}
 
 -- ---- a message
 

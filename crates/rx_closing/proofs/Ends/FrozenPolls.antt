@@ -1,7 +1,7 @@
 -- An end that isn't prompt, polled until it has nothing to give, where it gives no fresh piece: what its messages tell,
 -- and what is left owed.
-use Rattle.std.proofs.Common.{◌≡◌, ◌≤◌, ◌⊎◌, ◌+◌, ◌==◌, ◌||◌, is_some, max, nat_le, ℕ, suc, Bool}
-use Rattle.std.proofs.Common.{true, false, List, [], ◌∷◌, Option, Some, None, refl, ap, sym, ◌∙◌, inl, inr, arith}
+use Rattle.std.proofs.Common.{◌≡◌, ◌≤◌, ◌⊎◌, ◌+◌, ◌==◌, ◌||◌, is_some, max, nat_le, ℕ, suc, Bool, true, false, List, []}
+use Rattle.std.proofs.Common.{◌∷◌, Option, Some, None, refl, ap, sym, ◌∙◌, inl, inr, arith}
 use Rattle.std.proofs.lemmas.Bool.{or_cases, or_parts}
 use Rattle.rx_model.specs.declared.wire.TheConstants.{ACK_PING, PING_MS}
 use Rattle.rx_model.specs.Body as bodies

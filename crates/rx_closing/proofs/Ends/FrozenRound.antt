@@ -1,6 +1,6 @@
 -- One round in which no number of either end moves: what one end's messages make of the other.
-use Rattle.std.proofs.Common.{◌≡◌, ◌<◌, ◌≤◌, if◌then◌else◌, is_some, nat_lt, ℕ, Bool, true, false, List}
-use Rattle.std.proofs.Common.{Option, length, refl, ap, ◌∙◌, arith}
+use Rattle.std.proofs.Common.{◌≡◌, ◌<◌, ◌≤◌, if◌then◌else◌, is_some, nat_lt, ℕ, Bool, true, false, List, Option, length}
+use Rattle.std.proofs.Common.{refl, ap, ◌∙◌, arith}
 use Rattle.std.proofs.lemmas.Bool.{le-ltb}
 use Rattle.rx_model.specs.Message.{Message}
 use Rattle.rx_rules.specs.CallItems.{Sending}

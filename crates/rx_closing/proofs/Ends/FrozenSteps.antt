@@ -1,7 +1,7 @@
 -- Two rounds on end in which no number of either end moves: in the first no piece is given again, and so whatever is
 -- given leaves less to be told.
-use Rattle.std.proofs.Common.{◌≡◌, ◌≤◌, ◌⊎◌, ◌+◌, if◌then◌else◌, is_some, ℕ, Bool, true, false}
-use Rattle.std.proofs.Common.{List, [], ◌∷◌, Option, Some, None, refl, ap, ◌∙◌, inl, inr, ⊎_elim, arith}
+use Rattle.std.proofs.Common.{◌≡◌, ◌≤◌, ◌⊎◌, ◌+◌, if◌then◌else◌, is_some, ℕ, Bool, true, false, List, [], ◌∷◌, Option}
+use Rattle.std.proofs.Common.{Some, None, refl, ap, ◌∙◌, inl, inr, ⊎_elim, arith}
 use Rattle.rx_model.specs.declared.wire.TheConstants.{PING_MS}
 use Rattle.rx_rules.specs.CallItems.{Sending, Piece, Ack}
 use Rattle.rx_rules.specs.CallLooks.{CallLooks}

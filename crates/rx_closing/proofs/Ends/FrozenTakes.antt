@@ -11,8 +11,8 @@ use Rattle.rx_model.specs.Body.{AckBody, Body}
 use Rattle.rx_model.specs.Body as bodies
 use Rattle.rx_model.specs.Message.{Message}
 use Rattle.rx_rules.specs.CallItems.{Sending, Piece, Ack, ack_body}
-use Rattle.rx_rules.specs.CallLooks.{CallLooks, NodeView, after_ack, after_body, after_data, after_taken}
-use Rattle.rx_rules.specs.CallLooks.{call_row, found, has_lead}
+use Rattle.rx_rules.specs.CallLooks.{CallLooks, NodeView, after_ack, after_body, after_data, after_taken, call_row}
+use Rattle.rx_rules.specs.CallLooks.{found, has_lead}
 use Rattle.rx_rules.specs.Owing.{Owed, at_once}
 use Rattle.rx_rules.specs.Received.{Packet, Received, front_of, packet_at, used_of}
 use Rattle.rx_rules.specs.Sent.{Sent, given_of, is_marked, is_strange_ack, lowest_of, pieces_by, pieces_of, with_window}

@@ -1,21 +1,21 @@
 -- A client's end that hears nothing, in rounds in which none of its numbers moves: its clock goes on, and each piece
 -- that it gave is given again.
-use Rattle.std.proofs.Common.{◌≡◌, ◌<◌, ◌≤◌, ◌⊎◌, ◌+◌, ◌-◌, ◌*◌, if◌then◌else◌, is_some, max, ℕ, zero, suc, Bool}
-use Rattle.std.proofs.Common.{true, false, List, [], ◌∷◌, Option, Some, None, refl, ap, sym, ◌∙◌, inl, inr, arith}
-use Rattle.std.proofs.lemmas.Bool.{cases_lt, eq-eqb}
-use Rattle.rx_model.specs.declared.wire.TheConstants.{ACK_PING, MIN_RTO_MS, PING_MS}
+use Rattle.std.proofs.Common.{◌≡◌, ◌≤◌, ◌⊎◌, ◌+◌, if◌then◌else◌, is_some, max, ℕ, suc, Bool, true, false, List, ◌∷◌}
+use Rattle.std.proofs.Common.{Option, Some, None, refl, ap, sym, ◌∙◌, inl, inr, arith}
+use Rattle.std.proofs.lemmas.Bool.{eq-eqb}
+use Rattle.rx_model.specs.declared.wire.TheConstants.{ACK_PING, PING_MS}
 use Rattle.rx_model.specs.Message.{Message}
 use Rattle.rx_rules.specs.CallItems.{Sending, Piece, Ack, after_sending, sending_seq}
 use Rattle.rx_rules.specs.CallLooks.{CallLooks, NodeView}
 use Rattle.rx_rules.specs.Owing.{Owed}
 use Rattle.rx_rules.specs.Received.{Received, used_of}
-use Rattle.rx_rules.specs.Sent.{Giving, LastGiving, Sent, given_of, greatest_given, last_giving, lowest_of, orders_of}
+use Rattle.rx_rules.specs.Sent.{Giving, LastGiving, given_of, greatest_given, last_giving, lowest_of, orders_of}
 use Rattle.rx_rules.specs.Setup.{Setup}
 use Rattle.rx_rules.proofs.SentLaws.{given-within}
 use Rattle.rx_closing.proofs.Ends.BothEnds.{IsFit, Stood}
 use Rattle.rx_closing.proofs.Ends.FrozenPolls.{SameEnd, has_ack, has_piece, has_ping, polls_given, polls_owed}
-use Rattle.rx_closing.proofs.Ends.FrozenPolls.{polls_owes, polls_ping, polls_quiet, polls_said, polls_same, polls_spoke}
-use Rattle.rx_closing.proofs.Ends.FrozenPolls.{polls_tell, polls_told, same_end, same_lowest, steady_piece}
+use Rattle.rx_closing.proofs.Ends.FrozenPolls.{polls_owes, polls_ping, polls_quiet, polls_said, polls_spoke, polls_tell}
+use Rattle.rx_closing.proofs.Ends.FrozenPolls.{polls_told, same_end, same_lowest, steady_piece}
 use Rattle.rx_closing.proofs.Ends.FrozenRound.{SameTurn, turn_same}
 use Rattle.rx_closing.proofs.Ends.FrozenSteps.{none_given}
 use Rattle.rx_closing.proofs.Ends.NextGiven.{NextOf, is_again, is_fresh, is_owed, is_ping, is_view_at, next_is, view_at}
@@ -24,16 +24,12 @@ use Rattle.rx_closing.proofs.Steps.{GivesOut, TurnsOn, gives_none, gives_one}
 -- ---- the lowest piece
 
 -- when it was given the last time
-abbrev moment_of : Option LastGiving → ℕ
+abbrev pub moment_of : Option LastGiving → ℕ
 moment_of None = 0
 moment_of (Some g) = g.moment
 
 abbrev pub last_of : CallLooks → ℕ
 last_of k = moment_of (last_giving k.sent.givings (lowest_of k.sent))
-
-same-last : (a b : CallLooks) → b.sent.givings ≡ a.sent.givings → lowest_of b.sent ≡ lowest_of a.sent
-    → last_of b ≡ last_of a
-same-last a b givings lowest = λ i. moment_of (last_giving (givings i) (lowest i))
 
 -- a piece behind it
 last-again : (now seq : ℕ) (again : Bool) (k : CallLooks) → seq ≡ lowest_of k.sent → seq ≤ given_of k.sent
@@ -144,22 +140,6 @@ pub record LoneRound (s : Setup) (may : Bool) (e f : Lone) : Type 0 where
   pub fit : IsFit e.now e.end
   pub pieces : may ≡ false → has_piece out ≡ false
 
--- so many of them, of which the next so many may give nothing: at most four in a row
-pub data LoneRuns (s : Setup) (may : Bool) : ℕ → ℕ → Lone → Lone → Type 0 where
-  lone_none : (i : ℕ) (e : Lone) → LoneRuns s may 0 i e e
-  lone_gives : (n i : ℕ) (e f g : Lone) (r : LoneRound s may e f) → (r.out ≡ [] → ⊥) → LoneRuns s may n 4 f g
-      → LoneRuns s may (suc n) i e g
-  lone_quiet : (n i : ℕ) (e f g : Lone) (r : LoneRound s may e f) → r.out ≡ [] → LoneRuns s may n i f g
-      → LoneRuns s may (suc n) (suc i) e g
-
--- its clock goes on
-pub lone_later : (s : Setup) (may : Bool) (n i : ℕ) (e z : Lone) → LoneRuns s may n i e z → e.now ≤ z.now
-lone_later s may n i e z (lone_none j d) = omega arith
-lone_later s may n i e z (lone_gives m j d f w r some rest) =
-    (let on = lone_later s may m 4 f w rest in let now = r.now in omega (arith, on, now))
-lone_later s may n i e z (lone_quiet m j d f w r none rest) =
-    (let on = lone_later s may m j f w rest in let now = r.now in omega (arith, on, now))
-
 -- ---- one round
 
 -- 2000 where something is owed
@@ -240,102 +220,3 @@ module _ (s : Setup) (may : Bool) (e f : Lone) (r : LoneRound s may e f) where
     (polls_ping s e.now e.end r.out r.gave r.polled r.gives r.fit.steady r.fit.plain is).1,
     turned.spoke ∙ polls_spoke s e.now e.end r.out r.gave r.polled r.gives ack,
   )
-
-  -- when its lowest piece was given
-  last-turned : last_of f.end ≡ last_of r.polled
-  last-turned =
-      same-last r.polled f.end turned.givings
-      (same_lowest f.end.sent r.polled.sent turned.acked turned.soft
-      (ap (λ (gs : List Giving). greatest_given gs) turned.givings))
-
-  lone-again : has_piece r.out ≡ true → (last_of e.end + MIN_RTO_MS ≤ e.now) × (last_of f.end ≡ e.now)
-  lone-again is =
-      (let again = polls_again s e.now e.end r.out r.gave r.polled r.gives r.fit.steady no-fresh is in
-      let due = again.0 in
-      let slow = r.fit.slow in
-      (omega (arith, due, slow), last-turned ∙ again.1))
-
-  lone-last : has_piece r.out ≡ false → last_of f.end ≡ last_of e.end
-  lone-last is =
-      last-turned
-      ∙ ap (λ (x : Sent). moment_of (last_giving x.givings (lowest_of x)))
-      (polls_same s e.now e.end r.out r.gave r.polled r.gives is).sent
-
--- ---- its clock goes on for twelve seconds
-
--- the milliseconds that are left to its pings and to its lowest piece, and what it owes
-abbrev wait_left : Lone → Lone → ℕ
-wait_left z e =
-    ((z.now + 12000) - max e.end.spoke (z.now - 2000)) + 6 * ((z.now + 12000) - max (last_of e.end) (z.now - 350))
-    + owes e.end.owed_ack
-
--- it falls in a round, where something was given
-record Fallen (z e f : Lone) (Gives : Type 0) : Type 0 where
-  low : wait_left z f ≤ wait_left z e
-  less : Gives → wait_left z f + 2000 ≤ wait_left z e
-
-lone-step : (s : Setup) (may : Bool) (z e f : Lone) (r : LoneRound s may e f) → z.now ≤ e.now → e.now < z.now + 12000
-    → Fallen z e f (r.out ≡ [] → ⊥)
-lone-step s may z e f r since soon =
-    of (has_piece r.out) (has_ack r.out) (has_ping r.out) refl refl refl
-  where
-    owed : owes f.end.owed_ack ≤ owes e.end.owed_ack
-    owed = lone_owes s may e f r
-
-    spoke : e.end.spoke ≤ f.end.spoke
-    spoke = lone_spoke s may e f r
-
-    of : (a b c : Bool) → has_piece r.out ≡ a → has_ack r.out ≡ b → has_ping r.out ≡ c
-        → Fallen z e f (r.out ≡ [] → ⊥)
-    of true b c piece ack ping =
-        (let again = lone-again s may e f r piece in
-        let due = again.0 in
-        let now = again.1 in
-        let less : wait_left z f + 2000 ≤ wait_left z e = omega (arith, since, soon, owed, spoke, due, now) in
-        record { low = omega (arith, less); less = λ gives. less })
-    of false true true piece ack ping =
-        (let last = lone-last s may e f r piece in
-        let pinged = lone_pinged s may e f r ack ping in
-        let due = pinged.0 in
-        let now = pinged.1 in
-        let less : wait_left z f + 2000 ≤ wait_left z e = omega (arith, since, soon, owed, last, due, now) in
-        record { low = omega (arith, less); less = λ gives. less })
-    of false true false piece ack ping =
-        (let last = lone-last s may e f r piece in
-        let falls = lone_falls s may e f r ack ping in
-        let less : wait_left z f + 2000 ≤ wait_left z e = omega (arith, since, soon, falls, last, spoke) in
-        record { low = omega (arith, less); less = λ gives. less })
-    of false false c piece ack ping =
-        (let last = lone-last s may e f r piece in
-        record {
-          low = omega (arith, owed, last, spoke);
-          less = λ gives. absurd (gives (none_given r.out piece ack));
-        })
-
-lone-late : (s : Setup) (may : Bool) (m n i : ℕ) (z e w : Lone) → LoneRuns s may n i e w → z.now ≤ e.now
-    → wait_left z e ≤ 2000 * m → 5 * m + i + 1 ≤ n → z.now + 12000 ≤ w.now
-lone-late s may m n i z e w (lone_none j d) since low long = absurd (omega arith)
-lone-late s may zero n i z e w (lone_gives k j d f x r some rest) since low long =
-    elim (cases_lt d.now (z.now + 12000)) as (λ c. z.now + 12000 ≤ x.now) [
-      | inl soon ↦ absurd (let less = (lone-step s may z d f r since soon).less some in omega (arith, less, low))
-      | inr late ↦ (let on = lone_later s may k 4 f x rest in let now = r.now in omega (arith, late, on, now))
-    ]
-lone-late s may (suc m) n i z e w (lone_gives k j d f x r some rest) since low long =
-    elim (cases_lt d.now (z.now + 12000)) as (λ c. z.now + 12000 ≤ x.now) [
-      | inl soon ↦ lone-late s may m k 4 z f x rest (let now = r.now in omega (arith, now, since))
-          (let less = (lone-step s may z d f r since soon).less some in omega (arith, less, low)) (omega arith)
-      | inr late ↦ (let on = lone_later s may k 4 f x rest in let now = r.now in omega (arith, late, on, now))
-    ]
-lone-late s may m n i z e w (lone_quiet k j d f x r none rest) since low long =
-    elim (cases_lt d.now (z.now + 12000)) as (λ c. z.now + 12000 ≤ x.now) [
-      | inl soon ↦ lone-late s may m k j z f x rest (let now = r.now in omega (arith, now, since))
-          (let less = (lone-step s may z d f r since soon).low in omega (arith, less, low)) (omega arith)
-      | inr late ↦ (let on = lone_later s may k j f x rest in let now = r.now in omega (arith, late, on, now))
-    ]
-
--- within 236 rounds
-pub lone_late : (s : Setup) (may : Bool) (n i : ℕ) (e z : Lone) → LoneRuns s may n i e z → i ≤ 4 → 236 ≤ n
-    → e.now + 12000 ≤ z.now
-lone_late s may n i e z runs low long =
-    lone-late s may 46 n i e e z runs (omega arith) (let owed = owes_low e.end.owed_ack in omega (arith, owed))
-    (omega arith)

@@ -8,8 +8,8 @@ use Rattle.rx_model.specs.declared.answers.Took.TheVariants as tooks
 use Rattle.rx_model.specs.Body.{Body}
 use Rattle.rx_model.specs.Body as bodies
 use Rattle.rx_model.specs.Message.{Message}
-use Rattle.rx_rules.specs.CallLooks.{CallLooks, NodeView, after_body, after_chunk, after_data, after_taken}
-use Rattle.rx_rules.specs.CallLooks.{call_row, found, has_lead}
+use Rattle.rx_rules.specs.CallLooks.{CallLooks, NodeView, after_body, after_chunk, after_data, after_taken, call_row}
+use Rattle.rx_rules.specs.CallLooks.{found, has_lead}
 use Rattle.rx_rules.specs.Received.{Received, front_of, greatest, packet_at, reach, used_of}
 use Rattle.rx_rules.specs.Sent.{Sent, given_of, is_acked, is_marked, lowest_of, with_window}
 use Rattle.rx_rules.specs.Setup.{Setup}

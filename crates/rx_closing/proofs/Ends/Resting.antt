@@ -1,7 +1,7 @@
 -- One direction of a call whose sender, polled out, gave no piece though each piece was given long ago: nothing is left
 -- to be done.
-use Rattle.std.proofs.Common.{◌≡◌, ◌<◌, ◌≤◌, ◌+◌, not, is_some, nat_le, nat_lt, ℕ}
-use Rattle.std.proofs.Common.{suc, Bool, true, false, List, length, Some, ap, sym, ◌∙◌, inl, inr, arith}
+use Rattle.std.proofs.Common.{◌≡◌, ◌<◌, ◌≤◌, ◌+◌, not, is_some, nat_le, nat_lt, ℕ, suc, Bool, true, false, List, length}
+use Rattle.std.proofs.Common.{Some, ap, sym, ◌∙◌, inl, inr, arith}
 use Rattle.std.proofs.lemmas.Bool.{and_from, cases_lt, le-leb, lt-ltb, or_left}
 use Rattle.rx_model.specs.declared.wire.TheConstants.{MAX_RTO_MS}
 use Rattle.rx_model.specs.Message.{Message}
@@ -9,8 +9,8 @@ use Rattle.rx_rules.specs.CallItems.{Sending, can_give}
 use Rattle.rx_rules.specs.CallLooks.{CallLooks}
 use Rattle.rx_rules.specs.Rates.{Cwnd, Rtt}
 use Rattle.rx_rules.specs.Received.{Received, front_of, greatest, packet_at, used_of}
-use Rattle.rx_rules.specs.Sent.{Sent, counting_by, counting_of, given_of, in_flight, is_acked, last_giving}
-use Rattle.rx_rules.specs.Sent.{lowest_of, pieces_by, pieces_of}
+use Rattle.rx_rules.specs.Sent.{Sent, counting_by, counting_of, given_of, in_flight, is_acked, last_giving, lowest_of}
+use Rattle.rx_rules.specs.Sent.{pieces_by, pieces_of}
 use Rattle.rx_rules.specs.Setup.{Setup}
 use Rattle.rx_between.specs.Acknowledged.{AreTrue}
 use Rattle.rx_between.specs.Agreed.{AreGiven}

@@ -5,7 +5,6 @@ use Rattle.std.proofs.Common.{Bool, true, false, List, [], ◌∷◌, length, Op
 use Rattle.std.proofs.Common.{is_some, nat_lt, length-append}
 use Rattle.std.specs.List.{find}
 use Rattle.std.proofs.lemmas.Bool.Decides.{nat_tests}
-use Rattle.std.proofs.lemmas.Bool.{cases_lt}
 use Rattle.rx_model.specs.declared.names.CallName.{CallName}
 use Rattle.rx_model.specs.Names.{same_name}
 use Rattle.rx_model.proofs.NameLaws.{name_is, name_itself, number_itself}
@@ -24,30 +23,9 @@ use Rattle.rx_history.proofs.Differ.{Differ, by_name, every_found}
 use Rattle.rx_history.proofs.OneCall.{common_one}
 use Rattle.rx_history.proofs.Reaches.{count_passes}
 use Rattle.rx_history.proofs.RoomStarts.{RoomyAt}
+use Rattle.rx_closing.proofs.Ends.Least.{min_first, min_is, min_second, min_third}
 
 -- ---- in numbers
-
--- the least of three is one of them
-min_is : (x y z : ℕ) → (min (min x y) z ≡ x) ⊎ ((min (min x y) z ≡ y) ⊎ (min (min x y) z ≡ z))
-min_is x y z = elim (cases_lt x y) as (λ c. (min (min x y) z ≡ x) ⊎ ((min (min x y) z ≡ y) ⊎ (min (min x y) z ≡ z))) [
-  | inl less ↦ elim (cases_lt x z) as (λ c. (min (min x y) z ≡ x) ⊎ ((min (min x y) z ≡ y) ⊎ (min (min x y) z ≡ z))) [
-    | inl low ↦ inl (omega arith)
-    | inr high ↦ inr (inr (omega arith))
-  ]
-  | inr more ↦ elim (cases_lt y z) as (λ c. (min (min x y) z ≡ x) ⊎ ((min (min x y) z ≡ y) ⊎ (min (min x y) z ≡ z))) [
-    | inl low ↦ inr (inl (omega arith))
-    | inr high ↦ inr (inr (omega arith))
-  ]
-]
-
-min_first : (x y z : ℕ) → x ≡ 0 → min (min x y) z ≡ 0
-min_first x y z none = omega arith
-
-min_second : (x y z : ℕ) → y ≡ 0 → min (min x y) z ≡ 0
-min_second x y z none = omega arith
-
-min_third : (x y z : ℕ) → z ≡ 0 → min (min x y) z ≡ 0
-min_third x y z none = omega arith
 
 -- so many bytes are within the pieces that they open
 within_opened : (n : ℕ) → n ≤ 1412 * opened n

@@ -234,7 +234,8 @@ turn_rises now k f (turns_shut i j rest) =
 
 -- ---- how far it is
 
-flag_rises : (a b : Bool) → (a ≡ true → b ≡ true) → flag a ≤ flag b
+-- a flag that is set where another is isn't less
+pub flag_rises : (a b : Bool) → (a ≡ true → b ≡ true) → flag a ≤ flag b
 flag_rises true b more = rw (more refl) (omega arith)
 flag_rises false b more = omega arith
 

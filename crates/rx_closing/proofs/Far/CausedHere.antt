@@ -7,8 +7,8 @@ use Rattle.rx_model.proofs.NameLaws.{name_itself, number_itself, same_number}
 use Rattle.rx_history.specs.Sides.{Node}
 use Rattle.rx_asks.specs.Asks.{begun as caller_begun, heard}
 use Rattle.rx_asks.specs.View.{CallerState}
-use Rattle.rx_jobs.specs.Handlers.{Handlers}
 use Rattle.rx_script.specs.declared.plan.Numbered.{Numbered}
+use Rattle.rx_jobs.specs.Handlers.{Handlers}
 use Rattle.rx_plan.specs.Answering.{Invoked, invoked_at, request_for}
 use Rattle.rx_plan.specs.Stages.{InvokedState, Stage}
 use Rattle.rx_plan.proofs.Callers.{heard_call, one_is, set_other}
@@ -16,8 +16,16 @@ use Rattle.rx_plan.proofs.Driven.{Carries, Seen, invoked, seen, set_own, with_vi
 use Rattle.rx_plan.proofs.Followed.{Asks, IsFollowed, IsPlayed}
 use Rattle.rx_rounds.proofs.Rounded.{RoundMade}
 use Rattle.rx_closing.proofs.Far.FarWork.{IsCaused, caused}
-use Rattle.rx_closing.proofs.Frame.{Scene}
+use Rattle.rx_closing.proofs.Frame.{OneOf}
 use Rattle.rx_closing.proofs.Rounds.RoundCarries.{RoundCarried, round_carries}
+
+-- ---- the caller at a place
+
+pub get_front : {X : Type 0} (xs ys : List X) (i : ℕ) (y : X) → slice_get xs i ≡ Some y
+    → slice_get (xs ++ ys) i ≡ Some y
+get_front [] ys i y is = absurd cc
+get_front (x ∷ xs) ys zero y is = is
+get_front (x ∷ xs) ys (suc i) y is = get_front xs ys i y is
 
 -- ---- the caller at a place
 
@@ -28,12 +36,6 @@ pub record IsAt (c : CallName) (node place line : ℕ) (ks : List InvokedState) 
   pub line_is : it.line ≡ line
   pub of_node : it.node ≡ node
   pub call : it.caller.call ≡ c
-
-pub get_front : {X : Type 0} (xs ys : List X) (i : ℕ) (y : X) → slice_get xs i ≡ Some y
-    → slice_get (xs ++ ys) i ≡ Some y
-get_front [] ys i y is = absurd cc
-get_front (x ∷ xs) ys zero y is = is
-get_front (x ∷ xs) ys (suc i) y is = get_front xs ys i y is
 
 at_more : (c : CallName) (node place line : ℕ) (ks : List InvokedState) (k : InvokedState) → IsAt c node place line ks
     → IsAt c node place line (ks ++ k ∷ [])
@@ -114,7 +116,7 @@ module _ (g : Handlers) (ls : List Numbered) (c : CallName) (k : ℕ) (client se
   at_cause s i = record { it = i.invoked; there = i.at; line_is = refl; of_node = i.node; call = i.call }
 
   -- at another stage the caller at that place is the cause there, and asks the same
-  pub cause_at : (s t : Stage) → (i : IsCaused g ls c k client s) → Scene c k client server t
+  pub cause_at : (s t : Stage) → (i : IsCaused g ls c k client s) → OneOf c k client server t
       → IsFollowed g ls (seen t) → IsAt c (suc k) i.place i.invoked.line t.callers
       → CausedBy g ls c k client (request_for g i.caller.invoke) t
   cause_at s t i scene follows at =

@@ -1,6 +1,6 @@
 -- How far a call can be: the pieces of its request and of what is served for it bound every part, at both ends.
-use Rattle.std.proofs.Common.{◌≡◌, ◌⊎◌, ◌≤◌, ◌+◌, ◌*◌, ◌++◌, ℕ, suc, Bool, true, false, List, length, Option}
-use Rattle.std.proofs.Common.{Some, None, refl, ◌∙◌, ap, sym, subst, inl, inr, arith, length-append, slice_get, is_some}
+use Rattle.std.proofs.Common.{◌≡◌, ◌⊎◌, ◌≤◌, ◌+◌, ◌*◌, ◌++◌, ℕ, suc, Bool, true, false, List, length, Option, Some}
+use Rattle.std.proofs.Common.{None, refl, ◌∙◌, ap, sym, subst, inl, inr, arith, length-append, slice_get, is_some}
 use Rattle.rx_model.specs.declared.event.Noted.{Noted}
 use Rattle.rx_model.specs.declared.names.CallName.{CallName}
 use Rattle.rx_model.specs.Names.{connection_of}

@@ -229,7 +229,8 @@ none_before : (s : Setup) (e : Event) (h : List Event) (c : CallName) → Starts
 none_before s e h c (inl client) = inl client
 none_before s e h c (inr server) = inr (server.0, server.1.1)
 
-none_anew : (s : Setup) (e : Event) (h : List Event) (c : CallName) → FitsSetup s → Legal s (e ∷ h)
+-- where an event starts no call of a node anew, it starts none of this name
+pub none_anew : (s : Setup) (e : Event) (h : List Event) (c : CallName) → FitsSetup s → Legal s (e ∷ h)
     → StartsNoneAnew s (e ∷ h) c → NoneAnew s (looks s h) e c (call_at (looks s h) c)
 none_anew s e h c fits legal (inl (host, epoch, kind)) =
     client_anew s host epoch e h c kind fits legal (client-calls s host epoch h kind fits legal.1)

@@ -1,6 +1,6 @@
 -- Each part of how far an end of a call is only grows, with each step of the end.
-use Rattle.std.proofs.Common.{◌≡◌, ◌≤◌, ◌+◌, ◌-◌, ◌==◌, ◌++◌, not, if◌then◌else◌, nat_lt, is_some, ℕ, zero, suc}
-use Rattle.std.proofs.Common.{Bool, true, false, List, length, refl, ap, sym, subst, arith, length-append}
+use Rattle.std.proofs.Common.{◌≡◌, ◌≤◌, ◌+◌, ◌-◌, ◌==◌, ◌++◌, not, if◌then◌else◌, nat_lt, is_some, ℕ, zero, suc, Bool}
+use Rattle.std.proofs.Common.{true, false, List, length, refl, ap, sym, subst, arith, length-append}
 use Rattle.std.proofs.lemmas.Bool.{and_parts, or_parts, eqb-true}
 use Rattle.std.proofs.lemmas.Bool.Decides.{nat_tests}
 use Rattle.rx_model.specs.declared.answers.Took.{Took}
@@ -28,6 +28,7 @@ use Rattle.rx_between.proofs.EachStep.{EndStep, finishes, gives, reads, shuts, s
 use Rattle.rx_between.proofs.GivenSeqs.{step_given}
 use Rattle.rx_between.proofs.Grows.{row_new, step_grows}
 use Rattle.rx_between.proofs.Marks.{packet-more}
+use Rattle.rx_closing.proofs.Ends.TurnLaws.{flag_rises}
 use Rattle.rx_closing.proofs.Frame.{flag}
 
 -- ---- what is to be shown
@@ -271,10 +272,6 @@ front_low a b kept =
     top zero there = omega arith
     top (suc n) there = kept_within b.kept (suc n) (there (suc n) (omega arith) (omega arith))
 
-flag_more : (a b : Bool) → (a ≡ true → b ≡ true) → flag a ≤ flag b
-flag_more true b more = (let is = ap flag (more refl) in omega arith)
-flag_more false b more = omega arith
-
 chunk_stays : (v : NodeView) (m : Message) (body : Body) (k : CallLooks)
     → ((payload : List ℕ) → is_some (packet_at k.received.kept m.seq) ≡ false)
     → StayKept k.received (after_chunk v tooks.Kept m body k).received
@@ -341,5 +338,5 @@ step_advances s l e c a b step low =
       front = front_low a.received b.received grows.kept;
       used = grows.used;
       shut = says.shut;
-      ended = flag_more a.received.ended b.received.ended grows.ended;
+      ended = flag_rises a.received.ended b.received.ended grows.ended;
     }

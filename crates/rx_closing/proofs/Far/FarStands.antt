@@ -22,7 +22,7 @@ use Rattle.rx_plan.specs.Stages.{Stage}
 use Rattle.rx_plan.proofs.Cuts.{side_split}
 use Rattle.rx_closing.proofs.Far.FarGrows.{Further, FurtherOf, GoesOn, further_on}
 use Rattle.rx_closing.proofs.Far.FarParts.{Advances, StayKept}
-use Rattle.rx_closing.proofs.Frame.{Scene, asked_in, far, far_of, flag, rank_of, served_in}
+use Rattle.rx_closing.proofs.Frame.{OneOf, asked_in, far, far_of, flag, rank_of, served_in}
 
 -- ---- numbers alone
 
@@ -151,17 +151,6 @@ stands_each (Some a) (Some b) further same =
     one_less : (m n : ℕ) → suc m ≡ suc n → m ≡ n
     one_less m n same = omega arith
 
--- of a call that was there
-pub stands_some : (a : CallRecord) (o : Option CallRecord) → FurtherOf (Some a) o → far_of (Some a) ≡ far_of o
-    → (b : CallRecord) × (o ≡ Some b) × StandsAt a b
-stands_some a None further same = absurd further
-stands_some a (Some b) further same = (b, refl, stands_each (Some a) (Some b) further same)
-
--- of a call that wasn't
-pub stands_none : (o : Option CallRecord) → far_of None ≡ far_of o → o ≡ None
-stands_none None same = refl
-stands_none (Some b) same = absurd (omega (arith, same))
-
 -- ---- at both ends
 
 -- two calls that come to the same both stand
@@ -173,7 +162,7 @@ both_stand a b x y first second same =
     by : (m n o p : ℕ) → m ≤ n → o ≤ p → m + o ≡ n + p → (m ≡ n) × (o ≡ p)
     by m n o p low high is = (omega arith, omega arith)
 
-module _ (c : CallName) (k : ℕ) (client server : Node) (t : Stage) (scene : Scene c k client server t) where
+module _ (c : CallName) (k : ℕ) (client server : Node) (t : Stage) (scene : OneOf c k client server t) where
   -- the call's connection with its ends, of which the server starts no call anew
   pub scene_fed : Fed (ends_in (connection_of c) (suc k) client server) t.history
   scene_fed =
@@ -219,8 +208,8 @@ module _ (c : CallName) (k : ℕ) (client server : Node) (t : Stage) (scene : Sc
     -- where both come to the same, each stands
     pub scene_stands : far_of (asked_in c k client s) + far_of (served_in c server s)
         ≡ far_of (asked_in c k client t) + far_of (served_in c server t)
-        → StandsOf (asked_in c k client s) (asked_in c k client t)
-        × StandsOf (served_in c server s) (served_in c server t)
+        → StandsOf (asked_in c k client s) (asked_in c k client t) × StandsOf (served_in c server s)
+        (served_in c server t)
     scene_stands same =
         (let each = both_stand (asked_in c k client s) (asked_in c k client t) (served_in c server s)
         (served_in c server t) asked_further served_further same in (
@@ -235,7 +224,7 @@ abbrev pub both_far : CallName → ℕ → Node → Node → Stage → ℕ
 both_far c k client server s = far_of (asked_in c k client s) + far_of (served_in c server s)
 
 -- it only grows
-pub both_low : (c : CallName) (k : ℕ) (client server : Node) (t : Stage) → Scene c k client server t → (s : Stage)
+pub both_low : (c : CallName) (k : ℕ) (client server : Node) (t : Stage) → OneOf c k client server t → (s : Stage)
     (later : List Noted) → t.history ≡ later ++ s.history
     → both_far c k client server s ≤ both_far c k client server t
 both_low c k client server t scene s later is =
@@ -244,8 +233,8 @@ both_low c k client server t scene s later is =
     omega (arith, up, down))
 
 -- where it is the same at two stages, it is so at each between
-pub far_between : (c : CallName) (k : ℕ) (client server : Node) (s u t : Stage) → Scene c k client server u
-    → Scene c k client server t → (first second : List Noted) → u.history ≡ first ++ s.history
+pub far_between : (c : CallName) (k : ℕ) (client server : Node) (s u t : Stage) → OneOf c k client server u
+    → OneOf c k client server t → (first second : List Noted) → u.history ≡ first ++ s.history
     → t.history ≡ second ++ u.history → both_far c k client server s ≡ both_far c k client server t
     → (both_far c k client server s ≡ both_far c k client server u)
     × (both_far c k client server u ≡ both_far c k client server t)

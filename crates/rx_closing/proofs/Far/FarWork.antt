@@ -23,12 +23,12 @@ use Rattle.rx_plan.proofs.Answered.{Connected, connected}
 use Rattle.rx_plan.proofs.Callers.{one_is}
 use Rattle.rx_plan.proofs.Driven.{seen}
 use Rattle.rx_plan.proofs.Followed.{IsCaller, IsFollowed, IsPlayed}
-use Rattle.rx_closing.specs.Living.{looks_of}
+use Rattle.rx_between.specs.Acknowledged.{received_by, sent_by}
 use Rattle.rx_closing.specs.Work.{work, work_of}
+use Rattle.rx_closing.specs.Living.{looks_of}
 use Rattle.rx_closing.proofs.Far.FarBounds.{far_bound, served_begins, whole_read}
 use Rattle.rx_closing.proofs.Far.FarServed.{BeginsServed}
-use Rattle.rx_closing.proofs.Frame.{Scene, asked_in, far_of, served_in}
-use Rattle.rx_between.specs.Acknowledged.{received_by, sent_by}
+use Rattle.rx_closing.proofs.Frame.{OneOf, asked_in, far_of, served_in}
 
 -- ---- the first that is found
 
@@ -86,19 +86,19 @@ one_node nodes h w j k a b c at_a at_b is_a is_b = of (j == k) refl
 -- ---- the invoke of a call
 
 -- a caller of the stage that drives the call at this client, whose request is the call's work
-pub record IsCaused (g : Handlers) (ls : List Numbered) (c : CallName) (k : ℕ) (client : Node)
-    (s : Stage) : Type 0 where
-  pub place : ℕ
-  pub invoked : InvokedState
-  pub at : slice_get s.callers place ≡ Some invoked
-  pub caller : IsCaller g ls s.nodes s.history invoked
-  pub call : invoked.caller.call ≡ c
-  pub node : invoked.node ≡ suc k
-  pub tells : Tells (request_for g caller.invoke) invoked.caller (looks_of s (suc k) client)
-  pub work_is : work_of g ls s c ≡ work g (request_for g caller.invoke)
+pub record IsCaused (g : Handlers) (ls : List Numbered) (c : CallName) (k : ℕ) (client : Node) (s : Stage) : Type 0
+  where
+    pub place : ℕ
+    pub invoked : InvokedState
+    pub at : slice_get s.callers place ≡ Some invoked
+    pub caller : IsCaller g ls s.nodes s.history invoked
+    pub call : invoked.caller.call ≡ c
+    pub node : invoked.node ≡ suc k
+    pub tells : Tells (request_for g caller.invoke) invoked.caller (looks_of s (suc k) client)
+    pub work_is : work_of g ls s c ≡ work g (request_for g caller.invoke)
 
 module _ (g : Handlers) (ls : List Numbered) (c : CallName) (k : ℕ) (client server : Node) (s : Stage)
-    (scene : Scene c k client server s) (follows : IsFollowed g ls (seen s)) where
+    (scene : OneOf c k client server s) (follows : IsFollowed g ls (seen s)) where
   played : IsPlayed g ls (seen s)
   played = follows.played scene.world.sides.nodes_are
 

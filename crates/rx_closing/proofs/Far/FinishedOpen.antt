@@ -146,7 +146,8 @@ abbrev OpenOf : Option CallRecord → Type 0
 OpenOf None = Unit {0}
 OpenOf (Some r) = r.life ≡ lives.Finished → is_all_acked r.looks.sent ≡ false
 
-server_view : (kind : Kind) → IsServer kind → is_client kind ≡ false
+-- a server isn't a client
+pub server_view : (kind : Kind) → IsServer kind → is_client kind ≡ false
 server_view (Server service nonces) is = refl
 server_view (Client host epoch) is = absurd is
 

@@ -1,8 +1,8 @@
 -- The steps that a call's job waits behind the end of its request: there are so many, and with each of them the call is
 -- further, as it is with each part of its ends.
 use Rattle.std.proofs.Common.{◌≡◌, ◌≤◌, ◌<◌, ◌+◌, ◌*◌, ◌&&◌, ◌||◌, ◌++◌, not, cond, if◌then◌else◌, is_some, ℕ, ℤ, suc}
-use Rattle.std.proofs.Common.{Bool, true}
-use Rattle.std.proofs.Common.{false, List, [], ◌∷◌, Option, Some, None, refl, ◌∙◌, ap, sym, subst, inl, inr, arith}
+use Rattle.std.proofs.Common.{Bool, true, false, List, [], ◌∷◌, Option, Some, None, refl, ◌∙◌, ap, sym, subst, inl, inr}
+use Rattle.std.proofs.Common.{arith}
 use Rattle.std.specs.List.{find}
 use Rattle.rx_model.specs.declared.names.CallName.{CallName}
 use Rattle.rx_model.specs.Names.{same_name}
@@ -22,7 +22,7 @@ use Rattle.rx_closing.specs.Work.{work_of}
 use Rattle.rx_closing.proofs.Far.FarGrows.{FurtherOf, GoesOn}
 use Rattle.rx_closing.proofs.Far.FarStands.{both_far}
 use Rattle.rx_closing.proofs.Far.FarWork.{IsCaused, far_work}
-use Rattle.rx_closing.proofs.Frame.{Scene, rank_of, served_in}
+use Rattle.rx_closing.proofs.Frame.{OneOf, rank_of, served_in}
 use Rattle.rx_closing.proofs.Server.JobSeen.{AreOthers}
 
 -- ---- the job of a call
@@ -188,12 +188,12 @@ way_of most c k client server s = both_far c k client server s + waited most c (
 
 -- five times its work is more
 pub way_low : (g : Handlers) (ls : List Numbered) (c : CallName) (k : ℕ) (client server : Node) (s : Stage)
-    (scene : Scene c k client server s) (follows : IsFollowed g ls (seen s)) (i : IsCaused g ls c k client s)
+    (scene : OneOf c k client server s) (follows : IsFollowed g ls (seen s)) (i : IsCaused g ls c k client s)
     → IsJobLow (wait_of g (request_for g i.caller.invoke)) (job_of c s.jobs)
     → way_of (wait_of g (request_for g i.caller.invoke)) c k client server s + 18 ≤ 5 * work_of g ls s c
 way_low g ls c k client server s scene follows i low =
-    by (both_far c k client server s) (waited (wait_of g (request_for g i.caller.invoke)) c
-    (served_in c server s) s.jobs)
+    by (both_far c k client server s) (waited (wait_of g (request_for g i.caller.invoke)) c (served_in c server s)
+    s.jobs)
     (wait_of g (request_for g i.caller.invoke)) (work_of g ls s c)
     (far_work g ls c k client server s scene follows i)
     (waited_low (wait_of g (request_for g i.caller.invoke)) c (served_in c server s) s.jobs low)

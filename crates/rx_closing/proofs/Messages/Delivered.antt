@@ -1,8 +1,8 @@
 -- What a delivery makes of each node of any number: one of the datagram's host takes it, with the answer that the rules
 -- give, and nothing of any other changes.
-use Rattle.std.proofs.Common.{◌≡◌, ◌≢◌, ◌<◌, ◌≤◌, ◌⊎◌, ◌++◌, ◌==◌, ℕ, zero, suc, Bool, true, false}
-use Rattle.std.proofs.Common.{List, [], ◌∷◌, Option, Some, refl, ◌∙◌, ap, sym, subst, inl, inr, ⊎_elim}
-use Rattle.std.proofs.Common.{append_assoc, option_map, length, arith}
+use Rattle.std.proofs.Common.{◌≡◌, ◌≢◌, ◌<◌, ◌≤◌, ◌⊎◌, ◌++◌, ◌==◌, ℕ, zero, suc, Bool, true, false, List, [], ◌∷◌}
+use Rattle.std.proofs.Common.{Option, Some, refl, ◌∙◌, ap, sym, subst, inl, inr, ⊎_elim, append_assoc, option_map}
+use Rattle.std.proofs.Common.{length, arith}
 use Rattle.std.specs.Prelude.{slice_get, IsSomeAnd, unwrap_or}
 use Rattle.rx_model.specs.declared.answers.Took.{Took}
 use Rattle.rx_model.specs.declared.event.Event.{Event}
@@ -30,7 +30,7 @@ use Rattle.rx_rounds.proofs.EachItem.{In, in_behind, in_front}
 use Rattle.rx_rounds.proofs.Making.{ends_to, event_to, then_to}
 use Rattle.rx_rounds.proofs.NodeClock.{in_parts}
 use Rattle.rx_rounds.proofs.Rounded.{Made}
-use Rattle.rx_closing.proofs.Polls.NodesPolled.{nth_low, nth_there}
+use Rattle.rx_closing.proofs.Polls.InParts.{nth_low, nth_there}
 
 -- ---- the numbers of the nodes
 
@@ -149,7 +149,8 @@ pub record CameTo (ns : List ℕ) (d : Datagram) (s t : Stage) : Type 0 where
 abbrev AreThere : List ℕ → Stage → Type 0
 AreThere ns s = (k : ℕ) → In k ns → (n : Node) × (slice_get s.nodes k ≡ Some n)
 
-node_is : (a b : Node) → ◌≡◌ {A = Option Node} (Some a) (Some b) → a ≡ b
+-- a node that is found twice is one
+pub node_is : (a b : Node) → ◌≡◌ {A = Option Node} (Some a) (Some b) → a ≡ b
 node_is a b same = cc
 
 -- behind an earlier one that leaves it

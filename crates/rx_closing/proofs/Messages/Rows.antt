@@ -1,7 +1,7 @@
 -- The rows of a DATA or an ACK of a call at a node where the call is its channel's latest, and what it makes of the
 -- call.
-use Rattle.std.proofs.Common.{◌≡◌, ◌≤◌, ◌&&◌, ◌==◌, cond, if◌then◌else◌, not, nat_lt, ℕ, ℤ, Bool, true, false}
-use Rattle.std.proofs.Common.{Option, Some, None, refl, ◌∙◌, ap, sym, arith, is_some}
+use Rattle.std.proofs.Common.{◌≡◌, ◌≤◌, ◌&&◌, ◌==◌, cond, if◌then◌else◌, not, nat_lt, ℕ, ℤ, Bool, true, false, Option}
+use Rattle.std.proofs.Common.{Some, None, refl, ◌∙◌, ap, sym, arith, is_some, List}
 use Rattle.std.proofs.lemmas.Bool.{le-ltb}
 use Rattle.rx_model.specs.declared.answers.Took.{Took}
 use Rattle.rx_model.specs.declared.answers.Took.TheVariants as tooks
@@ -13,18 +13,27 @@ use Rattle.rx_model.specs.Body as bodies
 use Rattle.rx_model.specs.Message.{Message, has_flag}
 use Rattle.rx_model.specs.Names.{channel_of, connection_of}
 use Rattle.rx_model.specs.Strays.{is_stray}
+use Rattle.rx_model.specs.declared.event.Event.TheVariants as events
 use Rattle.rx_model.proofs.NameLaws.{number_itself, same_number}
 use Rattle.rx_rules.specs.CallLooks.{call_row}
 use Rattle.rx_rules.specs.Judging.{Facts, client_row, facts_of, is_for_clients, is_for_servers, is_peer, live_row}
-use Rattle.rx_rules.specs.Judging.{opened, outer_row, own_row, row_at, server_row, side_row, took_named}
+use Rattle.rx_rules.specs.Judging.{opened, outer_row, own_row, row_at, server_row, side_row, took_named, took_of}
 use Rattle.rx_rules.specs.Life.{is_active}
 use Rattle.rx_rules.specs.Looks.{CallRecord, ConnLooks, Looks, call_at, call_named, channel_at, conn_at, is_call}
 use Rattle.rx_rules.specs.Looks.{latest}
 use Rattle.rx_rules.specs.Records.{started_later}
-use Rattle.rx_rules.specs.Setup.{Client, IsServer, Kind, Server, Setup, named}
+use Rattle.rx_rules.specs.Setup.{Client, Kind, Server, Setup, named}
 use Rattle.rx_rules.specs.Slots.{node_view}
+use Rattle.rx_rules.specs.Rules.{AllowedAt}
 use Rattle.rx_rules.proofs.ConnsLaws.{channel_number, number_of}
 use Rattle.rx_between.proofs.PollSays.{IsStream}
+
+-- ---- rows in front
+
+pub taken_answer : (kind : Kind) (s : Setup) (l : Looks) (from : Host) (bytes : List ℕ) (got : Took)
+    → AllowedAt kind s l (events.Taken from bytes got) → got ≡ took_of s l from bytes
+taken_answer (Server service nonces) s l from bytes got allowed = allowed.1
+taken_answer (Client host epoch) s l from bytes got allowed = allowed.1
 
 -- a call that is its channel's latest
 pub record IsLast (l : Looks) (c : CallName) (k : CallRecord) : Type 0 where
@@ -47,12 +56,12 @@ itself : (n : ℕ) → nat_lt n n ≡ false
 itself n = le-ltb n n (omega arith)
 
 -- as the rows in front of a live call ask
-record PassesRows (f : Facts) : Type 0 where
-  known : f.is_known ≡ true
-  stops : f.stops_all ≡ false
-  has : f.has_number ≡ true
-  below : f.is_below ≡ false
-  above : f.is_above ≡ false
+pub record PassesRows (f : Facts) : Type 0 where
+  pub known : f.is_known ≡ true
+  pub stops : f.stops_all ≡ false
+  pub has : f.has_number ≡ true
+  pub below : f.is_below ≡ false
+  pub above : f.is_above ≡ false
 
 some_is_none : (n : ℕ) → 1 ≤ n → not (n == 0) ≡ true
 some_is_none n some = of (n == 0) refl
@@ -66,7 +75,8 @@ stray_none m (bodies.Chunk payload) stream = refl
 stray_none m (bodies.Ack a) stream = refl
 stray_none m _ stream = absurd stream
 
-passes_rows : (s : Setup) (l : Looks) (c : CallName) (m : Message) → (channel_at l (channel_of c)).number ≡ c.number
+-- a message of the latest call of its channel, which isn't a stray one, passes the rows in front
+pub passes_rows : (s : Setup) (l : Looks) (c : CallName) (m : Message) → (channel_at l (channel_of c)).number ≡ c.number
     → 1 ≤ c.number → m.number ≡ c.number → is_stray m m.body ≡ false → PassesRows (facts_of s l c m)
 passes_rows s l c m number some own stray =
     record {
@@ -93,7 +103,8 @@ opens_none s l c number =
 
 -- ---- the row of an active call is that of its end
 
-server_past : (f : Facts) (call : Took) → PassesRows f → f.is_active ≡ true → server_row f call ≡ call
+-- behind these rows a server judges what is for an active call by its end
+pub server_past : (f : Facts) (call : Took) → PassesRows f → f.is_active ≡ true → server_row f call ≡ call
 server_past f call p active = rw (p.known, p.stops, p.has, p.below, p.above, active) refl
 
 client_past : (f : Facts) (call : Took) → PassesRows f → f.is_active ≡ true → client_row f call ≡ call
@@ -179,15 +190,6 @@ server_front s service nonces l from m kind flag stream serves index =
         else if not (x && y) then Some tooks.Unserved else None) ≡ None
     of a b x y p q u v = rw (p, q, u, v) refl
 
--- a server's is foreign there
-pub server_foreign : (s : Setup) (l : Looks) (from : Host) (m : Message) → IsServer s.kind
-    → has_flag CLIENT_INITIATED m.flags ≡ false → outer_row s s.kind l from m ≡ Some tooks.Foreign
-server_foreign s l from m server flag = of s.kind server
-  where
-    of : (kind : Kind) → IsServer kind → outer_row s kind l from m ≡ Some tooks.Foreign
-    of (Server service nonces) server = rw flag refl
-    of (Client host epoch) server = absurd server
-
 -- a server's message of a kind for clients, on a connection with it, of the class
 pub client_front_by : (s : Setup) (host : Host) (epoch : ℕ) (l : Looks) (from : Host) (m : Message) (c : CallName)
     → s.kind ≡ Client host epoch → has_flag CLIENT_INITIATED m.flags ≡ false
@@ -217,10 +219,3 @@ client_front s host epoch l from m c kind flag stream name peer index =
     for_clients (bodies.Chunk payload) stream = refl
     for_clients (bodies.Ack a) stream = refl
     for_clients _ stream = absurd stream
-
--- a client's is foreign there
-pub client_foreign : (s : Setup) (host : Host) (epoch : ℕ) (l : Looks) (from : Host) (m : Message)
-    → s.kind ≡ Client host epoch → has_flag CLIENT_INITIATED m.flags ≡ true
-    → outer_row s s.kind l from m ≡ Some tooks.Foreign
-client_foreign s host epoch l from m kind flag =
-    ap (λ (k : Kind). outer_row s k l from m) kind ∙ rw flag refl

@@ -10,14 +10,7 @@ use Rattle.rx_model.specs.Spelling.{IsPlain}
 use Rattle.rx_rules.specs.Setup.{Setup, is_client}
 use Rattle.rx_law.specs.Worlds.{Datagram}
 use Rattle.rx_between.proofs.PollSays.{IsStream}
-use Rattle.rx_rounds.proofs.EachItem.{IsOther}
 use Rattle.rx_rounds.proofs.Two.{sent}
-
--- it says a message that is of no call's stream
-pub record SaysElse (d : Datagram) : Type 0 where
-  pub message : Message
-  pub reads : reading_of d.bytes ≡ Ok message
-  pub other : IsOther message.body
 
 -- a message of this call's stream, as a node says it of a connection for this service
 pub record IsOwn (s : Setup) (c : CallName) (service : ℕ) (m : Message) : Type 0 where

@@ -1,6 +1,6 @@
 -- What a message makes of a call that isn't at work any more: its record stays, and its channel owes its code again.
-use Rattle.std.proofs.Common.{◌≡◌, ◌≤◌, cond, ℕ, ℤ, zero, suc, Bool, true, false, List, [], ◌∷◌}
-use Rattle.std.proofs.Common.{Option, Some, None, option_map, refl, ◌∙◌, ap, sym, subst, is_some, arith}
+use Rattle.std.proofs.Common.{◌≡◌, ◌≤◌, cond, ℕ, ℤ, zero, suc, Bool, true, false, List, [], ◌∷◌, Option, Some, None}
+use Rattle.std.proofs.Common.{option_map, refl, ◌∙◌, ap, sym, subst, is_some, arith}
 use Rattle.std.specs.Prelude.{slice_get, unwrap_or}
 use Rattle.rx_model.specs.declared.answers.Took.TheVariants as tooks
 use Rattle.rx_model.specs.declared.names.CallName.{CallName}
@@ -9,8 +9,7 @@ use Rattle.rx_model.specs.Body.{Body}
 use Rattle.rx_model.specs.Body as bodies
 use Rattle.rx_model.specs.Message.{Message}
 use Rattle.rx_model.specs.Names.{Channel, Connection, channel_of, connection_of, same_connection}
-use Rattle.rx_rules.specs.After.{is_ok_end, owing_abort, owing_again, prepared, served_code, taken_over}
-use Rattle.rx_rules.specs.After.{taken_with, told_code}
+use Rattle.rx_rules.specs.After.{owing_abort, owing_again, prepared, served_code, taken_over, taken_with}
 use Rattle.rx_rules.specs.Judging.{is_peer}
 use Rattle.rx_rules.specs.Life.{Life}
 use Rattle.rx_rules.specs.Life as lives
@@ -20,11 +19,10 @@ use Rattle.rx_rules.specs.Records.{used}
 use Rattle.rx_rules.specs.Setup.{Setup}
 use Rattle.rx_rules.proofs.ConnsLaws.{channel_number, conn_if, conn_at-on_conn, number_in, number_of}
 use Rattle.rx_rules.proofs.FindLaws.{find_passes}
+use Rattle.rx_between.proofs.PollSays.{IsStream}
+use Rattle.rx_closing.proofs.Messages.OwingStays.{again_number}
 use Rattle.rx_closing.proofs.Messages.Rows.{IsLast}
 use Rattle.rx_closing.proofs.Messages.TookOwn.{TookOwn, used_peer}
-use Rattle.rx_between.proofs.PollSays.{IsStream}
-use Rattle.rx_history.proofs.GivenLaws.{ackall-number as ackall_number}
-use Rattle.rx_history.proofs.TakenLaws.{abort-number as abort_number}
 use Rattle.rx_closing.proofs.Telling.AbortOwed.{channel_in}
 
 -- ---- a change of one channel, seen at it
@@ -97,16 +95,6 @@ channel_peer l ch f x from =
         by false = refl
 
 -- ---- a message of a call that ended
-
-again_number : (body : Body) (life : Life) (q : ChannelLooks) → (owing_again body life q).number ≡ q.number
-again_number (bodies.Chunk payload) life q =
-    ackall_number (is_ok_end life) (owing_abort (told_code life) q) ∙ abort_number (told_code life) q
-again_number (bodies.Ack a) life q = abort_number (served_code life) q
-again_number bodies.Busy life q = refl
-again_number (bodies.Abort code) life q = refl
-again_number bodies.AckAll life q = refl
-again_number (bodies.Challenge bytes) life q = refl
-again_number (bodies.Response bytes) life q = refl
 
 -- the code of a server's call that is over or broken is owed again
 pub again_owes : (body : Body) (life : Life) (code : ℤ) (q : ChannelLooks) → IsStream body

@@ -1,7 +1,7 @@
 -- What a DATA or an ACK that makes sense makes of the call that it is of, at a node without a key where the call is its
 -- channel's latest.
-use Rattle.std.proofs.Common.{◌≡◌, ◌&&◌, cond, if◌then◌else◌, not, ℕ, Bool, true, false, List}
-use Rattle.std.proofs.Common.{Option, Some, None, option_map, refl, ◌∙◌, ap, sym, subst, is_some}
+use Rattle.std.proofs.Common.{◌≡◌, ◌&&◌, cond, if◌then◌else◌, not, ℕ, Bool, true, false, List, Option, Some, None}
+use Rattle.std.proofs.Common.{option_map, refl, ◌∙◌, ap, sym, subst, is_some}
 use Rattle.std.specs.List.{find}
 use Rattle.rx_model.specs.declared.answers.Took.{Took}
 use Rattle.rx_model.specs.declared.answers.Took.TheVariants as tooks

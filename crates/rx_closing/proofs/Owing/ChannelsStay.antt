@@ -1,7 +1,7 @@
 -- What holds of each channel of a node, and of a fresh one, and is left where something is no longer owed, holds behind
 -- each event, where the event tells its channel only what leaves it; of nodes that challenge none.
-use Rattle.std.proofs.Common.{◌≡◌, ◌&&◌, ◌==◌, not, ℕ, ℤ, zero, suc, cond, if◌then◌else◌, nat_lt, is_some, drop}
-use Rattle.std.proofs.Common.{Bool, true, false, List, [], ◌∷◌, Option, Some, None, Result, Ok, Err, refl, sym, subst}
+use Rattle.std.proofs.Common.{◌≡◌, ◌&&◌, ◌==◌, not, ℕ, ℤ, zero, suc, cond, if◌then◌else◌, nat_lt, is_some, drop, Bool}
+use Rattle.std.proofs.Common.{true, false, List, [], ◌∷◌, Option, Some, None, Result, Ok, Err, refl, sym, subst}
 use Rattle.rx_model.specs.declared.answers.BadMsg.{BadMsg}
 use Rattle.rx_model.specs.declared.answers.ServeRefused.TheVariants as refusals
 use Rattle.rx_model.specs.declared.answers.Took.{Took}

@@ -1,6 +1,6 @@
 -- A node that was polled out owes nothing beside what its calls give, where it challenges none.
-use Rattle.std.proofs.Common.{◌≡◌, ◌<◌, ◌&&◌, nat_le, ℕ, ℤ, zero, suc, cond, Bool, true, false, List, [], ◌∷◌}
-use Rattle.std.proofs.Common.{Option, Some, None, Result, Ok, Err, refl, inl, inr, ap, sym, subst, ◌∙◌, arith, length}
+use Rattle.std.proofs.Common.{◌≡◌, ◌<◌, ◌&&◌, nat_le, ℕ, ℤ, zero, suc, cond, Bool, true, false, List, [], ◌∷◌, Option}
+use Rattle.std.proofs.Common.{Some, None, Result, Ok, Err, refl, inl, inr, ap, sym, subst, ◌∙◌, arith, length}
 use Rattle.std.proofs.Common.{option_map, filter}
 use Rattle.std.specs.Prelude.{option_and_then, slice_get, unwrap_or}
 use Rattle.std.specs.List.{find}
@@ -25,8 +25,8 @@ use Rattle.rx_rules.specs.After.{served_code, told_code}
 use Rattle.rx_rules.specs.Items.{Item, all_channels, busy_items, channel_items, class_items, items, items_of, next_item}
 use Rattle.rx_rules.specs.Items.{owed_item, where_owed}
 use Rattle.rx_rules.specs.Life.{Life, is_calling, is_live}
-use Rattle.rx_rules.specs.Looks.{ChannelLooks, ConnLooks, Looks, call_at, call_named, channel_at}
-use Rattle.rx_rules.specs.Looks.{fresh_channel, is_call, latest}
+use Rattle.rx_rules.specs.Looks.{ChannelLooks, ConnLooks, Looks, call_at, call_named, channel_at, fresh_channel}
+use Rattle.rx_rules.specs.Looks.{is_call, latest}
 use Rattle.rx_rules.specs.Rules.{Legal}
 use Rattle.rx_rules.specs.Setup.{Setup, named}
 use Rattle.rx_rules.proofs.EveryLaws.{Every}
@@ -38,8 +38,8 @@ use Rattle.rx_rounds.proofs.PolledOut.{IsPolledOut}
 use Rattle.rx_closing.proofs.Owing.ChannelsStay.{GoesSo, Hold, IsMute, Lasts, Leaves, ReadsSo, StopsSo, TakesSo}
 use Rattle.rx_closing.proofs.Owing.ChannelsStay.{hold_after}
 use Rattle.rx_closing.proofs.Owing.OwesNone.{IsQuiet, OwesNone}
-use Rattle.rx_closing.proofs.Owing.OwesOnly.{nth_every}
-use Rattle.rx_closing.proofs.Rounds.RoundEvents.{every_at as in_every}
+use Rattle.rx_closing.proofs.Rounds.RoundEvents.{every_at as in_every, nth_every}
+use Rattle.rx_closing.proofs.Telling.AbortOwed.{in_four}
 
 -- ---- no CHALLENGE and no RESPONSE is ever owed
 
@@ -132,16 +132,18 @@ module _ (s : Setup) (mute : IsMute s.class) where
 
 -- ---- lists
 
-every_in : {X : Type 0} (P : X → Type 0) (xs : List X) → ((x : X) → In x xs → P x) → Every P xs
+pub every_in : {X : Type 0} (P : X → Type 0) (xs : List X) → ((x : X) → In x xs → P x) → Every P xs
 every_in P [] each = tt
 every_in P (x ∷ xs) each = (each x (inl refl), every_in P xs (λ y there. each y (inr there)))
 
-every_nth : {X : Type 0} (P : X → Type 0) (xs : List X) → ((n : ℕ) (x : X) → slice_get xs n ≡ Some x → P x) → Every P xs
+-- what holds of each element at its place holds of all
+pub every_nth : {X : Type 0} (P : X → Type 0) (xs : List X) → ((n : ℕ) (x : X) → slice_get xs n ≡ Some x → P x)
+    → Every P xs
 every_nth P [] each = tt
 every_nth P (x ∷ xs) each = (each zero x refl, every_nth P xs (λ n y there. each (suc n) y there))
 
 -- a record is found by its name
-conn_found : (rs : List ConnLooks) (r : ConnLooks) → Differ by_connection rs → In r rs
+pub conn_found : (rs : List ConnLooks) (r : ConnLooks) → Differ by_connection rs → In r rs
     → find (λ q. same_connection q.connection r.connection) rs ≡ Some r
 conn_found [] r differ there = absurd there
 conn_found (q ∷ rs) r differ (inl same) =
@@ -163,13 +165,6 @@ conn_found (q ∷ rs) r differ (inr rest) =
         (sym (connection_is q.connection r.connection same)) (connection_itself r.connection) in
         absurd (let no : false ≡ true = sym apart ∙ one in cc))
     by false other later = later
-
-in_four : (x : Connection) (n : ℕ) → n < 4 → In (record { connection = x; chan = n }) (channels_of x)
-in_four x zero low = inl refl
-in_four x (suc zero) low = inr (inl refl)
-in_four x (suc (suc zero)) low = inr (inr (inl refl))
-in_four x (suc (suc (suc zero))) low = inr (inr (inr (inl refl)))
-in_four x (suc (suc (suc (suc n)))) low = absurd (let no : ⊥ = omega arith in no)
 
 in_all : (rs : List ConnLooks) (r : ConnLooks) (ch : Channel) → In r rs → In ch (channels_of r.connection)
     → In ch (all_channels rs)

@@ -16,9 +16,9 @@ use Rattle.rx_model.specs.Message.{Message}
 use Rattle.rx_model.specs.Names.{Channel, channel_of, connection_of}
 use Rattle.rx_model.specs.Reading.{reading_of}
 use Rattle.rx_model.specs.Strays.{is_stray}
-use Rattle.rx_rules.specs.After.{after, counted, given_body, given_by, given_message, is_end, is_ok_end}
-use Rattle.rx_rules.specs.After.{is_zero, linked, owing_abort, owing_ackall, owing_again, prepared, served_code}
-use Rattle.rx_rules.specs.After.{taken_behind, taken_message, taken_unserved, told_code, turned_away}
+use Rattle.rx_rules.specs.After.{after, counted, given_body, given_by, given_message, is_end, is_ok_end, is_zero}
+use Rattle.rx_rules.specs.After.{linked, owing_abort, owing_ackall, owing_again, prepared, served_code, taken_behind}
+use Rattle.rx_rules.specs.After.{taken_message, taken_unserved, told_code, turned_away}
 use Rattle.rx_rules.specs.CallLooks.{after_shut}
 use Rattle.rx_rules.specs.Judging.{outer_row}
 use Rattle.rx_rules.specs.Life.{Life, is_calling}

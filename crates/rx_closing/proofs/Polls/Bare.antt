@@ -1,6 +1,6 @@
 -- A node that owes nothing but what its calls' ends give.
 use Rattle.std.proofs.Common.{◌≡◌, ◌++◌, ◌&&◌, not, ℕ, Bool, true, false, cond, List, [], ◌∷◌, refl, ap, sym, subst}
-use Rattle.std.proofs.Common.{◌∙◌, inl, inr, ⊎_elim, Option, Some, None, option_map, filter, map}
+use Rattle.std.proofs.Common.{inl, inr, ⊎_elim, Option, Some, None, option_map, filter, map}
 use Rattle.rx_model.specs.declared.names.CallName.{CallName}
 use Rattle.rx_model.specs.Body.{Body}
 use Rattle.rx_model.specs.Body as bodies
@@ -10,12 +10,11 @@ use Rattle.rx_rules.specs.Items.{Item, all_channels, busy_items, challenge_body,
 use Rattle.rx_rules.specs.Items.{items, items_of, items_on, next_item, owed_item, where_owed}
 use Rattle.rx_rules.specs.Life.{is_active, is_live}
 use Rattle.rx_rules.specs.Looks.{CallRecord, ChannelLooks, Looks, call_named, channel_at, is_call, latest}
-use Rattle.rx_rules.specs.Records.{is_silent, silenced}
+use Rattle.rx_rules.specs.Records.{is_silent}
 use Rattle.rx_rules.specs.Setup.{Setup, is_client, receiving_window}
 use Rattle.rx_between.proofs.PollSays.{IsStream}
-use Rattle.rx_rounds.proofs.EachItem.{In, IsOther, is_due, least_in}
+use Rattle.rx_rounds.proofs.EachItem.{In, is_due, least_in}
 use Rattle.rx_rounds.proofs.NodeClock.{in_mapped, in_parts}
-use Rattle.rx_closing.proofs.Polls.GivesOne.{OwesElse}
 use Rattle.rx_closing.proofs.Polls.OnePoll.{sending_stream}
 
 -- a channel that owes nothing
@@ -33,17 +32,8 @@ pub record Bare (l : Looks) : Type 0 where
 
 -- ---- its items
 
-not_both : (body : Body) → IsStream body → IsOther body → ⊥
-not_both (bodies.Chunk payload) stream other = other
-not_both (bodies.Ack a) stream other = other
-not_both (bodies.Abort code) stream other = stream
-not_both bodies.Busy stream other = stream
-not_both bodies.AckAll stream other = stream
-not_both (bodies.Challenge given) stream other = stream
-not_both (bodies.Response given) stream other = stream
-
 -- a call's own are of its stream
-own_stream : (s : Setup) (l : Looks) (o : Option CallRecord) (i : Item) → In i (items_of s l o) → IsStream i.body
+pub own_stream : (s : Setup) (l : Looks) (o : Option CallRecord) (i : Item) → In i (items_of s l o) → IsStream i.body
 own_stream s l None i there = absurd there
 own_stream s l (Some k) i there = by (is_active k.life && not (is_silent l.now k)) there
   where
@@ -114,7 +104,8 @@ channels_stream s l (ch ∷ chs) i none there =
     (λ (h : In i (items_on s l chs)). channels_stream s l chs i none h)
     (in_parts i (channel_items s l ch) (items_on s l chs) there)
 
-in_filtered : {X : Type 0} (p : X → Bool) (x : X) (xs : List X) → In x (filter p xs) → In x xs
+-- what is left of a list was in it
+pub in_filtered : {X : Type 0} (p : X → Bool) (x : X) (xs : List X) → In x (filter p xs) → In x xs
 in_filtered p x [] there = absurd there
 in_filtered {X = X} p x (y ∷ xs) there =
     (elim (p y) as (λ b. In x (cond b (y ∷ filter p xs) (filter p xs)) → In x (y ∷ xs)) [
@@ -131,19 +122,3 @@ bare_next s l i none is =
     channels_stream s l (all_channels l.conns) i none
     (in_filtered (is_due l) i (items s l)
     (least_in (λ (j : Item). j.rank) i (filter (is_due l) (items s l)) is))
-
--- so it owes nothing else
-pub bare_owes : (s : Setup) (l : Looks) → Bare l → OwesElse s l → ⊥
-bare_owes s l bare owes =
-    ⊎_elim (λ (some : l.strays ≡ [] → ⊥). some bare.strays)
-    (λ (x : (i : Item) × (next_item s (silenced l) ≡ Some i) × IsOther i.body).
-    not_both (x.0).body (bare_next s (silenced l) x.0 bare.channels x.1) x.2) owes.is
-
--- and neither does it behind what its call's end gave
-pub bare_given : (l m : Looks) → m.strays ≡ l.strays → ((ch : Channel) → channel_at m ch ≡ channel_at l ch) → Bare l
-    → Bare m
-bare_given l m strays channels bare =
-    record {
-      strays = strays ∙ bare.strays;
-      channels = λ ch. subst OwesNothing (sym (channels ch)) (bare.channels ch);
-    }

@@ -11,8 +11,7 @@ use Rattle.rx_model.specs.Message.{Message}
 use Rattle.rx_model.specs.Reading.{reading_of}
 use Rattle.rx_rules.specs.After.{looks}
 use Rattle.rx_rules.specs.Items.{Item, poll_answer}
-use Rattle.rx_rules.specs.Life.{Life, after_silence, is_active, is_live}
-use Rattle.rx_rules.specs.Life as lives
+use Rattle.rx_rules.specs.Life.{after_silence, is_active, is_live}
 use Rattle.rx_rules.specs.Looks.{CallRecord, Looks, call_at}
 use Rattle.rx_rules.specs.Records.{is_silent, silence_of, silenced, unless_silent}
 use Rattle.rx_rules.specs.Rules.{Legal}
@@ -27,17 +26,9 @@ use Rattle.rx_between.proofs.EachItem.{IsOther, Sends}
 use Rattle.rx_between.proofs.EachItem as each
 use Rattle.rx_between.proofs.GivenAcks.{sends_there}
 use Rattle.rx_between.proofs.PollSays.{IsStream}
+use Rattle.rx_closing.proofs.Ends.RoomLaws.{active_lives}
 
 -- ---- lives
-
-pub active_live : (x : Life) → is_active x ≡ true → is_live x ≡ true
-active_live lives.Calling is = refl
-active_live (lives.Ended end) is = is
-active_live lives.Waiting is = refl
-active_live lives.Accepted is = refl
-active_live lives.Finished is = refl
-active_live (lives.Broken code) is = refl
-active_live (lives.Over code) is = is
 
 pub and_first : (a b : Bool) → (a && b) ≡ true → a ≡ true
 and_first true b is = refl
@@ -51,7 +42,7 @@ live_unsilenced now k living = of (is_silent now k) refl living
         → is_live (cond b (record k { life = after_silence (silence_of now k) k.life }) k).life ≡ true
         → is_live k.life ≡ true
     of true silent living =
-        active_live k.life (and_first (is_active k.life) (nat_le SILENCE_MS (silence_of now k)) silent)
+        active_lives k.life (and_first (is_active k.life) (nat_le SILENCE_MS (silence_of now k)) silent)
     of false awake living = living
 
 -- a call that lives
@@ -114,7 +105,7 @@ module _ (s : Setup) (h : List Event) (fits : FitsSetup s) (legal : Legal s h) (
           record {
             call = d.call;
             there = subst (λ (n : CallName). call_at l n ≡ Some d.call) own (sends_there s l g.item d);
-            living = active_live d.call.life d.active;
+            living = active_lives d.call.life d.active;
           })
 
   no_stray : (p : GivesPlain s (looks s h) to bytes) → p.message ≡ m → GivesStray (looks s h) to p.message → ⊥

@@ -1,33 +1,27 @@
--- A poll of a node at which no call but one lives: what that call's end gives next is given, or a message of no stream.
-use Rattle.std.proofs.Common.{◌≡◌, ◌+◌, ℕ, Bool, true, false, cond, refl, ap, sym, subst, ◌∙◌, Option, Some, None}
-use Rattle.std.proofs.Common.{option_map, filter, nat_le}
+-- What a poll leaves of a call and of its connection, and what the datagrams of its end's stream are.
+use Rattle.std.proofs.Common.{◌≡◌, ◌+◌, ℕ, Bool, true, false, cond, refl, ap, sym, ◌∙◌, Option, Some, None, option_map}
+use Rattle.std.proofs.Common.{filter, nat_le}
 use Rattle.rx_model.specs.declared.names.CallName.{CallName}
 use Rattle.rx_model.specs.declared.names.Host.{Host}
 use Rattle.rx_model.specs.declared.wire.TheConstants.{CLIENT_INITIATED, REQUEST_ACK}
 use Rattle.rx_model.specs.Body.{Body}
 use Rattle.rx_model.specs.Body as bodies
 use Rattle.rx_model.specs.Message.{Message, has_flag}
-use Rattle.rx_model.specs.Names.{Connection, connection_of, same_connection, same_name}
-use Rattle.rx_model.proofs.NameLaws.{name_is}
+use Rattle.rx_model.specs.Names.{Connection, connection_of, same_connection}
 use Rattle.rx_rules.specs.After.{counted, given_body}
 use Rattle.rx_rules.specs.CallItems.{CallItem, Sending, Piece, Ack, after_sending, call_items, flags_of, next_sending}
 use Rattle.rx_rules.specs.CallItems.{sending_body, sending_flags}
 use Rattle.rx_rules.specs.CallLooks.{CallLooks, NodeView}
-use Rattle.rx_rules.specs.Items.{Item}
 use Rattle.rx_rules.specs.Least.{least_by}
 use Rattle.rx_rules.specs.Life.{Life, after_silence, is_active, is_live}
 use Rattle.rx_rules.specs.Life as lives
-use Rattle.rx_rules.specs.Looks.{CallRecord, ConnLooks, Looks, call_at, conn_at, latest_name, on_conn}
+use Rattle.rx_rules.specs.Looks.{CallRecord, ConnLooks, Looks, call_at, conn_at, on_conn}
 use Rattle.rx_rules.specs.Records.{is_silent, silence_of, silenced, unless_silent}
-use Rattle.rx_rules.specs.Setup.{Kind, Server, Client, Setup, is_client, side_flag}
+use Rattle.rx_rules.specs.Setup.{Kind, Server, Client, is_client, side_flag}
 use Rattle.rx_rules.proofs.CallsLaws.{call_at-on_calls}
 use Rattle.rx_rules.proofs.ConnsLaws.{KeepsConns, conn_at-on_conn, conn_if}
-use Rattle.rx_rules.proofs.FindLaws.{find_passes}
 use Rattle.rx_between.proofs.PollSays.{IsStream}
 use Rattle.rx_between.proofs.EachChange.{some_is as some_call}
-use Rattle.rx_rounds.proofs.EachItem.{Sends}
-use Rattle.rx_closing.proofs.Frame.{IsAlone}
-use Rattle.rx_closing.proofs.Polls.LiveGivings.{and_first as both_true}
 
 -- ---- silence
 
@@ -83,21 +77,6 @@ active_before l c k there active = of (call_at l c) refl (sym (silenced_at l c) 
           is ∙ ap (λ (r : CallRecord). Some r) one.0,
           ap (is_silent l.now) (sym one.0) ∙ one.1,
         )
-
--- one that lives then lived before
-pub live_before : (l : Looks) (c : CallName) (k : CallRecord) → call_at (silenced l) c ≡ Some k
-    → is_live k.life ≡ true → (j : CallRecord) × (call_at l c ≡ Some j) × (is_live j.life ≡ true)
-live_before l c k there living = of (call_at l c) refl (sym (silenced_at l c) ∙ there)
-  where
-    by : (j : CallRecord) (b : Bool) → is_silent l.now j ≡ b
-        → cond b (record j { life = after_silence (silence_of l.now j) j.life }) j ≡ k → is_live j.life ≡ true
-    by j true silent same = active_lives j.life (both_true (is_active j.life) _ silent)
-    by j false awake same = ap (λ (r : CallRecord). is_live r.life) same ∙ living
-
-    of : (o : Option CallRecord) → call_at l c ≡ o → option_map (unless_silent l.now) o ≡ Some k
-        → (j : CallRecord) × (call_at l c ≡ Some j) × (is_live j.life ≡ true)
-    of None is same = absurd cc
-    of (Some j) is same = (j, is, by j (is_silent l.now j) refl (some_call (unless_silent l.now j) k same))
 
 -- ---- connections
 
@@ -160,43 +139,6 @@ conn_given x n m body l peer service old = of body
 
 -- ---- a node at work, and one that rests
 
--- no call but this one lives there, and it is active and not silent
-pub record Works (c : CallName) (peer : Host) (service : ℕ) (l : Looks) (r : CallRecord) : Type 0 where
-  pub there : call_at l c ≡ Some r
-  pub active : is_active r.life ≡ true
-  pub awake : is_silent l.now r ≡ false
-  pub alone : IsAlone c l
-  pub conn : ConnIs l (connection_of c) peer service
-
--- no call but this one lives there, and no call says anything: each that is active is silent
-pub record Rests (c : CallName) (l : Looks) : Type 0 where
-  pub alone : IsAlone c l
-  pub quiet : (d : CallName) (r : CallRecord) → call_at l d ≡ Some r → is_active r.life ≡ true
-      → is_silent l.now r ≡ true
-
--- where the call isn't known
-pub rests_none : (c : CallName) (l : Looks) → IsAlone c l → call_at l c ≡ None → Rests c l
-rests_none c l alone none =
-    record {
-      alone = alone;
-      quiet = λ d r there active. absurd (let own : d ≡ c = alone d r there (active_lives r.life active) in
-          let some : call_at l c ≡ Some r = ap (call_at l) (sym own) ∙ there in
-          let no : ◌≡◌ {A = Option CallRecord} None (Some r) = sym none ∙ some in cc (no));
-    }
-
--- where it isn't active, or is silent
-pub rests_quiet : (c : CallName) (l : Looks) (k : CallRecord) → IsAlone c l → call_at l c ≡ Some k
-    → (is_active k.life ≡ true → is_silent l.now k ≡ true) → Rests c l
-rests_quiet c l k alone there quiet =
-    record {
-      alone = alone;
-      quiet = λ d r is active. (let own : d ≡ c = alone d r is (active_lives r.life active) in
-          let some : call_at l c ≡ Some r = ap (call_at l) (sym own) ∙ is in
-          let same : k ≡ r = some_call k r (sym there ∙ some) in
-          subst (λ (j : CallRecord). is_silent l.now j ≡ true) same
-          (quiet (ap (λ (j : CallRecord). is_active j.life) same ∙ active)));
-    }
-
 -- of each call that isn't silent
 pub still_there : (l : Looks) (c : CallName) (r : CallRecord) → call_at l c ≡ Some r → is_silent l.now r ≡ false
     → call_at (silenced l) c ≡ Some r
@@ -204,34 +146,7 @@ still_there l c r there awake =
     silenced_at l c ∙ ap (option_map (unless_silent l.now)) there
     ∙ ap (λ (b : Bool). Some (cond b (record r { life = after_silence (silence_of l.now r) r.life }) r)) awake
 
--- no call comes to life by silence
-pub alone_silenced : (c : CallName) (l : Looks) → IsAlone c l → IsAlone c (silenced l)
-alone_silenced c l alone d k there living = (let b = live_before l d k there living in alone d b.0 b.1 b.2)
-
 -- ---- what it is that a node gives
-
-some_sends : (s : Setup) (l : Looks) (i : Item) (d : Sends s l i) → call_at l d.call.name ≡ Some d.call
-some_sends s l i d =
-    let own : d.call.name ≡ latest_name l d.channel =
-    name_is d.call.name (latest_name l d.channel)
-    (find_passes (λ j. same_name j.name (latest_name l d.channel)) l.calls d.call d.there) in
-    subst (λ (n : CallName). call_at l n ≡ Some d.call) (sym own) d.there
-
--- the one call that lives there
-pub who_sends : (s : Setup) (c : CallName) (l : Looks) (r : CallRecord) (i : Item) → IsAlone c l → call_at l c ≡ Some r
-    → (d : Sends s (silenced l) i) → (d.call ≡ r) × (d.call.name ≡ c)
-who_sends s c l r i alone there d =
-    let before = active_before l d.call.name d.call (some_sends s (silenced l) i d) d.active in
-    let own : d.call.name ≡ c = alone d.call.name d.call before.0 (active_lives d.call.life d.active) in
-    let same : call_at l c ≡ Some d.call = ap (call_at l) (sym own) ∙ before.0 in
-    (some_call d.call r (sym same ∙ there), own)
-
--- none at a node that rests
-pub none_sends : (s : Setup) (c : CallName) (l : Looks) (i : Item) → Rests c l → Sends s (silenced l) i → ⊥
-none_sends s c l i rests d =
-    (let before = active_before l d.call.name d.call (some_sends s (silenced l) i d) d.active in
-    let silent = rests.quiet d.call.name d.call before.0 d.active in
-    let no : true ≡ false = sym silent ∙ before.1 in cc)
 
 -- whatever slots are left
 pub next_same : (v w : NodeView) (k : CallLooks) → v.client ≡ w.client → v.now ≡ w.now

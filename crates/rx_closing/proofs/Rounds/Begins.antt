@@ -1,4 +1,5 @@
--- The scene of the one call that lives as fair rounds begin behind a driven plan.
+-- The stage at which fair rounds begin behind a driven plan: its world, its nodes, and the names of the calls that live
+-- there.
 use Rattle.std.proofs.Common.{◌≡◌, ◌⊎◌, ◌+◌, not, ℕ, zero, suc, Bool, true, false, cond, List, [], ◌∷◌, reverse, Option}
 use Rattle.std.proofs.Common.{Some, None, refl, inl, inr, ap, sym, subst, filter, arith, option_map, unwrap_or}
 use Rattle.std.specs.List.{find}
@@ -6,21 +7,17 @@ use Rattle.std.specs.Prelude.{slice_get, IfSome, IsSomeAnd}
 use Rattle.rx_model.specs.declared.event.Event.{Event}
 use Rattle.rx_model.specs.declared.event.Noted.{Noted}
 use Rattle.rx_model.specs.declared.names.CallName.{CallName}
-use Rattle.rx_model.specs.declared.names.Host.{Host}
 use Rattle.rx_model.specs.Names.{same_name}
 use Rattle.rx_model.proofs.NameLaws.{name_is}
 use Rattle.rx_rules.specs.After.{looks}
 use Rattle.rx_rules.specs.Classes.{null}
 use Rattle.rx_rules.specs.Life.{is_live}
 use Rattle.rx_rules.specs.Looks.{CallRecord, call_at, is_call}
-use Rattle.rx_rules.specs.Rules.{Allowed, Legal}
-use Rattle.rx_rules.specs.Setup.{Kind, Client, FitsSetup, IsServer, Server}
-use Rattle.rx_history.specs.Sides.{IsClientAt, Node, side}
+use Rattle.rx_rules.specs.Rules.{Allowed}
+use Rattle.rx_history.specs.Sides.{Node, side}
 use Rattle.rx_law.specs.Promises.{ServerForgotNone}
 use Rattle.rx_law.specs.Times.{Timely}
 use Rattle.rx_law.specs.Worlds.{Sides, World}
-use Rattle.rx_law.proofs.World.{if-some}
-use Rattle.rx_law.proofs.WorldTimed.{found-and}
 use Rattle.rx_jobs.specs.Handlers.{Handlers}
 use Rattle.rx_events.specs.Joint.{IsAllowedAt}
 use Rattle.rx_events.specs.Waits.{over_nodes}
@@ -39,12 +36,12 @@ use Rattle.rx_plan.proofs.QuietEvents.{AreServed}
 use Rattle.rx_plan.proofs.SoundPlan.{lines_in_range}
 use Rattle.rx_rounds.proofs.EachItem.{In, in_behind, in_filter, in_front, in_map}
 use Rattle.rx_rounds.proofs.GivesOrMoves.{over_in}
-use Rattle.rx_closing.specs.Closing.{RoundsBehind}
 use Rattle.rx_closing.specs.Living.{all_live, call_lives_at, is_served, joined_names, live_names, looks_of, new_names}
-use Rattle.rx_closing.proofs.Frame.{IsAlone, IsPlain, Scene}
+use Rattle.rx_closing.specs.Closing.{RoundsBehind}
+use Rattle.rx_closing.proofs.Frame.{IsPlain}
 use Rattle.rx_closing.proofs.Rounds.Chains.{Adds, AnyAt, adds_carried, adds_none}
+use Rattle.rx_closing.proofs.Rounds.ClientsApart.{allowed_all}
 use Rattle.rx_closing.proofs.Rounds.KeptBefore.{kept_before}
-use Rattle.rx_closing.proofs.Rounds.LoneWorld.{allowed_all, own_call_kind}
 use Rattle.rx_closing.proofs.Rounds.RoundEvents.{Carries, IsNext, rounds_lead}
 
 -- ---- the nodes of a plan are unprompted
@@ -134,22 +131,6 @@ live_among s (suc i) n d there inside = by (is_served s d) refl
         in_joined d (new_names s (suc i) n) (over_nodes (new_names s) 0 s.nodes) (at (new_names s))
         (in_filter (λ (c : CallName). not (is_served s c)) d (live_names s (suc i) n) inside (ap not new))
 
--- where one call lives, it is alone at each node
-pub one_alone : (s : Stage) (c : CallName) → all_live s ≡ c ∷ [] → (j : ℕ)
-    → IfSome (slice_get s.nodes j) (λ n. IsAlone c (looks_of s j n))
-one_alone s c only j = of (slice_get s.nodes j) refl
-  where
-    one : (d : CallName) → In d (c ∷ []) → d ≡ c
-    one d (inl same) = same
-    one d (inr none) = absurd none
-
-    of : (o : Option Node) → slice_get s.nodes j ≡ o → IfSome o (λ n. IsAlone c (looks_of s j n))
-    of None there = tt
-    of (Some n) there =
-        λ d r found living.
-        one d (subst (λ (cs : List CallName). In d cs) only
-        (live_among s j n d there (live_named s j n d r found living)))
-
 -- ---- the rounds behind a plan
 
 allowed_carried : (nodes : List Node) → Carries nodes AnyAt (AreAllowed nodes)
@@ -231,43 +212,3 @@ module _ (g : Handlers) (ls : List Numbered) (n : ℕ) (s t : Stage) (b : Rounds
           → IfSome o IsPlain
       of None unprompted open_ = tt
       of (Some m) unprompted open_ = record { unprompted = unprompted; open_ = open_ }
-
-  -- the scene of the one call that lives at their beginning
-  pub begins_scene : (c : CallName) (k : ℕ) (client : Node) → all_live s ≡ c ∷ []
-      → slice_get s.nodes (suc k) ≡ Some client → call_lives_at s c (suc k) client ≡ true
-      → (server : Node) × Scene c k client server s
-  begins_scene c k client only there living =
-      let w = behind_world in
-      let first = found-and (slice_get s.nodes 0) (λ m. IsServer m.setup.kind) w.sides.nodes_are.server in (
-        first.0,
-        record {
-          world = w;
-          kept = begins_kept;
-          server_there = first.1;
-          client_there = there;
-          client_is = client_kind;
-          plain = behind_plain;
-          alone = one_alone s c only;
-        },
-      )
-    where
-      home : (q : Kind) → IsClientAt client.host q → (host : Host) × ((epoch : ℕ) × (q ≡ Client host epoch))
-      home (Client host epoch) at = (host, (epoch, refl))
-      home (Server service nonces) at = absurd at
-
-      client_kind : client.setup.kind ≡ Client c.host c.epoch
-      client_kind =
-          (let q = home client.setup.kind (if-some (slice_get s.nodes (suc k)) client
-          (λ m. IsClientAt m.host m.setup.kind) there (behind_world.sides.nodes_are.clients k)) in
-          of q.0 q.1.0 q.1.1 (call_at (looks_of s (suc k) client) c) refl living)
-        where
-          of : (host : Host) (epoch : ℕ) → client.setup.kind ≡ Client host epoch → (o : Option CallRecord)
-              → call_at (looks_of s (suc k) client) c ≡ o → is_call (λ r. is_live r.life) o ≡ true
-              → client.setup.kind ≡ Client c.host c.epoch
-          of host epoch kind None found living = absurd cc
-          of host epoch kind (Some r) found living =
-              own_call_kind client.setup (side (suc k) s.history) c r host epoch kind
-              (if-some (slice_get s.nodes (suc k)) client (λ m. FitsSetup m.setup) there
-              (behind_world.sides.nodes_are.fits (suc k)))
-              (if-some (slice_get s.nodes (suc k)) client (λ m. Legal m.setup (side (suc k) s.history)) there
-              (behind_world.sides.legal (suc k))) found

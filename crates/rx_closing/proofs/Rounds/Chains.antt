@@ -1,9 +1,9 @@
 -- Rounds one after another, in each of which a call lives: what rounds made behind which a client's call still lives.
+use Rattle.std.specs.List.{find, list_any}
+use Rattle.std.specs.Prelude.{slice_get}
 use Rattle.std.proofs.Common.{◌≡◌, ◌+◌, ◌++◌, ◌||◌, nat_lt, ℕ, zero, suc, Bool, true, false, List, [], ◌∷◌, Option}
 use Rattle.std.proofs.Common.{Some, None, refl, ap, sym, subst, ◌∙◌, append_assoc, arith, cond, ◌==◌, length}
 use Rattle.std.proofs.lemmas.Bool.{lt-ltb}
-use Rattle.std.specs.List.{find, list_any}
-use Rattle.std.specs.Prelude.{slice_get}
 use Rattle.rx_model.specs.declared.answers.End.{End}
 use Rattle.rx_model.specs.declared.event.Event.{Event}
 use Rattle.rx_model.specs.declared.event.Event.TheVariants as events
@@ -22,15 +22,16 @@ use Rattle.rx_rules.proofs.EveryLaws.{Every}
 use Rattle.rx_history.specs.Sides.{Node, side}
 use Rattle.rx_history.specs.Streams.{end_at, end_by, end_of_life}
 use Rattle.rx_law.specs.Worlds.{Datagram}
+use Rattle.rx_wire.specs.Turns.{noted}
+use Rattle.rx_events.specs.Waits.{any_lives, lives_at, over_nodes}
 use Rattle.rx_asks.specs.History.{IsCalled}
 use Rattle.rx_jobs.specs.Handlers.{Handlers}
-use Rattle.rx_events.specs.Waits.{any_lives, lives_at, over_nodes}
-use Rattle.rx_wire.specs.Turns.{noted}
 use Rattle.rx_plan.specs.Parts.{To, Then, by_test, ends}
 use Rattle.rx_plan.specs.Rounds.{round, rounds}
 use Rattle.rx_plan.specs.Stages.{Stage}
 use Rattle.rx_plan.proofs.ClientEnds.{IsCalledOr, IsThere, calls_called, end_stays, there_stays}
 use Rattle.rx_plan.proofs.JointMoments.{legal_parts, side_parts}
+use Rattle.rx_plan.proofs.Bags.{behind}
 use Rattle.rx_rounds.proofs.Making.{ends_to, then_to}
 use Rattle.rx_rounds.proofs.Rounded.{RoundMade, round_to}
 use Rattle.rx_closing.specs.Living.{call_lives_at, looks_of}
@@ -348,3 +349,9 @@ lives_between c k client host epoch s u t kind fits legal a b first last =
     whole : side k t.history ≡ side k b.more ++ (side k a.more ++ side k s.history)
     whole =
         ap (side k) b.is ∙ side_parts k b.more u.history ∙ ap (λ (h : List Event). side k b.more ++ h) middle
+
+-- events are added behind a history
+pub behind_adds_all : (es h : List Noted) → Adds h (behind es h)
+behind_adds_all [] h = adds_none h
+behind_adds_all (e ∷ es) h =
+    adds_both h (e ∷ h) (behind es (e ∷ h)) (adds_one h h e (adds_none h)) (behind_adds_all es (e ∷ h))

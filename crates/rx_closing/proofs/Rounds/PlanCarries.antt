@@ -1,7 +1,7 @@
 -- What holds behind each event of a driven plan holds behind the whole plan.
 use Rattle.std.proofs.Common.{◌≡◌, ◌⊎◌, ◌∙◌, if◌then◌else◌, ℕ, suc, Bool, true, false, List, [], ◌∷◌, ◌++◌, length}
-use Rattle.std.proofs.Common.{Option, Some, None, refl, inl, inr, ap, sym, subst, append_assoc, slice_get}
-use Rattle.std.proofs.Common.{string_bytes, All, option_map, arith}
+use Rattle.std.proofs.Common.{Option, Some, None, refl, inl, inr, ap, sym, subst, append_assoc, slice_get, string_bytes}
+use Rattle.std.proofs.Common.{All, option_map, arith}
 use Rattle.std.specs.Option.{option_and_then}
 use Rattle.std.proofs.lemmas.List.{length-append}
 use Rattle.std.proofs.lemmas.List.Elements.{All-head, All-tail}

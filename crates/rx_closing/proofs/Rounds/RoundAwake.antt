@@ -16,11 +16,11 @@ use Rattle.rx_law.proofs.World.{if-some}
 use Rattle.rx_plan.proofs.Cuts.{side_split}
 use Rattle.rx_plan.specs.Stages.{Stage}
 use Rattle.rx_closing.specs.Living.{looks_of}
-use Rattle.rx_closing.proofs.Frame.{Scene}
+use Rattle.rx_closing.proofs.Frame.{OneOf}
 use Rattle.rx_closing.proofs.Rounds.SpokeHolds.{awake_stays}
 
 -- at a node of a scene, from an earlier stage with the same moment on
-pub awake_between : (c : CallName) (k : ℕ) (client server : Node) (s t : Stage) → Scene c k client server t
+pub awake_between : (c : CallName) (k : ℕ) (client server : Node) (s t : Stage) → OneOf c k client server t
     → (later : List Noted) → t.history ≡ later ++ s.history → (j : ℕ) (n : Node) → slice_get t.nodes j ≡ Some n
     → moment j t.history ≡ moment j s.history → (a b : CallRecord) → call_at (looks_of s j n) c ≡ Some a
     → is_active a.life ≡ true → is_silent (looks_of s j n).now a ≡ false → call_at (looks_of t j n) c ≡ Some b

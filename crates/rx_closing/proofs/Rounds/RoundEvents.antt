@@ -14,15 +14,15 @@ use Rattle.rx_rules.proofs.EveryLaws.{Every, every-append}
 use Rattle.rx_history.specs.Sides.{Node, moment, side}
 use Rattle.rx_law.specs.Worlds.{Datagram}
 use Rattle.rx_law.proofs.WorldTimed.{found-and}
+use Rattle.rx_wire.specs.Turns.{noted}
+use Rattle.rx_events.specs.Events.{IsClocked, IsPolled, IsTaken}
+use Rattle.rx_events.specs.Joint.{IsAllowedAt}
+use Rattle.rx_events.specs.Waits.{any_lives, least_wait}
 use Rattle.rx_asks.specs.Asks.{Asking, IsAsked, begun, calling}
 use Rattle.rx_asks.specs.declared.ask.TheConstants.{REPLY_BYTES}
 use Rattle.rx_jobs.specs.Dispatching.{accepts, dispatching}
 use Rattle.rx_jobs.specs.Handlers.{Handlers}
 use Rattle.rx_jobs.specs.Jobs.{Ask, IsCall}
-use Rattle.rx_events.specs.Events.{IsClocked, IsPolled, IsTaken}
-use Rattle.rx_events.specs.Joint.{IsAllowedAt}
-use Rattle.rx_events.specs.Waits.{any_lives, least_wait}
-use Rattle.rx_wire.specs.Turns.{noted}
 use Rattle.rx_plan.specs.Network.{all_nodes, below, comes_to, delivers, is_for}
 use Rattle.rx_plan.specs.Parts.{One, Part, To, by_test, each, ends}
 use Rattle.rx_plan.specs.Programs.{Turn}
@@ -33,6 +33,13 @@ use Rattle.rx_plan.specs.Turned.{dispatches, turns_all, turns_at, turns_of, turn
 use Rattle.rx_plan.proofs.Leading.{Leads, each_lead, ends_lead, one_lead, test_lead, then_lead, turn_lead}
 use Rattle.rx_rounds.proofs.EachItem.{In}
 use Rattle.rx_rounds.proofs.Rounded.{RoundMade, round_to}
+
+-- ---- a node
+
+pub nth_every : {X : Type 0} (P : X → Type 0) (xs : List X) (n : ℕ) (x : X) → slice_get xs n ≡ Some x → Every P xs → P x
+nth_every P [] n x there all = absurd cc
+nth_every P (y ∷ xs) zero x there all = (let same : y ≡ x = cc in subst P same all.0)
+nth_every P (y ∷ xs) (suc n) x there all = nth_every P xs n x there all.1
 
 -- ---- what is carried
 

@@ -1,10 +1,10 @@
--- The two ends of the one call that lives, at a stage: each is fit, and they are linked where both are drained.
+-- The two ends of a call at a stage: each is fit, and they are linked where both are drained.
 use Rattle.std.proofs.Common.{◌≡◌, ℕ, suc, true, false, Some, ap, refl}
 use Rattle.std.specs.Prelude.{slice_get}
 use Rattle.rx_model.specs.declared.names.CallName.{CallName}
 use Rattle.rx_model.specs.Names.{connection_of}
 use Rattle.rx_rules.specs.Looks.{CallRecord}
-use Rattle.rx_rules.specs.Setup.{Kind, Server, Client, IsServer, is_client}
+use Rattle.rx_rules.specs.Setup.{is_client}
 use Rattle.rx_history.specs.Sides.{Node, side}
 use Rattle.rx_law.specs.Promises.{ends_in}
 use Rattle.rx_law.proofs.Joint.{Fed}
@@ -16,13 +16,10 @@ use Rattle.rx_closing.specs.Living.{looks_of}
 use Rattle.rx_closing.proofs.Ends.BothEnds.{IsFit, Linked}
 use Rattle.rx_closing.proofs.Ends.FitAlways.{fit_always}
 use Rattle.rx_closing.proofs.Ends.LinkedAt.{linked_at}
-use Rattle.rx_closing.proofs.Frame.{IsPlain, Scene, asked_in, served_in}
+use Rattle.rx_closing.proofs.Far.FinishedOpen.{server_view}
+use Rattle.rx_closing.proofs.Frame.{IsPlain, OneOf, asked_in, served_in}
 
-server-kind : (kind : Kind) → IsServer kind → is_client kind ≡ false
-server-kind (Server service nonces) server = refl
-server-kind (Client host epoch) server = absurd server
-
-module _ (c : CallName) (k : ℕ) (client server : Node) (s : Stage) (scene : Scene c k client server s) where
+module _ (c : CallName) (k : ℕ) (client server : Node) (s : Stage) (scene : OneOf c k client server s) where
   fed : Fed (ends_in (connection_of c) (suc k) client server) s.history
   fed =
       fed_in s.nodes s.history scene.world (suc k) client server (connection_of c) scene.client_there scene.client_is
@@ -33,7 +30,7 @@ module _ (c : CallName) (k : ℕ) (client server : Node) (s : Stage) (scene : Sc
   client_kind = ap is_client scene.client_is
 
   pub server_kind : is_client server.setup.kind ≡ false
-  server_kind = server-kind server.setup.kind fed.server_kind
+  server_kind = server_view server.setup.kind fed.server_kind
 
   -- each is fit
   pub client_fits_at : (a : CallRecord) → asked_in c k client s ≡ Some a

@@ -22,8 +22,8 @@ use Rattle.rx_rules.specs.Setup.{Client, FitsSetup, Kind, Server, Setup, sending
 use Rattle.rx_history.proofs.Moments.{now-after}
 use Rattle.rx_history.specs.Sides.{with_clock}
 use Rattle.rx_between.proofs.EachEvent.{each_step}
-use Rattle.rx_between.proofs.EachStep.{CallStep, EndStep, Goes, IsMade, Opens, Starts, finishes, gives}
-use Rattle.rx_between.proofs.EachStep.{reads, shuts, stays, takes, writes}
+use Rattle.rx_between.proofs.EachStep.{CallStep, EndStep, Goes, IsMade, Opens, Starts, finishes, gives, reads, shuts}
+use Rattle.rx_between.proofs.EachStep.{stays, takes, writes}
 use Rattle.rx_closing.proofs.Polls.OnePoll.{sending_heard as given_heard}
 
 -- neither is later than this moment

@@ -18,7 +18,8 @@ use Rattle.rx_between.proofs.EachStep.{stays, takes, writes}
 use Rattle.rx_closing.proofs.Rounds.SpokeHolds.{IsPast, body_spoke as body-spoke, chunk_spoke as chunk-spoke}
 use Rattle.rx_closing.proofs.Rounds.SpokeHolds.{past_holds}
 
-taken-spoke : (v : NodeView) (got : Took) (m : Message) (k : CallLooks) → (after_taken v got m k).spoke ≡ k.spoke
+-- what a call takes leaves when it spoke last
+pub taken-spoke : (v : NodeView) (got : Took) (m : Message) (k : CallLooks) → (after_taken v got m k).spoke ≡ k.spoke
 taken-spoke v tooks.Kept m k = chunk-spoke v tooks.Kept m m.body k
 taken-spoke v tooks.Repeat m k = chunk-spoke v tooks.Repeat m m.body k
 taken-spoke v tooks.Beyond m k = chunk-spoke v tooks.Beyond m m.body k

@@ -1,10 +1,9 @@
 -- Parts of a run that make no connection and move no clock: what their events leave.
-use Rattle.std.proofs.Common.{◌≡◌, ◌==◌, ℕ, true, List, [], length, Option, Some, None, slice_get, subst, sym}
+use Rattle.std.proofs.Common.{◌≡◌, ◌==◌, ℕ, true, List, [], length, Option, Some, None, slice_get, subst, sym, ◌∷◌}
 use Rattle.rx_model.specs.declared.event.Event.{Event}
 use Rattle.rx_model.specs.declared.event.Event.TheVariants as events
 use Rattle.rx_model.specs.declared.event.Noted.{Noted}
 use Rattle.rx_model.specs.declared.names.Host.{Host}
-use Rattle.std.proofs.Common.{◌∷◌}
 use Rattle.rx_asks.specs.Asks.{Asking, Cancels, IsAsked as IsAskedOf, Offers, Reads, Shuts, begun as caller_begun}
 use Rattle.rx_asks.specs.Asks.{calling}
 use Rattle.rx_asks.specs.declared.ask.TheConstants.{REPLY_BYTES}

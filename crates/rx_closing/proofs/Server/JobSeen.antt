@@ -1,7 +1,7 @@
 -- A turn of a dispatcher seen from one of its calls: the steps of other jobs leave it, and its own job has its step
 -- once.
-use Rattle.std.proofs.Common.{◌≡◌, ℕ, ℤ, cond, if◌then◌else◌, Bool, true, false, List, [], ◌∷◌, take, Option}
-use Rattle.std.proofs.Common.{Some, None, option_map, Result, Ok, Err, refl, ap, sym, subst, ◌∙◌}
+use Rattle.std.proofs.Common.{◌≡◌, ℕ, ℤ, cond, if◌then◌else◌, Bool, true, false, List, [], ◌∷◌, take, Option, Some}
+use Rattle.std.proofs.Common.{None, option_map, Result, Ok, Err, refl, ap, sym, subst, ◌∙◌}
 use Rattle.rx_model.specs.declared.answers.ReadGot.{ReadGot}
 use Rattle.rx_model.specs.declared.answers.ReadGot.TheVariants as readers
 use Rattle.rx_model.specs.declared.answers.ServeRefused.{ServeRefused}
@@ -10,13 +10,12 @@ use Rattle.rx_model.specs.declared.event.Event.{Event}
 use Rattle.rx_model.specs.declared.event.Event.TheVariants as events
 use Rattle.rx_model.specs.declared.event.Noted.{Noted}
 use Rattle.rx_model.specs.declared.names.CallName.{CallName}
-use Rattle.rx_model.specs.Names.{same_name}
+use Rattle.rx_model.specs.Names.{same_name, channel_of}
 use Rattle.rx_rules.specs.After.{acknowledged, after, finish_done, finished, is_end, is_zero, looks, owing_abort}
 use Rattle.rx_rules.specs.After.{read_done}
 use Rattle.rx_rules.specs.CallLooks.{after_read, after_shut, after_write}
 use Rattle.rx_rules.specs.Life.{after_end, after_finish, after_gone}
 use Rattle.rx_rules.specs.Looks.{CallRecord, Looks, call_at, on_channel, on_looks}
-use Rattle.rx_model.specs.Names.{channel_of}
 use Rattle.rx_rules.specs.Setup.{Setup}
 use Rattle.rx_history.proofs.Calls.{call-changed}
 use Rattle.rx_history.specs.Sides.{side}

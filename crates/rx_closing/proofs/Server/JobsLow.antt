@@ -1,7 +1,7 @@
 -- The steps that a job of a dispatcher waited: none before the end of its request, and behind it fewer than its script
 -- has it wait.
-use Rattle.std.proofs.Common.{◌≡◌, ◌<◌, ◌+◌, ◌∷◌, ◌++◌, ◌&&◌, cond, nat_lt, ℕ, ℤ, Bool, true, false, List, []}
-use Rattle.std.proofs.Common.{length, refl, sym, subst, ◌∙◌, Option, Some, None, Result, Ok, Err}
+use Rattle.std.proofs.Common.{◌≡◌, ◌<◌, ◌+◌, ◌∷◌, ◌++◌, ◌&&◌, cond, nat_lt, ℕ, ℤ, Bool, true, false, List, [], length}
+use Rattle.std.proofs.Common.{refl, sym, subst, ◌∙◌, Option, Some, None, Result, Ok, Err}
 use Rattle.rx_model.specs.declared.answers.ServeRead.{ServeRead}
 use Rattle.rx_model.specs.declared.answers.ServeRead.TheVariants as reads
 use Rattle.rx_model.specs.declared.answers.ServeRefused.{ServeRefused}
@@ -18,9 +18,9 @@ use Rattle.rx_jobs.specs.declared.job.Want.TheVariants as wants
 use Rattle.rx_jobs.specs.Dispatching.{Turning, accepts, by_ask, dispatching, heard_accept, kept, left, over, proceed}
 use Rattle.rx_jobs.specs.Dispatching.{serves, settle}
 use Rattle.rx_jobs.specs.Handlers.{Handlers, early_code, wait_of}
-use Rattle.rx_jobs.specs.Jobs.{Ask, IsCall, JobState, Moving, ask_of, begun, grown, heard, heard_read}
-use Rattle.rx_jobs.specs.Jobs.{heard_write, is_staying, judged, maybe_coded, moving, next_want, serving, settled}
-use Rattle.rx_jobs.specs.Jobs.{trimmed, waits, want_in}
+use Rattle.rx_jobs.specs.Jobs.{Ask, IsCall, JobState, Moving, ask_of, begun, grown, heard, heard_read, heard_write}
+use Rattle.rx_jobs.specs.Jobs.{is_staying, judged, maybe_coded, moving, next_want, serving, settled, trimmed, waits}
+use Rattle.rx_jobs.specs.Jobs.{want_in}
 use Rattle.rx_jobs.specs.Jobs as asks
 use Rattle.rx_jobs.specs.Keeping.{kept_of}
 use Rattle.rx_jobs.proofs.LifeKeeps.{wanted}

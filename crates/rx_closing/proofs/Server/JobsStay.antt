@@ -1,6 +1,6 @@
 -- A call that a handler has, has a job among those of its dispatcher that stay, and no other call has.
-use Rattle.std.proofs.Common.{◌≡◌, ◌∷◌, ◌++◌, ◌&&◌, ◌||◌, ℕ, ℤ, Bool, true, false, List, [], refl, ap, sym, subst}
-use Rattle.std.proofs.Common.{◌∙◌, Option, Some, None, option_map, Result, length, take}
+use Rattle.std.proofs.Common.{◌≡◌, ◌∷◌, ◌++◌, ◌&&◌, ◌||◌, ℕ, ℤ, Bool, true, false, List, [], refl, ap, sym, subst, ◌∙◌}
+use Rattle.std.proofs.Common.{Option, Some, None, option_map, Result, length, take}
 use Rattle.rx_model.specs.declared.answers.ServeRead.{ServeRead}
 use Rattle.rx_model.specs.declared.answers.ServeRefused.{ServeRefused}
 use Rattle.rx_model.specs.declared.event.Event.{Event}

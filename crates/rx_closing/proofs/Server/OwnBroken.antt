@@ -1,7 +1,7 @@
 -- What the step of a job makes of its own call where that broke: it is told so, and the call is over; or it waits a
 -- step more.
-use Rattle.std.proofs.Common.{◌≡◌, ◌<◌, ◌+◌, ◌&&◌, cond, not, is_some, ℕ, ℤ, pos, Bool, true, false, List, []}
-use Rattle.std.proofs.Common.{length, take, refl, ap, sym, subst, ◌∙◌, Option, Some, None, option_map, Result, Err}
+use Rattle.std.proofs.Common.{◌≡◌, ◌<◌, ◌+◌, ◌&&◌, cond, not, is_some, ℕ, ℤ, pos, Bool, true, false, List, [], length}
+use Rattle.std.proofs.Common.{take, refl, ap, sym, subst, ◌∙◌, Option, Some, None, option_map, Result, Err}
 use Rattle.rx_model.specs.declared.answers.ReadGot.TheVariants as readers
 use Rattle.rx_model.specs.declared.answers.ServeRead.{ServeRead}
 use Rattle.rx_model.specs.declared.answers.ServeRead.TheVariants as reads

@@ -29,11 +29,11 @@ use Rattle.rx_jobs.specs.Keeping.{kept_of}
 use Rattle.rx_plan.specs.Stages.{IsAllowedNext, Stage, with_event}
 use Rattle.rx_rounds.proofs.Codes.{early_no_zero}
 use Rattle.rx_rounds.proofs.ServeDecides.{no_zero}
-use Rattle.rx_closing.proofs.Server.JobSteps.{StepGoes, step_rests}
+use Rattle.rx_closing.proofs.Server.JobSteps.{StepGoes, some_ask, step_rests}
 use Rattle.rx_closing.proofs.Server.OwnEvents.{At, read_at, read_got, step_induct}
 use Rattle.rx_closing.proofs.Server.OwnStep.{Fits, Reading, SettledAs, StepEnds, WaitsOr, asked_is, decided_ends}
-use Rattle.rx_closing.proofs.Server.OwnStep.{ends_behind, has_decided, reads_on, settled_as, settled_is, some_ask}
-use Rattle.rx_closing.proofs.Server.OwnStep.{still_waits, waits_first, waits_none, waits_or}
+use Rattle.rx_closing.proofs.Server.OwnStep.{ends_behind, has_decided, reads_on, settled_as, settled_is, still_waits}
+use Rattle.rx_closing.proofs.Server.OwnStep.{waits_first, waits_none, waits_or}
 use Rattle.rx_closing.proofs.Steps.{turns_none, turns_read}
 
 -- ---- reads

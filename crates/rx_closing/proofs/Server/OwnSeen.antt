@@ -1,7 +1,7 @@
 -- A turn of a dispatcher seen from one of its calls: what it accepts first, the step of the call's own job, and the
 -- steps of the others, which leave the call and the moment of its server.
-use Rattle.std.proofs.Common.{◌≡◌, ◌∷◌, ◌++◌, cond, Bool, true, false, List, [], refl, ap, sym, subst, ◌∙◌}
-use Rattle.std.proofs.Common.{Option, Some, None, option_map, Result, Ok, Err, append_assoc}
+use Rattle.std.proofs.Common.{◌≡◌, ◌∷◌, ◌++◌, cond, Bool, true, false, List, [], refl, ap, sym, subst, ◌∙◌, Option}
+use Rattle.std.proofs.Common.{Some, None, option_map, Result, Ok, Err, append_assoc}
 use Rattle.std.specs.Prelude.{IsSomeAnd, slice_get}
 use Rattle.rx_model.specs.declared.answers.ReadGot.TheVariants as readers
 use Rattle.rx_model.specs.declared.answers.ServeRefused.{ServeRefused}

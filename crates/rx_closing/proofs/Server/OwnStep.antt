@@ -37,7 +37,7 @@ use Rattle.rx_jobs.specs.Jobs.{serving, settled, settled_by, waits}
 use Rattle.rx_jobs.specs.Jobs as asks
 use Rattle.rx_plan.specs.Stages.{IsAllowedNext, Stage, with_event}
 use Rattle.rx_closing.proofs.Ends.RoomLaws.{room_spent}
-use Rattle.rx_closing.proofs.Server.JobSteps.{StepGoes, step_rests}
+use Rattle.rx_closing.proofs.Server.JobSteps.{StepGoes, some_ask, step_rests}
 use Rattle.rx_closing.proofs.Server.OwnEvents.{At, finish_at, finish_got, step_induct, write_at, write_got}
 use Rattle.rx_closing.proofs.Steps.{TurnsOn, turns_none, turns_shut, turns_write}
 
@@ -117,9 +117,6 @@ waits_none j still = by j.ended j.code still
 pub asked_is : (g : Handlers) (j : JobState) (o : Option ℤ) → j.code ≡ o
     → (serving g).asks (record { job = j; phase = phases.Moves }) ≡ option_map (ask_of j) (next_want j o)
 asked_is g j o is = ap (λ (p : Option ℤ). option_map (ask_of j) (next_want j p)) is
-
-pub some_ask : (a b : Ask) → ◌≡◌ {A = Option Ask} (Some a) (Some b) → a ≡ b
-some_ask a b is = cc
 
 module _ (g : Handlers) (node : Node) (serves : IsServer node.setup.kind) (c : CallName) (now : ℕ) where
   abbrev l : Stage → Looks

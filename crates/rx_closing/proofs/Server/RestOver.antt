@@ -1,4 +1,4 @@
--- Where the one call of a scene rests behind its server's turn, it is over there.
+-- Where a call rests behind its server's turn, it is over there.
 use Rattle.std.proofs.Common.{◌≡◌, ◌≤◌, ◌==◌, ◌&&◌, ℕ, ℤ, Bool, true, false, List, length, refl, ap, sym, subst, ◌∙◌}
 use Rattle.std.proofs.Common.{Option, Some, arith, inr, suc}
 use Rattle.std.proofs.lemmas.Bool.Decides.{nat_tests}
@@ -23,10 +23,10 @@ use Rattle.rx_closing.proofs.Far.FarStands.{scene_fed, scene_once}
 use Rattle.rx_closing.proofs.Far.FarWork.{IsCaused}
 use Rattle.rx_closing.proofs.Far.FinishedOpen.{finished_open}
 use Rattle.rx_closing.proofs.Far.FinishedShut.{IsServed, finished_shut, lives_served}
-use Rattle.rx_closing.proofs.Frame.{Scene, served_in}
+use Rattle.rx_closing.proofs.Frame.{OneOf, served_in}
 use Rattle.rx_closing.proofs.Server.SceneRest.{IsAtRest, IsPast}
 
-module _ (c : CallName) (k : ℕ) (client server : Node) (t : Stage) (scene : Scene c k client server t) where
+module _ (c : CallName) (k : ℕ) (client server : Node) (t : Stage) (scene : OneOf c k client server t) where
   fed : Fed (ends_in (connection_of c) (suc k) client server) t.history
   fed = scene_fed c k client server t scene
 
@@ -59,7 +59,7 @@ module _ (c : CallName) (k : ℕ) (client server : Node) (t : Stage) (scene : Sc
 
 -- so it is over there
 pub rests_over : (g : Handlers) (ls : List Numbered) (c : CallName) (k : ℕ) (client server : Node) (t : Stage)
-    (scene : Scene c k client server t) (follows : IsFollowed g ls (seen t)) (i : IsCaused g ls c k client t)
+    (scene : OneOf c k client server t) (follows : IsFollowed g ls (seen t)) (i : IsCaused g ls c k client t)
     (a : CallRecord) → IsAtRest g ls c k client server t scene follows i a
     → (p : IsPast g ls c k client server t scene follows i) → (code : Option ℤ) × (p.call.life ≡ lives.Over code)
 rests_over g ls c k client server t scene follows i a r p =

@@ -1,25 +1,26 @@
--- Where the one call of a scene rests behind a turn of its server's dispatcher: all that was said stands there, and all
--- that was said in turn is acknowledged. Then no handler has the call, and it doesn't wait for one.
-use Rattle.std.proofs.Common.{◌≡◌, ◌<◌, ◌≤◌, ◌++◌, ℕ, suc, Bool, true, false, List, length, refl, ap, sym}
-use Rattle.std.proofs.Common.{subst, ◌∙◌, Option, Some, None, arith, inl, inr, is_some}
+-- Where a call rests behind a turn of its server's dispatcher: all that was said stands there, and all that was said in
+-- turn is acknowledged. Then no handler has the call, and it doesn't wait for one.
+use Rattle.std.proofs.Common.{◌≡◌, ◌<◌, ◌≤◌, ◌++◌, ℕ, suc, Bool, true, false, List, length, refl, ap, sym, subst, ◌∙◌}
+use Rattle.std.proofs.Common.{Option, Some, None, arith, inl, inr, is_some}
+use Rattle.std.specs.Prelude.{slice_get}
 use Rattle.std.proofs.lemmas.List.{length-append}
 use Rattle.rx_model.specs.declared.names.CallName.{CallName}
 use Rattle.rx_model.specs.Names.{connection_of}
 use Rattle.rx_asks.specs.declared.ask.TheConstants.{REPLY_BYTES}
 use Rattle.rx_rules.specs.After.{looks}
-use Rattle.rx_rules.specs.Life.{is_active, is_handled, is_waiting}
+use Rattle.rx_rules.specs.Life.{is_active, is_handled, is_live, is_waiting}
 use Rattle.rx_rules.specs.Life as lives
-use Rattle.rx_rules.specs.Looks.{CallRecord, is_call}
+use Rattle.rx_rules.specs.Looks.{CallRecord, call_at, is_call}
 use Rattle.rx_rules.specs.Received.{Packet, front_of, is_complete, packet_at, used_of}
 use Rattle.rx_rules.specs.Sent.{counting_of, opened, pieces_by, pieces_of}
-use Rattle.rx_rules.specs.Slots.{room}
+use Rattle.rx_rules.specs.Setup.{IsServer}
 use Rattle.rx_rules.proofs.PacketLaws.{front_all}
 use Rattle.rx_history.proofs.LifeFalls.{is_begun}
-use Rattle.rx_history.proofs.Suffice.{roomy_history}
 use Rattle.rx_history.specs.Sides.{Node, side}
 use Rattle.rx_law.specs.Promises.{ends_in}
 use Rattle.rx_law.proofs.Fronts.{ArePieces}
 use Rattle.rx_law.proofs.Joint.{Between, Fed, between, of_call}
+use Rattle.rx_law.proofs.World.{if-some}
 use Rattle.rx_history.proofs.Ends.{ends_of}
 use Rattle.rx_between.specs.Acknowledged.{received_by, sent_by}
 use Rattle.rx_script.specs.declared.plan.Numbered.{Numbered}
@@ -29,26 +30,30 @@ use Rattle.rx_plan.specs.Stages.{Stage}
 use Rattle.rx_plan.specs.Turned.{dispatches}
 use Rattle.rx_plan.proofs.Driven.{seen}
 use Rattle.rx_plan.proofs.Followed.{IsFollowed}
+use Rattle.rx_rounds.proofs.EachItem.{In}
 use Rattle.rx_rounds.proofs.Rounded.{Made}
 use Rattle.rx_rounds.proofs.Sizes.{reply_short}
+use Rattle.rx_closing.specs.Living.{looks_of}
 use Rattle.rx_closing.proofs.Ends.LastOnly.{one_last}
-use Rattle.rx_closing.proofs.Ends.RoomLaws.{none_above, room_counts}
+use Rattle.rx_closing.proofs.Ends.RoomLaws.{none_above}
 use Rattle.rx_closing.proofs.Far.FarServed.{BeginsServed}
 use Rattle.rx_closing.proofs.Far.FarStands.{scene_fed}
 use Rattle.rx_closing.proofs.Far.FarWork.{IsCaused, scene_begins}
-use Rattle.rx_closing.proofs.Frame.{Scene, asked_in, served_in}
-use Rattle.rx_closing.proofs.Server.Accepts.{IsLone}
+use Rattle.rx_closing.proofs.Frame.{AreAmong, Crowd, IsSpacious, OneOf, asked_in, served_in}
+use Rattle.rx_closing.proofs.Room.RoomCounts.{room_counts_among}
+use Rattle.rx_closing.proofs.Server.Accepts.{IsOpenAt}
 use Rattle.rx_closing.proofs.Server.FirstsHold.{has_first}
-use Rattle.rx_closing.proofs.Server.ServerScene.{scene_lone, scene_moves, scene_serves, scene_setup, scene_sound}
+use Rattle.rx_closing.proofs.Server.OwnSeen.{Keeps, lives_here}
+use Rattle.rx_closing.proofs.Server.ServerScene.{scene_moves, scene_open, scene_serves, scene_setup, scene_sound}
 use Rattle.rx_closing.proofs.Server.ServerScene.{scene_unshut}
-use Rattle.rx_closing.proofs.Server.ServerTurn.{IsSound}
+use Rattle.rx_closing.proofs.Server.ServerTurn.{IsSound, WasFull}
 use Rattle.rx_closing.proofs.Server.ServerWay.{ServerMoves, server_full, server_goes_on, server_idle, server_reads}
 use Rattle.rx_closing.proofs.Server.ServerWay.{server_way}
 use Rattle.rx_closing.proofs.Server.TurnDrained.{all_complete}
 
 -- ---- streams that stand whole
 
-module _ (c : CallName) (k : ℕ) (client server : Node) (t : Stage) (scene : Scene c k client server t) where
+module _ (c : CallName) (k : ℕ) (client server : Node) (t : Stage) (scene : OneOf c k client server t) where
   fed : Fed (ends_in (connection_of c) (suc k) client server) t.history
   fed = scene_fed c k client server t scene
 
@@ -77,9 +82,9 @@ module _ (c : CallName) (k : ℕ) (client server : Node) (t : Stage) (scene : Sc
 -- ---- a server's call at rest
 
 module _ (g : Handlers) (ls : List Numbered) (c : CallName) (k : ℕ) (client server : Node) (t : Stage)
-    (scene : Scene c k client server t) (follows : IsFollowed g ls (seen t)) (i : IsCaused g ls c k client t) where
+    (scene : OneOf c k client server t) (follows : IsFollowed g ls (seen t)) (i : IsCaused g ls c k client t) where
   -- what it said are fewer pieces than there are seqs
-  said_few : (f : CallRecord) → served_in c server t ≡ Some f → opened (length f.looks.sent.said) < 4294967294
+  pub said_few : (f : CallRecord) → served_in c server t ≡ Some f → opened (length f.looks.sent.said) < 4294967294
   said_few f there =
       of (subst (λ (o : Option CallRecord). BeginsServed g (request_for g i.caller.invoke) (sent_by o).said) there
       (scene_begins g ls c k client server t scene follows i))
@@ -94,23 +99,6 @@ module _ (g : Handlers) (ls : List Numbered) (c : CallName) (k : ℕ) (client se
           let short : length (f.looks.sent.said ++ rest) ≤ REPLY_BYTES =
           reply_short g (request_for g i.caller.invoke) (f.looks.sent.said ++ rest) is in
           few (length f.looks.sent.said) (omega (arith, short, length-append f.looks.sent.said rest))
-
-  -- where there is no room for more of it, a piece counts that isn't acknowledged
-  pub full_counts : (f : CallRecord) → served_in c server t ≡ Some f → f.life ≡ lives.Accepted
-      → room server.setup (looks server.setup (side 0 t.history)) f.looks ≡ 0
-      → ((j : ℕ) → is_some (packet_at f.looks.received.kept j) ≡ true → j ≤ used_of f.looks.received)
-      → f.looks.sent.acked < counting_of f.looks.sent
-  full_counts f there life full within =
-      let lone : IsLone g server (scene_serves g ls c k client server t scene follows) c t =
-      scene_lone g ls c k client server t scene follows in
-      let sound : IsSound g server (scene_serves g ls c k client server t scene follows) c t =
-      scene_sound g ls c k client server t scene follows in
-      room_counts server.setup (looks server.setup (side 0 t.history)) c f
-      (scene_setup g ls c k client server t scene follows).limits
-      (roomy_history server.setup (side 0 t.history) lone.legal) lone.alone there (ap is_active life)
-      (scene_unshut g ls c k client server t scene follows f there (ap is_begun life))
-      (none_above (used_of f.looks.received) f.looks.received.kept within)
-      (sound.known f there (ap is_begun life)) (said_few f there) full
 
   -- ---- behind a turn that brought it no further
 
@@ -141,11 +129,48 @@ module _ (g : Handlers) (ls : List Numbered) (c : CallName) (k : ℕ) (client se
       least : (n : ℕ) → 1 ≤ pieces_by n true
       least n = omega arith
 
-  module _ (s : Stage) (before : Scene c k client server s) (followed : IsFollowed g ls (seen s))
-      (servable : AreServable g)
-      (caused : IsCaused g ls c k client s) (made : Made (dispatches g) s t) where
+  module _ (s : Stage) (before : OneOf c k client server s) (followed : IsFollowed g ls (seen s))
+      (servable : AreServable g) (caused : IsCaused g ls c k client s) (made : Made (dispatches g) s t)
+      (cs : List CallName) (crowd : Crowd cs s) where
     abbrev most : ℕ
     most = wait_of g (request_for g caused.caller.invoke)
+
+    abbrev serves : IsServer server.setup.kind
+    serves = scene_serves g ls c k client server s before followed
+
+    -- no others live there at any moment of the turn
+    among_at : (u : Stage) → Keeps server s u → AreAmong cs (looks server.setup (side 0 u.history))
+    among_at u keeps d r there live =
+        let lived : lives_here (looks_of s 0 server) d ≡ true =
+        keeps.lives d (ap (λ (o : Option CallRecord). is_call (λ x. is_live x.life) o) there ∙ live) in
+        by (call_at (looks_of s 0 server) d) refl lived
+      where
+        among : AreAmong cs (looks_of s 0 server)
+        among =
+            if-some (slice_get s.nodes 0) server (λ n. AreAmong cs (looks_of s 0 n)) before.server_there (crowd.among 0)
+
+        by : (o : Option CallRecord) → call_at (looks_of s 0 server) d ≡ o → is_call (λ x. is_live x.life) o ≡ true
+            → In d cs
+        by None is wrong = absurd cc
+        by (Some x) is living = among d x is living
+
+    -- where there was no room for more of it, a piece counts that isn't acknowledged
+    pub full_counts : (f : CallRecord) → served_in c server t ≡ Some f → f.life ≡ lives.Accepted
+        → WasFull g server serves c s f
+        → ((j : ℕ) → is_some (packet_at f.looks.received.kept j) ≡ true → j ≤ used_of f.looks.received)
+        → f.looks.sent.acked < counting_of f.looks.sent
+    full_counts f there life was within =
+        let open_ : IsOpenAt g server serves c s = scene_open g ls c k client server s before followed in
+        let sound : IsSound g server (scene_serves g ls c k client server t scene follows) c t =
+        scene_sound g ls c k client server t scene follows in
+        room_counts_among server.setup (side 0 was.at.history) cs c f
+        (scene_setup g ls c k client server s before followed) (was.keeps.legal open_.first open_.legal)
+        (among_at was.at was.keeps)
+        (if-some (slice_get s.nodes 0) server (λ n. IsSpacious cs n.setup) before.server_there (crowd.space 0))
+        was.there (ap is_active life)
+        (scene_unshut g ls c k client server t scene follows f there (ap is_begun life))
+        (none_above (used_of f.looks.received) f.looks.received.kept within)
+        (sound.known f there (ap is_begun life)) (said_few f there) was.full
 
     -- where its way stands, and it rests
     pub rests_past : (a : CallRecord) → IsAtRest a
@@ -157,7 +182,7 @@ module _ (g : Handlers) (ls : List Numbered) (c : CallName) (k : ℕ) (client se
       where
         by : ServerMoves g server (scene_serves g ls c k client server s before followed) c most s t → IsPast
         by (server_goes_on more) = absurd (omega (arith, more, stands))
-        by (server_full o f was is took now_ turns ended full) =
+        by (server_full o f was is took now_ turns ended full decided) =
             let acked : f.looks.sent.acked < counting_of f.looks.sent =
             full_counts f is now_ full
             (subst (λ (p : Option CallRecord). (j : ℕ) → is_some (packet_at (received_by p).kept j) ≡ true

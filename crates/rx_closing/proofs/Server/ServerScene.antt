@@ -1,5 +1,5 @@
--- A turn of the dispatcher at a stage of a driven plan at which one call lives: the jobs that it finds, and what it
--- makes of the call.
+-- A turn of the dispatcher at a stage of a driven plan, seen from one of its server's calls: the jobs that it finds,
+-- and what it makes of the call.
 use Rattle.std.proofs.Common.{◌≡◌, ◌≤◌, ◌∷◌, ◌++◌, is_some, ℕ, ℤ, Bool, true, false, List, [], length, refl, ap, sym}
 use Rattle.std.proofs.Common.{subst, ◌∙◌, Option, Some, arith, inr, suc}
 use Rattle.std.specs.Prelude.{slice_get}
@@ -36,14 +36,13 @@ use Rattle.rx_plan.proofs.Driven.{seen}
 use Rattle.rx_plan.proofs.Followed.{IsFollowed, IsPlayed}
 use Rattle.rx_plan.proofs.Handling.{Serves}
 use Rattle.rx_rounds.proofs.Rounded.{Made}
-use Rattle.rx_closing.specs.Living.{looks_of}
 use Rattle.rx_closing.proofs.Far.FarBounds.{served_counts}
 use Rattle.rx_closing.proofs.Far.FarGrows.{acked_given}
 use Rattle.rx_closing.proofs.Far.FarStands.{scene_fed, scene_once}
 use Rattle.rx_closing.proofs.Far.FarWork.{IsCaused, scene_read}
 use Rattle.rx_closing.proofs.Far.Waited.{IsJobLow, job_found, job_none, job_of}
-use Rattle.rx_closing.proofs.Frame.{IsAlone, IsPlain, Scene, served_in}
-use Rattle.rx_closing.proofs.Server.Accepts.{IsLone}
+use Rattle.rx_closing.proofs.Frame.{IsPlain, OneOf, served_in}
+use Rattle.rx_closing.proofs.Server.Accepts.{IsOpenAt}
 use Rattle.rx_closing.proofs.Server.JobHeld.{IsHeld, jobs_fit, one_held}
 use Rattle.rx_closing.proofs.Server.JobsLow.{IsLow, jobs_low}
 use Rattle.rx_closing.proofs.Server.OneJob.{JobsFit, OneJob, none_fits, one_fits}
@@ -53,16 +52,18 @@ use Rattle.rx_closing.proofs.Server.ServerWay.{ServerMoves, WayGrows, server_mov
 use Rattle.rx_closing.proofs.Server.WaitingFresh.{waiting_fresh}
 
 module _ (g : Handlers) (ls : List Numbered) (c : CallName) (k : ℕ) (client server : Node) (s : Stage)
-    (scene : Scene c k client server s) (follows : IsFollowed g ls (seen s)) where
+    (scene : OneOf c k client server s) (follows : IsFollowed g ls (seen s)) where
   fed : Fed (ends_in (connection_of c) (suc k) client server) s.history
   fed = scene_fed c k client server s scene
 
+  -- the first node is a server
   pub scene_serves : IsServer server.setup.kind
   scene_serves = fed.server_kind
 
   legal : Legal server.setup (side 0 s.history)
   legal = fed.server_legal
 
+  -- its setup fits
   pub scene_setup : FitsSetup server.setup
   scene_setup = fed.server_fits
 
@@ -83,13 +84,12 @@ module _ (g : Handlers) (ls : List Numbered) (c : CallName) (k : ℕ) (client se
   plain : IsPlain server
   plain = if-some (slice_get s.nodes 0) server IsPlain scene.server_there (scene.plain 0)
 
-  pub scene_lone : IsLone g server scene_serves c s
-  scene_lone =
+  -- it doesn't challenge
+  pub scene_open : IsOpenAt g server scene_serves c s
+  scene_open =
       record {
         first = scene.server_there;
         legal = legal;
-        alone =
-            if-some (slice_get s.nodes 0) server (λ n. IsAlone c (looks_of s 0 n)) scene.server_there (scene.alone 0);
         open_ = ap (λ (x : Class). x.challenges) plain.open_;
       }
 
@@ -120,6 +120,7 @@ module _ (g : Handlers) (ls : List Numbered) (c : CallName) (k : ℕ) (client se
       by : (n : ℕ) → r.looks.sent.acked ≤ counting_by n false → r.looks.sent.acked ≤ opened n
       by n low = omega (arith, low)
 
+  -- what has to be known of the call's record as a turn begins
   pub scene_sound : IsSound g server scene_serves c s
   scene_sound =
       record {
@@ -131,6 +132,7 @@ module _ (g : Handlers) (ls : List Numbered) (c : CallName) (k : ℕ) (client se
 
   -- ---- its jobs
 
+  -- its jobs fit what passed at its end
   pub scene_fits : AreServable g → JobsFit c (served_in c server s) s.jobs
   scene_fits servable =
       jobs_fit g server.setup scene_serves scene_setup servable c s.jobs (side 0 s.history) sv legal once starts
@@ -147,6 +149,28 @@ module _ (g : Handlers) (ls : List Numbered) (c : CallName) (k : ℕ) (client se
   every_at [] j back all = all.0
   every_at (x ∷ front) j back all = every_at front j back all.1
 
+  -- the job of a call is found
+  found : (one : OneJob c s.jobs) → job_of c s.jobs ≡ Some one.job
+  found one = ap (job_of c) one.are ∙ job_found c one.front one.job one.back one.before one.own
+
+  job_low : (one : OneJob c s.jobs) → IsLow g one.job
+  job_low one =
+      every_at one.front one.job one.back
+      (subst (Every (IsLow g)) one.are (jobs_low g s.jobs (side 0 s.history) sv))
+
+  -- behind the end what it has is of the whole request
+  whole_job : (servable : AreServable g) (i : IsCaused g ls c k client s) (r : CallRecord)
+      → served_in c server s ≡ Some r → (one : OneJob c s.jobs) → one.job.ended ≡ r.looks.received.ended
+      → one.job.ended ≡ true → wait_of g one.job.request ≡ wait_of g (request_for g i.caller.invoke)
+  whole_job servable i r there one ended is =
+      let held : IsHeld g server.setup scene_serves scene_setup servable c r one.job =
+      scene_held servable r there one in
+      let read : r.looks.received.read ≡ request_for g i.caller.invoke =
+      subst (λ (o : Option CallRecord). (received_by o).ended ≡ true
+      → (received_by o).read ≡ request_for g i.caller.invoke) there
+      (scene_read g ls c k client server s scene follows i) (sym ended ∙ is) in
+      ap (wait_of g) held.request ∙ kept_wait g r.looks.received.read ∙ ap (wait_of g) read
+
   -- it waited no more steps than the script has it wait for the request
   pub scene_low : AreServable g → (i : IsCaused g ls c k client s)
       → IsJobLow (wait_of g (request_for g i.caller.invoke)) (job_of c s.jobs)
@@ -158,26 +182,13 @@ module _ (g : Handlers) (ls : List Numbered) (c : CallName) (k : ℕ) (client se
       of : JobsFit c (served_in c server s) s.jobs → IsJobLow most (job_of c s.jobs)
       of (none_fits others idle) = subst (IsJobLow most) (sym (job_none c s.jobs others)) tt
       of (one_fits r there handled one ended zero_) =
-          subst (IsJobLow most)
-          (sym (ap (job_of c) one.are ∙ job_found c one.front one.job one.back one.before one.own))
-          (by one.job.ended refl)
+          subst (IsJobLow most) (sym (found one)) (by one.job.ended refl)
         where
           low : IsLow g one.job
-          low =
-              every_at one.front one.job one.back
-              (subst (Every (IsLow g)) one.are (jobs_low g s.jobs (side 0 s.history) sv))
+          low = job_low one
 
-          held : IsHeld g server.setup scene_serves scene_setup servable c r one.job
-          held = scene_held servable r there one
-
-          -- behind the end what it has is of the whole request
           whole : one.job.ended ≡ true → wait_of g one.job.request ≡ most
-          whole is =
-              let read : r.looks.received.read ≡ request_for g i.caller.invoke =
-              subst (λ (o : Option CallRecord). (received_by o).ended ≡ true
-              → (received_by o).read ≡ request_for g i.caller.invoke) there
-              (scene_read g ls c k client server s scene follows i) (sym ended ∙ is) in
-              ap (wait_of g) held.request ∙ kept_wait g r.looks.received.read ∙ ap (wait_of g) read
+          whole = whole_job servable i r there one ended
 
           by : (b : Bool) → one.job.ended ≡ b → is_some one.job.code ≡ false → one.job.steps ≤ most
           by false is undecided = omega (arith, low.before is)
@@ -193,7 +204,7 @@ module _ (g : Handlers) (ls : List Numbered) (c : CallName) (k : ℕ) (client se
 
   module _ (servable : AreServable g) (t : Stage) (made : Made (dispatches g) s t) where
     pub scene_turn : ServedTurn g server scene_serves c s t
-    scene_turn = served_turn g server scene_serves c s t scene_lone scene_sound (scene_fits servable) made
+    scene_turn = served_turn g server scene_serves c s t scene_open scene_sound (scene_fits servable) made
 
     -- the call is further behind it, or it rests
     pub scene_moves : (i : IsCaused g ls c k client s)
@@ -202,6 +213,7 @@ module _ (g : Handlers) (ls : List Numbered) (c : CallName) (k : ℕ) (client se
         server_moves g server scene_serves c (wait_of g (request_for g i.caller.invoke)) s t (scene_low servable i)
         scene_turn
 
+    -- the call is no less far behind it
     pub scene_grows : (i : IsCaused g ls c k client s)
         → WayGrows g server scene_serves c (wait_of g (request_for g i.caller.invoke)) s t
     scene_grows i =

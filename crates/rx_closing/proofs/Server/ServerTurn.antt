@@ -1,21 +1,18 @@
--- One turn of a dispatcher seen from the one call that lives at its server: what becomes of the call's record and of
--- its job.
-use Rattle.std.proofs.Common.{◌≡◌, ◌⊎◌, inl, inr, ◌<◌, ◌≤◌, ◌+◌, ◌-◌, ◌∷◌, ◌++◌, ℕ, ℤ, Bool, true, false, List, []}
-use Rattle.std.proofs.Common.{length, refl, ap, sym, subst, ◌∙◌, Option, Some, None}
+-- One turn of a dispatcher seen from one of its server's calls: what becomes of the call's record and of its job.
+use Rattle.std.proofs.Common.{◌≡◌, ◌⊎◌, inl, inr, ◌<◌, ◌≤◌, ◌+◌, ◌∷◌, ◌++◌, ℕ, ℤ, Bool, true, false, List, [], length}
+use Rattle.std.proofs.Common.{refl, ap, sym, subst, ◌∙◌, Option, Some, None, append_assoc}
 use Rattle.std.specs.Prelude.{slice_get}
 use Rattle.rx_model.specs.declared.names.CallName.{CallName}
 use Rattle.rx_rules.specs.After.{is_zero, looks}
-use Rattle.rx_rules.specs.CallLooks.{CallLooks, lead}
-use Rattle.rx_rules.specs.Life.{Life, is_handled, is_live, is_waiting}
+use Rattle.rx_rules.specs.CallLooks.{CallLooks}
+use Rattle.rx_rules.specs.Life.{Life, is_handled, is_waiting}
 use Rattle.rx_rules.specs.Life as lives
 use Rattle.rx_rules.specs.Looks.{CallRecord, Looks, call_at, is_call}
 use Rattle.rx_rules.specs.Received.{is_complete, unread_of}
-use Rattle.rx_rules.specs.Rules.{Legal, accept_answer}
-use Rattle.rx_rules.specs.Sent.{opened, room_of}
-use Rattle.rx_rules.specs.Setup.{IsServer, sending_window, shared_slots}
-use Rattle.rx_rules.specs.Slots.{beside, common, room}
+use Rattle.rx_rules.specs.Sent.{opened}
+use Rattle.rx_rules.specs.Setup.{IsServer}
+use Rattle.rx_rules.specs.Slots.{room}
 use Rattle.rx_history.proofs.LifeFalls.{is_begun}
-use Rattle.rx_history.proofs.Suffice.{roomy_history}
 use Rattle.rx_history.specs.Sides.{Node, side}
 use Rattle.rx_jobs.specs.Dispatching.{left}
 use Rattle.rx_jobs.specs.Handlers.{Handlers, wait_of}
@@ -23,9 +20,7 @@ use Rattle.rx_jobs.specs.Jobs.{JobState, Moving, begun, moving, waits}
 use Rattle.rx_plan.specs.Stages.{Stage}
 use Rattle.rx_plan.specs.Turned.{dispatches, jobs_left}
 use Rattle.rx_rounds.proofs.Rounded.{Made, dispatch_to}
-use Rattle.rx_closing.proofs.Ends.RoomLaws.{common_lone}
-use Rattle.rx_closing.proofs.Frame.{IsAlone}
-use Rattle.rx_closing.proofs.Server.Accepts.{AcceptCase, IsLone, accept_case, accepts_none, accepts_one, none_first}
+use Rattle.rx_closing.proofs.Server.Accepts.{AcceptsOf, IsOpenAt, accepts_it, accepts_of, accepts_others}
 use Rattle.rx_closing.proofs.Server.FirstsHold.{has_first}
 use Rattle.rx_closing.proofs.Server.JobSeen.{AreOthers, Stays}
 use Rattle.rx_closing.proofs.Server.JobSteps.{EachSteps, accepts_then}
@@ -33,8 +28,8 @@ use Rattle.rx_closing.proofs.Server.OneJob.{JobsFit, OneJob, none_fits, one_fits
 use Rattle.rx_closing.proofs.Server.OwnBroken.{BrokenEnds, broken_step, is_told, waits_longer}
 use Rattle.rx_closing.proofs.Server.OwnEvents.{At}
 use Rattle.rx_closing.proofs.Server.OwnReads.{OwnEnds, goes_on, own_step, waits_more}
-use Rattle.rx_closing.proofs.Server.OwnSeen.{Keeps, SeenHere, keeps_trans, lives_here, others_more, others_step}
-use Rattle.rx_closing.proofs.Server.OwnSeen.{seen_here, step_keeps}
+use Rattle.rx_closing.proofs.Server.OwnSeen.{Keeps, SeenHere, keeps_trans, others_more, others_step, seen_here}
+use Rattle.rx_closing.proofs.Server.OwnSeen.{step_keeps}
 use Rattle.rx_closing.proofs.Server.OwnStep.{Fits, StepEnds, finishes, reads_on, refuses, waits_first, waits_none}
 use Rattle.rx_closing.proofs.Server.OwnStep.{writes_on}
 use Rattle.rx_closing.proofs.Steps.{TurnsOn, turns_none}
@@ -63,6 +58,13 @@ module _ (g : Handlers) (node : Node) (serves : IsServer node.setup.kind) (c : C
     pub is : served t ≡ Some f
     pub turns : TurnsOn (l s).now r.looks f.looks
 
+  -- at some moment of the turn it was as it is behind it, and there was no room for more of its stream
+  pub record WasFull (s : Stage) (f : CallRecord) : Type 0 where
+    pub at : Stage
+    pub keeps : Keeps node s at
+    pub there : served at ≡ Some f
+    pub full : room node.setup (l at) f.looks ≡ 0
+
   -- how it rests behind the turn: it read all that stands without a gap, and more is to come; it came to wait behind
   -- the end of the request, or waits a step more; it wrote all that there was room for; or its handler finished
   pub data Rests (s t : Stage) (r f : CallRecord) : Type 0 where
@@ -78,7 +80,7 @@ module _ (g : Handlers) (node : Node) (serves : IsServer node.setup.kind) (c : C
         → Rests s t r f
     rests_writing : (code : ℤ) → f.life ≡ lives.Accepted → (one : OneJob c t.jobs) → one.job.ended ≡ true
         → one.job.code ≡ Some code → is_zero code ≡ true → 0 < length one.job.reply → f.looks.received.ended ≡ true
-        → room node.setup (l t) f.looks ≡ 0 → Rests s t r f
+        → WasFull s f → Rests s t r f
     rests_finished : f.life ≡ lives.Finished → f.looks.sent.shut ≡ true → f.looks.received.ended ≡ true
         → AreOthers c t.jobs → Rests s t r f
     rests_coded : (code : ℤ) → f.life ≡ lives.Over (Some code) → AreOthers c t.jobs → Rests s t r f
@@ -108,7 +110,7 @@ module _ (g : Handlers) (node : Node) (serves : IsServer node.setup.kind) (c : C
   handled_is lives.Finished is = absurd cc
   handled_is (lives.Over code) is = absurd cc
 
-  module _ (s t : Stage) (lone : IsLone g node serves c s) (sound : IsSound s) where
+  module _ (s t : Stage) (begins : IsOpenAt g node serves c s) (sound : IsSound s) where
     abbrev now : ℕ
     now = (l s).now
 
@@ -138,35 +140,6 @@ module _ (g : Handlers) (node : Node) (serves : IsServer node.setup.kind) (c : C
           living = at.living;
           passed = at.passed;
         }
-
-    -- no other call lives behind what keeps the stage
-    alone_at : (u : Stage) → Keeps node s u → IsAlone c (l u)
-    alone_at u keeps d r there live =
-        let before : lives_here (l s) d ≡ true =
-        keeps.lives d (ap (λ (o : Option CallRecord). is_call (λ x. is_live x.life) o) there ∙ live) in
-        by (call_at (l s) d) refl before
-      where
-        by : (o : Option CallRecord) → call_at (l s) d ≡ o → is_call (λ x. is_live x.life) o ≡ true → d ≡ c
-        by None is wrong = absurd cc
-        by (Some x) is living = lone.alone d x is living
-
-    -- with the record that it had there, the call has the room that it had there
-    room_later : (u v : Stage) (r : CallRecord) → Keeps node s u → Keeps node u v → served u ≡ Some r
-        → served v ≡ Some r
-        → room node.setup (l v) r.looks ≡ room node.setup (l u) r.looks
-    room_later u v r keeps later there behind =
-        let legal_u : Legal node.setup (side 0 u.history) = keeps.legal lone.first lone.legal in
-        let both : Keeps node s v = keeps_trans node s u v keeps later in
-        let legal_v : Legal node.setup (side 0 v.history) = both.legal lone.first lone.legal in
-        let first : common (l u) ≡ beside r =
-        common_lone node.setup (l u) c r (roomy_history node.setup (side 0 u.history) legal_u)
-        (alone_at u keeps) there in
-        let second : common (l v) ≡ beside r =
-        common_lone node.setup (l v) c r (roomy_history node.setup (side 0 v.history) legal_v)
-        (alone_at v both) behind in
-        ap (λ (n : ℕ). room_of (sending_window node.setup)
-        (shared_slots node.setup - n + 1 - lead r.looks) r.looks.sent)
-        (second ∙ sym first)
 
     -- the step of a call that waited or that a handler had, among those of others
     module _ (r : CallRecord) (u v : Stage) (stay front : List JobState) (j : JobState) (back : List JobState)
@@ -223,13 +196,16 @@ module _ (g : Handlers) (node : Node) (serves : IsServer node.setup.kind) (c : C
             turns = subst (λ (i : CallLooks). TurnsOn now r.looks i) (sym h.passed) turns;
           }
 
-      -- no room is left behind the steps of others either
+      -- where its step ended it had no room
       full_behind : (x : SeenHere g node c j u v stay) (k : CallLooks) (h : Here x.ends lives.Accepted k) → Step x
-          → room node.setup (l x.ends) k ≡ 0 → room node.setup (l t) h.call.looks ≡ 0
+          → room node.setup (l x.ends) k ≡ 0 → WasFull s h.call
       full_behind x k h p full =
-          ap (λ es. room node.setup (looks node.setup (side 0 es)) h.call.looks) b.history
-          ∙ room_later x.ends v h.call p.keeps x.keeps_later h.there (x.later ∙ h.there)
-          ∙ ap (λ (i : CallLooks). room node.setup (l x.ends) i) h.passed ∙ full
+          record {
+            at = x.ends;
+            keeps = p.keeps;
+            there = h.there;
+            full = ap (λ (i : CallLooks). room node.setup (l x.ends) i) h.passed ∙ full;
+          }
 
       -- as its step ended
       as_ended : (x : SeenHere g node c j u v stay) → Step x
@@ -330,37 +306,48 @@ module _ (g : Handlers) (node : Node) (serves : IsServer node.setup.kind) (c : C
                   (subst (λ (y : JobState). y.steps + 1 < wait_of g y.request) (sym mine) less)
                   (sym ended ∙ (waits_none j waits_).0)
 
-    -- a call that nobody has, where the dispatcher accepts nothing
-    stays_so : (u v : Stage) (stay : List JobState) → Behind u v stay → Stays node.setup c s u
-        → is_call (λ r. is_handled r.life) (served s) ≡ false → None ≡ accept_answer node.setup (l s)
-        → AreOthers c s.jobs → EachSteps g s.jobs u stay v → ServedTurn s t
-    stays_so u v stay b stays idle answer others steps =
-        let rest = others_step g node c s.jobs u v stay others steps in
-        served_stays (served_end u v stay b ∙ rest.stays ∙ stays) idle (none_first g node serves c s lone answer)
+    -- a call that nobody has, where the dispatcher accepts none but others
+    stays_so : (all : List JobState) (u v : Stage) (stay : List JobState) → Behind u v stay → Stays node.setup c s u
+        → is_call (λ r. is_handled r.life) (served s) ≡ false
+        → (is_call (λ r. is_waiting r.life) (served s) ≡ true → has_first (served s) ≡ false)
+        → AreOthers c all → EachSteps g all u stay v → ServedTurn s t
+    stays_so all u v stay b stays idle first others steps =
+        let rest = others_step g node c all u v stay others steps in
+        served_stays (served_end u v stay b ∙ rest.stays ∙ stays) idle first
         (subst (AreOthers c) (sym b.jobs) rest.others)
 
     -- behind what it accepts
     by_case : (all : List JobState) (u v : Stage) (stay : List JobState) → t.history ≡ v.history → t.jobs ≡ stay
-        → AcceptCase g node serves c s.jobs s all u → EachSteps g all u stay v → JobsFit c (served s) s.jobs
+        → AcceptsOf g node serves c s.jobs s all u → EachSteps g all u stay v → JobsFit c (served s) s.jobs
         → ServedTurn s t
-    by_case all u v stay history jobs (accepts_none answer same stays keeps) steps (none_fits others idle) =
-        stays_so u v stay (record { keeps = keeps; history = history; jobs = jobs }) stays idle answer others
+    by_case all u v stay history jobs (accepts_others more same new stays keeps first) steps (none_fits others idle) =
+        stays_so (s.jobs ++ more) u v stay (record { keeps = keeps; history = history; jobs = jobs }) stays idle first
+        (others_more c s.jobs more others new)
         (subst (λ (js : List JobState). EachSteps g js u stay v) same steps)
-    by_case all u v stay history jobs (accepts_none answer same stays keeps) steps
+    by_case all u v stay history jobs (accepts_others more same new stays keeps first) steps
         (one_fits r was handled one ended zero_) =
         by (handled_is r.life handled)
       where
         b : Behind u v stay
         b = record { keeps = keeps; history = history; jobs = jobs }
 
-        on : EachSteps g (one.front ++ one.job ∷ one.back) u stay v
-        on = subst (λ (js : List JobState). EachSteps g js u stay v) (same ∙ one.are) steps
+        back : List JobState
+        back = one.back ++ more
+
+        back_others : AreOthers c back
+        back_others = others_more c one.back more one.behind new
+
+        on : EachSteps g (one.front ++ one.job ∷ back) u stay v
+        on =
+            subst (λ (js : List JobState). EachSteps g js u stay v)
+            (same ∙ ap (λ (js : List JobState). js ++ more) one.are ∙ append_assoc one.front (one.job ∷ one.back) more)
+            steps
 
         at : (x : Life) → r.life ≡ x → Here u x r.looks
         at x life =
             record {
-              first = ap (λ ns. slice_get ns 0) keeps.nodes ∙ lone.first;
-              legal = keeps.legal lone.first lone.legal;
+              first = ap (λ ns. slice_get ns 0) keeps.nodes ∙ begins.first;
+              legal = keeps.legal begins.first begins.legal;
               moment = keeps.moment;
               call = r;
               there = stays ∙ was;
@@ -370,32 +357,32 @@ module _ (g : Handlers) (node : Node) (serves : IsServer node.setup.kind) (c : C
 
         by : (r.life ≡ lives.Accepted) ⊎ ((code : ℤ) × (r.life ≡ lives.Broken code)) → ServedTurn s t
         by (inl life) =
-            works_on r u v stay one.front one.job one.back was (inr life) (at lives.Accepted life) (record {
+            works_on r u v stay one.front one.job back was (inr life) (at lives.Accepted life) (record {
               own = one.own;
               ended = ended;
               zero_ = zero_;
-            }) b one.before one.behind
+            }) b one.before back_others
             (λ waiting f living same_looks behind is less. rests_longer living life same_looks one behind
-            is waiting less
-            (sym ended ∙ (waits_none one.job waiting).0))
+            is waiting less (sym ended ∙ (waits_none one.job waiting).0))
             (sound.known r was (ap is_begun life)) on
         by (inr broken) =
-            broken_on r broken.0 u v stay one.front one.job one.back was
-            (at (lives.Broken broken.0) broken.1) b one refl
-            ended one.before one.behind one.own broken.1 on stays
-    by_case all u v stay history jobs (accepts_one k waiting same at keeps) steps (none_fits others idle) =
+            broken_on r broken.0 u v stay one.front one.job back was
+            (at (lives.Broken broken.0) broken.1) b one refl ended one.before back_others one.own broken.1 on stays
+    by_case all u v stay history jobs (accepts_it k waiting front back same before behind at keeps) steps
+        (none_fits others idle) =
         let r : CallRecord = waiting.call in
         let at_r : Here u lives.Accepted r.looks =
         subst (λ (i : CallLooks). Here u lives.Accepted i) (sym waiting.passed) at in
-        works_on r u v stay s.jobs (begun c) [] waiting.there (inl waiting.living) at_r (record {
+        works_on r u v stay (s.jobs ++ front) (begun c) back waiting.there (inl waiting.living) at_r (record {
           own = refl;
           ended = sym (sound.fresh r waiting.there waiting.living);
           zero_ = λ code none zero_is. absurd cc;
-        }) (record { keeps = keeps; history = history; jobs = jobs }) others tt
-        (λ wrong f living same_looks behind is less. absurd cc)
+        }) (record { keeps = keeps; history = history; jobs = jobs }) (others_more c s.jobs front others before) behind
+        (λ wrong f living same_looks one is less. absurd cc)
         (sound.known r waiting.there (ap is_begun waiting.living))
-        (subst (λ (js : List JobState). EachSteps g js u stay v) same steps)
-    by_case all u v stay history jobs (accepts_one k waiting same at keeps) steps
+        (subst (λ (js : List JobState). EachSteps g js u stay v)
+        (same ∙ sym (append_assoc s.jobs front (begun c ∷ back))) steps)
+    by_case all u v stay history jobs (accepts_it k waiting front back same before behind at keeps) steps
         (one_fits r was handled one ended zero_) =
         let both : r ≡ waiting.call = (let found : ◌≡◌ {A = Option CallRecord} (Some r) (Some waiting.call) =
         sym was ∙ waiting.there in cc (found)) in
@@ -410,4 +397,4 @@ module _ (g : Handlers) (node : Node) (serves : IsServer node.setup.kind) (c : C
         let a = accepts_then g s.jobs s d.view d.stage d.serves in
         by_case a.all a.stage d.stage a.then_.stay (ap (λ (w : Stage). w.history) d.then_)
         (ap (λ (w : Stage). w.jobs) d.then_ ∙ ap jobs_left a.then_.is)
-        (accept_case g node serves c s.jobs s a.all a.stage lone a.accepting) a.then_.steps fits
+        (accepts_of g node serves c s.jobs s a.all a.stage begins a.accepting) a.then_.steps fits

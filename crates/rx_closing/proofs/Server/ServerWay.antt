@@ -1,7 +1,7 @@
--- A turn of the dispatcher brings its server's one call further, or the call rests: no handler has it; its job reads,
--- and more is to come; or its job writes, and there is no room.
-use Rattle.std.proofs.Common.{◌≡◌, ◌⊎◌, inl, inr, ◌<◌, ◌≤◌, ◌+◌, ◌&&◌, not, if◌then◌else◌, is_some, ℕ, ℤ, suc}
-use Rattle.std.proofs.Common.{Bool, true, false, List, [], refl, ap, sym, subst, ◌∙◌, Option, Some, None, arith}
+-- A turn of the dispatcher brings a call of its server further, or the call rests: no handler has it; its job reads,
+-- and more is to come; or its job writes, and there was no room.
+use Rattle.std.proofs.Common.{◌≡◌, ◌⊎◌, inl, inr, ◌<◌, ◌≤◌, ◌+◌, ◌&&◌, not, if◌then◌else◌, is_some, ℕ, ℤ, suc, Bool}
+use Rattle.std.proofs.Common.{true, false, List, [], refl, ap, sym, subst, ◌∙◌, Option, Some, None, arith}
 use Rattle.std.proofs.lemmas.Bool.{cases_lt}
 use Rattle.rx_model.specs.declared.names.CallName.{CallName}
 use Rattle.rx_rules.specs.After.{looks}
@@ -10,7 +10,6 @@ use Rattle.rx_rules.specs.Life as lives
 use Rattle.rx_rules.specs.Looks.{CallRecord, Looks, is_call}
 use Rattle.rx_rules.specs.Received.{is_complete, unread_of}
 use Rattle.rx_rules.specs.Setup.{IsServer}
-use Rattle.rx_rules.specs.Slots.{room}
 use Rattle.rx_history.specs.Sides.{Node, side}
 use Rattle.rx_jobs.specs.Handlers.{Handlers}
 use Rattle.rx_jobs.specs.Jobs.{JobState, waits}
@@ -21,7 +20,7 @@ use Rattle.rx_closing.proofs.Frame.{far, far_of, rank_of}
 use Rattle.rx_closing.proofs.Server.FirstsHold.{has_first}
 use Rattle.rx_closing.proofs.Server.OneJob.{OneJob}
 use Rattle.rx_closing.proofs.Server.OwnStep.{waits_none}
-use Rattle.rx_closing.proofs.Server.ServerTurn.{Rests, ServedTurn, Worked, rests_coded, rests_finished}
+use Rattle.rx_closing.proofs.Server.ServerTurn.{Rests, ServedTurn, WasFull, Worked, rests_coded, rests_finished}
 use Rattle.rx_closing.proofs.Server.ServerTurn.{rests_longer, rests_reading, rests_waiting, rests_writing, served}
 use Rattle.rx_closing.proofs.Server.ServerTurn.{served_lingers, served_quits, served_stays, served_works}
 use Rattle.rx_closing.proofs.Steps.{TurnsOn}
@@ -58,7 +57,7 @@ module _ (g : Handlers) (node : Node) (serves : IsServer node.setup.kind) (c : C
         → unread_of f.looks.received ≡ [] → is_complete f.looks.received ≡ false → ServerMoves s t
     server_full : (r f : CallRecord) → here s ≡ Some r → here t ≡ Some f → r.life ≡ lives.Accepted
         → f.life ≡ lives.Accepted → TurnsOn (l s).now r.looks f.looks → f.looks.received.ended ≡ true
-        → room node.setup (l t) f.looks ≡ 0 → ServerMoves s t
+        → WasFull g node serves c s f → waited most c (Some f) t.jobs ≡ suc most → ServerMoves s t
 
   -- ---- the steps that were waited
 
@@ -251,7 +250,7 @@ module _ (g : Handlers) (node : Node) (serves : IsServer node.setup.kind) (c : C
               longer (step_more before one is waits_ whole (ap is_handled before_)
               (ap (λ k. k.received.ended) same ∙ whole) (ap is_handled now_))
           by (inr life) (rests_writing code now_ one ended coded zero_ some whole full) =
-              server_full r f w.was w.is life now_ w.turns whole full
+              server_full r f w.was w.is life now_ w.turns whole full (decided_all f t.jobs one code whole now_ coded)
           by (inr life) (rests_finished now_ shut whole others) =
               let first : rank_of r.life ≡ 1 = ap rank_of life in
               let second : rank_of f.life ≡ 2 = ap rank_of now_ in
@@ -320,6 +319,7 @@ module _ (g : Handlers) (node : Node) (serves : IsServer node.setup.kind) (c : C
 
     -- ---- any turn
 
+    -- the turn leaves the call no less far, by both numbers
     pub way_grows : ServedTurn g node serves c s t → WayGrows s t
     way_grows (served_works r f w rests) = work_grows r f w rests
     way_grows (served_quits r f code was broke is over turns others) = quit_grows r f code was broke is over turns
@@ -336,6 +336,7 @@ module _ (g : Handlers) (node : Node) (serves : IsServer node.setup.kind) (c : C
               (omega (arith, unhandled_same (here s) s.jobs t.jobs idle));
         }
 
+    -- the turn brings the call further, or it rests
     pub server_moves : ServedTurn g node serves c s t → ServerMoves s t
     server_moves (served_works r f w rests) = work_moves r f w rests
     server_moves (served_quits r f code was broke is over turns others) = quit_moves r f code was broke is over turns

@@ -1,4 +1,4 @@
--- Behind a turn of the dispatcher its server's one call is drained, where it is at work; and a stream all of whose
+-- Behind a turn of the dispatcher a call of its server is drained, where it is at work; and a stream all of whose
 -- pieces stand without a gap is complete.
 use Rattle.std.proofs.Common.{◌≡◌, ◌⊎◌, inl, inr, ◌<◌, ◌≤◌, ◌+◌, ◌*◌, ◌∷◌, ◌==◌, cond, ℕ, suc, zero, Bool, true, false}
 use Rattle.std.proofs.Common.{List, [], length, refl, ap, sym, subst, ◌∙◌, Option, Some, None, arith, is_some, nat_le}
@@ -21,6 +21,7 @@ use Rattle.rx_progress.specs.Moving.{IsDrained}
 use Rattle.rx_jobs.specs.Handlers.{Handlers}
 use Rattle.rx_plan.specs.Stages.{Stage}
 use Rattle.rx_closing.proofs.Ends.LastOnly.{OneLast, ended_drained, one_last, unread_drained}
+use Rattle.rx_closing.proofs.Far.AtWork.{one_record}
 use Rattle.rx_closing.proofs.Far.FinishedRead.{finished_read}
 use Rattle.rx_closing.proofs.Server.ServerTurn.{Rests, ServedTurn, rests_coded, rests_finished, rests_longer}
 use Rattle.rx_closing.proofs.Server.ServerTurn.{rests_reading, rests_waiting, rests_writing, served, served_lingers}
@@ -28,15 +29,11 @@ use Rattle.rx_closing.proofs.Server.ServerTurn.{served_quits, served_stays, serv
 
 -- ---- drained
 
+-- no test is both passed and failed
 pub both_ways : (b : Bool) → b ≡ true → b ≡ false → ⊥
 both_ways b yes_ no_ =
     let wrong : ◌≡◌ {A = Bool} true false = sym yes_ ∙ no_ in
     cc (wrong)
-
-same_some : (a b : CallRecord) (o : Option CallRecord) → o ≡ Some a → o ≡ Some b → a ≡ b
-same_some a b o first second =
-    let both : ◌≡◌ {A = Option CallRecord} (Some a) (Some b) = sym first ∙ second in
-    cc (both)
 
 module _ (g : Handlers) (node : Node) (serves : IsServer node.setup.kind) (fits : FitsSetup node.setup) (c : CallName)
     (s t : Stage) (legal : Legal node.setup (side 0 t.history)) where
@@ -55,11 +52,11 @@ module _ (g : Handlers) (node : Node) (serves : IsServer node.setup.kind) (fits 
       absurd (both_ways (is_handled f.life) (ap is_handled life)
       (ap (λ (o : Option CallRecord). is_call (λ r. is_handled r.life) o) (sym there ∙ same) ∙ idle))
   reads_drained f there life more (served_quits r q code was broke is over turns others) =
-      let one : q ≡ f = same_some q f (served g node serves c t) is there in
+      let one : q ≡ f = one_record q f (served g node serves c t) is there in
       absurd (let wrong : lives.Over (Some code) ≡ lives.Accepted =
       sym over ∙ ap (λ (x : CallRecord). x.life) one ∙ life in cc (wrong))
   reads_drained f there life more (served_lingers r code was broke same before one is waits_ less ended) =
-      let mine : r ≡ f = same_some r f (served g node serves c t) (same ∙ was) there in
+      let mine : r ≡ f = one_record r f (served g node serves c t) (same ∙ was) there in
       absurd (let wrong : lives.Broken code ≡ lives.Accepted =
       sym broke ∙ ap (λ (x : CallRecord). x.life) mine ∙ life in cc (wrong))
   reads_drained f there life more (served_works r q w rests) =
@@ -68,7 +65,7 @@ module _ (g : Handlers) (node : Node) (serves : IsServer node.setup.kind) (fits 
       (ap (λ (x : CallRecord). x.life) one ∙ life))
     where
       one : q ≡ f
-      one = same_some q f (served g node serves c t) w.is there
+      one = one_record q f (served g node serves c t) w.is there
 
       by : Rests g node serves c s t r q → q.looks.received.ended ≡ false → q.life ≡ lives.Accepted
           → IsDrained q.looks.received

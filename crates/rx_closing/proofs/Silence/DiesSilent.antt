@@ -1,7 +1,7 @@
 -- A client's call that is found dead wasn't heard for 12,000 ms.
 use Rattle.std.proofs.Common.{◌≡◌, ◌≤◌, ◌+◌, ◌-◌, ◌++◌, ◌&&◌, nat_le, cond, ℕ, Bool, true, false, ℤ, drop, List, []}
-use Rattle.std.proofs.Common.{◌∷◌, Option, Some, None}
-use Rattle.std.proofs.Common.{option_map, Result, Ok, Err, refl, ap, sym, subst, ◌∙◌, ⊎_elim, arith, if◌then◌else◌}
+use Rattle.std.proofs.Common.{◌∷◌, Option, Some, None, option_map, Result, Ok, Err, refl, ap, sym, subst, ◌∙◌, ⊎_elim}
+use Rattle.std.proofs.Common.{arith, if◌then◌else◌}
 use Rattle.std.proofs.lemmas.Bool.Decides.{nat_tests}
 use Rattle.rx_model.specs.declared.answers.BadMsg.{BadMsg}
 use Rattle.rx_model.specs.declared.answers.End.{End}
@@ -88,7 +88,8 @@ some_life : (o : Option CallRecord) (b : CallRecord) (x : Life) → o ≡ Some b
 some_life o b x is lives =
     (let both : ◌≡◌ {A = Option Life} (Some b.life) (Some x) = sym (ap life_of is) ∙ lives in cc (both))
 
-both_second : (a b : Bool) → (a && b) ≡ true → b ≡ true
+-- where both hold the second does
+pub both_second : (a b : Bool) → (a && b) ≡ true → b ≡ true
 both_second true b is = is
 both_second false b is = absurd cc
 

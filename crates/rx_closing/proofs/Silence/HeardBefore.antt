@@ -1,32 +1,32 @@
 -- A message that was heard of a call that is found dead came before the last stage at which it lives.
-use Rattle.std.proofs.Common.{◌≡◌, ◌≤◌, ◌++◌, ℕ, suc, true, List, [], ◌∷◌, Option, Some, None, refl, ap, sym}
-use Rattle.std.proofs.Common.{subst, ◌∙◌, ⊎_elim, arith}
 use Rattle.std.specs.Prelude.{slice_get}
+use Rattle.std.proofs.Common.{◌≡◌, ◌++◌, ℕ, suc, true, List, ◌∷◌, Option, Some, None, refl, ap, sym, subst, ◌∙◌, ⊎_elim}
+use Rattle.std.proofs.Common.{arith, ◌≤◌, []}
 use Rattle.rx_model.specs.declared.answers.End.{End}
 use Rattle.rx_model.specs.declared.answers.End.TheVariants as ends
 use Rattle.rx_model.specs.declared.event.Event.{Event}
-use Rattle.rx_model.specs.declared.event.Event.TheVariants as events
 use Rattle.rx_model.specs.declared.event.Noted.{Noted}
 use Rattle.rx_model.specs.declared.names.CallName.{CallName}
+use Rattle.rx_model.specs.declared.event.Event.TheVariants as events
 use Rattle.rx_model.specs.declared.names.Host.{Host}
 use Rattle.rx_rules.specs.After.{looks}
 use Rattle.rx_rules.specs.Life.{Life, is_active}
 use Rattle.rx_rules.specs.Life as lives
 use Rattle.rx_rules.specs.Rules.{Legal}
 use Rattle.rx_rules.specs.Setup.{Client, FitsSetup, Setup}
-use Rattle.rx_history.proofs.Moments.{now-side}
 use Rattle.rx_history.specs.Sides.{Node, side}
 use Rattle.rx_history.specs.Streams.{end_at, end_by, end_of_life}
-use Rattle.rx_asks.specs.History.{IsCalled}
-use Rattle.rx_jobs.specs.Handlers.{Handlers}
-use Rattle.rx_script.specs.declared.plan.Numbered.{Numbered}
+use Rattle.rx_history.proofs.Moments.{now-side}
 use Rattle.rx_wire.specs.Turns.{noted}
+use Rattle.rx_asks.specs.History.{IsCalled}
+use Rattle.rx_script.specs.declared.plan.Numbered.{Numbered}
+use Rattle.rx_jobs.specs.Handlers.{Handlers}
 use Rattle.rx_plan.specs.Stages.{Stage}
-use Rattle.rx_plan.proofs.Callers.{side_own}
 use Rattle.rx_plan.proofs.ClientEnds.{IsCalledOr, calls_called}
 use Rattle.rx_plan.proofs.JointMoments.{legal_parts, side_parts}
+use Rattle.rx_plan.proofs.Callers.{side_own}
+use Rattle.rx_closing.specs.Living.{call_lives_at, looks_of}
 use Rattle.rx_closing.specs.Closing.{RoundsBehind}
-use Rattle.rx_closing.specs.Living.{all_live, call_lives_at, looks_of}
 use Rattle.rx_closing.specs.Silence.{CameWith, is_hearing}
 use Rattle.rx_closing.proofs.Messages.HearsCalls.{HearsNow, hears_now, own_hearing}
 use Rattle.rx_closing.proofs.Rounds.Chains.{Adds}
@@ -34,8 +34,8 @@ use Rattle.rx_closing.proofs.Rounds.HeardCuts.{two_cuts}
 use Rattle.rx_closing.proofs.Rounds.LastLife.{LastLife}
 use Rattle.rx_closing.proofs.Rounds.RoundMoments.{moments_stay}
 use Rattle.rx_closing.proofs.Rounds.SpokeHolds.{now_rises}
-use Rattle.rx_closing.proofs.Silence.DeadTimes.{called_dead, called_legal, ended_on, fits, from_called, legal_t}
-use Rattle.rx_closing.proofs.Silence.DeadTimes.{scene, to_called}
+use Rattle.rx_closing.proofs.Silence.DeadTimes.{begins, called_dead, called_legal, ended_on, fits, from_called, legal_t}
+use Rattle.rx_closing.proofs.Silence.DeadTimes.{to_called}
 use Rattle.rx_closing.proofs.Silence.DiesSilent.{dies_silent}
 
 -- clocks don't go back
@@ -45,15 +45,6 @@ now_later s (e ∷ later) h legal =
     (let first = now_later s later h legal.1 in
     let second = now_rises s (looks s (later ++ h)) e legal.0 in
     omega (arith, first, second))
-
-active_calls : (x : Life) → IsCalled x → is_active x ≡ true → x ≡ lives.Calling
-active_calls lives.Calling called works = refl
-active_calls (lives.Ended end) called works = absurd cc
-active_calls lives.Waiting called works = absurd called
-active_calls lives.Accepted called works = absurd called
-active_calls lives.Finished called works = absurd called
-active_calls (lives.Broken code) called works = absurd called
-active_calls (lives.Over code) called works = absurd called
 
 -- an event that a client's side has behind which others came
 pub side_there : (j : ℕ) (e : Event) (h part before : List Noted) → h ≡ part ++ (noted j e ∷ before)
@@ -75,22 +66,31 @@ hears_at s host epoch kind c e came later h legal =
     (hears_now s host epoch kind h came.from came.datagram came.got taken came.message came.reads
     (own_hearing came.got came.such))))
 
+active_calls : (x : Life) → IsCalled x → is_active x ≡ true → x ≡ lives.Calling
+active_calls lives.Calling called works = refl
+active_calls (lives.Ended end) called works = absurd cc
+active_calls lives.Waiting called works = absurd called
+active_calls lives.Accepted called works = absurd called
+active_calls lives.Finished called works = absurd called
+active_calls (lives.Broken code) called works = absurd called
+active_calls (lives.Over code) called works = absurd called
+
 module _ (g : Handlers) (ls : List Numbered) (n : ℕ) (s t : Stage) (b : RoundsBehind g ls n s t) (c : CallName) (k : ℕ)
-    (client : Node) (only : all_live s ≡ c ∷ []) (there : slice_get s.nodes (suc k) ≡ Some client)
+    (client : Node) (there : slice_get s.nodes (suc k) ≡ Some client)
     (living : call_lives_at s c (suc k) client ≡ true) (o : LastLife g c (suc k) client s t) (silence : ℕ)
     (dead : end_at (looks_of t (suc k) client) c ≡ Some (ends.Dead silence)) (e : Event)
     (came : CameWith client.setup (λ got. is_hearing got ≡ true) c e) (later before : List Noted)
     (are : t.history ≡ later ++ (noted (suc k) e ∷ before)) where
   kind : client.setup.kind ≡ Client c.host c.epoch
-  kind = (scene g ls n s t b c k client only there living o).client_is
+  kind = (begins g ls n s t b c k client there living).client_is
 
   fit : FitsSetup client.setup
-  fit = fits g ls n s t b c k client only there living o
+  fit = fits g ls n s t b c k client there living
 
   legal_all : Legal client.setup (side (suc k) later ++ (e ∷ side (suc k) before))
   legal_all =
       subst (Legal client.setup) (side_there (suc k) e t.history later before are)
-      (legal_t g ls n s t b c k client only there living o)
+      (legal_t g ls n s t b c k client there living)
 
   pub hears : HearsNow client.setup (side (suc k) before) e c
   hears = hears_at client.setup c.host c.epoch kind c e came (side (suc k) later) (side (suc k) before) legal_all
@@ -103,13 +103,13 @@ module _ (g : Handlers) (ls : List Numbered) (n : ℕ) (s t : Stage) (b : Rounds
       (legal_parts client.setup (side (suc k) later) (e ∷ side (suc k) before) legal_all).1)) hears.active
 
   called_to : Adds o.ends.called.history t.history
-  called_to = from_called g ls n s t b c k client only there living o
+  called_to = from_called g ls n s t b c k client there living o
 
   last_to : Adds o.last.history o.ends.called.history
-  last_to = to_called g ls n s t b c k client only there living o
+  last_to = to_called g ls n s t b c k client there living o
 
   dead_called : end_at (looks_of o.ends.called (suc k) client) c ≡ Some (ends.Dead silence)
-  dead_called = called_dead g ls n s t b c k client only there living o silence dead
+  dead_called = called_dead g ls n s t b c k client there living o silence dead
 
   -- not behind the turns of the round in which it ended
   not_later : Adds o.ends.called.history before → ⊥
@@ -130,7 +130,7 @@ module _ (g : Handlers) (ls : List Numbered) (n : ℕ) (s t : Stage) (b : Rounds
       → Adds o.last.history before → ⊥
   not_between part is a =
       (let own = side_there (suc k) e o.ends.called.history part before is in
-      let legal = subst (Legal client.setup) own (called_legal g ls n s t b c k client only there living o) in
+      let legal = subst (Legal client.setup) own (called_legal g ls n s t b c k client there living o) in
       let long = dies_silent client.setup c.host c.epoch kind fit (side (suc k) part) (e ∷ side (suc k) before) c
       hears.behind silence legal hears.after_it (hears.calls hears_calling)
       (ap (λ (h : List Event). end_at (looks client.setup h) c) (sym own) ∙ dead_called) in

@@ -49,8 +49,8 @@ use Rattle.rx_rounds.proofs.Rounded.{Made}
 use Rattle.rx_closing.proofs.Conns.PeersTo.{IsTo, peer_of, peers_after}
 use Rattle.rx_closing.proofs.Messages.Arrives.{Meet}
 use Rattle.rx_closing.proofs.Messages.Delivered.{DeliveredBy, TookAt, delivers_first, delivers_grow, takes_from}
+use Rattle.rx_closing.proofs.Messages.Judged.{judged_by, taken_by}
 use Rattle.rx_closing.proofs.Messages.Lasts.{live_last}
-use Rattle.rx_closing.proofs.Messages.OwnTakes.{judged_by, taken_by}
 use Rattle.rx_closing.proofs.Messages.Rows.{IsLast, abort_took, client_front_by, known_by}
 use Rattle.rx_closing.proofs.Telling.AbortGiven.{Found}
 use Rattle.rx_closing.proofs.Telling.AbortOwed.{AbortOf}
@@ -81,7 +81,7 @@ module _ (s : Setup) (host : Host) (epoch : ℕ) (kind : s.kind ≡ Client host 
 -- ---- an ABORT comes
 
 -- behind a message that stops its call
-stops_there : (s : Setup) (l : Looks) (c : CallName) (k : CallRecord) (m : Message) (code : ℤ) → IsLast l c k
+pub stops_there : (s : Setup) (l : Looks) (c : CallName) (k : CallRecord) (m : Message) (code : ℤ) → IsLast l c k
     → (c.number == 0) ≡ false → m.body ≡ bodies.Abort code
     → call_at (taken_with s tooks.Stopped c m (prepared s tooks.Stopped (connection_of c) l)) c
     ≡ Some (record k { life = after_code code k.life })

@@ -1,6 +1,6 @@
 -- A server that owes an ABORT to the latest call of a channel gives it in the polls of the next round.
-use Rattle.std.proofs.Common.{◌≡◌, ◌≢◌, ◌++◌, ◌==◌, ℕ, Bool, true, false, List, [], ◌∷◌, Option, Some, None}
-use Rattle.std.proofs.Common.{option_map, refl, ◌∙◌, ap, sym, subst, inl, inr, ⊎_elim, append_assoc, append-nil}
+use Rattle.std.proofs.Common.{◌≡◌, ◌≢◌, ◌++◌, ◌==◌, ℕ, Bool, true, false, List, [], ◌∷◌, Option, Some, None, option_map}
+use Rattle.std.proofs.Common.{refl, ◌∙◌, ap, sym, subst, inl, inr, ⊎_elim, append_assoc, append-nil}
 use Rattle.std.specs.Prelude.{drop, slice_get, IsSomeAnd}
 use Rattle.rx_model.specs.declared.event.Event.{Event}
 use Rattle.rx_model.specs.declared.event.Event.TheVariants as events
@@ -31,7 +31,7 @@ use Rattle.rx_closing.proofs.Telling.AbortOwed.{AbortOf, Owing, owes_none, poll_
 -- ---- the polls of the server
 
 -- what was given only grows
-given_grows : (from : Host) (node : ℕ) (v w : Polling) (s t : Stage) (es : List Noted)
+pub given_grows : (from : Host) (node : ℕ) (v w : Polling) (s t : Stage) (es : List Noted)
     → Turn (polling from) node v s es (To (w, t)) → (gs : List Datagram) × (w.given ≡ v.given ++ gs)
 given_grows from node v w s t es turn = of v s es (To (w, t)) turn refl
   where
@@ -54,7 +54,7 @@ given_grows from node v w s t es turn = of v s es (To (w, t)) turn refl
     of v s es out (is_endless a b fs turn_cut long) is = absurd cc
 
 -- another node's side stays
-turn_side : (from : Host) (node j : ℕ) (v w : Polling) (s t : Stage) (es : List Noted) → node ≢ j
+pub turn_side : (from : Host) (node j : ℕ) (v w : Polling) (s t : Stage) (es : List Noted) → node ≢ j
     → Turn (polling from) node v s es (To (w, t)) → side j t.history ≡ side j s.history
 turn_side from node j v w s t es apart turn = of v s es (To (w, t)) turn refl
   where

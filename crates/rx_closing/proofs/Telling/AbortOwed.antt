@@ -1,7 +1,7 @@
 -- A channel whose latest call is owed an ABORT: what leaves it so; a node that gives nothing has none; and a poll that
 -- gives something gives the ABORT, or leaves it owed.
-use Rattle.std.proofs.Common.{◌≡◌, ◌≢◌, ◌⊎◌, ◌<◌, ◌≤◌, ◌&&◌, ◌==◌, cond, ℕ, ℤ, zero, suc, Bool, true, false, List}
-use Rattle.std.proofs.Common.{[], ◌∷◌, Option, Some, None, Ok, option_map, filter, refl, ◌∙◌, ap, sym, subst, inl, inr}
+use Rattle.std.proofs.Common.{◌≡◌, ◌≢◌, ◌⊎◌, ◌<◌, ◌≤◌, ◌&&◌, ◌==◌, cond, ℕ, ℤ, zero, suc, Bool, true, false, List, []}
+use Rattle.std.proofs.Common.{◌∷◌, Option, Some, None, Ok, option_map, filter, refl, ◌∙◌, ap, sym, subst, inl, inr}
 use Rattle.std.proofs.Common.{⊎_elim, is_some, length, arith}
 use Rattle.std.proofs.lemmas.Bool.{le-leb}
 use Rattle.std.specs.Prelude.{option_and_then, slice_get, unwrap_or}
@@ -181,7 +181,8 @@ owing_given c d m bodies.AckAll l other o =
 
 -- ---- its item
 
-found_in : {X : Type 0} (p : X → Bool) (xs : List X) (x : X) → find p xs ≡ Some x → In x xs
+-- what is found in a list is in it
+pub found_in : {X : Type 0} (p : X → Bool) (xs : List X) (x : X) → find p xs ≡ Some x → In x xs
 found_in p [] x found = absurd cc
 found_in {X = X} p (y ∷ ys) x found =
     (elim (p y) as (λ b. cond b (Some y) (find p ys) ≡ Some x → In x (y ∷ ys)) [
@@ -196,7 +197,8 @@ in_four x (suc (suc zero)) low = inr (inr (inl refl))
 in_four x (suc (suc (suc zero))) low = inr (inr (inr (inl refl)))
 in_four x (suc (suc (suc (suc n)))) low = absurd (omega arith)
 
-in_all : (rs : List ConnLooks) (r : ConnLooks) (n : ℕ) → n < 4 → In r rs
+-- each of the four channels of a connection is among all channels
+pub in_all : (rs : List ConnLooks) (r : ConnLooks) (n : ℕ) → n < 4 → In r rs
     → In (record { connection = r.connection; chan = n }) (all_channels rs)
 in_all [] r n low there = absurd there
 in_all (q ∷ rs) r n low (inl same) =
@@ -207,7 +209,8 @@ in_all (q ∷ rs) r n low (inr rest) =
     in_behind (record { connection = r.connection; chan = n }) (channels_of q.connection) (all_channels rs)
     (in_all rs r n low rest)
 
-low_slice : (qs : List ChannelLooks) (n : ℕ) → 1 ≤ number_in qs n → n < length qs
+-- a place of a list with a number is one of its places
+pub low_slice : (qs : List ChannelLooks) (n : ℕ) → 1 ≤ number_in qs n → n < length qs
 low_slice [] n some = absurd (omega arith)
 low_slice (q ∷ qs) zero some = omega arith
 low_slice (q ∷ qs) (suc n) some = (let low = low_slice qs n some in omega arith)

@@ -18,9 +18,9 @@ use Rattle.rx_plan.specs.Stages.{Stage}
 use Rattle.rx_closing.proofs.Far.FarBounds.{call_agrees}
 use Rattle.rx_closing.proofs.Far.FarStands.{scene_fed}
 use Rattle.rx_closing.proofs.Far.FinishedShut.{IsServed, lives_served}
-use Rattle.rx_closing.proofs.Frame.{IsPlain, Scene, asked_in, served_in}
+use Rattle.rx_closing.proofs.Frame.{IsPlain, OneOf, asked_in, served_in}
 
-module _ (c : CallName) (k : ℕ) (client server : Node) (s : Stage) (scene : Scene c k client server s)
+module _ (c : CallName) (k : ℕ) (client server : Node) (s : Stage) (scene : OneOf c k client server s)
     (x y : CallRecord) (there : asked_in c k client s ≡ Some x) (calling : x.life ≡ lives.Calling)
     (served : served_in c server s ≡ Some y) where
   -- one that is over well has ended at its client

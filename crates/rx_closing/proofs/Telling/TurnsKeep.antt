@@ -1,8 +1,8 @@
 -- What holds of the server's side behind its deliveries holds behind the turns and the clocks of the round, where it
 -- holds through what a handler asks and through clocks; and an ABORT that a channel owes is owed still.
 use Rattle.std.proofs.Common.{◌≡◌, ◌≢◌, ◌==◌, ◌+◌, ◌&&◌, not, cond, ℕ, ℤ, zero, suc, Bool, true, false, List, [], ◌∷◌}
-use Rattle.std.proofs.Common.{Option, Some}
-use Rattle.std.proofs.Common.{None, Ok, Err, Result, refl, ◌∙◌, ap, sym, subst, is_some, length, option_map}
+use Rattle.std.proofs.Common.{Option, Some, None, Ok, Err, Result, refl, ◌∙◌, ap, sym, subst, is_some, length}
+use Rattle.std.proofs.Common.{option_map}
 use Rattle.std.specs.Prelude.{option_and_then, set, slice_get, unwrap_or}
 use Rattle.rx_model.specs.declared.answers.ServeRefused.{ServeRefused}
 use Rattle.rx_model.specs.declared.answers.ServeRefused.TheVariants as refusals
@@ -169,7 +169,7 @@ changed_holds P f keeps (q ∷ qs) (suc n) (suc k) here =
     changed_holds P f keeps qs n k here
 
 -- what holds of a channel and is left by a change holds behind it
-channel_holds : (P : ChannelLooks → Type 0) (l : Looks) (ch d : Channel) (f : ChannelLooks → ChannelLooks)
+pub channel_holds : (P : ChannelLooks → Type 0) (l : Looks) (ch d : Channel) (f : ChannelLooks → ChannelLooks)
     → ((q : ChannelLooks) → P q → P (f q)) → P (channel_at l d) → P (channel_at (on_channel ch f l) d)
 channel_holds P l ch d f keeps here =
     subst (λ (o : Option ConnLooks). P (unwrap_or (option_and_then (λ r. slice_get r.channels d.chan) o)

@@ -1,5 +1,5 @@
-use Rattle.rx_closing.proofs.NoMore.{none_dies_heard, none_lives_on}
 use Rattle.rx_closing.proofs.laws.closed_calls_live_no_more.Goals as goal
+use Rattle.rx_closing.proofs.Left.NoMore.{none_dies_heard, none_lives_on}
 
 pub returns-clause-lives : goal.returns-clause-lives
 returns-clause-lives c = none_lives_on
