@@ -22,7 +22,7 @@ use Rattle.rx_plan.specs.Answering.{EndedByLaw, OkAsAnswered, WaitsShort}
 use Rattle.rx_plan.specs.Follows.{CutOff, Empty, EndlessIn, RefusedAt, Went, Whole, plan_goes}
 use Rattle.rx_plan.specs.Lines.{IsWell}
 use Rattle.rx_plan.specs.Promises.{AreDistinct, plan_nodes}
-use Rattle.rx_world.specs.Runs.{Arrives, Closes, Completes, KeepsPromises}
+use Rattle.rx_world.specs.Runs.{AllClose, Arrives, Closes, Completes, KeepsPromises}
 use Rattle.rx_world.specs.Runs.{RunIs, Tells}
 use Rattle.rx_plan.specs.Stages.{Stage}
 use Rattle.rx_world.specs.Tells.{Fails, Gains, Told, Wants, fails_last, fails_one, gains_none, gains_one, wants_last}
@@ -199,8 +199,8 @@ module _ (are_well : (g : Handlers) (text : List ℕ) (ls : List Numbered) → p
       → RunIs (handlers_with m s) lines ran before after
       → KeepsPromises (handlers_with m s) lines ran before after → Arrives (handlers_with m s) lines ran before after
       → Completes (handlers_with m s) lines ran before after → Closes (handlers_with m s) lines ran before after
-      → Played (handlers_with m s) lines ran before after
-  run_plays m s lines ran before after servable short read run keeps arrives completes closes =
+      → AllClose (handlers_with m s) lines ran before after → Played (handlers_with m s) lines ran before after
+  run_plays m s lines ran before after servable short read run keeps arrives completes closes all_close =
       let g : Handlers = handlers_with m s in
       let well : All (λ l. IsWell g l.what) lines = are_well g read.0 lines read.1 in
       record {
@@ -210,6 +210,7 @@ module _ (are_well : (g : Handlers) (text : List ℕ) (ls : List Numbered) → p
         arrives = arrives run;
         completes = λ key n invokes. completes run key n servable short invokes;
         closes = closes run servable short;
+        all_close = all_close run servable short;
         answers = λ t whole driven distinct premise.
             let goes : plan_goes g lines run.events (Whole t) = subst (plan_goes g lines run.events) whole run.goes in
             record {

@@ -15,6 +15,7 @@ use Rattle.rx_plan.specs.Promises.{AreDistinct, Promises, plan_nodes}
 use Rattle.rx_rounds.specs.Arriving.{ArrivesBy, WritesRequest}
 use Rattle.rx_rounds.specs.Completing.{CompletesBy, InvokesOnce}
 use Rattle.rx_closing.specs.Ended.{ClosesBy}
+use Rattle.rx_closing.specs.EndedAll.{ClosesAllBy}
 use Rattle.rx_world.specs.Runs.{RunIs}
 use Rattle.rx_plan.specs.Stages.{Stage}
 use Rattle.rx_world.specs.Tells.{Told}
@@ -53,7 +54,8 @@ AnswersInvokes g lines es went =
 
 -- the lines of a plan were run, and the events of that keep the promises of a plan; each is one that its line tells, so
 -- no other events have their text; its invokes are answered; a request that it writes before rounds arrives; one invoke
--- before so many rounds comes to its end; and behind losses so many rounds end the one call that lives
+-- before so many rounds comes to its end; and behind losses so many rounds end the one call that lives, and all that
+-- live, where there is room for all
 pub record Played (g : Handlers) (lines : List Numbered) (ran : Outcome) (before after : Told) : Type 0 where
   pub run : RunIs g lines ran before after
   pub promises : Promises lines run.events
@@ -62,6 +64,7 @@ pub record Played (g : Handlers) (lines : List Numbered) (ran : Outcome) (before
   pub arrives : (offer : List ℕ) (n : ℕ) → WritesRequest lines offer n → ArrivesBy lines offer run.went
   pub completes : (key : Option (List ℕ)) (n : ℕ) → InvokesOnce lines key n → CompletesBy g lines key n run.went
   pub closes : ClosesBy g lines run.events run.went
+  pub all_close : ClosesAllBy g lines run.events run.went
 
 -- `sim` ended as the run of the plan of this file did
 abbrev pub EndsAs : SimOutcome → List ℕ → (Outcome → Type 0) → Type 0

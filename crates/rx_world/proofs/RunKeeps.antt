@@ -9,7 +9,8 @@ use Rattle.rx_plan.proofs.SoundPlan.{lines_in_range}
 use Rattle.rx_rounds.specs.Arriving.{PlansArrive}
 use Rattle.rx_rounds.specs.Completing.{PlansComplete}
 use Rattle.rx_closing.specs.Ended.{PlansClose}
-use Rattle.rx_world.specs.Runs.{Arrives, Closes, Completes, KeepsPromises}
+use Rattle.rx_closing.specs.EndedAll.{PlansCloseAll}
+use Rattle.rx_world.specs.Runs.{AllClose, Arrives, Closes, Completes, KeepsPromises}
 use Rattle.rx_world.specs.Tells.{Told}
 use Rattle.rx_world.proofs.ToldEvents.{plan_told}
 
@@ -32,8 +33,14 @@ pub run_completes : PlansComplete → (g : Handlers) (ls : List Numbered) (outco
 run_completes law g ls outcome old new well r key n servable short invokes =
     law g ls key r.events r.went n servable short well invokes r.goes
 
--- and by that of rounds behind losses, they end the one call that lives
+-- by that of rounds behind losses, they end the one call that lives
 pub run_closes : PlansClose → (g : Handlers) (ls : List Numbered) (outcome : Outcome) (old new : Told)
     → All (λ l. IsWell g l.what) ls → Closes g ls outcome old new
 run_closes law g ls outcome old new well r servable short =
+    law g ls r.events r.went servable short well r.goes
+
+-- and by that of all calls, they end all that live, where there is room for them
+pub run_all_close : PlansCloseAll → (g : Handlers) (ls : List Numbered) (outcome : Outcome) (old new : Told)
+    → All (λ l. IsWell g l.what) ls → AllClose g ls outcome old new
+run_all_close law g ls outcome old new well r servable short =
     law g ls r.events r.went servable short well r.goes

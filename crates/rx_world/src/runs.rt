@@ -14,7 +14,7 @@ ghost use Rattle.rx_world.specs.Ran.{stop_of};
 ghost use Rattle.rx_world.specs.Showing.{AddsNode, IsBegun, IsCounted, MadeLines, MakesLine, RunsOn, ShowsRun};
 ghost use Rattle.rx_world.specs.Showing.{ended_at};
 ghost use Rattle.rx_world.specs.Showing.{has_client_room, has_slots, other_part, outcome_of, started};
-ghost use Rattle.rx_world.specs.Runs.{Arrives, Closes, Completes, KeepsPromises, RunIs};
+ghost use Rattle.rx_world.specs.Runs.{AllClose, Arrives, Closes, Completes, KeepsPromises, RunIs};
 ghost use Rattle.rx_world.specs.Shown.{jobs_of, script_of};
 ghost use Rattle.rx_world.specs.Tells.{told};
 
@@ -23,7 +23,7 @@ use crate::stop::Stop;
 use crate::trace::Trace;
 use crate::world::World;
 use rx_base::Sink;
-use rx_closing::calls_close;
+use rx_closing::{all_close, calls_close};
 use rx_dispatch::Dispatcher;
 use rx_model::wire::{MAX_WINDOW, MIN_WINDOW};
 use rx_model::{Host, Limits};
@@ -40,7 +40,8 @@ use xdr_value::Interface;
 /// the trace stands an answer line for each invoke that was given a call. The run is out of memory where memory was
 /// wanted, or where one polling or turn went on for 2^64 - 1 events. A request that the plan writes by hand before rounds
 /// arrives, or its handler refuses it; an invoke before so many rounds comes to its end, with what is served for it; and
-/// behind whatever a driven plan lost, so many rounds end the one call that lives.
+/// behind whatever a driven plan lost, so many rounds end the one call that lives, and all that live, where there is room
+/// for all.
 pub fn run<O: Sink, J: Journal>(
     alloc: Global,
     iface: &Interface,
@@ -65,10 +66,14 @@ pub fn run<O: Sink, J: Journal>(
     ensures closes { Closes (handlers_of iface.now (blocks_of script.blocks.items)) plan.now.lines.items result
         (told (J.told book.old) (O.told out.old) (O.faults out.old))
         (told (J.told book.new) (O.told out.new) (O.faults out.new)) }
+    ensures all_close { AllClose (handlers_of iface.now (blocks_of script.blocks.items)) plan.now.lines.items result
+        (told (J.told book.old) (O.told out.old) (O.faults out.old))
+        (told (J.told book.new) (O.told out.new) (O.faults out.new)) }
 {
     plans_arrive();
     plans_complete();
     calls_close();
+    all_close();
     match plan.lines.split_first() {
         None => Outcome::Ran,
         Some((first, rest)) => outcome_of(run_lines(

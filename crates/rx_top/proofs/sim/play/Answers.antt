@@ -16,7 +16,8 @@ returns-in-Ran-clause-played g c =
     run_plays c.plans_are_well.ensures law.ok law.ended law.caused law.aborted (interface_of c.args.iface.now)
     (blocks_of c.args.script.blocks.items) _ _ _ _ c.requires.servable c.requires.short
     c.requires.read c.in-Ran.ensures.run
-    c.in-Ran.ensures.headline c.in-Ran.ensures.arrives c.in-Ran.ensures.completes c.in-Ran.ensures.closes
+    c.in-Ran.ensures.headline c.in-Ran.ensures.arrives c.in-Ran.ensures.completes
+    c.in-Ran.ensures.closes c.in-Ran.ensures.all_close
 
 pub returns-in-Ran-clause-no_sink_fault : goal.returns-in-Ran-clause-no_sink_fault
 returns-in-Ran-clause-no_sink_fault g c is = run_faults _ _ _ _ _ c.in-Ran.ensures.run
@@ -28,7 +29,8 @@ returns-in-Refused-clause-played g c =
       run_plays c.plans_are_well.ensures law.ok law.ended law.caused law.aborted (interface_of c.args.iface.now)
           (blocks_of c.args.script.blocks.items) _ _ _ _ c.requires.servable c.requires.short
           c.requires.read c.in-Refused.ensures.run
-          c.in-Refused.ensures.headline c.in-Refused.ensures.arrives c.in-Refused.ensures.completes c.in-Refused.ensures.closes,
+          c.in-Refused.ensures.headline c.in-Refused.ensures.arrives c.in-Refused.ensures.completes
+          c.in-Refused.ensures.closes c.in-Refused.ensures.all_close,
     )
 
 pub returns-in-Refused-clause-no_sink_fault : goal.returns-in-Refused-clause-no_sink_fault
@@ -40,7 +42,8 @@ returns-in-SinkFault-clause-played g c =
     run_plays c.plans_are_well.ensures law.ok law.ended law.caused law.aborted (interface_of c.args.iface.now)
     (blocks_of c.args.script.blocks.items) _ _ _ _ c.requires.servable c.requires.short
     c.requires.read c.in-SinkFault.ensures.run
-    c.in-SinkFault.ensures.headline c.in-SinkFault.ensures.arrives c.in-SinkFault.ensures.completes c.in-SinkFault.ensures.closes
+    c.in-SinkFault.ensures.headline c.in-SinkFault.ensures.arrives c.in-SinkFault.ensures.completes
+    c.in-SinkFault.ensures.closes c.in-SinkFault.ensures.all_close
 
 pub returns-in-SinkFault-clause-sink_fault : goal.returns-in-SinkFault-clause-sink_fault
 returns-in-SinkFault-clause-sink_fault g c is = run_faults _ _ _ _ _ c.in-SinkFault.ensures.run
@@ -51,7 +54,8 @@ returns-in-OutOfMemory-clause-played g c =
     run_plays c.plans_are_well.ensures law.ok law.ended law.caused law.aborted (interface_of c.args.iface.now)
     (blocks_of c.args.script.blocks.items) _ _ _ _ c.requires.servable c.requires.short
     c.requires.read c.in-OutOfMemory.ensures.run
-    c.in-OutOfMemory.ensures.headline c.in-OutOfMemory.ensures.arrives c.in-OutOfMemory.ensures.completes c.in-OutOfMemory.ensures.closes
+    c.in-OutOfMemory.ensures.headline c.in-OutOfMemory.ensures.arrives c.in-OutOfMemory.ensures.completes
+    c.in-OutOfMemory.ensures.closes c.in-OutOfMemory.ensures.all_close
 
 pub returns-in-OutOfMemory-clause-no_sink_fault : goal.returns-in-OutOfMemory-clause-no_sink_fault
 returns-in-OutOfMemory-clause-no_sink_fault g c is = run_faults _ _ _ _ _ c.in-OutOfMemory.ensures.run

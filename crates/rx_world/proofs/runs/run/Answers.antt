@@ -3,7 +3,7 @@ use Rattle.rx_jobs.specs.Handlers.{handlers_of}
 use Rattle.std.proofs.Common.{◌≡◌, length, subst}
 use Rattle.rx_world.specs.Tells.{told}
 use Rattle.rx_world.proofs.Ending.{run_empty}
-use Rattle.rx_world.proofs.RunKeeps.{run_arrives, run_closes, run_completes, run_keeps}
+use Rattle.rx_world.proofs.RunKeeps.{run_all_close, run_arrives, run_closes, run_completes, run_keeps}
 use Rattle.rx_world.proofs.runs.run.Goals as goal
 
 pub returns-in-None-clause-run : goal.returns-in-None-clause-run
@@ -50,4 +50,14 @@ returns-in-None-clause-closes g c =
 pub returns-in-Some-clause-closes : goal.returns-in-Some-clause-closes
 returns-in-Some-clause-closes g c =
     run_closes c.calls_close.ensures.plans (handlers_of c.args.iface.now (blocks_of c.args.script.blocks.items))
+    c.args.plan.now.lines.items _ _ _ c.requires
+
+pub returns-in-None-clause-all_close : goal.returns-in-None-clause-all_close
+returns-in-None-clause-all_close g c =
+    run_all_close c.all_close.ensures.plans (handlers_of c.args.iface.now (blocks_of c.args.script.blocks.items))
+    c.args.plan.now.lines.items _ _ _ c.requires
+
+pub returns-in-Some-clause-all_close : goal.returns-in-Some-clause-all_close
+returns-in-Some-clause-all_close g c =
+    run_all_close c.all_close.ensures.plans (handlers_of c.args.iface.now (blocks_of c.args.script.blocks.items))
     c.args.plan.now.lines.items _ _ _ c.requires
