@@ -4,6 +4,7 @@
 //! A count stands still at 2^64-1, and there it passes for one that rose.
 #![tactic(auto)]
 
+mod discarding;
 mod disk;
 mod files;
 mod laws;
@@ -14,6 +15,7 @@ mod std_sink;
 #[cfg(test)]
 mod tests;
 
+pub use discarding::Discarding;
 pub use disk::{DiskFiles, MAX_FILE_BYTES};
 pub use files::{Files, ReadFault};
 pub use laws::numbers;

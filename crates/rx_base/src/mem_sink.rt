@@ -1,6 +1,6 @@
 //! A sink in memory, for tests.
 ghost use Rattle.std.specs.Prelude.{◌≡◌, ◌⊎◌, ◌<◌, ◌≤◌, ◌+◌, ◌-◌, ℕ, List, [], ◌++◌, Some, Contains, IfOk};
-ghost use Rattle.std.specs.Prelude.{IsErr, OnErr, OnOk, length, min, take, vec_len, vec_capacity};
+ghost use Rattle.std.specs.Prelude.{IsErr, OnErr, OnOk, false, length, min, take, vec_len, vec_capacity};
 ghost use Rattle.rx_base.specs.Count.{one_more};
 ghost use Rattle.rx_base.specs.MemSink.{MemSinkState};
 ghost use Rattle.rx_base.specs.Sink.{Gained, GainedSome, HasRisen};
@@ -106,5 +106,11 @@ impl Sink for MemSink {
         }
         self.faults = self.faults.saturating_add(1);
         Err(Failed)
+    }
+
+    fn discards(&self) -> bool
+        ensures { result ≡ false }
+    {
+        false
     }
 }

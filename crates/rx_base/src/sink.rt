@@ -1,5 +1,5 @@
 //! Where bytes are put.
-ghost use Rattle.std.specs.Prelude.{◌≡◌, ℕ, List, Option, OnOk, OnErr};
+ghost use Rattle.std.specs.Prelude.{◌≡◌, ℕ, List, None, Option, OnOk, OnErr, true};
 ghost use Rattle.rx_base.specs.Sink.{Gained, GainedSome, HasRisen};
 
 use std::error::Error;
@@ -31,4 +31,8 @@ pub trait Sink {
         ensures same { OnOk result (faults self.new ≡ faults self.old) }
         ensures err { OnErr result (GainedSome (told self.old) (told self.new) bytes.now) }
         ensures counted { OnErr result (HasRisen (faults self.old) (faults self.new)) };
+
+    /// Whether what is put is thrown away: then no text has to be made for it.
+    fn discards(&self) -> bool
+        ensures { result ≡ true → told self.now ≡ None };
 }

@@ -42,4 +42,8 @@ impl<'a, R: Print> Sink for StdSink<'a, R> {
         self.faults = self.faults.saturating_add(1);
         Err(Failed)
     }
+
+    fn discards(&self) -> bool {
+        false
+    }
 }
