@@ -134,11 +134,25 @@ impl Caller {
         Ok(self.end.is_some())
     }
 
-    /// A turn begins.
+    /// A turn begins. One that is finished gives back what it doesn't need any more.
     pub fn begin(&mut self)
         ensures { self.new ≡ begun self.old }
     {
         self.phase = Phase::Offering;
+        if self.end.is_some() {
+            self.let_go();
+        }
+    }
+
+    /// Gives back the room that its reply doesn't fill, and its request where all of it was accepted.
+    fn let_go(&mut self)
+        ensures { self.new ≡ self.old }
+    {
+        self.reply.shrink_to_fit();
+        if self.accepted == self.request.len() {
+            self.accepted = 0;
+            self.request = Vec::new(self.alloc);
+        }
     }
 
     /// Makes the next call of its turn, and answers the event; none where the turn is over. Where memory is wanted, it
