@@ -1,0 +1,5 @@
+use Rattle.rx_load.proofs.Nodes.{load_promises, load_world}
+use Rattle.rx_load.proofs.laws.loads_keep_promises.Goals as goal
+
+pub returns : goal.returns
+returns c = record { world = load_world; promises = load_promises }

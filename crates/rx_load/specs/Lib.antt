@@ -1,0 +1,5 @@
+pub mod Carrying
+pub mod Keeping
+pub mod Loads
+pub mod Summing
+pub mod Tallies
