@@ -6,6 +6,8 @@ use Rattle.rand_pcg.specs.Lcg.{Lcg}
 use Rattle.rand_pcg.specs.Pcg.{pcg32}
 use Rattle.rx_law.specs.Worlds.{Datagram}
 use Rattle.rx_model.specs.declared.event.Noted.{Noted}
+use Rattle.rx_load.specs.Tallies.{tallied, with_fate}
+use Rattle.rx_load.specs.declared.tally.Tally.{Tally}
 use Rattle.rx_world.specs.declared.stop.Stop.{Stop}
 use Rattle.rx_plan.specs.declared.fate.Fate.{Fate}
 use Rattle.rx_plan.specs.Lossy.{comes, drawn, fate_of, fated, gathered, stays}
@@ -163,6 +165,22 @@ pub words_more : (g now next : Lcg) (ds : List Datagram) (d : Datagram) (word : 
 words_more g now next ds d word at step =
     ap (λ (p : ℕ × Lcg). p.1) (step ∙ ap pcg32 at) ∙ sym (drawn_both g ds (d ∷ []))
 
+-- the tally of some and of others
+tallied_both : (xs more : List (Datagram × Fate)) (t : Tally) → tallied (xs ++ more) t ≡ tallied more (tallied xs t)
+tallied_both [] more t = refl
+tallied_both (x ∷ xs) more t = tallied_both xs more (with_fate x.1 t)
+
+-- with it
+pub tally_more : (g now next : Lcg) (ds : List Datagram) (d : Datagram) (word : ℕ) (f : Fate) (first was more : Tally)
+    → now ≡ drawn g ds → (word, next) ≡ pcg32 now → f ≡ fate_of word → was ≡ tallied (fated g ds) first
+    → more ≡ with_fate f was → more ≡ tallied (fated g (ds ++ d ∷ [])) first
+tally_more g now next ds d word f first was more at step is before put =
+    put
+    ∙ ap (with_fate f) before
+    ∙ ap (λ x. with_fate x (tallied (fated g ds) first)) (met g now next ds word f at step is)
+    ∙ sym (tallied_both (fated g ds) (fated (drawn g ds) (d ∷ [])) first)
+    ∙ ap (λ xs. tallied xs first) (sym (fated_both g ds (d ∷ [])))
+
 -- what is held behind it
 pub held_more : (g now next : Lcg) (ds : List Datagram) (d : Datagram) (word : ℕ) (f : Fate)
     (first held more : List Datagram) → now ≡ drawn g ds → (word, next) ≡ pcg32 now → f ≡ fate_of word
@@ -230,3 +248,7 @@ held_all g all ds first held far is = is ∙ ap (λ xs. first ++ gathered stays 
 pub drawn_all : (g : Lcg) (all ds : List Datagram) (words : Lcg) → map (λ d. d) ds ≡ all → words ≡ drawn g ds
     → words ≡ drawn g all
 drawn_all g all ds words far is = is ∙ ap (drawn g) (all_met all ds far)
+
+pub tally_all : (g : Lcg) (all ds : List Datagram) (first t : Tally) → map (λ d. d) ds ≡ all
+    → t ≡ tallied (fated g ds) first → t ≡ tallied (fated g all) first
+tally_all g all ds first t far is = is ∙ ap (λ xs. tallied (fated g xs) first) (all_met all ds far)

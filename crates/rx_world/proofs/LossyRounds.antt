@@ -12,7 +12,8 @@ use Rattle.rx_nodes.specs.Nodes.{Standing, nodes_of}
 use Rattle.rx_events.specs.Waits.{any_lives}
 use Rattle.rx_world.specs.declared.stop.Stop.{Stop}
 use Rattle.rx_plan.specs.Lossy.{Lossy, comes, drawn, fated, gathered, lossy, lossy_round}
-use Rattle.rx_world.specs.RoundsPlayed.{PlaysLossy, ShowsLossy}
+use Rattle.rx_load.specs.Carrying.{carries}
+use Rattle.rx_world.specs.RoundsPlayed.{PlaysCarried, PlaysLossy, ShowsLossy}
 use Rattle.rx_plan.specs.Lossy.{lossy_rounds, stays}
 use Rattle.rx_plan.specs.Network.{delivers}
 use Rattle.rx_plan.specs.Parts.{Part, Then, To, by_test, each, ends}
@@ -59,24 +60,19 @@ lossy_end words held given s =
 abbrev pub lossy_turns : Handlers → Lcg → List Datagram → List Datagram → Stage → Part Lossy
 lossy_turns g words held given s = Then (turns g s) (lossy_end words held given)
 
--- a round behind its polls
-abbrev pub lossy_behind : Handlers → Lcg → List Datagram → List Datagram → Stage → Part Lossy
-lossy_behind g words held given s =
-    Then (each delivers (gathered comes (fated words given) ++ held) s) (lossy_turns g words held given)
-
 -- its polls were made
 lossy_polled : (g : Handlers) (w m : WorldState) (words : Lcg) (held first given : List Datagram) (new : Lossy → Type 0)
     (stop : Option Stop) (a b c : Told) → first ≡ []
     → PlaysGiven (λ p. each polls_out (clients_first p.stage) p) w first m given None a b
-    → PlaysOn (lossy_behind g words held given) (Shows m) new stop b c
+    → PlaysOn (carries g words held given) (Shows m) new stop b c
     → PlaysOn (lossy_round g) (ShowsLossy w words held) new stop a c
 lossy_polled g w m words held first given new stop a b c none polled rest l shown =
-    ran_then (polls l.stage) (λ p. lossy_behind g l.words l.held p.given p.stage) (ShowsGiven m given) new stop a b c
+    ran_then (polls l.stage) (λ p. carries g l.words l.held p.given p.stage) (ShowsGiven m given) new stop a b c
     (polled (record { stage = l.stage; given = [] }) (shown.0, sym none))
     (λ p known.
-    subst (λ ds. Ran (lossy_behind g l.words l.held ds p.stage) new stop b c) (sym known.1)
-    (subst (λ ws. Ran (lossy_behind g ws l.held given p.stage) new stop b c) (sym shown.1)
-    (subst (λ hs. Ran (lossy_behind g words hs given p.stage) new stop b c) (sym shown.2) (rest p.stage known.0))))
+    subst (λ ds. Ran (carries g l.words l.held ds p.stage) new stop b c) (sym known.1)
+    (subst (λ ws. Ran (carries g ws l.held given p.stage) new stop b c) (sym shown.1)
+    (subst (λ hs. Ran (carries g words hs given p.stage) new stop b c) (sym shown.2) (rest p.stage known.0))))
 
 -- the run ended in its polls
 pub lossy_polls : (g : Handlers) (w m new : WorldState) (words last : Lcg) (held kept first given : List Datagram)
@@ -86,75 +82,82 @@ pub lossy_polls : (g : Handlers) (w m new : WorldState) (words last : Lcg) (held
     → PlaysLossy (lossy_round g) w words held new last kept (stop_of r) a b
 lossy_polls g w m new words last held kept first given r stop a b none polled err l shown =
     subst (λ o. Ran (lossy_round g l) (ShowsLossy new last kept) o a b) (sym (stop_is r stop err))
-    (ran_stops (polls l.stage) (λ p. lossy_behind g l.words l.held p.given p.stage) (ShowsGiven m given)
+    (ran_stops (polls l.stage) (λ p. carries g l.words l.held p.given p.stage) (ShowsGiven m given)
     (ShowsLossy new last kept) stop a b (polled (record { stage = l.stage; given = [] }) (shown.0, sym none)))
 
--- as what was given met its fates
-pub lossy_fates : (g : Handlers) (w m n new : WorldState) (words last : Lcg) (held kept first given : List Datagram)
-    (r : Result (Unit {0}) Stop) (stop : Stop) (a b c : Told) → first ≡ []
+-- its polls were made, and what is behind them
+pub lossy_carried : (g : Handlers) (w m new : WorldState) (words last : Lcg) (held kept first given : List Datagram)
+    (stop : Option Stop) (a b c : Told) → first ≡ []
     → PlaysGiven (λ p. each polls_out (clients_first p.stage) p) w first m given None a b
+    → PlaysCarried (carries g words held given) m new last kept stop b c
+    → PlaysLossy (lossy_round g) w words held new last kept stop a c
+lossy_carried g w m new words last held kept first given stop a b c none polled rest =
+    lossy_polled g w m words held first given (ShowsLossy new last kept) stop a b c none polled rest
+
+-- by the handlers of the same script
+pub carried_by : (hs : List Answering → Handlers) (now old : List Answering) (m new : WorldState) (words last : Lcg)
+    (held kept given : List Datagram) (stop : Option Stop) (a b : Told) → now ≡ old
+    → PlaysCarried (carries (hs now) words held given) m new last kept stop a b
+    → PlaysCarried (carries (hs old) words held given) m new last kept stop a b
+carried_by hs now old m new words last held kept given stop a b same plays =
+    subst (λ s. PlaysCarried (carries (hs s) words held given) m new last kept stop a b) same plays
+
+-- ---- a round behind its polls
+
+-- the run ended as what was given met its fates
+pub carried_fates : (g : Handlers) (m n new : WorldState) (words last : Lcg) (held kept given : List Datagram)
+    (r : Result (Unit {0}) Stop) (stop : Stop) (b c : Told)
     → Plays (each delivers (gathered comes (fated words given))) m n (Some stop) b c
     → IsErr r × IsErrAnd r (λ why. why ≡ stop)
-    → PlaysLossy (lossy_round g) w words held new last kept (stop_of r) a c
-lossy_fates g w m n new words last held kept first given r stop a b c none polled came err =
-    subst (λ o. PlaysLossy (lossy_round g) w words held new last kept o a c) (sym (stop_is r stop err))
-    (lossy_polled g w m words held first given (ShowsLossy new last kept) (Some stop) a b c none polled
+    → PlaysCarried (carries g words held given) m new last kept (stop_of r) b c
+carried_fates g m n new words last held kept given r stop b c came err =
+    subst (λ o. PlaysCarried (carries g words held given) m new last kept o b c) (sym (stop_is r stop err))
     (on_ended (each delivers (gathered comes (fated words given) ++ held)) (lossy_turns g words held given) (Shows m)
     (Shows n) (ShowsLossy new last kept) stop b c
-    (front_stops delivers delivers_cut (gathered comes (fated words given)) held m n stop b c came)))
+    (front_stops delivers delivers_cut (gathered comes (fated words given)) held m n stop b c came))
 
 -- as what was held came
-pub lossy_delivers : (g : Handlers) (w m n o new : WorldState) (words last : Lcg)
-    (held kept first given : List Datagram) (r : Result (Unit {0}) Stop) (stop : Stop) (a b c d : Told) → first ≡ []
-    → PlaysGiven (λ p. each polls_out (clients_first p.stage) p) w first m given None a b
+pub carried_held : (g : Handlers) (m n o new : WorldState) (words last : Lcg) (held kept given : List Datagram)
+    (r : Result (Unit {0}) Stop) (stop : Stop) (b c d : Told)
     → Plays (each delivers (gathered comes (fated words given))) m n None b c
     → Plays (each delivers held) n o (Some stop) c d → IsErr r × IsErrAnd r (λ why. why ≡ stop)
-    → PlaysLossy (lossy_round g) w words held new last kept (stop_of r) a d
-lossy_delivers g w m n o new words last held kept first given r stop a b c d none polled came delivered err =
-    subst (λ x. PlaysLossy (lossy_round g) w words held new last kept x a d) (sym (stop_is r stop err))
-    (lossy_polled g w m words held first given (ShowsLossy new last kept) (Some stop) a b d none polled
+    → PlaysCarried (carries g words held given) m new last kept (stop_of r) b d
+carried_held g m n o new words last held kept given r stop b c d came delivered err =
+    subst (λ x. PlaysCarried (carries g words held given) m new last kept x b d) (sym (stop_is r stop err))
     (on_ended (each delivers (gathered comes (fated words given) ++ held)) (lossy_turns g words held given) (Shows m)
     (Shows o) (ShowsLossy new last kept) stop b d
-    (both_play delivers (gathered comes (fated words given)) held m n o (Some stop) b c d came delivered)))
+    (both_play delivers (gathered comes (fated words given)) held m n o (Some stop) b c d came delivered))
 
 -- all came, and this followed
-lossy_came : (g : Handlers) (w m n o : WorldState) (words : Lcg) (held first given : List Datagram)
-    (new : Lossy → Type 0) (stop : Option Stop) (a b c d e : Told) → first ≡ []
-    → PlaysGiven (λ p. each polls_out (clients_first p.stage) p) w first m given None a b
-    → Plays (each delivers (gathered comes (fated words given))) m n None b c → Plays (each delivers held) n o None c d
-    → PlaysOn (lossy_turns g words held given) (Shows o) new stop d e
-    → PlaysOn (lossy_round g) (ShowsLossy w words held) new stop a e
-lossy_came g w m n o words held first given new stop a b c d e none polled came delivered rest =
-    lossy_polled g w m words held first given new stop a b e none polled
-    (on_then (each delivers (gathered comes (fated words given) ++ held)) (lossy_turns g words held given) (Shows m)
+carried_came : (g : Handlers) (m n o : WorldState) (words : Lcg) (held given : List Datagram) (new : Lossy → Type 0)
+    (stop : Option Stop) (b c d e : Told) → Plays (each delivers (gathered comes (fated words given))) m n None b c
+    → Plays (each delivers held) n o None c d → PlaysOn (lossy_turns g words held given) (Shows o) new stop d e
+    → PlaysOn (carries g words held given) (Shows m) new stop b e
+carried_came g m n o words held given new stop b c d e came delivered rest =
+    on_then (each delivers (gathered comes (fated words given) ++ held)) (lossy_turns g words held given) (Shows m)
     (Shows o) new stop b d e
-    (both_play delivers (gathered comes (fated words given)) held m n o None b c d came delivered) rest)
+    (both_play delivers (gathered comes (fated words given)) held m n o None b c d came delivered) rest
 
 -- the run ended in its turns
-pub lossy_turned : (g : Handlers) (w m n o p new : WorldState) (words last : Lcg)
-    (held kept first given : List Datagram) (r : Result (Unit {0}) Stop) (stop : Stop) (a b c d e : Told) → first ≡ []
-    → PlaysGiven (λ q. each polls_out (clients_first q.stage) q) w first m given None a b
+pub carried_turned : (g : Handlers) (m n o p new : WorldState) (words last : Lcg) (held kept given : List Datagram)
+    (r : Result (Unit {0}) Stop) (stop : Stop) (b c d e : Told)
     → Plays (each delivers (gathered comes (fated words given))) m n None b c → Plays (each delivers held) n o None c d
     → Plays (turns g) o p (Some stop) d e → IsErr r × IsErrAnd r (λ why. why ≡ stop)
-    → PlaysLossy (lossy_round g) w words held new last kept (stop_of r) a e
-lossy_turned g w m n o p new words last held kept first given r stop a b c d e none polled came delivered turned err =
-    subst (λ x. PlaysLossy (lossy_round g) w words held new last kept x a e) (sym (stop_is r stop err))
-    (lossy_came g w m n o words held first given (ShowsLossy new last kept) (Some stop) a b c d e none polled came
-    delivered
+    → PlaysCarried (carries g words held given) m new last kept (stop_of r) b e
+carried_turned g m n o p new words last held kept given r stop b c d e came delivered turned err =
+    subst (λ x. PlaysCarried (carries g words held given) m new last kept x b e) (sym (stop_is r stop err))
+    (carried_came g m n o words held given (ShowsLossy new last kept) (Some stop) b c d e came delivered
     (on_ended (turns g) (lossy_end words held given) (Shows o) (Shows p) (ShowsLossy new last kept) stop d e turned))
 
 -- it came to its end
-pub lossy_settles : (g : Handlers) (w m n o p new : WorldState) (words last : Lcg)
-    (held kept first given : List Datagram) (quiet : Bool) (stop : Option Stop) (a b c d e f : Told) → first ≡ []
-    → quiet ≡ ((length given == 0) && (length held == 0)) → last ≡ drawn words given
-    → kept ≡ gathered stays (fated words given)
-    → PlaysGiven (λ q. each polls_out (clients_first q.stage) q) w first m given None a b
+pub carried_settles : (g : Handlers) (m n o p new : WorldState) (words last : Lcg) (held kept given : List Datagram)
+    (quiet : Bool) (stop : Option Stop) (b c d e f : Told) → quiet ≡ ((length given == 0) && (length held == 0))
+    → last ≡ drawn words given → kept ≡ gathered stays (fated words given)
     → Plays (each delivers (gathered comes (fated words given))) m n None b c → Plays (each delivers held) n o None c d
     → Plays (turns g) o p None d e → Plays (settles quiet) p new stop e f
-    → PlaysLossy (lossy_round g) w words held new last kept stop a f
-lossy_settles g w m n o p new words last held kept first given quiet stop a b c d e f none is at stay polled came
-    delivered turned settled =
-    lossy_came g w m n o words held first given (ShowsLossy new last kept) stop a b c d f none polled came delivered
+    → PlaysCarried (carries g words held given) m new last kept stop b f
+carried_settles g m n o p new words last held kept given quiet stop b c d e f is at stay came delivered turned settled =
+    carried_came g m n o words held given (ShowsLossy new last kept) stop b c d f came delivered
     (on_then (turns g) (lossy_end words held given) (Shows o) (Shows p) (ShowsLossy new last kept) stop d e f turned
     (λ s shown.
     ran_as (settles ((length given == 0) && (length held == 0)) s) (left_of words given) (Shows new)

@@ -7,6 +7,7 @@ use Rattle.rx_plan.specs.Parts.{Part}
 use Rattle.rand_pcg.specs.Lcg.{Lcg}
 use Rattle.rx_plan.specs.Rounds.{Polling, polling, Polled}
 use Rattle.rx_plan.specs.Lossy.{drawn, Lossy}
+use Rattle.rx_plan.specs.Stages.{Stage}
 use Rattle.rx_world.specs.Ran.{Ran}
 use Rattle.rx_world.specs.Shown.{Shows, WorldState}
 use Rattle.rx_world.specs.TurnsPlayed.{CallStops, CallsTold}
@@ -50,3 +51,9 @@ abbrev pub PlaysLossy : (Lossy → Part Lossy) → WorldState → Lcg → List D
     → Option Stop → Told → Told → Type 0
 PlaysLossy part old words held new drawn kept stop before after =
     (l : Lossy) → ShowsLossy old words held l → Ran (part l) (ShowsLossy new drawn kept) stop before after
+
+-- the same of what a lossy round does behind its polls
+abbrev pub PlaysCarried : (Stage → Part Lossy) → WorldState → WorldState → Lcg → List Datagram → Option Stop → Told → Told
+    → Type 0
+PlaysCarried part old new drawn kept stop before after =
+    (s : Stage) → Shows old s → Ran (part s) (ShowsLossy new drawn kept) stop before after

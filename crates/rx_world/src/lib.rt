@@ -25,4 +25,7 @@ mod trace;
 mod turns;
 mod world;
 
-pub use runs::run;
+pub use invokes::{Callers, Invoked};
+pub use runs::{at_start, run};
+pub use stop::Stop;
+pub use world::{Datagram, World};

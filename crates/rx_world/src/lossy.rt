@@ -1,8 +1,10 @@
 //! Rounds over a network that loses, repeats and holds datagrams, as words of a generator say.
 ghost use Rattle.std.specs.Prelude.{◌≡◌, ◌∷◌, ◌%◌, ◌&&◌, ◌==◌, ◌++◌, [], OnOk, length};
 ghost use Rattle.rx_jobs.specs.Handlers.{handlers_of};
-ghost use Rattle.rx_world.specs.RoundsPlayed.{PlaysLossy};
+ghost use Rattle.rx_world.specs.RoundsPlayed.{PlaysCarried, PlaysLossy};
+ghost use Rattle.rx_load.specs.Tallies.{tallied};
 ghost use Rattle.rx_plan.specs.Lossy.{comes, drawn, fate_of, fated, gathered, lossy, lossy_round, stays};
+ghost use Rattle.rx_load.specs.Carrying.{carries};
 ghost use Rattle.rx_plan.specs.Network.{delivers};
 ghost use Rattle.rx_plan.specs.Parts.{each};
 ghost use Rattle.rx_world.specs.Ran.{stop_of};
@@ -15,6 +17,7 @@ use crate::world::{Datagram, World};
 use rand_core::utils::NextWord;
 use rand_pcg::Pcg32;
 use rx_base::Sink;
+use rx_load::Tally;
 use rx_plan::Fate;
 use rx_wire::Journal;
 use xdr_value::Interface;
@@ -81,10 +84,34 @@ impl World {
         ensures script { script_of self.new ≡ script_of self.old }
     {
         let mut given = Vec::new(self.alloc);
+        let mut tally = Tally::none();
         self.poll_all(&mut given, out, book)?;
+        self.carry_round(iface, words, given, held, &mut tally, out, book)
+    }
+
+    /// What a lossy round does with the datagrams that its polls gave: each meets its fate, and is tallied by that; what
+    /// was held comes behind them; and then each handler and caller has a turn, and the clocks move where nothing came.
+    pub fn carry_round<O: Sink, J: Journal>(
+        &mut self,
+        iface: &Interface,
+        words: &mut Pcg32,
+        given: Vec<Datagram>,
+        held: &mut Vec<Datagram>,
+        tally: &mut Tally,
+        out: &mut O,
+        book: &mut J,
+    ) -> Result<(), Stop>
+        ensures plays { PlaysCarried
+            (carries (handlers_of iface.now (script_of self.old)) words.old held.old.items given.items)
+            self.old self.new words.new held.new.items (stop_of result)
+            (told (J.told book.old) (O.told out.old) (O.faults out.old))
+            (told (J.told book.new) (O.told out.new) (O.faults out.new)) }
+        ensures tally { OnOk result (tally.new ≡ tallied (fated words.old given.items) tally.old) }
+        ensures script { script_of self.new ≡ script_of self.old }
+    {
         let quiet = none_of(&given, held);
         let mut kept = Vec::new(self.alloc);
-        self.carry_all(words, given, &mut kept, out, book)?;
+        self.carry_all(words, given, &mut kept, tally, out, book)?;
         self.deliver_given(held, out, book)?;
         *held = kept;
         self.turn_all(iface, out, book)?;
@@ -97,6 +124,7 @@ impl World {
         words: &mut Pcg32,
         given: Vec<Datagram>,
         held: &mut Vec<Datagram>,
+        tally: &mut Tally,
         out: &mut O,
         book: &mut J,
     ) -> Result<(), Stop>
@@ -106,10 +134,12 @@ impl World {
             (told (J.told book.new) (O.told out.new) (O.faults out.new)) }
         ensures held { OnOk result (held.new.items ≡ held.old.items ++ gathered stays (fated words.old given.items)) }
         ensures words { OnOk result (words.new ≡ drawn words.old given.items) }
+        ensures tally { OnOk result (tally.new ≡ tallied (fated words.old given.items) tally.old) }
         ensures script { script_of self.new ≡ script_of self.old }
     {
         for datagram in given {
             let fate = fate_of(words.next_word());
+            tally.count(fate);
             self.carry(fate, datagram, held, out, book)?;
         }
         Ok(())

@@ -170,7 +170,7 @@ fn begin(alloc: Global, script: Script, line: &PlanLine) -> Result<Running, Stop
 }
 
 /// A world of these nodes, with nothing kept yet.
-fn at_start(alloc: Global, nodes: Nodes, service: u16, script: Script) -> World
+pub fn at_start(alloc: Global, nodes: Nodes, service: u16, script: Script) -> World
     ensures kept { result ≡ started nodes service result.dispatcher }
     ensures jobs { jobs_of result ≡ [] }
     ensures script { script_of result ≡ blocks_of script.blocks.items }

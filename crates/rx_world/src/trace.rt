@@ -28,7 +28,7 @@ impl Trace {
         }
     }
 
-    /// Notes an event of a node, and then puts its line.
+    /// Notes an event of a node, and then puts its line, unless the sink throws it away.
     pub fn tell<O: Sink, J: Journal>(
         &mut self,
         node: u32,
@@ -41,6 +41,9 @@ impl Trace {
     {
         event.fits();
         book.note(node, event)?;
+        if out.discards() {
+            return Ok(());
+        }
         self.write(node, event)?;
         match out.put(self.line.as_bytes()) {
             Ok(()) => Ok(()),

@@ -4,7 +4,7 @@ use Rattle.std.proofs.lemmas.Iterator.Adapters.{YieldsList-from_vec}
 use Rattle.std.proofs.lemmas.Iterator.Consumers.{YieldsList-end, YieldsList-so_far, YieldsList-turn}
 use Rattle.rx_plan.specs.Network.{delivers}
 use Rattle.rx_world.proofs.Fated.{comes_all, comes_ended, comes_more, drawn_all, held_all, held_more, turn_around}
-use Rattle.rx_world.proofs.Fated.{words_more}
+use Rattle.rx_world.proofs.Fated.{tally_all, tally_more, words_more}
 use Rattle.rx_world.proofs.Playing.{each_none}
 use Rattle.rx_world.proofs.world.World.carry_all.Goals as goal
 
@@ -13,6 +13,7 @@ loop-datagram-init g c = record {
   plays = each_none delivers c.args.self.now _;
   held = sym (append-nil c.args.held.now.items);
   words = refl;
+  tally = refl;
   script = refl;
 }
 
@@ -46,6 +47,10 @@ loop-datagram-preserved g c = record {
       c.loop-datagram.invariant.held c.in_ok-carry.ensures.held;
   words = words_more c.args.words.now c.loop-datagram.words c.next_word.new.self c.loop-datagram.yielded
       c.in-Some.datagram c.next_word.result c.loop-datagram.invariant.words c.next_word.ensures;
+  tally = tally_more c.args.words.now c.loop-datagram.words c.next_word.new.self c.loop-datagram.yielded
+      c.in-Some.datagram c.next_word.result c.fate_of-fate.result c.args.tally.now c.loop-datagram.tally
+      c.count.new.self c.loop-datagram.invariant.words c.next_word.ensures c.fate_of-fate.ensures
+      c.loop-datagram.invariant.tally c.count.ensures;
   script = c.carry.ensures.script ∙ c.loop-datagram.invariant.script;
 }
 
@@ -78,3 +83,13 @@ returns-clause-words g c =
     c.next.result c.next.new.self c.in-None.is c.next.ensures.steps in
     drawn_all c.args.words.now c.args.given.items c.loop-datagram.yielded c.loop-datagram.words end.0
     c.loop-datagram.invariant.words)
+
+pub returns-clause-tally : goal.returns-clause-tally
+returns-clause-tally g c =
+    (let road =
+    YieldsList-from_vec {s = c.into_iter-datagram-iterator.result} c.args.given.items (search rules) (search rules) in
+    let end =
+    YieldsList-end road c.loop-datagram.yielded c.loop-datagram.datagram-iterator c.loop-datagram.yielded_by
+    c.next.result c.next.new.self c.in-None.is c.next.ensures.steps in
+    tally_all c.args.words.now c.args.given.items c.loop-datagram.yielded c.args.tally.now c.loop-datagram.tally end.0
+    c.loop-datagram.invariant.tally)

@@ -1,5 +1,6 @@
 use Rattle.std.proofs.Common.{◌≡◌, ◌++◌, None}
 use Rattle.rx_plan.specs.Lossy.{comes, drawn, fated, gathered, stays}
+use Rattle.rx_load.specs.Tallies.{tallied}
 use Rattle.rx_plan.specs.Network.{delivers}
 use Rattle.rx_plan.specs.Parts.{each}
 use Rattle.rx_world.specs.Shown.{Plays, script_of}
@@ -14,5 +15,6 @@ invariant-loop-datagram g l = record {
       (told (g.J.Journal.told l.book) (g.O.Sink.told l.out) (g.O.Sink.faults l.out));
   held : l.held.items ≡ l.fn.held.items ++ gathered stays (fated l.fn.words l.yielded);
   words : l.words ≡ drawn l.fn.words l.yielded;
+  tally : l.tally ≡ tallied (fated l.fn.words l.yielded) l.fn.tally;
   script : script_of l.self ≡ script_of l.fn.self;
 }

@@ -1,9 +1,6 @@
-use Rattle.std.proofs.Common.{◌∙◌}
 use Rattle.rx_jobs.specs.Handlers.{handlers_of}
 use Rattle.rx_world.specs.Shown.{script_of}
-use Rattle.rx_world.proofs.LossyRounds.{held_behind, lossy_delivers, lossy_fates, lossy_polls, lossy_settles}
-use Rattle.rx_world.proofs.LossyRounds.{lossy_turned}
-use Rattle.rx_world.proofs.RoundsKept.{delivered_of, turned_by}
+use Rattle.rx_world.proofs.LossyRounds.{carried_by, lossy_carried, lossy_polls}
 use Rattle.rx_world.proofs.world.World.lossy_round.Goals as goal
 
 pub returns-in_err-poll_all-clause-plays : goal.returns-in_err-poll_all-clause-plays
@@ -13,50 +10,11 @@ returns-in_err-poll_all-clause-plays g c =
     c.from_residual.result c.in_err-poll_all.field-0.0 _ _ c.new-given.ensures.items c.in_err-poll_all.ensures.plays
     c.from_residual.ensures
 
-pub returns-in_err-carry_all-clause-plays : goal.returns-in_err-carry_all-clause-plays
-returns-in_err-carry_all-clause-plays g c =
-    lossy_fates (handlers_of c.args.iface.now (script_of c.args.self.now)) c.args.self.now c.poll_all.new.self
-    c.carry_all.new.self _ c.args.words.now _ c.args.held.now.items _ c.new-given.result.items
-    c.poll_all.new.given.items c.from_residual-in_err-carry_all.result c.in_err-carry_all.field-0.0 _ _ _
-    c.new-given.ensures.items c.in_ok-poll_all.ensures.plays c.in_err-carry_all.ensures.plays
-    c.from_residual-in_err-carry_all.ensures
-
-pub returns-in_err-deliver_given-clause-plays : goal.returns-in_err-deliver_given-clause-plays
-returns-in_err-deliver_given-clause-plays g c =
-    lossy_delivers (handlers_of c.args.iface.now (script_of c.args.self.now)) c.args.self.now c.poll_all.new.self
-    c.carry_all.new.self c.deliver_given.new.self _ c.args.words.now _ c.args.held.now.items _
-    c.new-given.result.items c.poll_all.new.given.items c.from_residual-in_err-deliver_given.result
-    c.in_err-deliver_given.field-0.0 _ _ _ _ c.new-given.ensures.items c.in_ok-poll_all.ensures.plays
-    c.in_ok-carry_all.ensures.plays
-    (delivered_of c.deref.result.now c.args.held.now.items _ _ _ _ _ c.deref.ensures.value
-    c.in_err-deliver_given.ensures.plays) c.from_residual-in_err-deliver_given.ensures
-
-pub returns-in_err-turn_all-clause-plays : goal.returns-in_err-turn_all-clause-plays
-returns-in_err-turn_all-clause-plays g c =
-    lossy_turned (handlers_of c.args.iface.now (script_of c.args.self.now)) c.args.self.now c.poll_all.new.self
-    c.carry_all.new.self c.deliver_given.new.self c.turn_all.new.self _ c.args.words.now _ c.args.held.now.items _
-    c.new-given.result.items c.poll_all.new.given.items c.from_residual-in_err-turn_all.result
-    c.in_err-turn_all.field-0.0 _ _ _ _ _ c.new-given.ensures.items c.in_ok-poll_all.ensures.plays
-    c.in_ok-carry_all.ensures.plays
-    (delivered_of c.deref.result.now c.args.held.now.items _ _ _ _ _ c.deref.ensures.value
-    c.in_ok-deliver_given.ensures.plays)
-    (turned_by (handlers_of c.args.iface.now) (script_of c.deliver_given.new.self) (script_of c.args.self.now) _ _ _ _ _
-    (c.deliver_given.ensures.script ∙ c.carry_all.ensures.script ∙ c.poll_all.ensures.script)
-    c.in_err-turn_all.ensures.plays)
-    c.from_residual-in_err-turn_all.ensures
-
 pub returns-clause-plays : goal.returns-clause-plays
 returns-clause-plays g c =
-    lossy_settles (handlers_of c.args.iface.now (script_of c.args.self.now)) c.args.self.now c.poll_all.new.self
-    c.carry_all.new.self c.deliver_given.new.self c.turn_all.new.self c.settle.new.self c.args.words.now
-    c.carry_all.new.words c.args.held.now.items c.carry_all.new.held.items c.new-given.result.items
-    c.poll_all.new.given.items c.none_of-quiet.result _ _ _ _ _ _ _ c.new-given.ensures.items c.none_of-quiet.ensures
-    c.in_ok-carry_all.ensures.words
-    (held_behind c.args.words.now c.poll_all.new.given.items c.new-kept.result.items c.carry_all.new.held.items
-    c.new-kept.ensures.items c.in_ok-carry_all.ensures.held)
-    c.in_ok-poll_all.ensures.plays c.in_ok-carry_all.ensures.plays
-    (delivered_of c.deref.result.now c.args.held.now.items _ _ _ _ _ c.deref.ensures.value
-    c.in_ok-deliver_given.ensures.plays)
-    (turned_by (handlers_of c.args.iface.now) (script_of c.deliver_given.new.self) (script_of c.args.self.now) _ _ _ _ _
-    (c.deliver_given.ensures.script ∙ c.carry_all.ensures.script ∙ c.poll_all.ensures.script)
-    c.in_ok-turn_all.ensures.plays) c.settle.ensures.plays
+    lossy_carried (handlers_of c.args.iface.now (script_of c.args.self.now)) c.args.self.now c.poll_all.new.self
+    c.carry_round.new.self c.args.words.now c.carry_round.new.words c.args.held.now.items c.carry_round.new.held.items
+    c.new-given.result.items c.poll_all.new.given.items _ _ _ _ c.new-given.ensures.items
+    c.in_ok-poll_all.ensures.plays
+    (carried_by (handlers_of c.args.iface.now) (script_of c.poll_all.new.self) (script_of c.args.self.now) _ _ _ _ _ _ _
+    _ _ _ c.poll_all.ensures.script c.carry_round.ensures.plays)
