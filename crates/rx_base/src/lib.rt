@@ -12,6 +12,7 @@ mod mem_files;
 mod mem_sink;
 mod sink;
 mod std_sink;
+mod terminal;
 #[cfg(test)]
 mod tests;
 
@@ -23,3 +24,4 @@ pub use mem_files::MemFiles;
 pub use mem_sink::MemSink;
 pub use sink::{Failed, Sink};
 pub use std_sink::StdSink;
+pub use terminal::Terminal;

@@ -35,4 +35,20 @@ pub trait Sink {
     /// Whether what is put is thrown away: then no text has to be made for it.
     fn discards(&self) -> bool
         ensures { result ≡ true → told self.now ≡ None };
+
+    /// How many milliseconds have gone by since the sink was made, where it is time to show how far a command is: a few
+    /// times a second on a terminal, and never elsewhere.
+    fn shows(&mut self) -> Option<u64>
+        ensures told { told self.new ≡ told self.old }
+        ensures faults { faults self.new ≡ faults self.old }
+    {
+        None
+    }
+
+    /// Shows a line in the place of the one that it showed before, or takes that away where there is no text. What is
+    /// shown isn't put, and no fault of it counts.
+    fn show(&mut self, _line: &str)
+        ensures told { told self.new ≡ told self.old }
+        ensures faults { faults self.new ≡ faults self.old }
+    {}
 }
