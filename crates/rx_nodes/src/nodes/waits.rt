@@ -1,8 +1,11 @@
 //! What a run asks of all nodes: whether a call lives, how late it is, and how long it is until something is due.
-ghost use Rattle.std.specs.Prelude.{◌≡◌, ◌<◌, ◌-◌, ◌∷◌, List, map, option_map};
+ghost use Rattle.std.specs.Prelude.{◌≡◌, ◌<◌, ◌-◌, ◌∷◌, IfSome, List, map, option_map, slice_get};
 ghost use Rattle.std.specs.List.{list_any};
 ghost use Rattle.rx_model.specs.declared.event.Noted.{Noted};
-ghost use Rattle.rx_nodes.specs.Nodes.{ClientsStand, Standing, client_node, moments_of, nodes_of};
+ghost use Rattle.rx_history.specs.Sides.{side};
+ghost use Rattle.rx_rules.specs.After.{looks};
+ghost use Rattle.rx_rules.specs.Slots.{live};
+ghost use Rattle.rx_nodes.specs.Nodes.{ClientsStand, IsClientThere, Standing, client_node, moments_of, nodes_of};
 ghost use Rattle.rx_events.specs.Waits as times;
 
 use crate::nodes::{ClientAt, Nodes};
@@ -19,6 +22,15 @@ impl Nodes {
             return true;
         }
         any_client_lives(self.clients.as_slice())
+    }
+
+    /// How many calls of a client live.
+    pub fn live(&self, node: u32) -> u32
+        requires { IsClientThere self.now node }
+        ensures { (h : List Noted) → Standing self.now h →
+            IfSome (slice_get (nodes_of self.now) node) (λ n. result ≡ live (looks n.setup (side node h))) }
+    {
+        self.client(node).live()
     }
 
     /// Whether a node's moment is later than this one, in milliseconds.
