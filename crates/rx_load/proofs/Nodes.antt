@@ -37,19 +37,23 @@ limits_fit = record {
 client_fits : (node : ℕ) → node < 2 ^ 32 → FitsSetup (load_client node).setup
 client_fits node low = record { kind = low; limits = limits_fit; class = null_fits }
 
-clients_are : AreClients (load_client 1 ∷ load_client 2 ∷ load_client 3 ∷ load_client 4 ∷ [])
+abbrev load_clients : List Node
+load_clients = load_client 1 ∷ load_client 2 ∷ load_client 3 ∷ load_client 4 ∷ []
+
+clients_are : AreClients load_clients
 clients_are = (
   (refl, client_fits 1 (omega arith)),
-  (refl, client_fits 2 (omega arith)),
-  (refl, client_fits 3 (omega arith)),
-  (refl, client_fits 4 (omega arith)),
-  tt,
+  ((refl, client_fits 2 (omega arith)), ((refl, client_fits 3 (omega arith)), ((refl, client_fits 4 (omega arith)), tt))),
 )
 
+abbrev load_server : Node
+load_server = server_node (load_host 0) 1 load_limits None 0
+
+server_fits : FitsSetup load_server.setup
+server_fits = record { kind = (omega arith, omega arith); limits = limits_fit; class = null_fits }
+
 nodes_are : AreNodes load_nodes
-nodes_are =
-    are_nodes _ _ tt
-    (record { kind = (omega arith, omega arith); limits = limits_fit; class = null_fits }) clients_are
+nodes_are = are_nodes load_server load_clients tt server_fits clients_are
 
 -- a server is apart from every node
 server_apart : (o : Option Node)
@@ -101,7 +105,7 @@ good_before later now good = record {
 
 promised_of : (h : List Noted) → World load_nodes h → LoadPromised h
 promised_of h w = record {
-  once = λ forgot. once_under_forgery _ (side 0 h) tt (w.sides.legal 0) forgot;
+  once = λ forgot. once_under_forgery load_server.setup (side 0 h) tt (w.sides.legal 0) forgot;
   law = λ times. world-law load_nodes h w times;
 }
 

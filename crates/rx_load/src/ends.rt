@@ -1,6 +1,6 @@
 //! How calls of a load ended, in numbers.
 ghost use Rattle.std.specs.Prelude.{◌≡◌};
-ghost use Rattle.rx_load.specs.Summing.{count_by, counts_none};
+ghost use Rattle.rx_load.specs.Summing.{count_by, count_ok, counts_none};
 
 use rx_model::End;
 
