@@ -1,4 +1,5 @@
 pub mod Causes
+pub mod SpelledBytes
 pub mod Pieces
 pub mod Texts
 pub mod Numbers

@@ -9,16 +9,17 @@ use crate::limits::{KEY_BYTES, MAX_BYTES};
 use crate::marks::STAR;
 use crate::number::number_within;
 use crate::pieces::Pieces;
+use crate::spelled::Spelled;
 use rx_model::Bytes;
 use std::alloc::{AllocError, Global};
 
 /// The bytes that a word stands for: hex in lower case, `-` for none, or `N*BB` for N times the
 /// byte BB.
-pub fn bytes_in(alloc: Global, word: &str) -> Result<Option<Bytes>, AllocError>
+pub fn bytes_in(alloc: Global, word: &str) -> Result<Option<Spelled>, AllocError>
     ensures { IfOk result (λ bytes. bytes ≡ bytes_in word.now) }
 {
     if word == "-" {
-        return Ok(Some(Bytes::of(Vec::new(alloc))));
+        return Ok(Some(Spelled::of(Bytes::of(Vec::new(alloc)))));
     }
     let mut parts = Pieces::of(word, STAR);
     let Some(first) = parts.next() else {
@@ -28,12 +29,22 @@ pub fn bytes_in(alloc: Global, word: &str) -> Result<Option<Bytes>, AllocError>
         if first.is_empty() {
             return Ok(None);
         }
-        return hex_bytes(alloc, first);
+        return listed(alloc, first);
     };
     if parts.next().is_some() {
         return Ok(None);
     }
     repeated(alloc, first, byte)
+}
+
+/// The bytes of a word of hex digits alone.
+fn listed(alloc: Global, word: &str) -> Result<Option<Spelled>, AllocError>
+    ensures { IfOk result (λ bytes. bytes ≡ hex_bytes word.now) }
+{
+    match hex_bytes(alloc, word)? {
+        Some(bytes) => Ok(Some(Spelled::of(bytes))),
+        None => Ok(None),
+    }
 }
 
 /// The bytes that digits spell in lower case, two digits a byte.
@@ -58,7 +69,7 @@ fn has_lower_hex_alone(bytes: &[u8]) -> bool
         .all(|b| b.is_ascii_digit() || (b'a' <= *b && *b <= b'f'))
 }
 
-fn repeated(alloc: Global, count: &str, byte: &str) -> Result<Option<Bytes>, AllocError>
+fn repeated(alloc: Global, count: &str, byte: &str) -> Result<Option<Spelled>, AllocError>
     ensures { IfOk result
         (λ bytes. bytes ≡ repeated (number_within 0 MAX_BYTES count.now) (hex_bytes byte.now)) }
 {
@@ -69,7 +80,7 @@ fn repeated(alloc: Global, count: &str, byte: &str) -> Result<Option<Bytes>, All
         return Ok(None);
     };
     match bytes.as_slice() {
-        [byte] => Ok(Some(Bytes::of(vec![in alloc; *byte; count as usize]?))),
+        [byte] => Ok(Some(Spelled::repeated(count, *byte))),
         _ => Ok(None),
     }
 }

@@ -1,7 +1,8 @@
 //! What plans and plans of peers say, line by line.
 
 use crate::limits::KEY_BYTES;
-use rx_model::{Bytes, Host, Limits};
+use crate::spelled::Spelled;
+use rx_model::{Host, Limits};
 use xdr_value::Value;
 
 /// A line of a plan of a server and its clients. A `call` or a `packet` is the K of its name, a
@@ -37,7 +38,7 @@ pub enum PlanLine {
     /// The client offers bytes to the request.
     Write {
         call: u32,
-        bytes: Bytes,
+        bytes: Spelled,
     },
     /// The client ends the request.
     Shut {
@@ -67,7 +68,7 @@ pub enum PlanLine {
     /// The handler offers bytes to the reply.
     HandlerWrite {
         call: u32,
-        bytes: Bytes,
+        bytes: Spelled,
     },
     /// The handler ends with a code.
     Finish {
@@ -91,7 +92,7 @@ pub enum PlanLine {
     Forge {
         node: u32,
         host: Host,
-        bytes: Bytes,
+        bytes: Spelled,
     },
     /// The node's clock is set, or all clocks, to milliseconds.
     Clock {
@@ -103,7 +104,7 @@ pub enum PlanLine {
         client: u32,
         cid: u32,
         proc: String,
-        up: Option<Bytes>,
+        up: Option<Spelled>,
         down: bool,
         args: Vec<Value>,
     },
@@ -156,7 +157,7 @@ pub enum PeerLine {
         peer: u32,
         cid: u32,
         proc: String,
-        up: Option<Bytes>,
+        up: Option<Spelled>,
         down: bool,
         args: Vec<Value>,
     },

@@ -209,7 +209,7 @@ fn send_line(alloc: Global, words: &mut Pieces) -> Result<ScriptLine, Refusal>
 {
     let bytes = bytes_word(alloc, words)?;
     no_more(words)?;
-    Ok(ScriptLine::Send(bytes))
+    Ok(ScriptLine::Send(bytes.into_bytes(alloc)?))
 }
 
 /// A line of a block behind these, by its first word.

@@ -14,12 +14,12 @@ use crate::limits::MAX_ROUNDS;
 use crate::marks::{CALLED, PACKET};
 use crate::pieces::Pieces;
 use crate::procs::{args_in, proc_word};
+use crate::spelled::Spelled;
 use crate::verb::Verb;
 use crate::words::{
     Names, caller_word, cid_word, fault_word, moment_word, name_word, no_more, node_word,
     nodes_word, number_word, seed_word,
 };
-use rx_model::Bytes;
 use std::alloc::Global;
 use xdr_value::{Interface, Proc, Value};
 
@@ -46,7 +46,7 @@ pub struct Invocation {
     pub node: u32,
     pub cid: u32,
     pub proc: String,
-    pub up: Option<Bytes>,
+    pub up: Option<Spelled>,
     pub down: bool,
     pub args: Vec<Value>,
 }
@@ -121,7 +121,12 @@ pub fn shared_line(names: Names, verb: Verb, words: &mut Pieces) -> Result<Share
 // ---- calls with their callers
 
 /// The upload of a split procedure, once.
-fn up_value(alloc: Global, split: bool, given: &Option<Bytes>, text: &str) -> Result<Bytes, Refusal>
+fn up_value(
+    alloc: Global,
+    split: bool,
+    given: &Option<Spelled>,
+    text: &str,
+) -> Result<Spelled, Refusal>
     ensures { IsAnswer (up_value split given.now text.now) result }
 {
     let Some(bytes) = bytes_in(alloc, text)? else {

@@ -12,7 +12,8 @@ use crate::limits::{END_OF_TIME, MAX_BYTES};
 use crate::marks::{ACCEPTED, CALLED, CLIENT, PEER};
 use crate::number::{code_in, fault_in, host_in, is_decimal, long_within, number_within};
 use crate::pieces::Pieces;
-use rx_model::{Bytes, Host};
+use crate::spelled::Spelled;
+use rx_model::Host;
 use std::alloc::Global;
 
 /// Whose names a plan has: those of a server and its clients, or those of peers.
@@ -129,7 +130,7 @@ pub fn fault_word(words: &mut Pieces) -> Result<i32, LineWhy>
 }
 
 /// Bytes: hex in lower case, `-` for none, or `N*BB` for N times the byte BB.
-pub fn bytes_word(alloc: Global, words: &mut Pieces) -> Result<Bytes, Refusal>
+pub fn bytes_word(alloc: Global, words: &mut Pieces) -> Result<Spelled, Refusal>
     ensures read { IsAnswer (first_as bytes_word words.old) result }
     ensures rest { words.new ≡ drop 1 words.old }
 {

@@ -9,3 +9,4 @@ mod peers;
 mod plans;
 mod scripts;
 mod shown;
+mod spelled;

@@ -22,6 +22,7 @@ use rx_caller::Caller;
 use rx_model::{Bytes, CallName, Event};
 use rx_plan::ClientCall;
 use rx_reply::{proc_named, request_bytes};
+use rx_script::Spelled;
 use rx_wire::Journal;
 use std::alloc::{AllocError, Global};
 use stub_table::StubFault;
@@ -132,15 +133,15 @@ pub fn invoked_bytes(
     iface: &Interface,
     name: &str,
     args: &[Value],
-    up: Option<&[u8]>,
+    up: &Option<Spelled>,
 ) -> Result<Vec<u8>, AllocError>
     requires { TakesArguments (handlers_of iface.now []) (proc_named name.now (procs_of iface.now.procs.items))
-        (values_of args.now) (option_copied up) }
+        (values_of args.now) up.now }
     ensures { IfOk result (λ bytes. bytes.items ≡ bytes_of (handlers_of iface.now [])
-        (proc_named name.now (procs_of iface.now.procs.items)) (values_of args.now) (option_copied up.entry)) }
+        (proc_named name.now (procs_of iface.now.procs.items)) (values_of args.now) up.now) }
 {
     match proc_named(&iface.procs, name) {
-        Some(p) => sent_bytes(alloc, iface, p, args, up),
+        Some(p) => bytes_with_upload(alloc, iface, p, args, up),
         None => Ok(Vec::new(alloc)),
     }
 }
@@ -149,6 +150,28 @@ pub fn invoked_bytes(
 fn are_bytes(bytes: &[u8])
     ensures { IsBytes bytes.now }
 {}
+
+/// The bytes of a request that can be sent, for which its upload is spelled out.
+fn bytes_with_upload(
+    alloc: Global,
+    iface: &Interface,
+    p: &Proc,
+    args: &[Value],
+    up: &Option<Spelled>,
+) -> Result<Vec<u8>, AllocError>
+    requires there { Contains (procs_of iface.now.procs.items) (proc_of p.now) }
+    requires fits { CanSend (types_of iface.now.types.items) (proc_of p.now) (values_of args.now) up.now }
+    ensures { IfOk result (λ bytes. bytes.items ≡ sent_spelling (types_of iface.now.types.items) (proc_of p.now)
+        (values_of args.now) up.now) }
+{
+    match up {
+        None => sent_bytes(alloc, iface, p, args, None),
+        Some(up) => {
+            let up = up.spell_out(alloc)?;
+            sent_bytes(alloc, iface, p, args, Some(up.as_slice()))
+        }
+    }
+}
 
 /// The bytes of a request that can be sent.
 fn sent_bytes(

@@ -1,5 +1,5 @@
 //! The events of one line of a plan.
-ghost use Rattle.std.specs.Prelude.{◌≡◌, option_copied};
+ghost use Rattle.std.specs.Prelude.{◌≡◌};
 ghost use Rattle.rx_jobs.specs.Handlers.{handlers_of};
 ghost use Rattle.rx_plan.specs.Lines.{IsWell, line_part, turn_line};
 ghost use Rattle.rx_plan.specs.Finds.{at_node};
@@ -11,7 +11,6 @@ use crate::call_lines::invoked_bytes;
 use crate::stop::Stop;
 use crate::world::World;
 use rx_base::Sink;
-use rx_model::Bytes;
 use rx_nodes::SERVER;
 use rx_script::{PlanLine, PlanWhy};
 use rx_wire::Journal;
@@ -39,30 +38,28 @@ impl World {
             PlanLine::Client { .. } => Err(Stop::Refused(PlanWhy::Late)),
             PlanLine::Connect { client, first } => self.connect_line(*client, *first, out, book),
             PlanLine::Call { client, cid } => self.call_line(*client, *cid, out, book),
-            PlanLine::Write { call, bytes } => self.write_line(*call, bytes.as_slice(), out, book),
+            PlanLine::Write { call, bytes } => {
+                let bytes = bytes.spell_out(self.alloc)?;
+                self.write_line(*call, bytes.as_slice(), out, book)
+            }
             PlanLine::Shut { call } => self.shut_line(*call, out, book),
             PlanLine::Read { call, max } => self.read_line(*call, *max, out, book),
             PlanLine::Ask { call } => self.ask_line(*call, out, book),
             PlanLine::Cancel { call, code } => self.cancel_line(*call, *code, out, book),
             PlanLine::Accept => self.accept_line(out, book),
             PlanLine::HandlerRead { call, max } => self.handler_read_line(*call, *max, out, book),
-            PlanLine::HandlerWrite { call, bytes } => self.handler_write_line(
-                *call,
-                bytes.as_slice(),
-                out,
-                book,
-            ),
+            PlanLine::HandlerWrite { call, bytes } => {
+                let bytes = bytes.spell_out(self.alloc)?;
+                self.handler_write_line(*call, bytes.as_slice(), out, book)
+            }
             PlanLine::Finish { call, code } => self.finish_line(*call, *code, out, book),
             PlanLine::Poll { node } => self.poll_line(*node, out, book),
             PlanLine::Deliver { packet } => self.deliver_line(*packet, out, book),
             PlanLine::Jumbo { first, last } => self.jumbo_line(*first, *last, out, book),
-            PlanLine::Forge { node, host, bytes } => self.forge_line(
-                *node,
-                *host,
-                bytes.as_slice(),
-                out,
-                book,
-            ),
+            PlanLine::Forge { node, host, bytes } => {
+                let bytes = bytes.spell_out(self.alloc)?;
+                self.forge_line(*node, *host, bytes.as_slice(), out, book)
+            }
             PlanLine::Clock {
                 node: Some(node),
                 now,
@@ -76,7 +73,7 @@ impl World {
                 down: _,
                 args,
             } => {
-                let bytes = invoked_bytes(self.alloc, iface, proc.as_str(), args, upload(up))?;
+                let bytes = invoked_bytes(self.alloc, iface, proc.as_str(), args, up)?;
                 self.invoke_line(*client, *cid, place, bytes, out, book)
             }
             PlanLine::Turn { node } => self.turn_line(iface, *node, out, book),
@@ -104,15 +101,5 @@ impl World {
             return self.dispatch(iface, out, book);
         }
         self.turn_of(node, out, book)
-    }
-}
-
-/// The bytes that go up, where there are some.
-fn upload(up: &Option<Bytes>) -> Option<&[u8]>
-    ensures { option_copied result ≡ up.now }
-{
-    match up {
-        Some(bytes) => Some(bytes.as_slice()),
-        None => None,
     }
 }

@@ -8,6 +8,7 @@ use super::afs::interface;
 use super::shown::values;
 use rx_script::{Answer, PlanLine, Served, read_plan, read_script};
 use std::alloc::{AllocError, Global};
+use std::borrow::CowSlice;
 use std::process::Abort;
 use std::test::Fail;
 use xdr_value::Proc;
@@ -52,11 +53,11 @@ fn answered(alloc: Global, script: &str, call: &str) -> Result<String, AllocErro
             let Some(p) = named(&iface.procs, proc.as_str()) else {
                 return Err(AllocError);
             };
-            let upload = match up {
-                None => &[],
-                Some(bytes) => bytes.as_slice(),
+            let sent = match up {
+                None => CowSlice::Borrowed(&[]),
+                Some(bytes) => bytes.spell_out(alloc)?,
             };
-            let answer = script.answer(alloc, &iface, p, args, upload)?;
+            let answer = script.answer(alloc, &iface, p, args, sent.as_slice())?;
             return told(alloc, answer);
         }
     }

@@ -1,10 +1,10 @@
 //! What a text gives, as a text.
 
 use super::afs::interface;
-use rx_model::{Bytes, Host, Limits};
+use rx_model::{Host, Limits};
 use rx_script::{
-    Block, LineFault, Numbered, PeerLine, PeerNumbered, PlanLine, ScriptLine, read_peer_plan,
-    read_plan, read_script,
+    Block, LineFault, Numbered, PeerLine, PeerNumbered, PlanLine, ScriptLine, Spelled,
+    read_peer_plan, read_plan, read_script,
 };
 use std::alloc::{AllocError, Global};
 use xdr_value::Value;
@@ -63,8 +63,8 @@ pub fn values(alloc: Global, items: &Vec<Value>) -> Result<String, AllocError> {
     Ok(out)
 }
 
-fn bytes(alloc: Global, bytes: &Bytes) -> Result<String, AllocError> {
-    hex::encode(alloc, bytes.as_slice())
+fn bytes(alloc: Global, bytes: &Spelled) -> Result<String, AllocError> {
+    hex::encode(alloc, bytes.spell_out(alloc)?.as_slice())
 }
 
 fn host(alloc: Global, host: &Host) -> Result<String, AllocError> {
@@ -85,7 +85,7 @@ fn key(alloc: Global, key: &Option<[u8; 32]>) -> Result<String, AllocError> {
     }
 }
 
-fn up(alloc: Global, up: &Option<Bytes>) -> Result<String, AllocError> {
+fn up(alloc: Global, up: &Option<Spelled>) -> Result<String, AllocError> {
     match up {
         None => String::from_str(alloc, "-"),
         Some(sent) => format!(in alloc; "up={}", bytes(alloc, sent)?),
@@ -304,7 +304,10 @@ fn script_line(alloc: Global, line: &ScriptLine) -> Result<String, AllocError> {
         }
         ScriptLine::Count(arg) => format!(in alloc; "count {};", arg.as_str()),
         ScriptLine::Echo => String::from_str(alloc, "echo;"),
-        ScriptLine::Send(sent) => format!(in alloc; "send {};", bytes(alloc, sent)?),
+        ScriptLine::Send(sent) => {
+            let sent = hex::encode(alloc, sent.as_slice())?;
+            format!(in alloc; "send {sent};")
+        }
     }
 }
 
