@@ -12,6 +12,7 @@ use crate::stop::Stop;
 use crate::world::World;
 use rx_base::Sink;
 use rx_nodes::SERVER;
+use rx_script::Spelled;
 use rx_wire::Journal;
 
 impl World {
@@ -39,7 +40,7 @@ impl World {
     pub fn write_line<O: Sink, J: Journal>(
         &mut self,
         k: u32,
-        bytes: &[u8],
+        bytes: &Spelled,
         out: &mut O,
         book: &mut J,
     ) -> Result<(), Stop>
@@ -50,7 +51,10 @@ impl World {
         ensures script { script_of self.new ≡ script_of self.old }
     {
         let call = self.call(k)?;
-        let event = self.nodes.write(self.alloc, call.node, &call.name, bytes)?;
+        let sent = bytes.spell_out(self.alloc)?;
+        let event = self
+            .nodes
+            .write(self.alloc, call.node, &call.name, sent.as_slice())?;
         self.tell(call.node, &event, out, book)
     }
 

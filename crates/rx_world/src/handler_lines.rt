@@ -13,6 +13,7 @@ use crate::world::World;
 use rx_base::Sink;
 use rx_model::{CallName, Event};
 use rx_nodes::SERVER;
+use rx_script::Spelled;
 use rx_wire::Journal;
 use std::alloc::AllocError;
 
@@ -57,7 +58,7 @@ impl World {
     pub fn handler_write_line<O: Sink, J: Journal>(
         &mut self,
         k: u32,
-        bytes: &[u8],
+        bytes: &Spelled,
         out: &mut O,
         book: &mut J,
     ) -> Result<(), Stop>
@@ -67,7 +68,10 @@ impl World {
         ensures script { script_of self.new ≡ script_of self.old }
     {
         let name = self.accepted(k)?;
-        let event = self.nodes.handler_write(self.alloc, &name, bytes)?;
+        let sent = bytes.spell_out(self.alloc)?;
+        let event = self
+            .nodes
+            .handler_write(self.alloc, &name, sent.as_slice())?;
         self.tell(SERVER, &event, out, book)
     }
 

@@ -38,10 +38,7 @@ impl World {
             PlanLine::Client { .. } => Err(Stop::Refused(PlanWhy::Late)),
             PlanLine::Connect { client, first } => self.connect_line(*client, *first, out, book),
             PlanLine::Call { client, cid } => self.call_line(*client, *cid, out, book),
-            PlanLine::Write { call, bytes } => {
-                let bytes = bytes.spell_out(self.alloc)?;
-                self.write_line(*call, bytes.as_slice(), out, book)
-            }
+            PlanLine::Write { call, bytes } => self.write_line(*call, bytes, out, book),
             PlanLine::Shut { call } => self.shut_line(*call, out, book),
             PlanLine::Read { call, max } => self.read_line(*call, *max, out, book),
             PlanLine::Ask { call } => self.ask_line(*call, out, book),
@@ -49,17 +46,15 @@ impl World {
             PlanLine::Accept => self.accept_line(out, book),
             PlanLine::HandlerRead { call, max } => self.handler_read_line(*call, *max, out, book),
             PlanLine::HandlerWrite { call, bytes } => {
-                let bytes = bytes.spell_out(self.alloc)?;
-                self.handler_write_line(*call, bytes.as_slice(), out, book)
+                self.handler_write_line(*call, bytes, out, book)
             }
             PlanLine::Finish { call, code } => self.finish_line(*call, *code, out, book),
             PlanLine::Poll { node } => self.poll_line(*node, out, book),
             PlanLine::Deliver { packet } => self.deliver_line(*packet, out, book),
             PlanLine::Jumbo { first, last } => self.jumbo_line(*first, *last, out, book),
-            PlanLine::Forge { node, host, bytes } => {
-                let bytes = bytes.spell_out(self.alloc)?;
-                self.forge_line(*node, *host, bytes.as_slice(), out, book)
-            }
+            PlanLine::Forge { node, host, bytes } => self.forge_line(
+                *node, *host, bytes, out, book,
+            ),
             PlanLine::Clock {
                 node: Some(node),
                 now,

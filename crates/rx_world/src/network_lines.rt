@@ -26,7 +26,7 @@ use rx_model::wire::DATAGRAM_BYTES;
 use rx_model::{Bytes, Event, Host};
 use rx_nodes::Nodes;
 use rx_plan::MAX_PACKETS;
-use rx_script::PlanWhy;
+use rx_script::{PlanWhy, Spelled};
 use rx_wire::Journal;
 use std::alloc::{AllocError, Global};
 
@@ -143,7 +143,7 @@ impl World {
         &mut self,
         node: u32,
         from: Host,
-        bytes: &[u8],
+        bytes: &Spelled,
         out: &mut O,
         book: &mut J,
     ) -> Result<(), Stop>
@@ -153,7 +153,8 @@ impl World {
         ensures script { script_of self.new ≡ script_of self.old }
     {
         let node = self.node(node)?;
-        self.forge(node, from, bytes, out, book)
+        let sent = bytes.spell_out(self.alloc)?;
+        self.forge(node, from, sent.as_slice(), out, book)
     }
 
     /// A node that is there takes each part of invented bytes.

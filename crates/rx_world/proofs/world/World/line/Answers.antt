@@ -3,16 +3,16 @@ use mir.Val.{SFits}
 use Rattle.std.proofs.Common.{of_z, refl, rules, string_bytes, to_z, w32}
 use Rattle.std.proofs.lemmas.Int.{to_z-of_z}
 use Rattle.xdr_value.specs.View.{procs_of, values_of}
-use Rattle.rx_events.specs.Events.{IsCancelled, IsFinished, IsReplied, IsSaid}
+use Rattle.rx_events.specs.Events.{IsCancelled, IsFinished}
 use Rattle.rx_jobs.specs.Handlers.{handlers_of}
 use Rattle.rx_script.specs.Procs.{proc_named}
-use Rattle.rx_plan.specs.Finds.{at_accepted, at_call, at_client, at_node}
-use Rattle.rx_plan.specs.Lines.{bytes_of, forges, invokes}
+use Rattle.rx_plan.specs.Finds.{at_accepted, at_call, at_client}
+use Rattle.rx_plan.specs.Lines.{bytes_of, invokes}
 use Rattle.rx_plan.specs.Stages.{event}
 use Rattle.rx_world.specs.Shown.{script_of}
 use Rattle.rx_world.specs.declared.stop.Stop.TheVariants as stops
 use Rattle.rx_world.proofs.Lining.{code_is, invoke_cut}
-use Rattle.rx_world.proofs.Making.{bytes_are, cut_as, late_line, line_is}
+use Rattle.rx_world.proofs.Making.{cut_as, late_line, line_is}
 use Rattle.rx_world.proofs.world.World.line.Goals as goal
 
 pub returns-in-Server-clause-plays : goal.returns-in-Server-clause-plays
@@ -23,9 +23,7 @@ returns-in-Client-clause-plays g c = line_is _ _ _ _ _ _ _ _ _ c.in-Client.is (l
 
 pub returns-in-Write-clause-plays : goal.returns-in-Write-clause-plays
 returns-in-Write-clause-plays g c =
-    line_is _ _ _ _ _ _ _ _ _ c.in-Write.is
-    (bytes_are (λ bs. at_call c.in-Write.call (λ x. event x.node (IsSaid x.name bs))) c.as_slice.result.now
-    c.in-Write.bytes _ _ _ _ _ c.as_slice.ensures c.write_line.ensures.plays)
+    line_is _ _ _ _ _ _ _ _ _ c.in-Write.is c.write_line.ensures.plays
 
 pub returns-in-Read-clause-plays : goal.returns-in-Read-clause-plays
 returns-in-Read-clause-plays g c = line_is _ _ _ _ _ _ _ _ _ c.in-Read.is c.read_line.ensures.plays
@@ -52,16 +50,11 @@ returns-in-HandlerRead-clause-plays g c =
 
 pub returns-in-HandlerWrite-clause-plays : goal.returns-in-HandlerWrite-clause-plays
 returns-in-HandlerWrite-clause-plays g c =
-    line_is _ _ _ _ _ _ _ _ _ c.in-HandlerWrite.is
-    (bytes_are (λ bs. at_accepted c.in-HandlerWrite.call (λ x. event 0 (IsReplied x bs)))
-    c.as_slice-in-HandlerWrite.result.now c.in-HandlerWrite.bytes _ _ _ _ _ c.as_slice-in-HandlerWrite.ensures
-    c.handler_write_line.ensures.plays)
+    line_is _ _ _ _ _ _ _ _ _ c.in-HandlerWrite.is c.handler_write_line.ensures.plays
 
 pub returns-in-Forge-clause-plays : goal.returns-in-Forge-clause-plays
 returns-in-Forge-clause-plays g c =
-    line_is _ _ _ _ _ _ _ _ _ c.in-Forge.is
-    (bytes_are (λ bs. at_node c.in-Forge.node (forges c.in-Forge.host bs)) c.as_slice-in-Forge.result.now
-    c.in-Forge.bytes _ _ _ _ _ c.as_slice-in-Forge.ensures c.forge_line.ensures.plays)
+    line_is _ _ _ _ _ _ _ _ _ c.in-Forge.is c.forge_line.ensures.plays
 
 pub returns-in-Jumbo-clause-plays : goal.returns-in-Jumbo-clause-plays
 returns-in-Jumbo-clause-plays g c = line_is _ _ _ _ _ _ _ _ _ c.in-Jumbo.is c.jumbo_line.ensures.plays
