@@ -63,7 +63,7 @@ impl Spelled {
 
     /// The bytes as a list: a repeated byte is written out, others aren't copied.
     pub fn into_bytes(self, alloc: Global) -> Result<Bytes, AllocError>
-        ensures { IfOk result (λ bytes. bytes ≡ self.entry) }
+        ensures { IfOk result (λ bytes. bytes ≡ self) }
     {
         match self.spelling {
             Spelling::Listed(bytes) => Ok(bytes),
