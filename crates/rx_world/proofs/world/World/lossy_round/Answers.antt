@@ -16,5 +16,6 @@ returns-clause-plays g c =
     c.carry_round.new.self c.args.words.now c.carry_round.new.words c.args.held.now.items c.carry_round.new.held.items
     c.new-given.result.items c.poll_all.new.given.items _ _ _ _ c.new-given.ensures.items
     c.in_ok-poll_all.ensures.plays
-    (carried_by (handlers_of c.args.iface.now) (script_of c.poll_all.new.self) (script_of c.args.self.now) _ _ _ _ _ _ _
-    _ _ _ c.poll_all.ensures.script c.carry_round.ensures.plays)
+    (carried_by (handlers_of c.args.iface.now) (script_of c.poll_all.new.self) (script_of c.args.self.now)
+    c.poll_all.new.self c.carry_round.new.self c.args.words.now c.carry_round.new.words c.args.held.now.items
+    c.carry_round.new.held.items c.poll_all.new.given.items _ _ _ c.poll_all.ensures.script c.carry_round.ensures.plays)
