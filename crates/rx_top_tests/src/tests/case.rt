@@ -9,14 +9,15 @@ use rx_wire::MemJournal;
 use std::alloc::{AllocError, Global};
 use std::process::Abort;
 
-/// A command, what comes on its wire, which calls of the wire and which puts on standard output fail, and what is to be
-/// left.
+/// A command, what comes on its wire, which calls of the wire, which puts on standard output and which reads of files
+/// fail, and what is to be left.
 #[derive(Clone, Copy)]
 pub struct Case {
     pub line: &'static str,
     pub comes: &'static [Comes],
     pub wire_faults: &'static [u64],
     pub put_faults: &'static [u64],
+    pub read_faults: &'static [u64],
     /// The room of standard output.
     pub room: usize,
     pub status: u8,
@@ -24,7 +25,8 @@ pub struct Case {
     pub err: &'static str,
     /// How many datagrams are polled that aren't given.
     pub lost: usize,
-    /// Whether datagrams are joined or split; where they aren't, those that were noted are those of the log.
+    /// Whether datagrams are joined or split, or go over no wire; where they aren't, those that were noted are those of
+    /// the log.
     pub is_joined: bool,
     /// A datagram that is given.
     pub gives: Option<&'static str>,
@@ -42,6 +44,7 @@ pub const CASE: Case = Case {
     comes: &[],
     wire_faults: &[],
     put_faults: &[],
+    read_faults: &[],
     room: 16_384,
     status: 0,
     out: "",
@@ -67,7 +70,7 @@ pub fn check(rt: &impl Abort, alloc: Global, case: &Case) -> Result<(), AllocErr
     let mut err = MemSink::make(alloc, ERR_ROOM, Vec::new(alloc))?;
     let mut book = MemJournal::make(alloc);
     let mut wire = wire(rt, alloc, case.comes, case.wire_faults)?;
-    let mut files = files(alloc)?;
+    let mut files = files(alloc, case.read_faults)?;
     let status = rx_main(
         alloc, &words, &mut files, &mut out, &mut err, &mut wire, &mut book,
     );

@@ -1,4 +1,4 @@
-//! A plan whose trace finds no room, and words that aren't given.
+//! Plans whose trace finds no room or that can't be read, and words that aren't given.
 
 use super::case::{CASE, Case, check};
 use rx_base::MemSink;
@@ -7,20 +7,44 @@ use std::io;
 use std::io::ErrorKind;
 use std::test::Fail;
 
-/// A trace that doesn't fit has its first bytes.
-const FULL: Case = Case {
-    line: "sim plan",
-    room: 20,
-    status: 7,
-    out: "s accept -> none\ns a",
-    err: "rx: cannot write\n",
-    events: Some(2),
-    ..CASE
-};
+static PLANS: [Case; 3] = [
+    // a trace that doesn't fit has its first bytes
+    Case {
+        line: "sim plan",
+        room: 20,
+        status: 7,
+        out: "s accept -> none\ns a",
+        err: "rx: cannot write\n",
+        events: Some(2),
+        ..CASE
+    },
+    // failing-put: the second line can't be put
+    Case {
+        line: "sim p",
+        put_faults: &[2],
+        is_joined: true,
+        status: 7,
+        out: "s take 10.0.0.2:7001 0000000100000004000000010000000100000001010500000000000168690a -> kept\n",
+        err: "rx: cannot write\n",
+        events: Some(2),
+        ..CASE
+    },
+    // failing-read: the plan can't be read
+    Case {
+        line: "sim p",
+        read_faults: &[1],
+        status: 6,
+        err: "rx: cannot read p\n",
+        events: Some(0),
+        ..CASE
+    },
+];
 
 #[test]
-fn a_full_sink_has_the_first_bytes(rt: HostRuntime) -> Result<(), Fail> {
-    check(&rt, rt.alloc(), &FULL)?;
+fn plans_end_by_the_faults_of_sinks_and_files(rt: HostRuntime) -> Result<(), Fail> {
+    for case in &PLANS {
+        check(&rt, rt.alloc(), case)?;
+    }
     Ok(())
 }
 
