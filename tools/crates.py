@@ -16,7 +16,7 @@ PLACES = """
 .             .               .           .          .               .               rx_top         .
 .             .               .           .          .               rx_passes       rx_world       rx_words
 rx_node_bench rx_server_tests rx_nodes    rx_caller  .               rx_udp          rx_dispatch    rx_closing
-.             rx_server       rx_client   .          .               rx_base         .              rx_rounds
+.             rx_server       rx_client   .          .               rx_base         rx_load        rx_rounds
 .             rx_books        rx_progress .          .               .               .              rx_plan
 rx_call_tests rx_node         rx_between  rx_token   rx_jumbo        .               rx_jobs        rx_run
 rx_call_bench rx_ends         rx_table    rx_class   rx_asks         .               .              .
