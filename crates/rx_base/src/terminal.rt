@@ -1,5 +1,5 @@
 //! Standard error, on which a command may show how far it is.
-//! No clause can say what is shown: the program is run on a terminal, and what arrives is compared.
+//! No clause can say what is shown, or what reaches the stream. No command shows anything yet.
 ghost use Rattle.std.specs.Prelude.{◌≡◌, ℕ, None};
 
 use crate::sink::{Failed, Sink};
