@@ -1,4 +1,3 @@
-pub mod Carrying
 pub mod Keeping
 pub mod Loads
 pub mod Summing

@@ -13,13 +13,12 @@ use Rattle.rx_jobs.specs.Handlers.{Handlers}
 use Rattle.rx_plan.specs.Finds.{at_client}
 use Rattle.rx_plan.specs.Follows.{client_node, server_node}
 use Rattle.rx_plan.specs.Lines.{connects, invokes}
-use Rattle.rx_plan.specs.Lossy.{Lossy, fated}
+use Rattle.rx_plan.specs.Lossy.{Lossy, carries, fated}
 use Rattle.rx_plan.specs.Parts.{Part, Then, To, by_test, each, ends}
 use Rattle.rx_plan.specs.Rounds.{polls}
 use Rattle.rx_plan.specs.Stages.{Stage}
 use Rattle.rx_reply.specs.Sent.{sent_spelling}
 use Rattle.rx_script.specs.Saying.{size}
-use Rattle.rx_load.specs.Carrying.{carries}
 use Rattle.rx_load.specs.Tallies.{no_tally, tallied}
 use Rattle.rx_load.specs.declared.tally.Tally.{Tally}
 use Rattle.xdr_value.specs.Data.{Data, Procedure, basic, end, more, octets}

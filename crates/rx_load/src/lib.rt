@@ -1,8 +1,7 @@
 //! What a large load makes: four clients that call one server over a network that loses, until each of so many calls ended.
 //!
-//! What a load may make stands in `specs/Loads.antt`, over the parts of plans; what a lossy round does with what its polls
-//! gave in `Carrying`; what became of datagrams and calls, in numbers, in `Tallies` and `Summing`; what holds of each load
-//! in `Keeping`, and its law in `laws.rt`. `rx_loader` makes one.
+//! What a load may make stands in `specs/Loads.antt`, over the parts of plans; what became of datagrams and calls, in
+//! numbers, in `Tallies` and `Summing`; what holds of each load in `Keeping`, and its law in `laws.rt`. `rx_loader` makes one.
 #![tactic(auto)]
 
 mod ends;

@@ -8,7 +8,7 @@ use Rattle.rx_jobs.specs.Handlers.{Handlers}
 use Rattle.rx_history.specs.Sides.{Node}
 use Rattle.rx_law.specs.Worlds.{Datagram}
 use Rattle.rx_events.specs.Waits.{any_lives}
-use Rattle.rx_plan.specs.Lossy.{Lossy, comes, fate_of, fated, gathered, lossy, lossy_round, lossy_rounds, stays}
+use Rattle.rx_plan.specs.Lossy.{Lossy, carries, comes, fate_of, fated, gathered, lossy, lossy_round, lossy_rounds, stays}
 use Rattle.rx_plan.specs.Network.{delivers}
 use Rattle.rx_plan.specs.Parts.{each}
 use Rattle.rx_plan.specs.Rounds.{polls, turns}
@@ -56,35 +56,40 @@ module _ (Honest : Type 0) (nodes : List Node) where
     pub stage : Is Honest nodes h l.stage
     pub held : All (In Honest nodes h) l.held
 
+  pub carries_safe : (g : Handlers) (words : Lcg) (held given : List Datagram) (h : List Noted) (s : Stage)
+      → Good Honest nodes h → Is Honest nodes h s → All (In Honest nodes h) given → All (In Honest nodes h) held
+      → Safe Honest nodes IsLossy h (carries g words held given s)
+  carries_safe g words held given h s good i were kept =
+      then_safe Honest nodes (Is Honest nodes) IsLossy h
+      (each delivers (gathered comes (fated words given) ++ held) s) _
+      (deliveries_safe Honest nodes (gathered comes (fated words given) ++ held) h s good
+      (All-append (In Honest nodes h) (gathered comes (fated words given)) held
+      (all_come (In Honest nodes h) words given were) kept) i)
+      (λ more t well there.
+      then_safe Honest nodes (Is Honest nodes) IsLossy (behind more h) (turns g t) _
+      (turns_safe Honest nodes g (behind more h) t well there)
+      (λ last u last_good last_is.
+      then_safe Honest nodes (Is Honest nodes) IsLossy (behind last (behind more h)) _ _
+      (settles_safe Honest nodes ((length given == 0) && (length held == 0)) (behind last (behind more h)) u last_good
+      last_is)
+      (λ end v end_good end_is.
+      ends_safe Honest nodes IsLossy (behind end (behind last (behind more h))) _ end_good
+      (record {
+        stage = end_is;
+        held =
+            all_behind Honest nodes end (behind last (behind more h)) _
+            (all_behind Honest nodes last (behind more h) _
+            (all_behind Honest nodes more h _ (all_stay (In Honest nodes h) words given were)));
+      }))))
+
   lossy_round_safe : (g : Handlers) (h : List Noted) (l : Lossy) → Good Honest nodes h → IsLossy h l
       → Safe Honest nodes IsLossy h (lossy_round g l)
   lossy_round_safe g h l good i =
       then_safe Honest nodes (IsPoll Honest nodes) IsLossy h (polls l.stage) _
       (polls_safe Honest nodes h l.stage good i.stage)
       (λ es p now is.
-      then_safe Honest nodes (Is Honest nodes) IsLossy (behind es h)
-      (each delivers (gathered comes (fated l.words p.given) ++ l.held) p.stage) _
-      (deliveries_safe Honest nodes (gathered comes (fated l.words p.given) ++ l.held) (behind es h) p.stage now
-      (All-append (In Honest nodes (behind es h)) (gathered comes (fated l.words p.given)) l.held
-      (all_come (In Honest nodes (behind es h)) l.words p.given is.given)
-      (all_behind Honest nodes es h l.held i.held)) is.stage)
-      (λ more t well there.
-      then_safe Honest nodes (Is Honest nodes) IsLossy (behind more (behind es h)) (turns g t) _
-      (turns_safe Honest nodes g (behind more (behind es h)) t well there)
-      (λ last u last_good last_is.
-      then_safe Honest nodes (Is Honest nodes) IsLossy (behind last (behind more (behind es h))) _ _
-      (settles_safe Honest nodes ((length p.given == 0) && (length l.held == 0))
-      (behind last (behind more (behind es h))) u last_good last_is)
-      (λ end v end_good end_is.
-      ends_safe Honest nodes IsLossy (behind end (behind last (behind more (behind es h)))) _ end_good
-      (record {
-        stage = end_is;
-        held =
-            all_behind Honest nodes end (behind last (behind more (behind es h))) _
-            (all_behind Honest nodes last (behind more (behind es h)) _
-            (all_behind Honest nodes more (behind es h) _
-            (all_stay (In Honest nodes (behind es h)) l.words p.given is.given)));
-      })))))
+      carries_safe g l.words l.held p.given (behind es h) p.stage now is.stage is.given
+      (all_behind Honest nodes es h l.held i.held))
 
   lossy_rounds_safe : (g : Handlers) (n : ℕ) (h : List Noted) (l : Lossy) → Good Honest nodes h → IsLossy h l
       → Safe Honest nodes (Is Honest nodes) h (lossy_rounds g n l)

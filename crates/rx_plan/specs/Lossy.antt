@@ -58,18 +58,19 @@ pub record Lossy : Type 0 where
   pub words : Lcg
   pub held : List Datagram
 
+-- what a lossy round does with what its polls gave, by this generator and with what is held: the datagrams that were given
+-- meet their fates, and those that were held come behind them; then come the turns; and where nothing was given and
+-- nothing was held, the clocks move
+abbrev pub carries : Handlers → Lcg → List Datagram → List Datagram → Stage → Part Lossy
+carries g words held given s =
+    Then (each delivers (gathered comes (fated words given) ++ held) s) (λ s1.
+    Then (turns g s1) (λ s2.
+    Then (settles ((length given == 0) && (length held == 0)) s2) (λ t.
+    ends (To (record { stage = t; words = drawn words given; held = gathered stays (fated words given) })))))
+
 -- one lossy round
 abbrev pub lossy_round : Handlers → Lossy → Part Lossy
-lossy_round g l =
-    Then (polls l.stage) (λ p.
-    Then (each delivers (gathered comes (fated l.words p.given) ++ l.held) p.stage) (λ s.
-    Then (turns g s) (λ s1.
-    Then (settles ((length p.given == 0) && (length l.held == 0)) s1) (λ s2.
-    ends (To (record {
-      stage = s2;
-      words = drawn l.words p.given;
-      held = gathered stays (fated l.words p.given);
-    }))))))
+lossy_round g l = Then (polls l.stage) (λ p. carries g l.words l.held p.given p.stage)
 
 -- lossy rounds until so many were made or no call lives
 abbrev pub lossy_rounds : Handlers → ℕ → Lossy → Part Stage

@@ -11,8 +11,7 @@ use Rattle.rx_script.specs.Saying.{Answering}
 use Rattle.rx_nodes.specs.Nodes.{Standing, nodes_of}
 use Rattle.rx_events.specs.Waits.{any_lives}
 use Rattle.rx_world.specs.declared.stop.Stop.{Stop}
-use Rattle.rx_plan.specs.Lossy.{Lossy, comes, drawn, fated, gathered, lossy, lossy_round}
-use Rattle.rx_load.specs.Carrying.{carries}
+use Rattle.rx_plan.specs.Lossy.{Lossy, carries, comes, drawn, fated, gathered, lossy, lossy_round}
 use Rattle.rx_world.specs.RoundsPlayed.{PlaysCarried, PlaysLossy, ShowsLossy}
 use Rattle.rx_plan.specs.Lossy.{lossy_rounds, stays}
 use Rattle.rx_plan.specs.Network.{delivers}

@@ -3,8 +3,7 @@ ghost use Rattle.std.specs.Prelude.{◌≡◌, ◌∷◌, ◌%◌, ◌&&◌, ◌
 ghost use Rattle.rx_jobs.specs.Handlers.{handlers_of};
 ghost use Rattle.rx_world.specs.RoundsPlayed.{PlaysCarried, PlaysLossy};
 ghost use Rattle.rx_load.specs.Tallies.{tallied};
-ghost use Rattle.rx_plan.specs.Lossy.{comes, drawn, fate_of, fated, gathered, lossy, lossy_round, stays};
-ghost use Rattle.rx_load.specs.Carrying.{carries};
+ghost use Rattle.rx_plan.specs.Lossy.{carries, comes, drawn, fate_of, fated, gathered, lossy, lossy_round, stays};
 ghost use Rattle.rx_plan.specs.Network.{delivers};
 ghost use Rattle.rx_plan.specs.Parts.{each};
 ghost use Rattle.rx_world.specs.Ran.{stop_of};
