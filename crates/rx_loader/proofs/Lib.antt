@@ -1,0 +1,9 @@
+mod Clients
+mod Ending
+mod Handling
+mod Living
+mod Made
+mod Opened
+mod Starting
+mod Summed
+mod Unrefused

@@ -1,0 +1,15 @@
+use Rattle.std.proofs.Common.{None, sym, subst}
+use Rattle.rx_loader.specs.Loaded.{LoadIs}
+use Rattle.rx_loader.proofs.Ending.{load_keeps}
+use Rattle.rx_world.specs.Tells.{told}
+use Rattle.rx_loader.proofs.making.load.Goals as goal
+
+pub returns-clause-load : goal.returns-clause-load
+returns-clause-load g c =
+    subst (λ loaded. LoadIs c.args.number c.args.calls loaded (told (g.J.Journal.told c.args.book.now) None 0)
+    (told (g.J.Journal.told c.run-ran.new.book) None 0)) (sym c.loaded_of.ensures) c.run-ran.ensures.load
+
+pub returns-clause-promises : goal.returns-clause-promises
+returns-clause-promises g c =
+    load_keeps c.loads_keep_promises.ensures.world c.loads_keep_promises.ensures.promises c.args.number c.args.calls
+    c.loaded_of.result _ _
