@@ -61,6 +61,19 @@ def run(*words, through=(), **how):
     return ended.returncode, ended.stdout or b"", ended.stderr or b""
 
 
+def on_terminal(*words):
+    """The same of a run whose standard error is a terminal."""
+    screen, end = os.openpty()
+    ended = run(*words, stderr=end)
+    os.close(end)
+    shown = b""
+    with contextlib.suppress(OSError):
+        while part := os.read(screen, 65536):
+            shown += part
+    os.close(screen)
+    return *ended[:2], shown
+
+
 def write(name, text):
     """A file of this text, in the working folder."""
     pathlib.Path(name).write_bytes(text if isinstance(text, bytes) else text.encode())
@@ -80,9 +93,11 @@ def usage():
     lists = serve, [*serve, *at, "--jumbo", "17"], [*serve, *at, "--nonce", "1"], [*serve, *at, *epoch]
     for words in (*lists, call, [*call, *epoch, "--down", "no"], [*call, *epoch, "--turns", "0"], [*call, *epoch, *at]):
         expect(f"the words {words}", run(*words), "Usage")
-    # commands that the program doesn't have yet
-    for words in (["load", "1", "40"], ["peers", "x.xg", "script", "plan"]):
+    # loads of no calls, of too many, and by no number
+    for words in (["load", "1"], ["load", "1", "0"], ["load", "1", "10001"], ["load", str(2**64), "1"], ["load", "a", "1"]):
         expect(f"the words {words}", run(*words), "Usage")
+    # a command that the program doesn't have yet
+    expect("the words of peers", run("peers", "x.xg", "script", "plan"), "Usage")
     for words in ([b"\xff"], [b"sim", b"\xff"], [b"sim", b"plan", b"\xed\xa0\x80"]):
         expect(f"the words {words}", run(*words), "Usage")
 
@@ -179,6 +194,24 @@ def interfaces():
     for place in ("/dev/full", "&-"):
         through = ["sh", "-c", f'exec "$@" >{place}', "sh"]
         expect(f"a table to {place}", run("compile", write("x.xg", ""), through=through), "SinkFault")
+
+
+def loads():
+    """Loads of the fewest calls and of many, by the least number and the greatest: what tools/player makes by the rules."""
+    rows = [
+        (0, 1, "calls 1 ok 1 abort 0 dead 0 open 0\nrounds 3 given 4 lost 0 repeated 1 held 0\n"),
+        (2**64 - 1, 9, "calls 9 ok 9 abort 0 dead 0 open 0\nrounds 9 given 44 lost 2 repeated 6 held 4\n"),
+        (1, 1_000, "calls 1000 ok 1000 abort 0 dead 0 open 0\nrounds 2603 given 4616 lost 266 repeated 307 held 298\n"),
+        (1, 10_000, "calls 10000 ok 10000 abort 0 dead 0 open 0\nrounds 34105 given 46585 lost 2901 repeated 2962 held 2931\n"),
+    ]
+    for number, calls, lines in rows:
+        expect(f"load {number} {calls}", run("load", str(number), str(calls)), "Ok", lines.encode())
+    # how far it is stands in one line of a terminal, which goes as the load ends
+    status, out, err = on_terminal("load", "1", "1000")
+    shown = rb"(\r\d+ of 1000 calls ended, \d+ rounds, \d+ datagrams a second\x1b\[K)+\r\x1b\[K"
+    expect("load 1 1000 on a terminal", (status, out, b"" if re.fullmatch(shown, err) else err), "Ok", rows[2][2].encode())
+    status, out, err = on_terminal("load", "1", "0")
+    expect("load 1 0 on a terminal", (status, out, err.replace(b"\r\n", b"\n")), "Usage")
 
 
 def refused_calls():
@@ -400,7 +433,7 @@ def memory():
 
 with tempfile.TemporaryDirectory() as folder:
     os.chdir(folder)
-    for part in (usage, plans, interfaces, refused_calls, wires, robust, files, streams, memory):
+    for part in (usage, plans, interfaces, loads, refused_calls, wires, robust, files, streams, memory):
         part()
     os.chdir(top)
 print(f"the program: {len(failed)} runs failed" if failed else "the program: each run ended and printed as it is to")

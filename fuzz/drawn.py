@@ -281,10 +281,31 @@ HOSTS = ("--at", "--to", "--from")
 UNBOUND, SILENT = "192.0.2.1:9", "127.0.0.1:9"
 
 
+def load_words(draw):
+    """The words of a load of a few calls, with one of them spoilt in some cases."""
+    some = [str(number(draw, 2**64 - 1)), str(draw.choice((1, 1, 2, 3, 5, 9, 17)))]
+    way = draw.randrange(12)
+    if way == 0:
+        some[draw.randrange(2)] = draw.choice(ODD)
+    elif way == 1:
+        some[1] = str(draw.choice((0, 10_001, 65_536, 2**32, 2**32 + 1, 2**64, 2**64 + 1)))
+    elif way == 2:
+        some[0] = str(draw.choice((2**64, 2**64 + 1, 2**128)))
+    elif way == 3:
+        some = some[1:draw.choice((1, 2))]
+    elif way == 4:
+        some.append(draw.choice(("1", "", "-", "none")))
+    elif way == 5:
+        some = ["0" * draw.choice((1, 30)) + it for it in some]
+    return ["load", *some]
+
+
 def words(draw, files):
     """Words of a command. It binds no host but a loopback one, and sends to no other."""
     command = draw.choice(list(OPTIONS))
     some = [command] + [draw.choice([*files, "none", "-", "[]", "P0"]) for _ in range(draw.choice((0, 1, 1, 2, 3)))]
+    if command == "load" and draw.random() < 0.9:
+        some = load_words(draw)
     for option in draw.sample(OPTIONS[command], draw.randrange(len(OPTIONS[command]) + 1)):
         fit = [UNBOUND if option in ("--at", "--from") else SILENT] * 4 if option in HOSTS else []
         said = draw.choice([*fit, *files, "yes", "256.0.0.1:7", str(draw.choice(EDGES)), *ODD[:12]])

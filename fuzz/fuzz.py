@@ -8,7 +8,8 @@ It draws interface files, scripts, plans and words, and spoils some of them (dra
 - its status is one of 0 to 9, and one that its command can have;
 - its standard error is empty where the status is 0, and else one line in the form of that status (docs/COMMANDS.md);
 - each line of a trace is one (tools/rxtrace.py), and a second run prints the same;
-- so does tools/player, which knows the rules alone, of each plan that it plays; some are tried.
+- a load that its words ask for is made, and its two lines agree with each other; a second run prints the same;
+- so does tools/player, which knows the rules alone, of each plan that it plays and of each load; some are tried.
 
 Each run that fails is kept in a folder of corpus/, with its files and its words; `--again` runs all of these instead.
 Prints each failure as it's found, each minute how far it is, and last how many runs of each kind there were, and
@@ -52,6 +53,9 @@ SAID = {
     4: r"rx: dead \d{5,}\n", 5: r"rx: out of memory\n", 6: r"rx: cannot read (?s:.*)\n", 7: r"rx: cannot write\n",
     8: r"rx: network fault\n", 9: r"rx: turns spent \d+\n",
 }
+LOAD = (rb"calls (\d+) ok (\d+) abort (\d+) dead (\d+) open (\d+)\n"
+        rb"rounds (\d+) given (\d+) lost (\d+) repeated (\d+) held (\d+)\n")
+LOAD_CALLS = 10_000
 ENDS = {"compile": {0, 2, 6}, "sim": {0, 2, 6}, "words": {0, 1, 2, 4, 6, 8, 9}, "serve": {0, 9}, "call": {0, 2, 3, 4, 9}}
 
 
@@ -145,13 +149,46 @@ def printed(run, room, draw):
         rxtrace.Trace(str(room / "trace"), str(room / "a.plan"))
     if run.kind == "sim" and draw.random() < 0.1 and ran(run.words, room, LIMITS[run.kind]) != (status, out, said):
         return "a second run prints something else"
-    return disagreed(run, room, (status, out, said)) if run.kind == "sim" and draw.random() < 0.1 else None
+    if run.words[:1] == ["load"]:
+        return misloaded(run.words, room, (status, out, said), draw)
+    return disagreed(run.words, room, (status, out, said)) if run.kind == "sim" and draw.random() < 0.1 else None
 
 
-def disagreed(run, room, told):
+def load_of(words):
+    """The NUMBER and CALLS of the words of a load; None where they are no load (docs/FORMATS.md)."""
+    at = words.index("--") if "--" in words else len(words)
+    plain = words[1:at] + words[at + 1:]
+    if any(it.startswith("-") for it in words[1:at]) or len(plain) != 2:
+        return None
+    if not all(re.fullmatch("[0-9]+", it) for it in plain):
+        return None
+    number, calls = map(int, plain)
+    return (number, calls) if number < 2**64 and 1 <= calls <= LOAD_CALLS else None
+
+
+def misloaded(words, room, told, draw):
+    """What is wrong of what became of the words of a load, if something is."""
+    status, out, _ = told
+    given = load_of(words)
+    if (status == 0) != (given is not None):
+        return f"its status is {status}"
+    if given is None:
+        return None
+    lines = re.fullmatch(LOAD, out)
+    if not lines:
+        return f"it prints {out[-300:]!r}"
+    calls, *ends = map(int, lines.groups()[:5])
+    if calls != given[1] or sum(ends) != calls:
+        return f"its calls and their ends are {calls} and {ends}"
+    if draw.random() < 0.3 and ran(words, room, LIMITS["words"]) != told:
+        return "a second run prints something else"
+    return disagreed(["load", *map(str, given)], room, told) if draw.random() < 0.3 else None
+
+
+def disagreed(words, room, told):
     """What is wrong where tools/player and the program differ, if they do; a long plan takes the player too long."""
     try:
-        done = subprocess.run([PLAYER, *run.words], cwd=room, stdin=subprocess.DEVNULL, capture_output=True,
+        done = subprocess.run([PLAYER, *words], cwd=room, stdin=subprocess.DEVNULL, capture_output=True,
                               timeout=LIMITS["sim"])
     except subprocess.TimeoutExpired:
         return None

@@ -1,10 +1,11 @@
 //! Rx over the system: its words, files, streams and sockets.
 #![tactic(auto)]
 
-use rx_base::{DiskFiles, StdSink};
+use rx_base::{DiskFiles, StdSink, Terminal};
 use rx_top::{end_without_words, rx_main};
 use rx_udp::UdpWire;
 use rx_wire::Forgetting;
+use std::io::IsTerminal;
 use std::process::ExitCode;
 use std::{env, io};
 
@@ -12,7 +13,7 @@ fn main(rt: HostRuntime) -> ExitCode {
     let (stdout, stderr) = (rt.stdout(), rt.stderr());
     let mut files = DiskFiles::make(&rt);
     let mut out = StdSink::make(&stdout);
-    let mut err = StdSink::make(&stderr);
+    let mut err = Terminal::make(&stderr, &rt, stderr.is_terminal());
     let mut wire = UdpWire::make(&rt);
     let mut book = Forgetting;
     let status = match words(&rt) {

@@ -1,5 +1,6 @@
 //! Standard error, on which a command may show how far it is.
-//! No clause can say what is shown, or what reaches the stream. No command shows anything yet.
+//! No clause can say what is shown, or what reaches the stream: `.ci/program.py` runs the program on a terminal, and
+//! compares what comes there.
 ghost use Rattle.std.specs.Prelude.{◌≡◌, ℕ, None};
 
 use crate::sink::{Failed, Sink};

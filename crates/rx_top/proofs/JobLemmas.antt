@@ -20,8 +20,8 @@ use Rattle.rx_words.specs.declared.names.CommandName.TheVariants as names
 use Rattle.rx_words.specs.declared.names.OptionName.TheVariants as options
 use Rattle.rx_words.specs.declared.options.CallOptions.{CallOptions}
 use Rattle.rx_words.specs.declared.options.ServeOptions.{ServeOptions}
-use Rattle.rx_top.specs.Commands.{has_events, has_wire, is_command}
-use Rattle.rx_top.specs.Jobs.{CanDo, is_job, is_over_wire, job_of, makes_events}
+use Rattle.rx_top.specs.Commands.{has_events, has_files, has_wire, is_command}
+use Rattle.rx_top.specs.Jobs.{CanDo, is_job, is_over_wire, job_of, makes_events, reads_files}
 
 -- ---- what needs something
 
@@ -181,10 +181,11 @@ by_fits names.Call parts = call_fits parts
 by_fits names.Compile parts = needs_any (one_plain parts) _ Fits (λ xg. tt)
 by_fits names.Load parts =
     needs_any (two_plain parts) _ Fits (λ texts. needs_any (number_within 0 (2 ^ 64 - 1) texts.0) _ Fits (λ number.
-    needs_any (number_within 1 10000 texts.1) _ Fits (λ calls. tt)))
+    needs_where (number_within 1 10000 texts.1) _ (Within 1 10000) Fits (number_fits 1 10000 texts.1) (λ calls few.
+    few)))
 by_fits names.Peers parts = needs_any (three_plain parts) _ Fits (λ files. tt)
 
--- a node can be set up with what the words ask for
+-- what the words ask for can be done: a node can be set up with it, and so many calls can be made
 pub words_fit : (words : List (List ℕ)) → IfSome (command_of words) Fits
 words_fit [] = tt
 words_fit (word ∷ words) =
@@ -214,6 +215,15 @@ wire_by_job (commands.Call xg proc args to epoch from service turns up down wind
 wire_by_job (commands.Compile xg) = refl
 wire_by_job (commands.Load number calls) = refl
 wire_by_job (commands.Peers xg script plan) = refl
+
+-- it has files where its job has
+pub files_by_job : (c : Command) → has_files (Some c) ≡ reads_files (job_of c)
+files_by_job (commands.Sim plan xg script) = refl
+files_by_job (commands.Serve xg script at service span turns limits key nonce jumbo) = refl
+files_by_job (commands.Call xg proc args to epoch from service turns up down window key jumbo) = refl
+files_by_job (commands.Compile xg) = refl
+files_by_job (commands.Load number calls) = refl
+files_by_job (commands.Peers xg script plan) = refl
 
 -- the program has it where there is a job
 pub there_by_job : (c : Command) → is_command (Some c) ≡ is_job (job_of c)

@@ -9,7 +9,7 @@ has_command (commands.Sim plan xg script) = true
 has_command (commands.Serve xg script at service span turns limits key nonce jumbo) = true
 has_command (commands.Call xg proc args to epoch from service turns up down window key jumbo) = true
 has_command (commands.Compile xg) = true
-has_command (commands.Load number calls) = false
+has_command (commands.Load number calls) = true
 has_command (commands.Peers xg script plan) = false
 
 -- the words are a command that the program has
@@ -23,6 +23,7 @@ has_events None = false
 has_events (Some (commands.Sim plan xg script)) = true
 has_events (Some (commands.Serve xg script at service span turns limits key nonce jumbo)) = true
 has_events (Some (commands.Call xg proc args to epoch from service turns up down window key jumbo)) = true
+has_events (Some (commands.Load number calls)) = true
 has_events (Some _) = false
 
 -- the words are a command over UDP: only these have to do with a wire
@@ -31,3 +32,13 @@ has_wire None = false
 has_wire (Some (commands.Serve xg script at service span turns limits key nonce jumbo)) = true
 has_wire (Some (commands.Call xg proc args to epoch from service turns up down window key jumbo)) = true
 has_wire (Some _) = false
+
+-- the words are a command that reads files: only these have any read
+abbrev pub has_files : Option Command → Bool
+has_files None = false
+has_files (Some (commands.Sim plan xg script)) = true
+has_files (Some (commands.Serve xg script at service span turns limits key nonce jumbo)) = true
+has_files (Some (commands.Call xg proc args to epoch from service turns up down window key jumbo)) = true
+has_files (Some (commands.Compile xg)) = true
+has_files (Some (commands.Load number calls)) = false
+has_files (Some (commands.Peers xg script plan)) = false

@@ -1,4 +1,5 @@
 pub mod Endings
+pub mod LoadLines
 pub mod Compiles
 pub mod Commands
 pub mod Inputs

@@ -20,6 +20,8 @@ pub enum Job {
     Serve(ServeFiles, Serving),
     Call(CallWords, Calling),
     Compile(Text),
+    /// The number of a generator, and how many calls.
+    Load(u64, u32),
     /// The program hasn't the command.
     Nothing,
 }
@@ -62,7 +64,8 @@ pub fn job_of(command: Command) -> Job
             xg, proc, args, to, epoch, from, service, turns, up, down, window, key, jumbo,
         ),
         Command::Compile { xg } => Job::Compile(xg),
-        Command::Load { .. } | Command::Peers { .. } => Job::Nothing,
+        Command::Load { number, calls } => Job::Load(number, calls),
+        Command::Peers { .. } => Job::Nothing,
     }
 }
 

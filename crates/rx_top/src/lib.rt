@@ -1,5 +1,5 @@
 //! The commands of the program: `sim` runs a plan, `serve` serves a node and `call` makes a call over a wire, `compile`
-//! prints the table of an interface file.
+//! prints the table of an interface file, `load` has many calls made over a network that loses.
 #![tactic(auto)]
 
 mod call;
@@ -8,6 +8,7 @@ mod compile;
 mod inputs;
 mod job;
 mod keys;
+mod load;
 mod ok_line;
 mod outcome;
 mod reply;
@@ -22,6 +23,7 @@ mod wire_outcome;
 pub use call::CallWords;
 pub use cause::Cause;
 pub use compile::CompileOutcome;
+pub use load::LoadOutcome;
 pub use outcome::SimOutcome;
 pub use serve::ServeFiles;
 pub use sim::SimFiles;

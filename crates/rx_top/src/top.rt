@@ -1,6 +1,6 @@
 //! The program behind its words, files and sinks.
 
-ghost use Rattle.std.specs.Prelude.{◌≡◌, ◌≢◌, map, List, ℕ, Bool, Option, Some, false};
+ghost use Rattle.std.specs.Prelude.{◌≤◌, ◌≡◌, ◌≢◌, map, List, ℕ, Bool, Option, Some, false};
 ghost use Rattle.std.specs.IoError.{error_kind};
 ghost use Rattle.std.specs.String.{string_bytes};
 ghost use Rattle.rx_base.specs.Sink.{HasRisen, IsPut};
@@ -11,17 +11,19 @@ ghost use Rattle.rx_passes.specs.Tells.{sink_tells, told as told_over, wire_tell
 ghost use Rattle.rx_world.specs.Tells.{told};
 ghost use Rattle.rx_top.specs.declared.sim.SimFiles.{SimFiles};
 ghost use Rattle.rx_top.specs.Calls.{CallLeaves, CanCall, client_limits};
-ghost use Rattle.rx_top.specs.Commands.{has_events, has_wire, is_command};
+ghost use Rattle.rx_top.specs.Commands.{has_events, has_files, has_wire, is_command};
 ghost use Rattle.rx_top.specs.Compiles.{CompileLeaves};
 ghost use Rattle.rx_top.specs.Endings.{memory_text, seen_by, usage_text};
 ghost use Rattle.rx_top.specs.Inputs.{reads_by};
-ghost use Rattle.rx_top.specs.Jobs.{CanDo, JobLeaves, is_job, is_over_wire, makes_events};
+ghost use Rattle.rx_top.specs.LoadLines.{LoadLeaves};
+ghost use Rattle.rx_top.specs.Jobs.{CanDo, JobLeaves, is_job, is_over_wire, makes_events, reads_files};
 ghost use Rattle.rx_top.specs.Serves.{CanServe, ServeLeaves};
 ghost use Rattle.rx_top.specs.Sims.{SimLeaves};
 
 use crate::call::{CallWords, call_files};
 use crate::compile::{compile_file, say_compiled};
 use crate::job::{Job, job_of};
+use crate::load::{load_calls, say_loaded};
 use crate::outcome::say_outcome;
 use crate::saying::say;
 use crate::serve::{ServeFiles, serve_files};
@@ -40,7 +42,8 @@ use std::io::ErrorKind;
 /// Does the command that the words name: `sim PLAN` runs a plan, with the interface and the script that are named, and
 /// puts its trace on `out`, each event noted in `book` before; `serve XG SCRIPT` serves a node over `wire`, and
 /// `call XG PROC ARGS` makes a call, each event of the node noted in `book`; `compile XG` puts the table of an
-/// interface file. The other commands of the words aren't built yet.
+/// interface file; `load NUMBER CALLS` makes a load, each event noted in `book`, and puts what became of it. The other
+/// command of the words isn't built yet.
 /// What isn't done whole says its line on `err`, as far as that takes it.
 pub fn rx_main<F: Files, O: Sink, E: Sink, W: Wire, J: Journal>(
     alloc: Global,
@@ -61,7 +64,7 @@ pub fn rx_main<F: Files, O: Sink, E: Sink, W: Wire, J: Journal>(
         → IsPut (E.told err.old) (E.told err.new) (E.faults err.old) (E.faults err.new) memory_text }
     ensures no_command_out { is_command (command_of (map string_bytes words.now)) ≡ false
         → O.told out.new ≡ O.told out.old }
-    ensures no_read { is_command (command_of (map string_bytes words.now)) ≡ false
+    ensures no_read { has_files (command_of (map string_bytes words.now)) ≡ false
         → F.reads files.new ≡ F.reads files.old }
     ensures no_events { has_events (command_of (map string_bytes words.now)) ≡ false
         → J.told book.new ≡ J.told book.old }
@@ -122,6 +125,12 @@ pub fn rx_main<F: Files, O: Sink, E: Sink, W: Wire, J: Journal>(
         → CompileLeaves result xg (seen_by F.contents F.failed_last F.reads O.told files.old files.new out.old out.new)
         (IsPut (E.told err.old) (E.told err.new) (E.faults err.old) (E.faults err.new)) }
 
+    // What `load NUMBER CALLS` does, and what it says of that.
+    ensures load { (number calls : ℕ) → command_of (map string_bytes words.now) ≡ Some (Command.Load number calls)
+        → LoadLeaves result number calls (told (J.told book.old) (O.told out.old) (O.faults out.old))
+        (told (J.told book.new) (O.told out.new) (O.faults out.new))
+        (IsPut (E.told err.old) (E.told err.new) (E.faults err.old) (E.faults err.new)) }
+
     // A command that is done whole says nothing.
     ensures quiet_told { result ≡ Status.Ok → E.told err.new ≡ E.told err.old }
     ensures quiet_faults { result ≡ Status.Ok → E.faults err.new ≡ E.faults err.old }
@@ -168,7 +177,7 @@ fn do_job<F: Files, O: Sink, E: Sink, W: Wire, J: Journal>(
     ensures usage { result ≡ Status.Usage → is_job job.now ≡ false }
     ensures nothing { is_job job.now ≡ false → result ≡ Status.Usage }
     ensures nothing_put { is_job job.now ≡ false → O.told out.new ≡ O.told out.old }
-    ensures nothing_read { is_job job.now ≡ false → F.reads files.new ≡ F.reads files.old }
+    ensures nothing_read { reads_files job.now ≡ false → F.reads files.new ≡ F.reads files.old }
     ensures no_events { makes_events job.now ≡ false → J.told book.new ≡ J.told book.old }
     ensures no_wire { is_over_wire job.now ≡ false
         → (W.told wire.new ≡ W.told wire.old) × (W.moment wire.new ≡ W.moment wire.old) }
@@ -191,6 +200,7 @@ fn do_job<F: Files, O: Sink, E: Sink, W: Wire, J: Journal>(
         }
         Job::Call(asked, calling) => do_call(alloc, asked, calling, files, out, err, wire, book),
         Job::Compile(xg) => do_compile(alloc, xg.as_str(), files, out, err),
+        Job::Load(number, calls) => do_load(alloc, *number, *calls, out, err, book),
         Job::Nothing => refuse(err),
     }
 }
@@ -318,6 +328,32 @@ fn do_compile<F: Files, O: Sink, E: Sink>(
 {
     let outcome = compile_file(alloc, xg, files, out);
     say_compiled(err, xg, &outcome);
+    outcome.status()
+}
+
+/// Makes a load, and says how that ended.
+fn do_load<O: Sink, E: Sink, J: Journal>(
+    alloc: Global,
+    number: u64,
+    calls: u32,
+    out: &mut O,
+    err: &mut E,
+    book: &mut J,
+) -> Status
+    requires { (1 ≤ calls) × (calls ≤ 10000) }
+    ensures load { LoadLeaves result number calls (told (J.told book.old) (O.told out.old) (O.faults out.old))
+        (told (J.told book.new) (O.told out.new) (O.faults out.new))
+        (IsPut (E.told err.old) (E.told err.new) (E.faults err.old) (E.faults err.new)) }
+    ensures a_command { result ≢ Status.Usage }
+    ensures quiet_told { result ≡ Status.Ok → E.told err.new ≡ E.told err.old }
+    ensures quiet_faults { result ≡ Status.Ok → E.faults err.new ≡ E.faults err.old }
+    ensures no_file_fault { result ≢ Status.FileFault }
+    ensures no_wire_fault { result ≢ Status.WireFault }
+    ensures sink_fault { result ≡ Status.SinkFault → HasRisen (O.faults out.old) (O.faults out.new) }
+    ensures no_sink_fault { result ≢ Status.SinkFault → O.faults out.new ≡ O.faults out.old }
+{
+    let outcome = load_calls(alloc, number, calls, out, err, book);
+    say_loaded(err, outcome);
     outcome.status()
 }
 

@@ -3,6 +3,7 @@
 mod calls;
 mod case;
 mod files;
+mod loads;
 mod others;
 mod row;
 mod serves;

@@ -1,10 +1,11 @@
 use Rattle.std.proofs.Common.{◌≡◌, ◌∙◌, false, inl, map, refl, sym}
 use Rattle.std.specs.String.{string_bytes}
+use Rattle.rx_top.specs.declared.load.LoadOutcome.TheVariants as load_outcomes
 use Rattle.rx_top.specs.declared.outcome.SimOutcome.TheVariants as outcomes
 use Rattle.rx_top.specs.declared.status.Status.TheVariants as statuses
 use Rattle.rx_top.specs.declared.wire_outcome.WireOutcome.TheVariants as wire_outcomes
-use Rattle.rx_top.specs.Jobs.{is_job, is_over_wire}
-use Rattle.rx_top.proofs.JobLemmas.{job_fits, there_by_job, wire_by_job}
+use Rattle.rx_top.specs.Jobs.{is_job, is_over_wire, makes_events, reads_files}
+use Rattle.rx_top.proofs.JobLemmas.{events_by_job, files_by_job, job_fits, there_by_job, wire_by_job}
 use Rattle.rx_top.proofs.top.rx_main.Goals as goal
 
 pub do_job-requires : goal.do_job-requires
@@ -20,8 +21,8 @@ returns-in-Ok-clause-no_command_said g c is memory =
 
 pub returns-in-Ok-clause-no_read : goal.returns-in-Ok-clause-no_read
 returns-in-Ok-clause-no_read g c is =
-    let nothing : is_job c.job_of.result ≡ false =
-    rw c.job_of.ensures (sym (there_by_job c.in-Ok.command) ∙ (rw c.in-Ok.ensures.ok at is)) in
+    let nothing : reads_files c.job_of.result ≡ false =
+    rw c.job_of.ensures (sym (files_by_job c.in-Ok.command) ∙ (rw c.in-Ok.ensures.ok at is)) in
     c.do_job.ensures.nothing_read nothing
 
 pub returns-in-Ok-clause-no_wire : goal.returns-in-Ok-clause-no_wire
@@ -51,3 +52,19 @@ returns-in-Err-OutOfMemory-clause-call g c xg proc args to epoch from service tu
   λ refused. absurd (cc (refused)),
   c.end_for_memory.ensures.said,
 )
+
+pub returns-in-Err-OutOfMemory-clause-load : goal.returns-in-Err-OutOfMemory-clause-load
+returns-in-Err-OutOfMemory-clause-load g c number calls is =
+    (load_outcomes.OutOfMemory, c.end_for_memory.ensures.memory, inl (refl, refl), c.end_for_memory.ensures.said)
+
+pub returns-in-Ok-clause-no_command_out : goal.returns-in-Ok-clause-no_command_out
+returns-in-Ok-clause-no_command_out g c is =
+    let nothing : is_job c.job_of.result ≡ false =
+    rw c.job_of.ensures (sym (there_by_job c.in-Ok.command) ∙ (rw c.in-Ok.ensures.ok at is)) in
+    c.do_job.ensures.nothing_put nothing
+
+pub returns-in-Ok-clause-no_events : goal.returns-in-Ok-clause-no_events
+returns-in-Ok-clause-no_events g c is =
+    let nothing : makes_events c.job_of.result ≡ false =
+    rw c.job_of.ensures (sym (events_by_job c.in-Ok.command) ∙ (rw c.in-Ok.ensures.ok at is)) in
+    c.do_job.ensures.no_events nothing
