@@ -14,8 +14,8 @@ LIST, DRAWING = top / "crates.txt", top / "docs/crates.svg"
 PLACES = """
 .             .               .           .          .               rx_top_tests    rx             .
 .             .               .           .          .               .               rx_top         .
-.             .               .           .          .               .               rx_loader      .
-.             .               .           .          .               rx_passes       rx_world       rx_words
+.             .               .           .          .               .               rx_loader      rx_world
+.             .               .           .          .               rx_passes       rx_stage       rx_words
 rx_node_bench rx_server_tests rx_nodes    rx_caller  .               rx_udp          rx_dispatch    rx_closing
 .             rx_server       rx_client   .          .               rx_base         rx_load        rx_rounds
 .             rx_books        rx_progress .          .               .               .              rx_plan
@@ -32,7 +32,7 @@ WINGS = [("the program", "#fdeee0", 5, 7, 6, 13), ("the protocol", "#e8f0fb", 0,
          ("values", "#e9f6ea", 5, 6, 0, 4), ("interface files", "#f5ebf8", 7, 7, 0, 4)]
 FLOORS = ["what is said", "rules, bytes", "laws, rates, slots", "windows, moments", "one end of a call",
           "ends, connections", "what both nodes share", "what is due", "the two nodes", "around the nodes", "runs, passes",
-          "a load", "the commands", "what runs"]
+          "whole runs", "the commands", "what runs"]
 ASIDE = {"rx_examples", "rx_call_tests", "rx_server_tests", "rx_top_tests", "rx_script_tests", "xg_parse_tests",
          "xdr_tests"}
 SAID = "rx_model"

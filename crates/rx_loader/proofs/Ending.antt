@@ -16,11 +16,11 @@ use Rattle.rx_loader.specs.Showing.{IsAtStart, Loads, PlaysLoad, ShowsLoad}
 use Rattle.rx_loader.specs.declared.loading.Loading.{Loading}
 use Rattle.rx_loader.proofs.Unrefused.{load_goes}
 use Rattle.rx_plan.specs.Parts.{Came, To, Refused, Cut, Endless, Then, ends}
-use Rattle.rx_world.specs.Ran.{Fits, Ran, fits_endless, fits_fails, fits_refused, fits_to, fits_wants}
-use Rattle.rx_world.specs.Tells.{Fails, Told, fails_last, fails_one, wants_more}
-use Rattle.rx_world.specs.declared.stop.Stop.{Stop}
-use Rattle.rx_world.proofs.Following.{then_cut}
-use Rattle.rx_world.proofs.Running.{ran_then, ran_to}
+use Rattle.rx_stage.specs.Ran.{Fits, Ran, fits_endless, fits_fails, fits_refused, fits_to, fits_wants}
+use Rattle.rx_stage.specs.Tells.{Fails, Told, fails_last, fails_one, wants_more}
+use Rattle.rx_stage.specs.declared.stop.Stop.{Stop}
+use Rattle.rx_stage.proofs.Following.{then_cut}
+use Rattle.rx_stage.proofs.Running.{ran_then, ran_to}
 
 -- ---- a sink that counts no fault
 

@@ -9,9 +9,9 @@ use Rattle.rx_rules.specs.Slots.{live}
 use Rattle.rx_nodes.specs.Nodes.{NodesState, Standing, nodes_of}
 use Rattle.rx_load.specs.Loads.{live_at, live_of}
 use Rattle.rx_plan.specs.Stages.{Stage}
-use Rattle.rx_world.specs.Shown.{Shows, WorldState}
-use Rattle.rx_world.proofs.Finding.{count_shown}
-use Rattle.rx_world.proofs.Stepping.{nodes_shown}
+use Rattle.rx_stage.specs.Shown.{Shows, WorldState}
+use Rattle.rx_stage.proofs.Finding.{count_shown}
+use Rattle.rx_stage.proofs.Stepping.{nodes_shown}
 
 -- none of a client that isn't among its nodes
 pub none_lives : (w : WorldState) (ns : NodesState) (s : Stage) (client : ℕ) → ns ≡ w.nodes → Shows w s

@@ -18,16 +18,16 @@ use Rattle.rx_plan.specs.Network.{below}
 use Rattle.rx_plan.specs.Parts.{Part, Then, To, by_test, each, ends}
 use Rattle.rx_plan.specs.Rounds.{clients_first, polls, polls_out}
 use Rattle.rx_plan.specs.Stages.{Stage}
-use Rattle.rx_world.specs.Ran.{Ran, stop_of}
-use Rattle.rx_world.specs.RoundsPlayed.{PlaysCarried, PlaysGiven, ShowsGiven, ShowsLossy}
-use Rattle.rx_world.specs.Shown.{Plays, Shows, WorldState}
-use Rattle.rx_world.specs.Tells.{Told}
-use Rattle.rx_world.specs.declared.stop.Stop.{Stop}
-use Rattle.rx_world.proofs.Following.{PlaysOn, on_stops, ran_as, ran_ended}
-use Rattle.rx_world.proofs.Making.{stop_is}
-use Rattle.rx_world.proofs.Numbers.{At}
-use Rattle.rx_world.proofs.RoundsMade.{less_one}
-use Rattle.rx_world.proofs.Running.{ran_stops, ran_then, ran_to}
+use Rattle.rx_stage.specs.Ran.{Ran, stop_of}
+use Rattle.rx_stage.specs.RoundsPlayed.{PlaysCarried, PlaysGiven, ShowsGiven, ShowsLossy}
+use Rattle.rx_stage.specs.Shown.{Plays, Shows, WorldState}
+use Rattle.rx_stage.specs.Tells.{Told}
+use Rattle.rx_stage.specs.declared.stop.Stop.{Stop}
+use Rattle.rx_stage.proofs.Following.{PlaysOn, on_stops, ran_as, ran_ended}
+use Rattle.rx_stage.proofs.Making.{stop_is}
+use Rattle.rx_stage.proofs.Numbers.{At}
+use Rattle.rx_stage.proofs.RoundsMade.{less_one}
+use Rattle.rx_stage.proofs.Running.{ran_stops, ran_then, ran_to}
 
 -- ---- one part and another
 

@@ -13,15 +13,15 @@ use Rattle.rx_plan.specs.Lines.{IsInvoked, invokes, with_called, with_caller}
 use Rattle.rx_plan.specs.Parts.{Cut, One, Part, Then, To, by_test, ends, not_made}
 use Rattle.rx_plan.specs.Stages.{IsAllowedNext, Stage, name_called, with_event}
 use Rattle.rx_script.specs.declared.outcome.PlanWhy.TheVariants as causes
-use Rattle.rx_world.specs.Ran.{Ran, stop_of}
-use Rattle.rx_world.specs.Shown.{Plays, Shows, WorldState}
-use Rattle.rx_world.specs.Tells.{Told}
-use Rattle.rx_world.specs.declared.stop.Stop.{Stop}
-use Rattle.rx_world.specs.declared.stop.Stop.TheVariants as stops
-use Rattle.rx_world.proofs.Following.{ran_as, ran_cut, ran_ended, then_cut}
-use Rattle.rx_world.proofs.Making.{stop_is}
-use Rattle.rx_world.proofs.RoundsMade.{less_one}
-use Rattle.rx_world.proofs.Running.{ran_stops, ran_then, ran_to}
+use Rattle.rx_stage.specs.Ran.{Ran, stop_of}
+use Rattle.rx_stage.specs.Shown.{Plays, Shows, WorldState}
+use Rattle.rx_stage.specs.Tells.{Told}
+use Rattle.rx_stage.specs.declared.stop.Stop.{Stop}
+use Rattle.rx_stage.specs.declared.stop.Stop.TheVariants as stops
+use Rattle.rx_stage.proofs.Following.{ran_as, ran_cut, ran_ended, then_cut}
+use Rattle.rx_stage.proofs.Making.{stop_is}
+use Rattle.rx_stage.proofs.RoundsMade.{less_one}
+use Rattle.rx_stage.proofs.Running.{ran_stops, ran_then, ran_to}
 
 -- ---- a call
 

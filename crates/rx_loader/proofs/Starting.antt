@@ -8,8 +8,8 @@ use Rattle.rx_rules.specs.Setup.{Client, Server, unprompted}
 use Rattle.rx_history.specs.Sides.{Node}
 use Rattle.rx_nodes.specs.Nodes.{NodesState, Standing, nodes_of}
 use Rattle.rx_load.specs.Loads.{first_stage, load_client, load_host, load_limits, load_nodes}
-use Rattle.rx_world.specs.Showing.{started}
-use Rattle.rx_world.specs.Shown.{Shows, WorldState, jobs_of, stage_of}
+use Rattle.rx_stage.specs.Showing.{started}
+use Rattle.rx_stage.specs.Shown.{Shows, WorldState, jobs_of, stage_of}
 
 -- ---- nodes
 

@@ -9,8 +9,8 @@ use Rattle.rx_load.specs.declared.summary.Loaded.{Loaded}
 use Rattle.rx_load.specs.declared.summary.Loaded.TheVariants as loads
 use Rattle.rx_load.specs.declared.summary.Summary.{Summary}
 use Rattle.rx_plan.specs.Parts.{Came, Cut, Endless, Refused, To}
-use Rattle.rx_world.specs.Tells.{Gains, Told, Wants}
-use Rattle.rx_world.specs.declared.stop.Stop.{Stop}
+use Rattle.rx_stage.specs.Tells.{Gains, Told, Wants}
+use Rattle.rx_stage.specs.declared.stop.Stop.{Stop}
 
 -- how a load ended
 abbrev pub loaded_of : Result Summary Stop → Loaded

@@ -1,10 +1,10 @@
 -- What a load at work shows. The contracts of its functions cite this module.
 use Rattle.std.specs.Prelude.{◌≡◌, ℕ, Option}
 use Rattle.rx_plan.specs.Parts.{Part}
-use Rattle.rx_world.specs.Ran.{Ran}
-use Rattle.rx_world.specs.RoundsPlayed.{ShowsLossy}
-use Rattle.rx_world.specs.Tells.{Told}
-use Rattle.rx_world.specs.declared.stop.Stop.{Stop}
+use Rattle.rx_stage.specs.Ran.{Ran}
+use Rattle.rx_stage.specs.RoundsPlayed.{ShowsLossy}
+use Rattle.rx_stage.specs.Tells.{Told}
+use Rattle.rx_stage.specs.declared.stop.Stop.{Stop}
 use Rattle.rx_load.specs.Loads.{Load, load_begun}
 use Rattle.rx_loader.specs.declared.loading.Loading.{Loading}
 

@@ -5,9 +5,9 @@ ghost use Rattle.rx_load.specs.Loads.{all_ended, connects_all, has_ended, load_h
 ghost use Rattle.rx_load.specs.Loads.{lossy_with};
 ghost use Rattle.rx_load.specs.Summing.{summary_of};
 ghost use Rattle.rx_loader.specs.Showing.{IsAtStart, Loads, PlaysLoad};
-ghost use Rattle.rx_world.specs.Ran.{stop_of};
-ghost use Rattle.rx_world.specs.Shown.{script_of};
-ghost use Rattle.rx_world.specs.Tells.{told};
+ghost use Rattle.rx_stage.specs.Ran.{stop_of};
+ghost use Rattle.rx_stage.specs.Shown.{script_of};
+ghost use Rattle.rx_stage.specs.Tells.{told};
 
 use crate::handlers::script;
 use crate::nodes::nodes;
@@ -15,8 +15,8 @@ use crate::summary::sum_up;
 use rand_pcg::Pcg32;
 use rx_base::{Discarding, Sink};
 use rx_load::{CLIENTS, MAX_CALLS, MAX_ROUNDS, SERVICE, Summary, Tally};
+use rx_stage::{Datagram, Stop, World, at_start};
 use rx_wire::Journal;
-use rx_world::{Datagram, Stop, World, at_start};
 use std::alloc::{AllocError, Global};
 use xdr_value::Interface;
 

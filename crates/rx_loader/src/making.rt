@@ -1,14 +1,14 @@
 //! The whole of a load.
 ghost use Rattle.std.specs.Prelude.{◌≡◌, ◌≤◌, None};
 ghost use Rattle.rx_loader.specs.Loaded.{LoadIs, LoadKeeps, loaded_of};
-ghost use Rattle.rx_world.specs.Tells.{told};
+ghost use Rattle.rx_stage.specs.Tells.{told};
 
 use crate::handlers::interface;
 use crate::loading::Loading;
 use rx_base::Sink;
 use rx_load::{Loaded, MAX_CALLS, Summary, loads_keep_promises};
+use rx_stage::Stop;
 use rx_wire::Journal;
-use rx_world::Stop;
 use std::alloc::Global;
 
 /// Four clients call a server over a network that loses, repeats and holds datagrams as words of a generator say, which

@@ -3,18 +3,18 @@ ghost use Rattle.std.specs.Prelude.{◌≡◌, ◌≤◌, ◌<◌, ◌+◌, None
 ghost use Rattle.rx_jobs.specs.Handlers.{handlers_of};
 ghost use Rattle.rx_load.specs.Loads.{live_at, load_handlers, may_open, next_call, opens, opens_all, opens_free};
 ghost use Rattle.rx_loader.specs.Showing.{Loads, PlaysLoad};
-ghost use Rattle.rx_world.specs.Ran.{stop_of};
-ghost use Rattle.rx_world.specs.Shown.{script_of};
-ghost use Rattle.rx_world.specs.Tells.{told};
+ghost use Rattle.rx_stage.specs.Ran.{stop_of};
+ghost use Rattle.rx_stage.specs.Shown.{script_of};
+ghost use Rattle.rx_stage.specs.Tells.{told};
 
 use crate::handlers::request;
 use crate::loading::Loading;
 use rand_core::utils::NextWord;
 use rx_base::Discarding;
 use rx_load::{BODY_BYTES, CID, CLIENTS, MAX_CALLS};
+use rx_stage::Stop;
 use rx_table::CHANNELS;
 use rx_wire::Journal;
-use rx_world::Stop;
 use xdr_value::Interface;
 
 impl Loading {

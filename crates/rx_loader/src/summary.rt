@@ -3,7 +3,7 @@ ghost use Rattle.std.specs.Prelude.{◌≡◌};
 ghost use Rattle.rx_load.specs.Summing.{is_answered, summed};
 
 use rx_load::{Ends, Summary, Tally};
-use rx_world::Invoked;
+use rx_stage::Invoked;
 
 /// Whether the reply of a call spells the length of its Body.
 fn is_answered(invoked: &Invoked, bodies: &[u32]) -> bool

@@ -1,7 +1,7 @@
 pub mod TopLemmas
 pub mod PutLemmas
 pub mod SimLemmas
-pub mod JobLemmas
+pub mod CommandLemmas
 pub mod WireLemmas
 pub mod SilenceLemmas
 pub mod UploadLemmas

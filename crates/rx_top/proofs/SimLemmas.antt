@@ -1,5 +1,5 @@
 -- Lemmas on the files that `sim` names, on its words, and on how the run of its plan ends.
-use Rattle.std.proofs.Common.{◌≡◌, ◌∙◌, ◌⊎◌, ℕ, List, [], Option, Some, None, Ok, true, All, refl, reverse, ap}
+use Rattle.std.proofs.Common.{◌≡◌, ◌∙◌, ◌⊎◌, ℕ, List, [], Option, Some, None, Ok, true, All, refl, reverse}
 use Rattle.std.proofs.Common.{arith, false, if◌then◌else◌, nat_lt, subst, sym, unwrap_or, ◌<◌, ◌^◌, ◌∷◌, ℤ, Bool, pos}
 use Rattle.std.proofs.lemmas.Bool.Decides.{nat_tests}
 use Rattle.std.proofs.lemmas.List.Elements.{All-cons, All-nil}
@@ -15,18 +15,17 @@ use Rattle.rx_script.specs.declared.plan.Numbered.{Numbered}
 use Rattle.rx_script.specs.Plans.{plan_of}
 use Rattle.rx_script.specs.Saying.{Answering, plan_rows}
 use Rattle.rx_script.specs.Scripts.{script_of}
-use Rattle.rx_words.specs.declared.command.Command.{Command}
-use Rattle.rx_words.specs.declared.command.Command.TheVariants as commands
 use Rattle.rx_plan.specs.Answering.{AbortedAsServed, AnswersNoZero, AreDriven, AreServable, EndedAsServed}
 use Rattle.rx_plan.specs.Answering.{EndedByLaw, OkAsAnswered, WaitsShort}
 use Rattle.rx_plan.specs.Follows.{CutOff, Empty, EndlessIn, RefusedAt, Went, Whole, plan_goes}
 use Rattle.rx_plan.specs.Lines.{IsWell}
 use Rattle.rx_plan.specs.Promises.{AreDistinct, plan_nodes}
-use Rattle.rx_world.specs.Runs.{AllClose, Arrives, Closes, Completes, KeepsPromises}
-use Rattle.rx_world.specs.Runs.{RunIs, Tells}
+use Rattle.rx_stage.specs.Runs.{KeepsPromises}
+use Rattle.rx_world.specs.Runs.{AllClose, Arrives, Closes, Completes}
+use Rattle.rx_stage.specs.Runs.{RunIs, Tells}
 use Rattle.rx_plan.specs.Stages.{Stage}
-use Rattle.rx_world.specs.Tells.{Fails, Gains, Told, Wants, fails_last, fails_one, gains_none, gains_one, wants_last}
-use Rattle.rx_world.specs.Tells.{wants_more, wants_one}
+use Rattle.rx_stage.specs.Tells.{Fails, Gains, Told, Wants, fails_last, fails_one, gains_none, gains_one, wants_last}
+use Rattle.rx_stage.specs.Tells.{wants_more, wants_one}
 use Rattle.xdr_value.specs.Tests.{differ, is_sound}
 use Rattle.xdr_value.specs.Data.{Procedure, Procs, Types}
 use Rattle.xg_parse.specs.declared.tree.Item.{Item}
@@ -36,7 +35,6 @@ use Rattle.xg_check.specs.Constants.{ConstantDef, constants_in, in_32_bits}
 use Rattle.xg_check.specs.Meaning.{Meant}
 use Rattle.xg_check.specs.Meant.{proc_meant, procs_behind, with_proc}
 use Rattle.xg_check.specs.Opcodes.{opcode_behind}
-use Rattle.rx_top.specs.declared.sim.SimFiles.{SimFiles}
 use Rattle.rx_top.specs.Inputs.{IsInterface, IsScript, behind, read_on, reads_by}
 use Rattle.rx_top.specs.Sims.{IsRead, Played, handlers_with}
 
@@ -105,21 +103,6 @@ pub script_waits : (short : (g : Handlers) (text : List ℕ) → script_of g.typ
 script_waits short contents m None s is =
     subst (λ (bs : List Answering). WaitsShort (handlers_with m bs)) (sym is) (short (handlers_with m []) [] refl)
 script_waits short contents m (Some name) s is = short (handlers_with m s) is.0 is.2
-
--- ---- words
-
--- the files that the words of `sim` name
-files_in : Option Command → SimFiles
-files_in (Some (commands.Sim plan xg script)) = record { plan = plan; xg = xg; script = script }
-files_in _ = record { plan = []; xg = None; script = None }
-
--- the same words name the same files
-pub same_files : (words : Option Command) (plan its_plan : List ℕ) (xg its_xg script its_script : Option (List ℕ))
-    → words ≡ Some (commands.Sim plan xg script) → words ≡ Some (commands.Sim its_plan its_xg its_script)
-    → ◌≡◌ {A = SimFiles} (record { plan = plan; xg = xg; script = script })
-    (record { plan = its_plan; xg = its_xg; script = its_script })
-unfolding files_in
-same_files words plan its_plan xg its_xg script its_script is its = ap files_in (sym is ∙ its)
 
 -- ---- what a run tells of the faults of a sink
 

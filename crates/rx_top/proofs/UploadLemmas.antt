@@ -1,5 +1,5 @@
 -- Lemmas on what is sent with an upload.
-use Rattle.std.proofs.Common.{◌≡◌, ◌+◌, ◌≤◌, ◌++◌, ◌∙◌, ℕ, List, Option, IfOk, Result, Ok, Err, Vec, Global, vec_len}
+use Rattle.std.proofs.Common.{◌≡◌, ◌+◌, ◌++◌, ◌∙◌, ℕ, List, Option, IfOk, Result, Ok, Err, Vec, Global, vec_len}
 use Rattle.std.proofs.Common.{length, take, drop, arith, ap, sym, subst}
 use Rattle.std.proofs.lemmas.List.{length-append, take_at, take-take}
 use Rattle.rx_base.specs.Files.{HasFile}

@@ -150,14 +150,6 @@ faults_by turns (Err stops.Endless) outcome before after is k = rw is (record {
   no_wire_fault = λ ne. k.1;
 })
 
--- serving counts a fault exactly where the outcome says so
-pub serve_faults : (terms : Setup → ℕ → Terms) (setup : Setup) (at : Host) (turns : ℕ)
-    (result : Result ServeEnd Stop) (outcome : WireOutcome) (before after : Told)
-    → ServeIs terms setup at result before after → EndsByServing turns result outcome
-    → FaultsBy (wire_status outcome) before after
-serve_faults terms setup at turns result outcome before after serves is =
-    faults_by turns result outcome before after is (serve_counts terms setup at result before after serves)
-
 -- ---- calling
 
 -- what a call counts of a wire, by how it ended

@@ -35,7 +35,7 @@ use Rattle.xdr_value.specs.declared.def.Proc.{Proc}
 use Rattle.xdr_value.specs.declared.interface.Interface.{Interface}
 use Rattle.xg_check.specs.Meaning.{Meant, interface_of}
 use Rattle.xg_compile.specs.Means.{Means}
-use Rattle.rx_top.specs.declared.call.CallWords.{CallWords}
+use Rattle.rx_words.specs.declared.command.CallWords.{CallWords}
 use Rattle.rx_top.specs.declared.outcome.SimOutcome.TheVariants as inputs
 use Rattle.rx_top.specs.declared.status.Status.{Status}
 use Rattle.rx_top.specs.declared.wire_outcome.ArgsFault.TheVariants as faults

@@ -5,40 +5,57 @@ use Rattle.rx_words.specs.declared.command.Command.TheVariants as commands
 
 -- a command that the program has
 abbrev pub has_command : Command → Bool
-has_command (commands.Sim plan xg script) = true
-has_command (commands.Serve xg script at service span turns limits key nonce jumbo) = true
-has_command (commands.Call xg proc args to epoch from service turns up down window key jumbo) = true
+has_command (commands.Sim names) = true
+has_command (commands.Serve names given) = true
+has_command (commands.Call asked given) = true
 has_command (commands.Compile xg) = true
 has_command (commands.Load number calls) = true
 has_command (commands.Peers xg script plan) = false
 
+-- a command that makes events
+abbrev pub makes_events : Command → Bool
+makes_events (commands.Sim names) = true
+makes_events (commands.Serve names given) = true
+makes_events (commands.Call asked given) = true
+makes_events (commands.Compile xg) = false
+makes_events (commands.Load number calls) = true
+makes_events (commands.Peers xg script plan) = false
+
+-- a command over UDP
+abbrev pub is_over_wire : Command → Bool
+is_over_wire (commands.Sim names) = false
+is_over_wire (commands.Serve names given) = true
+is_over_wire (commands.Call asked given) = true
+is_over_wire (commands.Compile xg) = false
+is_over_wire (commands.Load number calls) = false
+is_over_wire (commands.Peers xg script plan) = false
+
+-- a command that reads files
+abbrev pub reads_files : Command → Bool
+reads_files (commands.Sim names) = true
+reads_files (commands.Serve names given) = true
+reads_files (commands.Call asked given) = true
+reads_files (commands.Compile xg) = true
+reads_files (commands.Load number calls) = false
+reads_files (commands.Peers xg script plan) = false
+
+-- the words are a command, of which this holds
+abbrev pub is_one : (Command → Bool) → Option Command → Bool
+is_one holds None = false
+is_one holds (Some c) = holds c
+
 -- the words are a command that the program has
 abbrev pub is_command : Option Command → Bool
-is_command None = false
-is_command (Some c) = has_command c
+is_command = is_one has_command
 
--- the words are a command that makes events: only these note any in a journal
+-- only these note events in a journal
 abbrev pub has_events : Option Command → Bool
-has_events None = false
-has_events (Some (commands.Sim plan xg script)) = true
-has_events (Some (commands.Serve xg script at service span turns limits key nonce jumbo)) = true
-has_events (Some (commands.Call xg proc args to epoch from service turns up down window key jumbo)) = true
-has_events (Some (commands.Load number calls)) = true
-has_events (Some _) = false
+has_events = is_one makes_events
 
--- the words are a command over UDP: only these have to do with a wire
+-- only these have to do with a wire
 abbrev pub has_wire : Option Command → Bool
-has_wire None = false
-has_wire (Some (commands.Serve xg script at service span turns limits key nonce jumbo)) = true
-has_wire (Some (commands.Call xg proc args to epoch from service turns up down window key jumbo)) = true
-has_wire (Some _) = false
+has_wire = is_one is_over_wire
 
--- the words are a command that reads files: only these have any read
+-- only these have files read
 abbrev pub has_files : Option Command → Bool
-has_files None = false
-has_files (Some (commands.Sim plan xg script)) = true
-has_files (Some (commands.Serve xg script at service span turns limits key nonce jumbo)) = true
-has_files (Some (commands.Call xg proc args to epoch from service turns up down window key jumbo)) = true
-has_files (Some (commands.Compile xg)) = true
-has_files (Some (commands.Load number calls)) = false
-has_files (Some (commands.Peers xg script plan)) = false
+has_files = is_one reads_files

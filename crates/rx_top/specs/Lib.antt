@@ -8,4 +8,4 @@ pub mod Wires
 pub mod Puts
 pub mod Serves
 pub mod Calls
-pub mod Jobs
+pub mod Leaves

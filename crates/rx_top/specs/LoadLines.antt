@@ -5,7 +5,7 @@ use Rattle.rx_load.specs.declared.summary.Loaded.{Loaded}
 use Rattle.rx_load.specs.declared.summary.Loaded.TheVariants as loads
 use Rattle.rx_load.specs.declared.summary.Summary.{Summary}
 use Rattle.rx_base.specs.Sink.{Gained, GainedSome}
-use Rattle.rx_world.specs.Tells.{Told, told}
+use Rattle.rx_stage.specs.Tells.{Told, told}
 use Rattle.rx_top.specs.declared.load.LoadOutcome.{LoadOutcome}
 use Rattle.rx_top.specs.declared.load.LoadOutcome.TheVariants as outcomes
 use Rattle.rx_top.specs.declared.status.Status.{Status}

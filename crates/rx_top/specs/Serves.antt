@@ -13,7 +13,7 @@ use Rattle.rx_passes.specs.Tells.{Told}
 use Rattle.rx_script.specs.Saying.{Answering}
 use Rattle.xg_check.specs.Meaning.{Meant}
 use Rattle.xg_compile.specs.Means.{Means}
-use Rattle.rx_top.specs.declared.serve.ServeFiles.{ServeFiles}
+use Rattle.rx_words.specs.declared.command.ServeFiles.{ServeFiles}
 use Rattle.rx_top.specs.declared.status.Status.{Status}
 use Rattle.rx_top.specs.declared.wire_outcome.WireOutcome.{WireOutcome}
 use Rattle.rx_top.specs.declared.wire_outcome.WireOutcome.TheVariants as outcomes

@@ -16,14 +16,14 @@ use Rattle.rx_rounds.specs.Arriving.{ArrivesBy, WritesRequest}
 use Rattle.rx_rounds.specs.Completing.{CompletesBy, InvokesOnce}
 use Rattle.rx_closing.specs.Ended.{ClosesBy}
 use Rattle.rx_closing.specs.EndedAll.{ClosesAllBy}
-use Rattle.rx_world.specs.Runs.{RunIs}
+use Rattle.rx_stage.specs.Runs.{RunIs}
 use Rattle.rx_plan.specs.Stages.{Stage}
-use Rattle.rx_world.specs.Tells.{Told}
+use Rattle.rx_stage.specs.Tells.{Told}
 use Rattle.xg_check.specs.Meaning.{Meant}
 use Rattle.rx_top.specs.declared.cause.Cause.TheVariants as causes
 use Rattle.rx_top.specs.declared.outcome.SimOutcome.{SimOutcome}
 use Rattle.rx_top.specs.declared.outcome.SimOutcome.TheVariants as outcomes
-use Rattle.rx_top.specs.declared.sim.SimFiles.{SimFiles}
+use Rattle.rx_words.specs.declared.command.SimFiles.{SimFiles}
 use Rattle.rx_top.specs.declared.status.Status.{Status}
 use Rattle.rx_top.specs.Inputs.{BadPlan, BadScript, BadXg, EndsAt, IsInterface, IsPlan, IsScript, ReadNone, Reads}
 use Rattle.rx_top.specs.Inputs.{behind, plan_given, said_of, status_of}

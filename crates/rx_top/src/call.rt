@@ -22,20 +22,9 @@ use rx_passes::Calling;
 use rx_reply::proc_named;
 use rx_udp::Wire;
 use rx_wire::Journal;
+use rx_words::CallWords;
 use std::alloc::Global;
 use xdr_value::{Interface, Proc};
-use xg_lex::Text;
-
-/// What `call` is asked for: the files that it names, the procedure, the values as JSON, and whether a download comes.
-#[derive(Debug, Drop)]
-pub struct CallWords {
-    pub xg: Text,
-    pub proc: Text,
-    pub args: Text,
-    pub up: Option<Text>,
-    pub down: bool,
-    pub key: Option<Text>,
-}
 
 /// Makes a call: its interface is read first, then its procedure and its values are judged, then the upload and the key
 /// are read, each checked before the next.

@@ -3,7 +3,7 @@
 ghost use Rattle.std.specs.Prelude.{◌≡◌, ◌≢◌, ◌≤◌, ◌++◌, IfOk, OnOk};
 ghost use Rattle.std.specs.String.{string_bytes};
 ghost use Rattle.rx_base.specs.Sink.{HasRisen, IsPut};
-ghost use Rattle.rx_world.specs.Tells.{told};
+ghost use Rattle.rx_stage.specs.Tells.{told};
 ghost use Rattle.rx_top.specs.LoadLines.{LoadPuts, calls_line, counted, load_said, load_status, rounds_line};
 ghost use Rattle.rx_top.specs.LoadLines.{summary_text};
 

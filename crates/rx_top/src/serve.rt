@@ -20,17 +20,9 @@ use rx_script::Script;
 use rx_token::Chosen;
 use rx_udp::Wire;
 use rx_wire::Journal;
+use rx_words::ServeFiles;
 use std::alloc::Global;
 use xdr_value::Interface;
-use xg_lex::Text;
-
-/// The files that `serve` names.
-#[derive(Debug, Drop)]
-pub struct ServeFiles {
-    pub xg: Text,
-    pub script: Text,
-    pub key: Option<Text>,
-}
 
 /// Serves a node: its interface is read first, then its script, and then its key, each checked before the next.
 pub fn serve_files<'a, F: Files, O: Sink, W: Wire, J: Journal>(

@@ -4,7 +4,7 @@ ghost use Rattle.std.specs.Prelude.{◌≡◌, ◌≢◌, ◌<◌, ◌^◌, All}
 ghost use Rattle.rx_base.specs.Sink.{HasRisen};
 ghost use Rattle.rx_script.specs.Saying.{blocks_of};
 ghost use Rattle.rx_plan.specs.Answering.{AreServable, WaitsShort};
-ghost use Rattle.rx_world.specs.Tells.{told};
+ghost use Rattle.rx_stage.specs.Tells.{told};
 ghost use Rattle.xg_check.specs.Meaning.{interface_of};
 ghost use Rattle.rx_top.specs.Inputs.{reads_by, status_of};
 ghost use Rattle.rx_top.specs.Sims.{EndsAs, InterfaceIs, IsRead, PlanIs, Played, ScriptIs, handlers_with};
@@ -19,18 +19,10 @@ use rx_plan::{
 };
 use rx_script::{Outcome, Plan, Script};
 use rx_wire::Journal;
+use rx_words::SimFiles;
 use rx_world::run;
 use std::alloc::Global;
 use xdr_value::Interface;
-use xg_lex::Text;
-
-/// The files that `sim` names: a plan, and the interface and the script that it runs with.
-#[derive(Debug, Drop)]
-pub struct SimFiles {
-    pub plan: Text,
-    pub xg: Option<Text>,
-    pub script: Option<Text>,
-}
 
 /// Runs the plan of a file: its interface is read first, then its script, and then the plan, each checked before the
 /// next.

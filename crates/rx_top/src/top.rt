@@ -1,40 +1,43 @@
 //! The program behind its words, files and sinks.
 
-ghost use Rattle.std.specs.Prelude.{◌≤◌, ◌≡◌, ◌≢◌, map, List, ℕ, Bool, Option, Some, false};
+ghost use Rattle.std.specs.Prelude.{◌≤◌, ◌≡◌, ◌≢◌, map, List, ℕ, Some, false};
 ghost use Rattle.std.specs.IoError.{error_kind};
 ghost use Rattle.std.specs.String.{string_bytes};
 ghost use Rattle.rx_base.specs.Sink.{HasRisen, IsPut};
 ghost use Rattle.rx_words.specs.Commands.{command_of};
-ghost use Rattle.rx_model.specs.declared.names.Host.{Host};
-ghost use Rattle.rx_model.specs.declared.names.Limits.{Limits};
+ghost use Rattle.rx_words.specs.declared.command.CallWords.{CallWords};
+ghost use Rattle.rx_words.specs.declared.command.ServeFiles.{ServeFiles};
+ghost use Rattle.rx_words.specs.declared.command.SimFiles.{SimFiles};
+ghost use Rattle.rx_words.specs.declared.options.CallOptions.{CallOptions};
+ghost use Rattle.rx_words.specs.declared.options.ServeOptions.{ServeOptions};
 ghost use Rattle.rx_passes.specs.Tells.{sink_tells, told as told_over, wire_tells};
-ghost use Rattle.rx_world.specs.Tells.{told};
-ghost use Rattle.rx_top.specs.declared.sim.SimFiles.{SimFiles};
-ghost use Rattle.rx_top.specs.Calls.{CallLeaves, CanCall, client_limits};
-ghost use Rattle.rx_top.specs.Commands.{has_events, has_files, has_wire, is_command};
+ghost use Rattle.rx_stage.specs.Tells.{told};
+ghost use Rattle.rx_top.specs.Calls.{CallLeaves, CanCall};
+ghost use Rattle.rx_top.specs.Commands.{has_command, has_events, has_files, has_wire, is_command, is_over_wire};
+ghost use Rattle.rx_top.specs.Commands.{makes_events, reads_files};
 ghost use Rattle.rx_top.specs.Compiles.{CompileLeaves};
 ghost use Rattle.rx_top.specs.Endings.{memory_text, seen_by, usage_text};
 ghost use Rattle.rx_top.specs.Inputs.{reads_by};
 ghost use Rattle.rx_top.specs.LoadLines.{LoadLeaves};
-ghost use Rattle.rx_top.specs.Jobs.{CanDo, JobLeaves, is_job, is_over_wire, makes_events, reads_files};
+ghost use Rattle.rx_top.specs.Leaves.{CanDo, Leaves, calling_of, serving_of};
 ghost use Rattle.rx_top.specs.Serves.{CanServe, ServeLeaves};
 ghost use Rattle.rx_top.specs.Sims.{SimLeaves};
 
-use crate::call::{CallWords, call_files};
+use crate::call::call_files;
 use crate::compile::{compile_file, say_compiled};
-use crate::job::{Job, job_of};
 use crate::load::{load_calls, say_loaded};
 use crate::outcome::say_outcome;
 use crate::saying::say;
-use crate::serve::{ServeFiles, serve_files};
-use crate::sim::{SimFiles, sim};
+use crate::serve::serve_files;
+use crate::setup::{calling_of, serving_of};
+use crate::sim::sim;
 use crate::status::Status;
 use crate::wire_outcome::say_ended;
 use rx_base::{Files, Sink};
 use rx_passes::{Calling, Serving};
 use rx_udp::Wire;
 use rx_wire::Journal;
-use rx_words::{Command, WordsFault, read_words};
+use rx_words::{CallWords, Command, ServeFiles, SimFiles, WordsFault, read_words};
 use std::alloc::Global;
 use std::io;
 use std::io::ErrorKind;
@@ -72,27 +75,17 @@ pub fn rx_main<F: Files, O: Sink, E: Sink, W: Wire, J: Journal>(
         → (W.told wire.new ≡ W.told wire.old) × (W.moment wire.new ≡ W.moment wire.old) }
 
     // What `sim PLAN [--xg XG] [--script SCRIPT]` does, and what it says of that.
-    ensures sim { (plan : List ℕ) (xg script : Option (List ℕ))
-        → command_of (map string_bytes words.now) ≡ Some (Command.Sim plan xg script)
-        → SimLeaves result (record { plan = plan; xg = xg; script = script })
-        (reads_by F.contents F.failed_last F.reads files.old files.new)
+    ensures sim { (names : SimFiles) → command_of (map string_bytes words.now) ≡ Some (Command.Sim names)
+        → SimLeaves result names (reads_by F.contents F.failed_last F.reads files.old files.new)
         (told (J.told book.old) (O.told out.old) (O.faults out.old))
         (told (J.told book.new) (O.told out.new) (O.faults out.new))
         (IsPut (E.told err.old) (E.told err.new) (E.faults err.old) (E.faults err.new)) }
 
     // What `serve XG SCRIPT --at HOST ..` does, and what it says of that.
-    ensures serve { (xg script : List ℕ) (at : Host) (service span turns : ℕ) (limits : Limits)
-        (key : Option (List ℕ)) (nonce jumbo : ℕ) → command_of (map string_bytes words.now)
-        ≡ Some (Command.Serve xg script at service span turns limits key nonce jumbo)
-        → ServeLeaves result (record { xg = xg; script = script; key = key }) (record {
-          at = at;
-          service = service;
-          limits = limits;
-          nonce = nonce;
-          span = span;
-          turns = turns;
-          jumbo = jumbo;
-        }) (reads_by F.contents F.failed_last F.reads files.old files.new)
+    ensures serve { (names : ServeFiles) (given : ServeOptions)
+        → command_of (map string_bytes words.now) ≡ Some (Command.Serve names given)
+        → ServeLeaves result names (serving_of given)
+        (reads_by F.contents F.failed_last F.reads files.old files.new)
         (told_over (J.told book.old) (sink_tells (O.told out.old) (O.faults out.old))
         (wire_tells (W.told wire.old) (W.faults wire.old) (W.moment wire.old)))
         (told_over (J.told book.new) (sink_tells (O.told out.new) (O.faults out.new))
@@ -100,20 +93,10 @@ pub fn rx_main<F: Files, O: Sink, E: Sink, W: Wire, J: Journal>(
         (IsPut (E.told err.old) (E.told err.new) (E.faults err.old) (E.faults err.new)) }
 
     // What `call XG PROC ARGS --to HOST --epoch N ..` does, and what it says of that.
-    ensures call { (xg proc args : List ℕ) (to : Host) (epoch : ℕ) (from : Host) (service turns : ℕ)
-        (up : Option (List ℕ)) (down : Bool) (window : ℕ) (key : Option (List ℕ)) (jumbo : ℕ)
-        → command_of (map string_bytes words.now)
-        ≡ Some (Command.Call xg proc args to epoch from service turns up down window key jumbo)
-        → CallLeaves result
-        (record { xg = xg; proc = proc; args = args; up = up; down = down; key = key }) (record {
-          from = from;
-          epoch = epoch;
-          limits = client_limits window;
-          to = to;
-          service = service;
-          turns = turns;
-          jumbo = jumbo;
-        }) (reads_by F.contents F.failed_last F.reads files.old files.new)
+    ensures call { (asked : CallWords) (given : CallOptions)
+        → command_of (map string_bytes words.now) ≡ Some (Command.Call asked given)
+        → CallLeaves result asked (calling_of given)
+        (reads_by F.contents F.failed_last F.reads files.old files.new)
         (told_over (J.told book.old) (sink_tells (O.told out.old) (O.faults out.old))
         (wire_tells (W.told wire.old) (W.faults wire.old) (W.moment wire.old)))
         (told_over (J.told book.new) (sink_tells (O.told out.new) (O.faults out.new))
@@ -146,24 +129,24 @@ pub fn rx_main<F: Files, O: Sink, E: Sink, W: Wire, J: Journal>(
     ensures same_failed_last { result ≢ Status.FileFault → F.failed_last files.new ≡ F.failed_last files.old }
 {
     match read_words(alloc, words) {
-        Ok(command) => do_job(alloc, &job_of(command), files, out, err, wire, book),
+        Ok(command) => do_command(alloc, &command, files, out, err, wire, book),
         Err(WordsFault::Usage) => refuse(err),
         Err(WordsFault::OutOfMemory) => end_for_memory(err),
     }
 }
 
-/// Does what a command is asked for.
-fn do_job<F: Files, O: Sink, E: Sink, W: Wire, J: Journal>(
+/// Does a command.
+fn do_command<F: Files, O: Sink, E: Sink, W: Wire, J: Journal>(
     alloc: Global,
-    job: &Job,
+    command: &Command,
     files: &mut F,
     out: &mut O,
     err: &mut E,
     wire: &mut W,
     book: &mut J,
 ) -> Status
-    requires { CanDo job.now }
-    ensures leaves { JobLeaves job.now result (record {
+    requires { CanDo command.now }
+    ensures leaves { Leaves command.now result (record {
       reads = reads_by F.contents F.failed_last F.reads files.old files.new;
       seen = seen_by F.contents F.failed_last F.reads O.told files.old files.new out.old out.new;
       before = told (J.told book.old) (O.told out.old) (O.faults out.old);
@@ -174,12 +157,12 @@ fn do_job<F: Files, O: Sink, E: Sink, W: Wire, J: Journal>(
           (wire_tells (W.told wire.new) (W.faults wire.new) (W.moment wire.new));
       may_want = J.may_want;
     }) (IsPut (E.told err.old) (E.told err.new) (E.faults err.old) (E.faults err.new)) }
-    ensures usage { result ≡ Status.Usage → is_job job.now ≡ false }
-    ensures nothing { is_job job.now ≡ false → result ≡ Status.Usage }
-    ensures nothing_put { is_job job.now ≡ false → O.told out.new ≡ O.told out.old }
-    ensures nothing_read { reads_files job.now ≡ false → F.reads files.new ≡ F.reads files.old }
-    ensures no_events { makes_events job.now ≡ false → J.told book.new ≡ J.told book.old }
-    ensures no_wire { is_over_wire job.now ≡ false
+    ensures usage { result ≡ Status.Usage → has_command command.now ≡ false }
+    ensures nothing { has_command command.now ≡ false → result ≡ Status.Usage }
+    ensures nothing_put { has_command command.now ≡ false → O.told out.new ≡ O.told out.old }
+    ensures nothing_read { reads_files command.now ≡ false → F.reads files.new ≡ F.reads files.old }
+    ensures no_events { makes_events command.now ≡ false → J.told book.new ≡ J.told book.old }
+    ensures no_wire { is_over_wire command.now ≡ false
         → (W.told wire.new ≡ W.told wire.old) × (W.moment wire.new ≡ W.moment wire.old) }
     ensures quiet_told { result ≡ Status.Ok → E.told err.new ≡ E.told err.old }
     ensures quiet_faults { result ≡ Status.Ok → E.faults err.new ≡ E.faults err.old }
@@ -193,15 +176,35 @@ fn do_job<F: Files, O: Sink, E: Sink, W: Wire, J: Journal>(
     ensures same_failed_last { result ≢ Status.FileFault
         → F.failed_last files.new ≡ F.failed_last files.old }
 {
-    match job {
-        Job::Sim(names) => do_sim(alloc, names, files, out, err, book),
-        Job::Serve(names, serving) => {
-            do_serve(alloc, names, serving, files, out, err, wire, book)
+    match command {
+        Command::Sim(names) => do_sim(alloc, names, files, out, err, book),
+        Command::Serve(names, given) => {
+            do_serve(
+                alloc,
+                names,
+                &serving_of(given),
+                files,
+                out,
+                err,
+                wire,
+                book,
+            )
         }
-        Job::Call(asked, calling) => do_call(alloc, asked, calling, files, out, err, wire, book),
-        Job::Compile(xg) => do_compile(alloc, xg.as_str(), files, out, err),
-        Job::Load(number, calls) => do_load(alloc, *number, *calls, out, err, book),
-        Job::Nothing => refuse(err),
+        Command::Call(asked, given) => {
+            do_call(
+                alloc,
+                asked,
+                &calling_of(given),
+                files,
+                out,
+                err,
+                wire,
+                book,
+            )
+        }
+        Command::Compile(xg) => do_compile(alloc, xg.as_str(), files, out, err),
+        Command::Load { number, calls } => do_load(alloc, *number, *calls, out, err, book),
+        Command::Peers { .. } => refuse(err),
     }
 }
 

@@ -7,7 +7,7 @@ use Rattle.rx_words.specs.declared.names.CommandName.TheVariants as commands
 use Rattle.rx_words.specs.declared.names.OptionName.TheVariants as options
 use Rattle.rx_words.specs.Names.{command_named}
 use Rattle.rx_words.specs.Numbers.{number_within}
-use Rattle.rx_words.specs.Options.{call_options, needs, serve_options}
+use Rattle.rx_words.specs.Options.{call_options, down_of, needs, serve_options}
 use Rattle.rx_words.specs.Parts.{Part, parts_of}
 use Rattle.rx_words.specs.Rules.{meets_rules, one_plain, three_plain, two_plain, value_of}
 
@@ -15,21 +15,31 @@ use Rattle.rx_words.specs.Rules.{meets_rules, one_plain, three_plain, two_plain,
 abbrev pub sim_of : List Part → Option Command
 sim_of parts = needs (one_plain parts) (λ plan.
     if is_some (value_of parts options.Script) && not (is_some (value_of parts options.Xg)) then None
-    else Some (Sim plan (value_of parts options.Xg) (value_of parts options.Script)))
+    else Some (Sim (record {
+      plan = plan;
+      xg = value_of parts options.Xg;
+      script = value_of parts options.Script;
+    })))
 
 -- serve XG SCRIPT --at HOST [--service N] [--for MS] [--turns N] [--conns N] [--calls N] [--slots N] [--window N]
 -- [--key FILE] [--nonce N] [--jumbo N]
 abbrev pub serve_of : List Part → Option Command
 serve_of parts = needs (two_plain parts) (λ files. needs (serve_options parts) (λ given.
-    Some (Serve files.0 files.1 given.at given.service given.span given.turns given.limits
-    (value_of parts options.Key) given.nonce given.jumbo)))
+    Some (Serve (record { xg = files.0; script = files.1; key = value_of parts options.Key }) given)))
 
 -- call XG PROC ARGS --to HOST --epoch N [--from HOST] [--service N] [--turns N] [--up FILE] [--down yes] [--window N]
 -- [--key FILE] [--jumbo N]
 abbrev pub call_of : List Part → Option Command
 call_of parts = needs (three_plain parts) (λ texts. needs (call_options parts) (λ given.
-    Some (Call texts.0 texts.1 texts.2 given.to given.epoch given.from given.service given.turns
-    (value_of parts options.Up) given.down given.window (value_of parts options.Key) given.jumbo)))
+    needs (down_of (value_of parts options.Down)) (λ down.
+    Some (Call (record {
+      xg = texts.0;
+      proc = texts.1;
+      args = texts.2;
+      up = value_of parts options.Up;
+      down = down;
+      key = value_of parts options.Key;
+    }) given))))
 
 -- compile XG
 abbrev pub compile_of : List Part → Option Command

@@ -89,7 +89,6 @@ call_options parts =
     needs (host_or any_port (value_of parts options.From)) (λ from.
     needs (number_or 0 65535 1 (value_of parts options.Service)) (λ service.
     needs (number_or 1 1000000000 1000000 (value_of parts options.Turns)) (λ turns.
-    needs (down_of (value_of parts options.Down)) (λ down.
     needs (window_of parts) (λ window.
     needs (number_or 1 16 1 (value_of parts options.Jumbo)) (λ jumbo.
     Some (record {
@@ -98,7 +97,6 @@ call_options parts =
       from = from;
       service = service;
       turns = turns;
-      down = down;
       window = window;
       jumbo = jumbo;
-    })))))))))
+    }))))))))

@@ -1,57 +1,46 @@
-use rx_model::{Host, Limits};
+use crate::options::{CallOptions, ServeOptions};
 use xg_lex::Text;
 
 /// A command of the program, with every default filled in.
 #[derive(Debug, Drop)]
 pub enum Command {
-    /// Runs the plan of a file, with the interface and the script that are named.
-    Sim {
-        plan: Text,
-        xg: Option<Text>,
-        script: Option<Text>,
-    },
-    /// Serves one node over the wire, for a span in milliseconds.
-    Serve {
-        xg: Text,
-        script: Text,
-        at: Host,
-        service: u16,
-        span: u64,
-        turns: u64,
-        limits: Limits,
-        key: Option<Text>,
-        nonce: u64,
-        jumbo: u32,
-    },
-    /// Makes one call, whose upload is the file `up`; `down` asks for the download.
-    Call {
-        xg: Text,
-        proc: Text,
-        args: Text,
-        to: Host,
-        epoch: u32,
-        from: Host,
-        service: u16,
-        turns: u64,
-        up: Option<Text>,
-        down: bool,
-        window: u32,
-        key: Option<Text>,
-        jumbo: u32,
-    },
-    /// Prints the table of an interface.
-    Compile {
-        xg: Text,
-    },
-    /// Makes and runs a large plan, whose generator begins with a number.
-    Load {
-        number: u64,
-        calls: u32,
-    },
+    /// Runs a plan.
+    Sim(SimFiles),
+    /// Serves one node over the wire.
+    Serve(ServeFiles, ServeOptions),
+    /// Makes one call.
+    Call(CallWords, CallOptions),
+    /// Prints the table of the interface of a file.
+    Compile(Text),
+    /// Makes so many calls over a network that loses, by a generator that begins with the number.
+    Load { number: u64, calls: u32 },
     /// Runs the plan of peers of a file.
-    Peers {
-        xg: Text,
-        script: Text,
-        plan: Text,
-    },
+    Peers { xg: Text, script: Text, plan: Text },
+}
+
+/// The files that `sim` names: a plan, and the interface and the script that it runs with.
+#[derive(Debug, Drop)]
+pub struct SimFiles {
+    pub plan: Text,
+    pub xg: Option<Text>,
+    pub script: Option<Text>,
+}
+
+/// The files that `serve` names.
+#[derive(Debug, Drop)]
+pub struct ServeFiles {
+    pub xg: Text,
+    pub script: Text,
+    pub key: Option<Text>,
+}
+
+/// What `call` is asked for: the files that it names, the procedure, the values as JSON, and whether a download comes.
+#[derive(Debug, Drop)]
+pub struct CallWords {
+    pub xg: Text,
+    pub proc: Text,
+    pub args: Text,
+    pub up: Option<Text>,
+    pub down: bool,
+    pub key: Option<Text>,
 }

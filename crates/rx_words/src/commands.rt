@@ -6,12 +6,12 @@ ghost use Rattle.rx_words.specs.Answers.{IsReading};
 ghost use Rattle.rx_words.specs.Commands.{call_of, command_by, compile_of, load_of, peers_of, serve_of, sim_of};
 ghost use Rattle.rx_words.specs.Parts.{parts_of};
 
-use crate::command::Command;
+use crate::command::{CallWords, Command, ServeFiles, SimFiles};
 use crate::fault::WordsFault;
 use crate::limits::MAX_LOAD_CALLS;
 use crate::names::{ARGS, CommandName, OptionName, PLAN, PROC, SCRIPT, XG};
 use crate::number::number_within;
-use crate::options::{call_options, serve_options};
+use crate::options::{call_options, down_of, serve_options};
 use crate::rules::{one_plain, three_plain, two_plain, value_of};
 use crate::split::Split;
 use std::alloc::Global;
@@ -47,7 +47,7 @@ fn sim(alloc: Global, words: &[String]) -> Result<Command, WordsFault>
     let plan = split.plain(PLAN, plan)?;
     let xg = split.value(OptionName::Xg, xg)?;
     let script = split.value(OptionName::Script, script)?;
-    Ok(Command::Sim { plan, xg, script })
+    Ok(Command::Sim(SimFiles { plan, xg, script }))
 }
 
 fn serve(alloc: Global, words: &[String]) -> Result<Command, WordsFault>
@@ -60,18 +60,7 @@ fn serve(alloc: Global, words: &[String]) -> Result<Command, WordsFault>
     let xg = split.plain(XG, xg)?;
     let script = split.plain(SCRIPT, script)?;
     let key = split.value(OptionName::Key, key)?;
-    Ok(Command::Serve {
-        xg,
-        script,
-        at: given.at,
-        service: given.service,
-        span: given.span,
-        turns: given.turns,
-        limits: given.limits,
-        key,
-        nonce: given.nonce,
-        jumbo: given.jumbo,
-    })
+    Ok(Command::Serve(ServeFiles { xg, script, key }, given))
 }
 
 fn call(alloc: Global, words: &[String]) -> Result<Command, WordsFault>
@@ -79,6 +68,7 @@ fn call(alloc: Global, words: &[String]) -> Result<Command, WordsFault>
 {
     let (xg, proc, args) = three_plain(words).ok_or(WordsFault::Usage)?;
     let given = call_options(words).ok_or(WordsFault::Usage)?;
+    let down = down_of(value_of(words, OptionName::Down)).ok_or(WordsFault::Usage)?;
     let up = value_of(words, OptionName::Up);
     let key = value_of(words, OptionName::Key);
     let split = Split::of(alloc, CommandName::Call, words)?;
@@ -87,21 +77,15 @@ fn call(alloc: Global, words: &[String]) -> Result<Command, WordsFault>
     let args = split.plain(ARGS, args)?;
     let up = split.value(OptionName::Up, up)?;
     let key = split.value(OptionName::Key, key)?;
-    Ok(Command::Call {
+    let asked = CallWords {
         xg,
         proc,
         args,
-        to: given.to,
-        epoch: given.epoch,
-        from: given.from,
-        service: given.service,
-        turns: given.turns,
         up,
-        down: given.down,
-        window: given.window,
+        down,
         key,
-        jumbo: given.jumbo,
-    })
+    };
+    Ok(Command::Call(asked, given))
 }
 
 fn compile(alloc: Global, words: &[String]) -> Result<Command, WordsFault>
@@ -110,7 +94,7 @@ fn compile(alloc: Global, words: &[String]) -> Result<Command, WordsFault>
     let xg = one_plain(words).ok_or(WordsFault::Usage)?;
     let split = Split::of(alloc, CommandName::Compile, words)?;
     let xg = split.plain(XG, xg)?;
-    Ok(Command::Compile { xg })
+    Ok(Command::Compile(xg))
 }
 
 fn load(words: &[String]) -> Result<Command, WordsFault>

@@ -19,8 +19,9 @@ mod rules;
 mod split;
 mod words;
 
-pub use command::Command;
+pub use command::{CallWords, Command, ServeFiles, SimFiles};
 pub use fault::WordsFault;
+pub use options::{CallOptions, ServeOptions};
 pub use read::read_words;
 
 #[cfg(test)]

@@ -31,7 +31,7 @@ pub struct ServeOptions {
     pub jumbo: u32,
 }
 
-/// The options of a call but for its files.
+/// The options of a call but for its files and its download.
 #[derive(Clone, Copy, Debug, PartialEq, Eq)]
 pub struct CallOptions {
     pub to: Host,
@@ -39,7 +39,6 @@ pub struct CallOptions {
     pub from: Host,
     pub service: u16,
     pub turns: u64,
-    pub down: bool,
     pub window: u32,
     pub jumbo: u32,
 }
@@ -101,7 +100,7 @@ fn service_of(words: &[String]) -> Option<u16>
 }
 
 /// Whether the download is asked for.
-fn down_of(text: Option<&str>) -> Option<bool>
+pub fn down_of(text: Option<&str>) -> Option<bool>
     ensures { result ≡ down_of (option_copied text.entry) }
 {
     match text {
@@ -209,7 +208,6 @@ pub fn call_options(words: &[String]) -> Option<CallOptions>
         MAX_TURNS,
         DEFAULT_TURNS,
     )?;
-    let down = down_of(value_of(words, OptionName::Down))?;
     let window = window_of(words)?;
     let jumbo = small_or(
         value_of(words, OptionName::Jumbo),
@@ -223,7 +221,6 @@ pub fn call_options(words: &[String]) -> Option<CallOptions>
         from,
         service,
         turns,
-        down,
         window,
         jumbo,
     })

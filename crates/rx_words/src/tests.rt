@@ -1,6 +1,6 @@
 //! Command lines, and what each is read as.
 
-use crate::{Command, WordsFault, read_words};
+use crate::{CallOptions, Command, ServeOptions, WordsFault, read_words};
 use rx_model::{Host, Limits};
 use std::alloc::{AllocError, Global};
 use std::test::Fail;
@@ -40,64 +40,52 @@ fn limits(alloc: Global, limits: Limits) -> Result<String, AllocError> {
 fn shown(alloc: Global, read: Result<Command, WordsFault>) -> Result<String, AllocError> {
     match read {
         Err(fault) => format!(in alloc; "{fault}"),
-        Ok(Command::Sim { plan, xg, script }) => {
-            let plan = plan.as_str();
-            let xg = given(&xg);
-            let script = given(&script);
+        Ok(Command::Sim(names)) => {
+            let plan = names.plan.as_str();
+            let xg = given(&names.xg);
+            let script = given(&names.script);
             format!(in alloc; "Sim {plan} {xg} {script}")
         }
-        Ok(
-            Command::Serve {
-                xg,
-                script,
-                at,
+        Ok(Command::Serve(names, options)) => {
+            let xg = names.xg.as_str();
+            let script = names.script.as_str();
+            let key = given(&names.key);
+            let at = host(alloc, options.at)?;
+            let most = limits(alloc, options.limits)?;
+            let ServeOptions {
                 service,
                 span,
                 turns,
-                limits: most,
-                key,
                 nonce,
                 jumbo,
-            },
-        ) => {
-            let xg = xg.as_str();
-            let script = script.as_str();
-            let at = host(alloc, at)?;
-            let most = limits(alloc, most)?;
-            let key = given(&key);
+                ..
+            } = options;
             format!(in alloc;
                 "Serve {xg} {script} {at} {service} {span} {turns} {most} {key} {nonce} {jumbo}"
             )
         }
-        Ok(
-            Command::Call {
-                xg,
-                proc,
-                args,
-                to,
+        Ok(Command::Call(asked, options)) => {
+            let xg = asked.xg.as_str();
+            let proc = asked.proc.as_str();
+            let args = asked.args.as_str();
+            let up = given(&asked.up);
+            let down = asked.down;
+            let key = given(&asked.key);
+            let to = host(alloc, options.to)?;
+            let from = host(alloc, options.from)?;
+            let CallOptions {
                 epoch,
-                from,
                 service,
                 turns,
-                up,
-                down,
                 window,
-                key,
                 jumbo,
-            },
-        ) => {
-            let xg = xg.as_str();
-            let proc = proc.as_str();
-            let args = args.as_str();
-            let to = host(alloc, to)?;
-            let from = host(alloc, from)?;
-            let up = given(&up);
-            let key = given(&key);
+                ..
+            } = options;
             format!(in alloc;
                 "Call {xg} {proc} {args} {to} {epoch} {from} {service} {turns} {up} {down} {window} {key} {jumbo}"
             )
         }
-        Ok(Command::Compile { xg }) => {
+        Ok(Command::Compile(xg)) => {
             let xg = xg.as_str();
             format!(in alloc; "Compile {xg}")
         }

@@ -1,28 +1,17 @@
--- What a run of a plan promises.
+-- What the laws of rounds say of the run of a plan.
 use Rattle.std.proofs.Common.{List, All}
 use Rattle.rx_script.specs.declared.outcome.Outcome.{Outcome}
 use Rattle.rx_script.specs.declared.plan.Numbered.{Numbered}
 use Rattle.rx_jobs.specs.Handlers.{Handlers}
 use Rattle.rx_plan.specs.Lines.{IsWell}
-use Rattle.rx_plan.proofs.Promised.{plan_promises}
-use Rattle.rx_plan.proofs.SoundPlan.{lines_in_range}
 use Rattle.rx_rounds.specs.Arriving.{PlansArrive}
 use Rattle.rx_rounds.specs.Completing.{PlansComplete}
 use Rattle.rx_closing.specs.Ended.{PlansClose}
 use Rattle.rx_closing.specs.EndedAll.{PlansCloseAll}
-use Rattle.rx_world.specs.Runs.{AllClose, Arrives, Closes, Completes, KeepsPromises}
-use Rattle.rx_world.specs.Tells.{Told}
-use Rattle.rx_world.proofs.ToldEvents.{plan_told}
+use Rattle.rx_stage.specs.Tells.{Told}
+use Rattle.rx_world.specs.Runs.{AllClose, Arrives, Closes, Completes}
 
--- of lines as the reader of plans gives them the events are promised, and each event is one that its line tells
-pub run_keeps : (g : Handlers) (ls : List Numbered) (outcome : Outcome) (old new : Told)
-    → All (λ l. IsWell g l.what) ls → KeepsPromises g ls outcome old new
-run_keeps g ls outcome old new well r = (
-  plan_promises g ls r.events r.went (lines_in_range g ls well) r.goes,
-  plan_told g ls outcome old new (lines_in_range g ls well) r,
-)
-
--- by the law of such requests, one that such lines write arrives
+-- by the law of requests, one that such lines write arrives
 pub run_arrives : PlansArrive → (g : Handlers) (ls : List Numbered) (outcome : Outcome) (old new : Told)
     → All (λ l. IsWell g l.what) ls → Arrives g ls outcome old new
 run_arrives law g ls outcome old new well r offer n writes = law g ls r.events r.went offer n well writes r.goes

@@ -1,7 +1,7 @@
 use Rattle.std.proofs.Common.{None, sym, subst}
 use Rattle.rx_loader.specs.Loaded.{LoadIs}
 use Rattle.rx_loader.proofs.Ending.{load_keeps}
-use Rattle.rx_world.specs.Tells.{told}
+use Rattle.rx_stage.specs.Tells.{told}
 use Rattle.rx_loader.proofs.making.load.Goals as goal
 
 pub returns-clause-load : goal.returns-clause-load

@@ -1,5 +1,5 @@
 use Rattle.std.proofs.Common.{inr, subst}
-use Rattle.rx_world.specs.Tells.{Told, told}
+use Rattle.rx_stage.specs.Tells.{Told, told}
 use Rattle.xg_check.specs.Meaning.{interface_of}
 use Rattle.rx_top.specs.Inputs.{Reads}
 use Rattle.rx_top.specs.Sims.{ScriptIs}

@@ -1,10 +1,10 @@
 use Rattle.std.proofs.Common.{◌≡◌, ◌∙◌, ap, arith, refl}
 use Rattle.rx_loader.proofs.Made.{client_stops, clients_made, connected, connecting}
 use Rattle.rx_loader.specs.declared.loading.Loading.{Loading}
-use Rattle.rx_world.specs.Ran.{stop_of}
-use Rattle.rx_world.specs.Shown.{Shows}
-use Rattle.rx_world.proofs.Following.{on_none}
-use Rattle.rx_world.proofs.RoundsMade.{client_more}
+use Rattle.rx_stage.specs.Ran.{stop_of}
+use Rattle.rx_stage.specs.Shown.{Shows}
+use Rattle.rx_stage.proofs.Following.{on_none}
+use Rattle.rx_stage.proofs.RoundsMade.{client_more}
 use Rattle.rx_loader.proofs.loading.Loading.connect_all.Goals as goal
 
 pub loop-client-init : goal.loop-client-init

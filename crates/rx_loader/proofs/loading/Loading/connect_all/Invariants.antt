@@ -2,8 +2,8 @@ use Rattle.std.proofs.Common.{◌≡◌, None, drop}
 use Rattle.rx_loader.proofs.Made.{connecting}
 use Rattle.rx_plan.specs.Network.{below}
 use Rattle.rx_plan.specs.Parts.{each}
-use Rattle.rx_world.specs.Shown.{Plays, script_of}
-use Rattle.rx_world.specs.Tells.{told}
+use Rattle.rx_stage.specs.Shown.{Plays, script_of}
+use Rattle.rx_stage.specs.Tells.{told}
 use Rattle.rx_loader.proofs.loading.Loading.connect_all.Given as goal
 
 -- the clients so far are connected, and nothing else changed

@@ -1,7 +1,7 @@
 use Rattle.std.proofs.Common.{add-one, refl}
 use Rattle.rx_jobs.specs.Handlers.{handlers_of}
 use Rattle.rx_load.specs.Loads.{load_handlers}
-use Rattle.rx_world.specs.Shown.{script_of}
+use Rattle.rx_stage.specs.Shown.{script_of}
 use Rattle.rx_loader.proofs.Made.{carried_by, lossy_made, lossy_polls, lossy_stops}
 use Rattle.rx_loader.proofs.loading.Loading.lossy_round.Goals as goal
 

@@ -2,8 +2,8 @@ use Rattle.std.proofs.Common.{◌≡◌, ◌-◌, None}
 use Rattle.rx_load.specs.Loads.{load_rounds}
 use Rattle.rx_load.specs.declared.limits.TheConstants.{MAX_ROUNDS}
 use Rattle.rx_loader.proofs.Made.{OnwardLoad}
-use Rattle.rx_world.specs.Shown.{script_of}
-use Rattle.rx_world.specs.Tells.{told}
+use Rattle.rx_stage.specs.Shown.{script_of}
+use Rattle.rx_stage.specs.Tells.{told}
 use Rattle.rx_loader.proofs.loading.Loading.make_rounds.Given as goal
 
 -- what follows the rounds made so far is what follows the beginning

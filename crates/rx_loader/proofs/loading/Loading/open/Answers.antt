@@ -4,8 +4,8 @@ use Rattle.rand_pcg.specs.Pcg.{pcg32}
 use Rattle.rx_load.specs.Loads.{body_length}
 use Rattle.rx_plan.specs.Finds.{at_client}
 use Rattle.rx_plan.specs.Lines.{invokes}
-use Rattle.rx_world.specs.Shown.{Plays}
-use Rattle.rx_world.specs.Tells.{told}
+use Rattle.rx_stage.specs.Shown.{Plays}
+use Rattle.rx_stage.specs.Tells.{told}
 use Rattle.rx_loader.specs.declared.loading.Loading.{Loading}
 use Rattle.rx_loader.proofs.Opened.{opened, opening_stops, opening_wants}
 use Rattle.rx_loader.proofs.loading.Loading.open.Goals as goal

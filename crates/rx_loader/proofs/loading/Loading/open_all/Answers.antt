@@ -2,8 +2,8 @@ use Rattle.std.proofs.Common.{◌≡◌, ◌∙◌, arith, refl}
 use Rattle.rx_load.specs.Loads.{opens_free}
 use Rattle.rx_loader.specs.Showing.{ShowsLoad}
 use Rattle.rx_loader.proofs.Made.{client_stops, clients_made}
-use Rattle.rx_world.proofs.Following.{on_none}
-use Rattle.rx_world.proofs.RoundsMade.{client_more}
+use Rattle.rx_stage.proofs.Following.{on_none}
+use Rattle.rx_stage.proofs.RoundsMade.{client_more}
 use Rattle.rx_loader.proofs.loading.Loading.open_all.Goals as goal
 
 pub loop-client-init : goal.loop-client-init

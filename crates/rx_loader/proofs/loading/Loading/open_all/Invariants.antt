@@ -3,8 +3,8 @@ use Rattle.rx_load.specs.Loads.{opens_free}
 use Rattle.rx_loader.specs.Showing.{PlaysLoad}
 use Rattle.rx_plan.specs.Network.{below}
 use Rattle.rx_plan.specs.Parts.{each}
-use Rattle.rx_world.specs.Shown.{script_of}
-use Rattle.rx_world.specs.Tells.{told}
+use Rattle.rx_stage.specs.Shown.{script_of}
+use Rattle.rx_stage.specs.Tells.{told}
 use Rattle.rx_loader.proofs.loading.Loading.open_all.Given as goal
 
 -- the clients so far opened their calls

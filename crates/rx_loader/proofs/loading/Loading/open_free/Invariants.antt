@@ -1,8 +1,8 @@
 use Rattle.std.proofs.Common.{◌≡◌, ◌-◌, None}
 use Rattle.rx_load.specs.Loads.{opens_free}
 use Rattle.rx_loader.proofs.Made.{OnwardLoad}
-use Rattle.rx_world.specs.Shown.{script_of}
-use Rattle.rx_world.specs.Tells.{told}
+use Rattle.rx_stage.specs.Shown.{script_of}
+use Rattle.rx_stage.specs.Tells.{told}
 use Rattle.rx_loader.proofs.loading.Loading.open_free.Given as goal
 
 -- what follows the calls that were opened so far is what follows the beginning

@@ -2,7 +2,7 @@ use Rattle.std.proofs.Common.{◌≡◌, ◌+◌, subst}
 use Rattle.std.specs.Prelude.{OnOk}
 use Rattle.rx_load.specs.Loads.{lossy_with, opens_all}
 use Rattle.rx_loader.proofs.Made.{both_played, first_stops}
-use Rattle.rx_world.specs.Ran.{stop_of}
+use Rattle.rx_stage.specs.Ran.{stop_of}
 use Rattle.rx_loader.proofs.loading.Loading.round.Goals as goal
 
 pub returns-in_err-open_all-clause-plays : goal.returns-in_err-open_all-clause-plays

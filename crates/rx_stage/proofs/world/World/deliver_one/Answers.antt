@@ -1,0 +1,10 @@
+use Rattle.std.proofs.Common.{refl}
+use Rattle.rx_plan.specs.Network.{delivers}
+use Rattle.rx_stage.specs.contracts.world.World.{the_view}
+use Rattle.rx_stage.proofs.RoundsMade.{plays_from}
+use Rattle.rx_stage.proofs.world.World.deliver_one.Goals as goal
+
+pub returns-clause-plays : goal.returns-clause-plays
+returns-clause-plays g c =
+    plays_from (delivers c.args.datagram.now) (the_view c.self.inside) c.args.self.now _ _ _ _ c.self.view_is
+    (c.deliver.ensures (the_view c.self.inside) refl)

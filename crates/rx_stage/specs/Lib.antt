@@ -1,0 +1,9 @@
+pub mod Done
+pub mod Runs
+pub mod Showing
+pub mod Tells
+pub mod LinesPlayed
+pub mod Ran
+pub mod RoundsPlayed
+pub mod Shown
+pub mod TurnsPlayed

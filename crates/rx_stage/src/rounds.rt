@@ -1,0 +1,328 @@
+//! Fair rounds: each node gives what is due, all of it arrives, and each handler and caller has a turn.
+ghost use Rattle.std.specs.Prelude.{◌≡◌, ℕ, ◌+◌, ◌<◌, ◌^◌, ◌&&◌, ◌==◌, [], length, not, true, Some, IfErr, IfOk};
+ghost use Rattle.rx_nodes.specs.Nodes.{IsNodeThere, KeepsOthers, moment_of};
+ghost use Rattle.rx_jobs.specs.Handlers.{handlers_of};
+ghost use Rattle.rx_plan.specs.Network.{delivers};
+ghost use Rattle.rx_plan.specs.Parts.{each};
+ghost use Rattle.rx_stage.specs.Ran.{stop_of};
+ghost use Rattle.rx_stage.specs.TurnsPlayed.{PlaysTurn};
+ghost use Rattle.rx_stage.specs.RoundsPlayed.{PlaysGiven, PollsOn, ended_with};
+ghost use Rattle.rx_plan.specs.Rounds.{clients_first, heard_poll, may_move};
+ghost use Rattle.rx_stage.specs.RoundsPlayed.{more_from};
+ghost use Rattle.rx_plan.specs.Rounds.{moves_by, moves_on, polled, polling, polls_out, round, rounds};
+ghost use Rattle.rx_plan.specs.Rounds.{settles, turns, waits};
+ghost use Rattle.rx_stage.specs.Shown.{Plays, Shows, script_of};
+ghost use Rattle.rx_plan.specs.Stages.{Stage};
+ghost use Rattle.rx_stage.specs.Tells.{told};
+
+use crate::network_lines::deliver_all;
+use crate::stop::{Stop, keep};
+use crate::world::{Datagram, World, node_count};
+use rx_base::Sink;
+use rx_model::{Bytes, Event, Host};
+use rx_nodes::SERVER;
+use rx_wire::Journal;
+use xdr_value::Interface;
+
+/// The moment below which every clock stays, in milliseconds.
+pub const MOMENT_END: u64 = 1 << 62;
+
+impl World {
+    /// Rounds until so many were made, or no call lives at any node.
+    pub fn rounds<O: Sink, J: Journal>(
+        &mut self,
+        iface: &Interface,
+        count: u32,
+        out: &mut O,
+        book: &mut J,
+    ) -> Result<(), Stop>
+        ensures plays { Plays (rounds (handlers_of iface.now (script_of self.old)) count) self.old self.new
+            (stop_of result)
+            (told (J.told book.old) (O.told out.old) (O.faults out.old))
+            (told (J.told book.new) (O.told out.new) (O.faults out.new)) }
+        ensures script { script_of self.new ≡ script_of self.old }
+    {
+        let mut given = Vec::new(self.alloc);
+        for made in 0..count {
+            if !self.nodes.any_lives() {
+                return Ok(());
+            }
+            given.clear();
+            self.round(iface, &mut given, out, book)?;
+        }
+        Ok(())
+    }
+
+    /// One round, whose datagrams are put into an empty list.
+    fn round<O: Sink, J: Journal>(
+        &mut self,
+        iface: &Interface,
+        given: &mut Vec<Datagram>,
+        out: &mut O,
+        book: &mut J,
+    ) -> Result<(), Stop>
+        requires { given.old.items ≡ [] }
+        ensures plays { Plays (round (handlers_of iface.now (script_of self.old))) self.old self.new (stop_of result)
+            (told (J.told book.old) (O.told out.old) (O.faults out.old))
+            (told (J.told book.new) (O.told out.new) (O.faults out.new)) }
+        ensures script { script_of self.new ≡ script_of self.old }
+    {
+        self.poll_all(given, out, book)?;
+        self.deliver_given(given, out, book)?;
+        self.turn_all(iface, out, book)?;
+        self.settle(given.is_empty(), out, book)
+    }
+
+    /// Each of these datagrams is delivered, in order.
+    pub fn deliver_given<O: Sink, J: Journal>(
+        &mut self,
+        given: &[Datagram],
+        out: &mut O,
+        book: &mut J,
+    ) -> Result<(), Stop>
+        ensures plays { Plays (each delivers given.now) self.old self.new (stop_of result)
+            (told (J.told book.old) (O.told out.old) (O.faults out.old))
+            (told (J.told book.new) (O.told out.new) (O.faults out.new)) }
+        ensures script { script_of self.new ≡ script_of self.old }
+    {
+        deliver_all(
+            self.alloc,
+            &mut self.nodes,
+            &mut self.trace,
+            given,
+            out,
+            book,
+        )
+    }
+
+    /// The turns of a round: the dispatcher's, and then each caller's.
+    pub fn turn_all<O: Sink, J: Journal>(
+        &mut self,
+        iface: &Interface,
+        out: &mut O,
+        book: &mut J,
+    ) -> Result<(), Stop>
+        ensures plays { Plays (turns (handlers_of iface.now (script_of self.old))) self.old self.new (stop_of result)
+            (told (J.told book.old) (O.told out.old) (O.faults out.old))
+            (told (J.told book.new) (O.told out.new) (O.faults out.new)) }
+        ensures script { script_of self.new ≡ script_of self.old }
+    {
+        self.dispatch(iface, out, book)?;
+        self.turn_of_all(out, book)
+    }
+
+    /// The end of a round: where nothing came, all clocks move.
+    pub fn settle<O: Sink, J: Journal>(
+        &mut self,
+        quiet: bool,
+        out: &mut O,
+        book: &mut J,
+    ) -> Result<(), Stop>
+        ensures plays { Plays (settles quiet) self.old self.new (stop_of result)
+            (told (J.told book.old) (O.told out.old) (O.faults out.old))
+            (told (J.told book.new) (O.told out.new) (O.faults out.new)) }
+        ensures script { script_of self.new ≡ script_of self.old }
+    {
+        if quiet {
+            return self.wait(out, book);
+        }
+        Ok(())
+    }
+
+    /// Polls each client and then the server until none is due, and collects what they give.
+    pub fn poll_all<O: Sink, J: Journal>(
+        &mut self,
+        given: &mut Vec<Datagram>,
+        out: &mut O,
+        book: &mut J,
+    ) -> Result<(), Stop>
+        ensures plays { PlaysGiven (λ p. each polls_out (clients_first p.stage) p) self.old given.old.items
+            self.new given.new.items (stop_of result)
+            (told (J.told book.old) (O.told out.old) (O.faults out.old))
+            (told (J.told book.new) (O.told out.new) (O.faults out.new)) }
+        ensures script { script_of self.new ≡ script_of self.old }
+    {
+        for node in 1..node_count(&self.nodes) {
+            self.poll_out(node, given, out, book)?;
+        }
+        self.poll_out(SERVER, given, out, book)
+    }
+
+    /// Polls a node until none is due.
+    fn poll_out<O: Sink, J: Journal>(
+        &mut self,
+        node: u32,
+        given: &mut Vec<Datagram>,
+        out: &mut O,
+        book: &mut J,
+    ) -> Result<(), Stop>
+        requires { IsNodeThere self.old.nodes node }
+        ensures plays { PlaysGiven (polls_out node) self.old given.old.items
+            self.new given.new.items (stop_of result)
+            (told (J.told book.old) (O.told out.old) (O.faults out.old))
+            (told (J.told book.new) (O.told out.new) (O.faults out.new)) }
+        ensures script { script_of self.new ≡ script_of self.old }
+        ensures clients { length self.new.nodes.clients ≡ length self.old.nodes.clients }
+    {
+        let from = self.nodes.host(node);
+        self.poll_from(node, from, given, out, book)
+    }
+
+    /// The same of a node with this host.
+    fn poll_from<O: Sink, J: Journal>(
+        &mut self,
+        node: u32,
+        from: Host,
+        given: &mut Vec<Datagram>,
+        out: &mut O,
+        book: &mut J,
+    ) -> Result<(), Stop>
+        requires { IsNodeThere self.old.nodes node }
+        ensures plays { PlaysTurn (polling from) node (more_from given.old.items) (ended_with given.new.items)
+            self.old.nodes self.new.nodes (stop_of result)
+            (told (J.told book.old) (O.told out.old) (O.faults out.old))
+            (told (J.told book.new) (O.told out.new) (O.faults out.new)) }
+        ensures rest { self.new ≡ record self.old { nodes = self.new.nodes } }
+        ensures clients { length self.new.nodes.clients ≡ length self.old.nodes.clients }
+    {
+        'polls: for made in 0..u64::MAX {
+            if !self.poll_once(node, from, given, out, book)? {
+                return Ok(());
+            }
+        }
+        Err(Stop::Endless)
+    }
+
+    /// Polls a node, and keeps what it gives. Whether it gave something.
+    fn poll_once<O: Sink, J: Journal>(
+        &mut self,
+        node: u32,
+        from: Host,
+        given: &mut Vec<Datagram>,
+        out: &mut O,
+        book: &mut J,
+    ) -> Result<bool, Stop>
+        requires { IsNodeThere self.old.nodes node }
+        ensures polls { PollsOn from node given.old.items given.new.items self.old.nodes self.new.nodes result
+            (told (J.told book.old) (O.told out.old) (O.faults out.old))
+            (told (J.told book.new) (O.told out.new) (O.faults out.new)) }
+        ensures rest { self.new ≡ record self.old { nodes = self.new.nodes } }
+        ensures clients { length self.new.nodes.clients ≡ length self.old.nodes.clients }
+    {
+        let event = self.nodes.poll(self.alloc, node)?;
+        self.tell(node, &event, out, book)?;
+        keep_given(given, from, event)
+    }
+
+    /// All clocks move by the least time from a node's moment to what is due there next.
+    fn wait<O: Sink, J: Journal>(&mut self, out: &mut O, book: &mut J) -> Result<(), Stop>
+        ensures plays { Plays (waits) self.old self.new (stop_of result)
+            (told (J.told book.old) (O.told out.old) (O.faults out.old))
+            (told (J.told book.new) (O.told out.new) (O.faults out.new)) }
+        ensures script { script_of self.new ≡ script_of self.old }
+    {
+        match self.nodes.least_wait() {
+            Some(time) => self.move_by(time, out, book),
+            None => Ok(()),
+        }
+    }
+
+    /// All clocks move by a time, unless it is none or one would reach the end of moments.
+    fn move_by<O: Sink, J: Journal>(
+        &mut self,
+        time: u64,
+        out: &mut O,
+        book: &mut J,
+    ) -> Result<(), Stop>
+        ensures plays { Plays (moves_by (Some time)) self.old self.new (stop_of result)
+            (told (J.told book.old) (O.told out.old) (O.faults out.old))
+            (told (J.told book.new) (O.told out.new) (O.faults out.new)) }
+        ensures script { script_of self.new ≡ script_of self.old }
+    {
+        if !self.can_move(time) {
+            return Ok(());
+        }
+        self.move_all(time, out, book)
+    }
+
+    /// Whether that is a time, and no clock would reach the end of moments by it.
+    fn can_move(&self, time: u64) -> bool
+        ensures exact { (s : Stage) → Shows self.now s → result ≡ not (time == 0) && may_move time s }
+        ensures early { result ≡ true → (node : ℕ) → moment_of self.now.nodes node + time < 2 ^ 62 }
+    {
+        time != 0 && time < MOMENT_END.saturating_sub(self.nodes.latest_moment())
+    }
+
+    /// All clocks move by a time.
+    fn move_all<O: Sink, J: Journal>(
+        &mut self,
+        time: u64,
+        out: &mut O,
+        book: &mut J,
+    ) -> Result<(), Stop>
+        requires { (node : ℕ) → moment_of self.old.nodes node + time < 2 ^ 62 }
+        ensures plays { Plays (λ s. each (moves_on time) (clients_first s) s) self.old self.new (stop_of result)
+            (told (J.told book.old) (O.told out.old) (O.faults out.old))
+            (told (J.told book.new) (O.told out.new) (O.faults out.new)) }
+        ensures script { script_of self.new ≡ script_of self.old }
+    {
+        for node in 1..node_count(&self.nodes) {
+            self.move_on(node, time, out, book)?;
+        }
+        self.move_on(SERVER, time, out, book)
+    }
+
+    /// A node's clock moves by a time.
+    fn move_on<O: Sink, J: Journal>(
+        &mut self,
+        node: u32,
+        time: u64,
+        out: &mut O,
+        book: &mut J,
+    ) -> Result<(), Stop>
+        requires there { IsNodeThere self.old.nodes node }
+        requires early { moment_of self.old.nodes node + time < 2 ^ 62 }
+        ensures plays { Plays (moves_on time node) self.old self.new (stop_of result)
+            (told (J.told book.old) (O.told out.old) (O.faults out.old))
+            (told (J.told book.new) (O.told out.new) (O.faults out.new)) }
+        ensures script { script_of self.new ≡ script_of self.old }
+        ensures clients { length self.new.nodes.clients ≡ length self.old.nodes.clients }
+        ensures others { KeepsOthers self.old.nodes self.new.nodes node }
+    {
+        let now = self.nodes.moment(node) + time;
+        self.clock(node, now, out, book)
+    }
+}
+
+/// Keeps what a poll gave. Whether it gave something.
+fn keep_given(kept: &mut Vec<Datagram>, from: Host, event: Event) -> Result<bool, Stop>
+    ensures heard { IfOk result (λ again. record { again = again; given = kept.new.items }
+        ≡ heard_poll from (more_from kept.old.items) event) }
+    ensures wanting { IfErr result (λ stop. stop ≡ Stop.OutOfMemory) }
+{
+    match event {
+        Event::Polled { got } => keep_polled(kept, from, got),
+        Event::Linked { .. } | Event::Called { .. } | Event::Wrote { .. } | Event::Shut { .. } =>
+            Ok(false),
+        Event::HasRead { .. } | Event::Ended { .. } | Event::Cancelled { .. } => Ok(false),
+        Event::Accepted { .. } | Event::Finished { .. } | Event::Taken { .. } => Ok(false),
+        Event::Clocked { .. } => Ok(false),
+    }
+}
+
+/// The same of the answer of a poll.
+fn keep_polled(
+    kept: &mut Vec<Datagram>,
+    from: Host,
+    got: Option<(Host, Bytes)>,
+) -> Result<bool, Stop>
+    ensures heard { IfOk result (λ again. record { again = again; given = kept.new.items }
+        ≡ polled from got (more_from kept.old.items)) }
+    ensures wanting { IfErr result (λ stop. stop ≡ Stop.OutOfMemory) }
+{
+    let Some((to, bytes)) = got else {
+        return Ok(false);
+    };
+    keep(kept, Datagram { from, to, bytes })?;
+    Ok(true)
+}
