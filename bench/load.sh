@@ -1,9 +1,10 @@
 #!/bin/sh
-# Loads of 10, 1,000 and 10,000 calls: rx load of each. Prints its two lines, the seconds of the best of three runs, what a
-# datagram of it costs in microseconds and in instructions, the start of the program left out, and the most memory that it
-# held: where the cost stays the same, nothing is scanned that grows.
-# The program is the one that ./rx --prove builds, or else the one that is named; valgrind where it is there. The root of the
-# repository is the working folder: bench/load.sh [PROGRAM]
+# Loads of 10, 100, 1,000 and 10,000 calls: rx load of each, again and again. Prints of each what it made, its time without
+# the program's start, and the most memory that it held; and then what a datagram and what a round costs: the two numbers
+# that say these times best, and by how much they miss each. Where nothing is gone through that grows with the calls, they
+# say all of them.
+# The program is the one that ./rx --prove builds, or else the one that is named. The root of the repository is the working
+# folder: bench/load.sh [PROGRAM]
 set -eu
 if [ $# -gt 0 ]; then
     program=$1
@@ -11,41 +12,55 @@ else
     ./rx --prove
     program=$(echo .rx/*.proved/rx)
 fi
-python3 - "$program" <<'END'
-import os, re, shutil, subprocess, sys, time
+python3 - "$program" <<'END_OF_PYTHON'
+import os, re, subprocess, sys, time
 
 program = sys.argv[1]
+RUNS = {10: 600, 100: 300, 1000: 100, 10000: 20}
+null = os.open("/dev/null", os.O_WRONLY)
+
 
 def run(calls):
-    """Seconds, kilobytes and the text of a load."""
+    """Microseconds and kilobytes of a load."""
     begin = time.perf_counter()
-    child = subprocess.Popen([program, "load", "1", str(calls)], stdout=subprocess.PIPE, text=True)
-    text = child.stdout.read()
-    usage = os.wait4(child.pid, 0)[2]
-    return time.perf_counter() - begin, usage.ru_maxrss, text
+    child = os.posix_spawn(program, ["rx", "load", "1", str(calls)], os.environ, file_actions=[(os.POSIX_SPAWN_DUP2, null, 1)])
+    usage = os.wait4(child, 0)[2]
+    return (time.perf_counter() - begin) * 1e6, usage.ru_maxrss
 
-def best(calls):
-    return min(run(calls) for _ in range(3))
 
-def instructions(calls):
-    """Those of a load, where valgrind is there."""
-    if not shutil.which("valgrind"):
-        return None
-    words = ["valgrind", "--tool=callgrind", "--callgrind-out-file=/dev/null", program, "load", "1", str(calls)]
-    said = subprocess.run(words, capture_output=True, text=True).stderr
-    return int(re.search(r"Collected : (\d+)", said).group(1))
+def text_of(calls):
+    """What a load prints."""
+    return subprocess.run([program, "load", "1", str(calls)], stdout=subprocess.PIPE, text=True).stdout
 
-def given_of(text):
-    return int(re.search(r"given (\d+)", text).group(1))
 
-start, _, first = best(1)
-counted = instructions(1)
-for calls in (10, 1000, 10000):
-    seconds, kilobytes, text = best(calls)
-    given = given_of(text) - given_of(first)
+def low(times):
+    """One of these than which a tenth was less: they vary by what else the machine does."""
+    return sorted(times)[len(times) // 10]
+
+
+def made(text):
+    """How many datagrams and rounds."""
+    return [int(re.search(rf"{name} (\d+)", text).group(1)) for name in ("given", "rounds")]
+
+
+rows, first = [], text_of(1)
+for calls, runs in RUNS.items():
+    # each beside one of one call
+    ran = [(run(1), run(calls)) for _ in range(runs)]
+    taken = low([it[0] for _, it in ran]) - low([it[0] for it, _ in ran])
+    text = text_of(calls)
+    given, rounds = (of - of_first for of, of_first in zip(made(text), made(first)))
+    rows.append((calls, given, rounds, taken))
     print(text, end="")
-    cost = f"{seconds:.3f} s, {(seconds - start) / given * 1e6:.2f} microseconds a datagram"
-    if counted is not None and calls <= 1000:
-        cost += f", {(instructions(calls) - counted) // given} instructions"
-    print(f"{cost}, {kilobytes} KB")
-END
+    print(f"{taken / 1000:.2f} ms, {taken / given:.2f} microseconds a datagram, {max(it[1] for _, it in ran)} KB")
+
+# least squares of how far each time is missed, as a share of it
+shares = [(given / taken, rounds / taken) for _, given, rounds, taken in rows]
+dd, dr, rr = (sum(x[i] * x[j] for x in shares) for i, j in ((0, 0), (0, 1), (1, 1)))
+d, r = (sum(x[i] for x in shares) for i in (0, 1))
+datagram, around = ((d * rr - r * dr) / (dd * rr - dr * dr), (r * dd - d * dr) / (dd * rr - dr * dr))
+print(f"a datagram takes {datagram:.2f} microseconds, and a round {around:.2f}; they say")
+for calls, given, rounds, taken in rows:
+    said = given * datagram + rounds * around
+    print(f"  {said / 1000:.2f} ms of {calls} calls, {100 * (said / taken - 1):+.1f} %")
+END_OF_PYTHON
