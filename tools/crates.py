@@ -15,17 +15,17 @@ PLACES = """
 .             .               .           .          .               rx_top_tests    rx             .
 .             .               .           .          .               .               rx_top         .
 .             .               .           .          .               .               rx_loader      rx_world
-.             .               .           .          .               rx_passes       rx_stage       rx_words
-rx_node_bench rx_server_tests rx_nodes    rx_caller  .               rx_udp          rx_dispatch    rx_closing
-.             rx_server       rx_client   .          .               rx_base         rx_load        rx_rounds
+.             .               .           .          .               rx_wire_loop    rx_stage       rx_words
+rx_node_bench rx_server_tests rx_joint    rx_caller  .               .               rx_dispatch    rx_closing
+.             rx_server       rx_client   .          .               .               rx_load        rx_rounds
 .             rx_books        rx_progress .          .               .               .              rx_plan
 rx_call_tests rx_node         rx_between  rx_token   rx_jumbo        .               rx_jobs        rx_run
-rx_call_bench rx_ends         rx_table    rx_class   rx_asks         .               .              .
-.             rx_call         rx_queue    rx_events  rx_wire         rx_script_tests rx_reply       xg_parse_tests
+rx_call_bench rx_call_ends    rx_table    rx_class   rx_asks         .               .              .
+.             rx_call         rx_queue    rx_events  .               rx_script_tests rx_reply       xg_parse_tests
 rx_recvwin    rx_sendwin      rx_due      rx_law     rx_examples     xdr_tests       rx_script      xg_compile
 rx_pool       rx_rtt          .           rx_history rx_packet_bench stub_table      xdr_code_bench xg_check
-.             .               rx_packet   rx_rules   .               xdr_code        xdr_json       xg_parse
-.             .               rx_model    .          .               xdr_value       .              xg_lex
+.             .               rx_packet   rx_rules   rx_wire         xdr_code        xdr_json       xg_parse
+.             .               rx_model    .          rx_base         xdr_value       .              xg_lex
 """
 # A wing: its title, its color, its first and last column, and its lowest and highest floor.
 WINGS = [("the program", "#fdeee0", 5, 7, 6, 13), ("the protocol", "#e8f0fb", 0, 4, 0, 9),

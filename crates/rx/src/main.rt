@@ -3,8 +3,7 @@
 
 use rx_base::{DiskFiles, StdSink, Terminal};
 use rx_top::{end_without_words, rx_main};
-use rx_udp::UdpWire;
-use rx_wire::Forgetting;
+use rx_wire::{Forgetting, UdpWire};
 use std::io::IsTerminal;
 use std::process::ExitCode;
 use std::{env, io};

@@ -18,14 +18,14 @@ use Rattle.rx_rules.specs.Judging.{outer_row}
 use Rattle.rx_rules.specs.Life as lives
 use Rattle.rx_rules.specs.Looks.{CallRecord, Looks, call_at, channel_at, conn_at}
 use Rattle.rx_rules.specs.Rules.{AllowedAt, AllowedClient, Legal}
-use Rattle.rx_rules.specs.Setup.{Setup, Kind, Client, FitsSetup, named}
+use Rattle.rx_rules.specs.Setup.{Client, FitsSetup, Kind, Setup, named, pace_of}
 use Rattle.rx_rules.proofs.ConnsLaws.{number_of}
 use Rattle.rx_history.specs.Starts.{StartsBy, StartsNew}
 use Rattle.rx_history.proofs.Client.{fresh-call}
 use Rattle.rx_history.proofs.ClientHistory.{client-calls}
 use Rattle.rx_history.proofs.Conns.{Conns}
 use Rattle.rx_history.proofs.Server.{spared-starts}
-use Rattle.rx_history.proofs.SoundLaws.{Below, Sound}
+use Rattle.rx_history.proofs.Laws.SoundLaws.{Below, Sound}
 use Rattle.rx_history.proofs.Takes.{call_at-any}
 use Rattle.rx_asks.specs.Asks.{calling, heard}
 use Rattle.rx_asks.specs.History.{Drives, starts, begins, makes, leaves, IsCalledAt, LeavesCall, Tells}
@@ -47,7 +47,7 @@ tells-first : (s : Setup) (node cid : ℕ) (c : CallName) (request : List ℕ) (
     → Tells request (caller_for node c request) (after s (events.Called cid (Ok c)) l)
 tells-first s node cid c request l =
     let new : CallRecord =
-    record { name = c; life = lives.Calling; looks = fresh_call s.limits.window s.prompt l.now } in
+    record { name = c; life = lives.Calling; looks = fresh_call (pace_of s) l.now } in
     let found : call_at (after s (events.Called cid (Ok c)) l) c ≡ Some new =
     call_at-any c new l refl (call_at l c) refl in
     tells_of request (caller_for node c request) (after s (events.Called cid (Ok c)) l) new found
@@ -152,24 +152,9 @@ tells_driven s host epoch limit request v h kind fits legal (leaves w e h' leave
 
 -- ---- along a turn
 
-legal-before : (s : Setup) (es h : List Event) → Legal s (after_all es h) → Legal s h
-legal-before s [] h legal = legal
-legal-before s (e ∷ es) h legal = (legal-before s es (e ∷ h) legal).1
-
 -- a history with the events of a turn behind it is one that it drives
 pub drives_on : (limit : ℕ) (request : List ℕ) (v w : CallerState) (es h : List Event) → Runs (calling limit) v es w
     → Drives limit request v h → Drives limit request w (after_all es h)
 drives_on limit request v w es h (stays at) drives = drives
 drives_on limit request v w es h (goes at a e es' to asked is then) drives =
     drives_on limit request (heard at e) w es' (e ∷ h) then (makes at a e h asked is drives)
-
--- what it tells behind the events of a turn
-pub tells_run : (limit : ℕ) (request : List ℕ) (s : Setup) (host : Host) (epoch : ℕ) (v w : CallerState)
-    (es h : List Event) → s.kind ≡ Client host epoch → Legal s (after_all es h) → Runs (calling limit) v es w
-    → Tells request v (looks s h) → Tells request w (looks s (after_all es h))
-tells_run limit request s host epoch v w es h kind legal (stays at) t = t
-tells_run limit request s host epoch v w es h kind legal (goes at a e es' to asked is then) t =
-    let now : Legal s (e ∷ h) = legal-before s es' (e ∷ h) legal in
-    tells_run limit request s host epoch (heard at e) w es' (e ∷ h) kind legal then
-    (tells_made limit request s host epoch at (looks s h) a e asked is
-    (by-kind s.kind s host epoch (looks s h) e kind now.0) t)

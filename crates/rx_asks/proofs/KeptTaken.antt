@@ -26,7 +26,7 @@ use Rattle.rx_rules.specs.Records.{entered, fresh_conn, idle_conn, is_full, plac
 use Rattle.rx_rules.specs.Records.{started, started_later, with_conn}
 use Rattle.rx_rules.specs.Sent.{Sent}
 use Rattle.rx_rules.specs.Sent as streams
-use Rattle.rx_rules.specs.Setup.{Setup, Kind, Server, Client, is_client, named}
+use Rattle.rx_rules.specs.Setup.{Client, Kind, Server, Setup, is_client, named, pace_of}
 use Rattle.rx_rules.specs.Slots.{node_view}
 use Rattle.rx_rules.proofs.StartLaws.{call_at-other}
 use Rattle.rx_asks.proofs.Kept.{Kept, KeptAt, KeptRecord, kept-by, kept-on_call, kept-on_calls}
@@ -39,14 +39,6 @@ after-ack-leaves : (first : ℕ) (marks : List Bool) (window : Option ℕ) (s : 
     → (let t : Sent = streams.after_ack first marks window s in (t.said ≡ s.said) × (t.shut ≡ s.shut))
 after-ack-leaves first marks window s = of (nat_lt (first - 1) s.acked)
   where
-    after-by : Bool → Sent
-    after-by b = if b then s
-        else record s {
-          acked = first - 1;
-          soft = streams.is_marked first marks;
-          peer_window = streams.with_window window s.peer_window;
-        }
-
     of : (b : Bool) → (let t : Sent = (if b then s else record s {
       acked = first - 1;
       soft = streams.is_marked first marks;
@@ -148,7 +140,7 @@ pub kept-started : (s : Setup) (life : Life) (c d : CallName) (l : Looks) → sa
     → KeptAt c l (started s life d l)
 kept-started s life c d l other =
     subst (λ (o : Option CallRecord). Kept (call_at l c) o)
-    (sym (call_at-other c (record { name = d; life = life; looks = fresh_call s.limits.window s.prompt l.now }) l other
+    (sym (call_at-other c (record { name = d; life = life; looks = fresh_call (pace_of s) l.now }) l other
     (call_at l c) refl)) (kept-refl (call_at l c))
 
 kept-opened : (s : Setup) (c d : CallName) (l : Looks) → StartsNone c d l → KeptAt c l (opened s d l)

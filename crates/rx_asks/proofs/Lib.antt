@@ -5,3 +5,4 @@ pub mod Kept
 pub mod KeptEvents
 pub mod KeptTaken
 pub mod Telling
+pub mod CallerEvents

@@ -18,10 +18,6 @@ gained_more (Some bytes) b c xs ys first second =
     let both : c ≡ Some (bytes ++ xs ++ ys) = subst (λ (t : Option (List ℕ)). Gained t c ys) first second in
     both ∙ ap (λ (bs : List ℕ). Some bs) (append_assoc bytes xs ys)
 
--- all the bytes are the first of them
-pub gained_all : (a b : Option (List ℕ)) (xs : List ℕ) → Gained a b xs → GainedSome a b xs
-gained_all a b xs gained = (xs, [], append-nil xs, gained)
-
 -- a put followed by one that failed gains the first of the bytes of both
 pub gained_some_more : (a b c : Option (List ℕ)) (xs ys : List ℕ)
     → Gained a b xs → GainedSome b c ys → GainedSome a c (xs ++ ys)

@@ -22,8 +22,8 @@ use Rattle.rx_rules.specs.Setup.{Setup, FitsSetup, is_client, named, receiving_w
 use Rattle.rx_rules.proofs.EveryLaws.{Every, every-append, every-filter}
 use Rattle.rx_rules.proofs.LeastLaws.{least-keeps}
 use Rattle.rx_history.proofs.Data.{same_message}
-use Rattle.rx_history.proofs.GivingItems.{item_name}
-use Rattle.rx_history.proofs.Givings.{poll_gives}
+use Rattle.rx_history.proofs.Given.GivingItems.{item_name}
+use Rattle.rx_history.proofs.Given.Givings.{poll_gives}
 use Rattle.rx_history.specs.Givings.{GivesItem, GivesStray}
 
 -- a channel owes an ACKALL, and this is its latest call
@@ -36,14 +36,6 @@ module _ (s : Setup) (l : Looks) where
   -- where the item is an ACKALL
   abbrev IsOwed : Item → Type 0
   IsOwed i = i.body ≡ bodies.AckAll → OwesAll l i.name
-
-  one-owed : (c : CallName) (o : Option Body) → ((body : Body) → o ≡ Some body → body ≡ bodies.AckAll → OwesAll l c)
-      → Every IsOwed (owed_item c o)
-  one-owed c None owes = tt
-  one-owed c (Some body) owes = (owes body refl, tt)
-
-  some_body : (a b : Body) → ◌≡◌ {A = Option Body} (Some a) (Some b) → a ≡ b
-  some_body a b is = cc
 
   -- of a body of another kind
   mapped-owed : {X : Type 0} (c : CallName) (f : X → Body) (o : Option X) → ((x : X) → f x ≡ bodies.AckAll → ⊥)

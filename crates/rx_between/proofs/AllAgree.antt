@@ -26,18 +26,19 @@ use Rattle.rx_history.proofs.ClientHistory.{client-calls}
 use Rattle.rx_history.proofs.Ends.{ends_of}
 use Rattle.rx_law.proofs.Fronts.{ArePieces}
 use Rattle.rx_law.proofs.Joint.{Fed}
-use Rattle.rx_history.proofs.OnceLaw.{served}
+use Rattle.rx_history.proofs.Laws.OnceLaw.{served}
 use Rattle.rx_between.specs.Acknowledged.{BothTrue, received_by, sent_by}
 use Rattle.rx_between.specs.Agreed.{Agrees, AreGiven, HasEnded, IsLetBy, IsOverWell, IsWithin, is_over_well}
 use Rattle.rx_between.proofs.Along.{Stands, ToClient, ToServer, along}
 use Rattle.rx_between.proofs.BothTrue.{came-of, client-step, name-back, name-there, nothing-true, server-step}
 use Rattle.rx_between.proofs.CameAll.{CameAll}
-use Rattle.rx_between.proofs.EachEvent.{each_step}
-use Rattle.rx_between.proofs.EachStep.{CallStep, IsFollowedBy, Judges, Starts, is_own, is_start}
+use Rattle.rx_between.proofs.Each.EachEvent.{each_step}
+use Rattle.rx_between.proofs.Each.EachStep.{CallStep, IsFollowedBy, Judges, Starts, is_own, is_start}
 use Rattle.rx_between.proofs.Followed.{earlier_ended, followed_data, gave_there, later_on, some_stays, starts_data}
 use Rattle.rx_between.proofs.GivenAcks.{given_acks}
 use Rattle.rx_between.proofs.GivenSeqs.{OnlyGives, given_seqs, given_step, kept_given}
-use Rattle.rx_between.proofs.Histories.{StepOf, client_only_grows, client_onward, server_only_grows, server_onward, grown_step}
+use Rattle.rx_between.proofs.Histories.{StepOf, client_only_grows, client_onward, server_only_grows, server_onward}
+use Rattle.rx_between.proofs.Histories.{grown_step}
 use Rattle.rx_between.proofs.Lives.{OverBy, by_acks, by_later, over_by, was_over}
 use Rattle.rx_between.proofs.Onward.{client_anew, no-opening}
 use Rattle.rx_between.proofs.Onward as onward
@@ -49,7 +50,8 @@ use Rattle.rx_between.proofs.Windows.{TellsWindow, fresh_let, let_step}
 
 -- ---- what an end only does more of
 
-pub client_only_gives : (s : Setup) (host : Host) (epoch : ℕ) (h : List Event) (c : CallName) → s.kind ≡ Client host epoch
+pub client_only_gives : (s : Setup) (host : Host) (epoch : ℕ) (h : List Event) (c : CallName)
+    → s.kind ≡ Client host epoch
     → FitsSetup s → Legal s h → OnlyGives s c h
 client_only_gives s host epoch [] c kind fits legal = tt
 client_only_gives s host epoch (e ∷ h) c kind fits legal = (
@@ -156,19 +158,22 @@ module _ (x : TwoEnds) (c : CallName) where
       starts_calling : (b : CallRecord) → Starts x.client_setup (looks x.client_setup cl) e c b
           → b.life ≡ lives.Calling
       starts_calling b (name, inl opens) =
-          absurd (no-opening x.client_setup x.connection.host x.connection.epoch e cl c b st.client_kind new.called opens)
+          absurd (no-opening x.client_setup x.connection.host x.connection.epoch e cl c b st.client_kind new.called
+          opens)
       starts_calling b (name, inr made) = made.life
 
       anew : (b : CallRecord) → Starts x.client_setup (looks x.client_setup cl) e c b → at_c cl ≡ None
       anew =
-          client_anew x.client_setup x.connection.host x.connection.epoch e cl c st.client_kind st.client_fits new.called
+          client_anew x.client_setup x.connection.host x.connection.epoch e cl c st.client_kind st.client_fits
+          new.called
           (client-calls x.client_setup x.connection.host x.connection.epoch cl st.client_kind st.client_fits st.called)
 
       by_client : Agreeing cl sv → Agreeing (e ∷ cl) sv
       by_client old =
           record {
             both =
-                client-step x st.client_kind st.server_kind st.client_fits st.server_fits c st.on cl sv st.called st.served
+                client-step x st.client_kind st.server_kind st.client_fits st.server_fits c st.on cl sv st.called
+                st.served
                 st.once st.both e new.called came old.both;
             request_given =
                 (let low = old.request_given in
@@ -290,7 +295,8 @@ module _ (x : TwoEnds) (c : CallName) where
           subst (λ (o : Option CallRecord). ArePieces (ends_of o).said (ends_of o).shut (ends_of (at_c cl)).kept) is
           new.both.reply.pieces in
           let pieces : ArePieces b.looks.sent.said b.looks.sent.shut (received_by (at_c cl)).kept =
-          subst (λ (ps : List Packet). ArePieces b.looks.sent.said b.looks.sent.shut ps) (same_kept (at_c cl)) carried in
+          subst (λ (ps : List Packet). ArePieces b.looks.sent.said b.looks.sent.shut ps) (same_kept (at_c cl))
+          carried in
           old.read_out (acked_ended b.looks.sent (received_by (at_c cl)) pieces all.0 all.1 hard))
 
       -- a later call follows: the client's had ended

@@ -28,7 +28,7 @@ use Rattle.rx_between.specs.Acknowledged.{AreTrue, BothTrue, received_by, sent_b
 use Rattle.rx_between.specs.Told.{IsEarlierAck}
 use Rattle.rx_between.proofs.Along.{along}
 use Rattle.rx_between.proofs.CameAll.{CameAll, JudgedCame}
-use Rattle.rx_between.proofs.EachStep.{Judges, is_own}
+use Rattle.rx_between.proofs.Each.EachStep.{Judges, is_own}
 use Rattle.rx_between.proofs.GivenAckAlls.{given_ackalls, no_ackalls}
 use Rattle.rx_between.proofs.GivenAcks.{OnlyGrows, given_acks}
 use Rattle.rx_between.proofs.Histories.{StepOf, client_only_grows, client_onward, client_whole, grown_step}
@@ -57,10 +57,12 @@ kept-is None = refl
 kept-is (Some k) = refl
 
 -- is done with all pieces of the sender
-pub all-used : (a b : Option CallRecord) → Carries (ends_of a).said (ends_of a).shut (ends_of b) → EndsWhole (received_by b)
+pub all-used : (a b : Option CallRecord) → Carries (ends_of a).said (ends_of a).shut (ends_of b)
+    → EndsWhole (received_by b)
     → (received_by b).ended ≡ true → pieces_of (sent_by a) ≤ used_of (received_by b)
 all-used a b carries whole ended =
-    let w = whole_used (ends_of a).said (ends_of a).shut (ends_of b) (received_by b) carries (kept-is b) (whole ended) in
+    let w = whole_used (ends_of a).said (ends_of a).shut (ends_of b) (received_by b) carries (kept-is b)
+    (whole ended) in
     let is : pieces_of (sent_by a) ≡ pieces_by (length (ends_of a).said) (ends_of a).shut =
     λ i. pieces_by (length (sym (said-is a) i)) (sym (shut-is a) i) in
     omega arith
@@ -154,7 +156,8 @@ module _ (x : TwoEnds) (client_kind : x.client_setup.kind ≡ Client x.connectio
         (λ ack is.
         given_acks x.server_setup sv c x.connection.host j.bytes m ack server_fits served grows j.reads is name gave)
         (λ is.
-        absurd (no_ackalls x.server_setup sv x.connection.host j.bytes m server_kind server_fits served j.reads is gave))
+        absurd (no_ackalls x.server_setup sv x.connection.host j.bytes m server_kind server_fits served j.reads is
+        gave))
         (λ payload is client'.
         all-used a b both.request (server_whole x.server_setup sv c server_kind server_fits served once)
         (given_data x.server_setup sv c x.connection.host j.bytes m payload server_kind server_fits served once grows

@@ -1,6 +1,7 @@
--- In a world each message of a client's connection that is judged at one of its ends was given by the other: acknowledgements
--- as well as data.
-use Rattle.std.proofs.Common.{◌≡◌, ◌≢◌, ◌⊎◌, ◌==◌, ◌<◌, cond, ℕ, zero, suc, Bool, true, false, List, [], ◌∷◌, length, Option}
+-- In a world each message of a client's connection that is judged at one of its ends was given by the other:
+-- acknowledgements as well as data.
+use Rattle.std.proofs.Common.{◌≡◌, ◌≢◌, ◌⊎◌, ◌==◌, ◌<◌, cond, ℕ, zero, suc, Bool, true, false, List, [], ◌∷◌, length}
+use Rattle.std.proofs.Common.{Option}
 use Rattle.std.proofs.Common.{Some, None, Ok, Contains, slice_get, slice_index_or, IfSome, refl, inl, inr, ◌∙◌, ap, sym}
 use Rattle.std.proofs.Common.{subst, arith, ⊎_elim}
 use Rattle.rx_model.specs.declared.answers.Took.TheVariants as tooks
@@ -25,8 +26,8 @@ use Rattle.rx_law.specs.Promises.{at_client, at_server, ends_in}
 use Rattle.rx_history.specs.Sides.{Node, side, GivesTo, IsClientAt}
 use Rattle.rx_law.specs.Worlds.{AreApart, AreNodes, Carried, Datagram, Gave, IsFrom, TwoEnds, bag, given_at, with_given}
 use Rattle.rx_history.proofs.Data.{OwnName, same_message}
-use Rattle.rx_history.proofs.GivingItems.{item_name}
-use Rattle.rx_history.proofs.Givings.{next_is, poll_gives}
+use Rattle.rx_history.proofs.Given.GivingItems.{item_name}
+use Rattle.rx_history.proofs.Given.Givings.{next_is, poll_gives}
 use Rattle.rx_law.proofs.Joint.{gives-at, legal-before, polled-is, server-name}
 use Rattle.rx_law.proofs.World.{Giver, at-home, client-address, flagged-any, flagged-server, gave-mine, giver-server}
 use Rattle.rx_law.proofs.World.{if-some, later-gave}
@@ -242,7 +243,8 @@ module _ (nodes : List Node) (k : ℕ) (client server : Node) (y : Connection) (
   client_came h l from bytes m legal contains reads front =
       let d : Datagram = record { from = from; to = client.host; bytes = bytes } in
       let g = giver_of nodes d h (contains_in d (bag nodes h) contains.0 contains.1 contains.2) in
-      let zero' = giver-server nodes k client server y there kind first are apart h from bytes m l g.index g.node g.there
+      let zero' = giver-server nodes k client server y there kind first are apart h from bytes m l g.index g.node
+      g.there
       (legal g.index g.node g.there) g.gave reads front in
       subst (λ (a : Host). Gave a bytes (side 0 h))
       (sym (client-address nodes k client server y there kind first are apart))
@@ -278,6 +280,7 @@ module _ (nodes : List Node) (k : ℕ) (client server : Node) (y : Connection) (
           → JudgedCame client.setup (at_client (ends_in y k client server) h) y event
           (λ bytes. Gave y.host bytes (side 0 h))
       at_client_end (events.Taken from bytes got) carried legal =
-          λ m other reads front at. client_came h (at_client (ends_in y k client server) h) from bytes m legal carried reads
+          λ m other reads front at. client_came h (at_client (ends_in y k client server) h) from bytes m legal carried
+          reads
           front
       at_client_end _ carried legal = tt

@@ -115,16 +115,3 @@ pub index_past : (n k : ℕ) → n ≤ k → slice_index_or (replicate n true) k
 index_past zero k high = refl
 index_past (suc n) zero high = absurd (omega arith)
 index_past (suc n) (suc k) high = index_past n k (omega arith)
-
--- ---- some pass
-
-pub count_some : (p : ℕ → Bool) (n k : ℕ) → 1 ≤ k → k ≤ n → p k ≡ true → 1 ≤ count_to p n
-count_some p zero k low high passes = absurd (omega arith)
-count_some p (suc n) k low high passes =
-    elim (cases_eq k (suc n)) as (λ c. 1 ≤ count_to p (suc n)) [
-      | inl last ↦ rw (ap p (sym last) ∙ passes) (omega arith)
-      | inr sooner ↦ (elim (p (suc n)) as (λ b. 1 ≤ cond b (suc (count_to p n)) (count_to p n)) [
-        | true ↦ omega arith
-        | false ↦ count_some p n k low (omega arith) passes
-      ])
-    ]

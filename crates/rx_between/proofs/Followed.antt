@@ -1,5 +1,5 @@
--- A call of a server's that is followed by a later one had ended at its client: data is given of calls that are there, and
--- a client's call that lives is its channel's latest.
+-- A call of a server's that is followed by a later one had ended at its client: data is given of calls that are there,
+-- and a client's call that lives is its channel's latest.
 use Rattle.std.proofs.Common.{◌≡◌, ◌<◌, ◌≤◌, nat_lt, ℕ, is_some, true, List, [], ◌∷◌, Option, Some, None}
 use Rattle.std.proofs.Common.{Ok, refl, ◌∙◌, ap, sym, subst, arith, inl, inr}
 use Rattle.std.proofs.lemmas.Bool.{and_parts}
@@ -28,11 +28,11 @@ use Rattle.rx_law.specs.Worlds.{Gave}
 use Rattle.rx_law.proofs.Asks.{data-is}
 use Rattle.rx_history.proofs.ClientHistory.{client-calls}
 use Rattle.rx_law.proofs.Joint.{gives-at, polled-is}
-use Rattle.rx_history.proofs.OrderlyHistory.{orderly_history}
-use Rattle.rx_history.proofs.SoundLaws.{Below}
+use Rattle.rx_history.proofs.Order.OrderlyHistory.{orderly_history}
+use Rattle.rx_history.proofs.Laws.SoundLaws.{Below}
 use Rattle.rx_between.specs.Agreed.{HasEnded}
-use Rattle.rx_between.proofs.EachEvent.{each_step}
-use Rattle.rx_between.proofs.EachStep.{CallStep, IsFollowedBy, Judges, is_own, is_start}
+use Rattle.rx_between.proofs.Each.EachEvent.{each_step}
+use Rattle.rx_between.proofs.Each.EachStep.{CallStep, IsFollowedBy, Judges, is_own, is_start}
 use Rattle.rx_between.proofs.GivenAcks.{before_silence}
 use Rattle.rx_between.proofs.Lives.{IsClients}
 use Rattle.rx_between.proofs.Onward.{row_named}

@@ -24,15 +24,15 @@ use Rattle.rx_rules.specs.Setup.{Setup, FitsSetup, named, receiving_window}
 use Rattle.rx_rules.proofs.CallsLaws.{call_at-on_calls}
 use Rattle.rx_rules.proofs.FindLaws.{find_passes}
 use Rattle.rx_history.proofs.Data.{same_message}
-use Rattle.rx_history.proofs.GivingItems.{item_name}
-use Rattle.rx_history.proofs.Givings.{poll_gives}
+use Rattle.rx_history.proofs.Given.GivingItems.{item_name}
+use Rattle.rx_history.proofs.Given.Givings.{poll_gives}
 use Rattle.rx_law.proofs.Joint.{gives-at, polled-is}
 use Rattle.rx_history.specs.Givings.{GivesItem, GivesPlain, GivesStray}
 use Rattle.rx_law.specs.Worlds.{Gave}
 use Rattle.rx_between.specs.Acknowledged.{received_by}
 use Rattle.rx_between.specs.Told.{Grows, IsAckOf, IsEarlierAck}
-use Rattle.rx_between.proofs.EachItem.{IsOther, Sends}
-use Rattle.rx_between.proofs.EachItem as each
+use Rattle.rx_between.proofs.Each.EachItem.{IsOther, Sends}
+use Rattle.rx_between.proofs.Each.EachItem as each
 use Rattle.rx_between.proofs.Grows.{grows_on}
 
 -- ---- silent calls end first, and nothing passes at their ends by it

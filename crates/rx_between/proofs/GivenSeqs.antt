@@ -1,5 +1,5 @@
--- Each packet that an end kept is a piece that the other gave: pieces that were given stay given, and data that comes is
--- one of them.
+-- Each packet that an end kept is a piece that the other gave: pieces that were given stay given, and data that comes
+-- is one of them.
 use Rattle.std.proofs.Common.{◌≡◌, ◌⊎◌, ◌≤◌, cond, if◌then◌else◌, ℕ, Bool, true, List, [], ◌∷◌, drop}
 use Rattle.std.proofs.Common.{Option, Some, option_map, Result, Ok, refl, ◌∙◌, ap, sym, subst, arith, inl, inr}
 use Rattle.std.proofs.Common.{⊎_elim}
@@ -32,7 +32,7 @@ use Rattle.rx_history.proofs.Ends.{Ends}
 use Rattle.rx_law.proofs.Joint.{gives-at, polled-is}
 use Rattle.rx_between.specs.Acknowledged.{received_by, sent_by}
 use Rattle.rx_between.specs.Agreed.{AreGiven}
-use Rattle.rx_between.proofs.EachStep.{EndStep, Judges, finishes, gives, reads, shuts, stays, takes, writes}
+use Rattle.rx_between.proofs.Each.EachStep.{EndStep, Judges, finishes, gives, reads, shuts, stays, takes, writes}
 use Rattle.rx_between.proofs.Histories.{StepOf}
 use Rattle.rx_between.proofs.Onward.{end_by, received_is, sent_is}
 use Rattle.rx_between.proofs.PollSays.{IsStream, Says, poll_says}

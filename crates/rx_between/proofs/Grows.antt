@@ -11,16 +11,18 @@ use Rattle.rx_model.specs.Body as bodies
 use Rattle.rx_model.specs.Message.{Message}
 use Rattle.rx_model.proofs.NameLaws.{neither}
 use Rattle.rx_rules.specs.CallItems.{Sending, Piece, Ack, after_sending}
-use Rattle.rx_rules.specs.CallLooks.{CallLooks, NodeView, after_body, after_chunk, after_taken, arrival, call_row, found}
+use Rattle.rx_rules.specs.CallLooks.{CallLooks, NodeView, after_body, after_chunk, after_taken, arrival, call_row}
+use Rattle.rx_rules.specs.CallLooks.{found}
 use Rattle.rx_rules.specs.CallLooks.{freed, packet_of}
 use Rattle.rx_rules.specs.Looks.{Looks}
-use Rattle.rx_rules.specs.Received.{Arrival, Packet, Received, after_packet, after_read, arrival_row, is_above, last_seq}
+use Rattle.rx_rules.specs.Received.{Arrival, Packet, Received, after_packet, after_read, arrival_row, is_above}
+use Rattle.rx_rules.specs.Received.{last_seq}
 use Rattle.rx_rules.specs.Received.{packet_at, used_of}
 use Rattle.rx_rules.specs.Received as packets
 use Rattle.rx_rules.specs.Sent.{is_all_given, is_strange_ack}
 use Rattle.rx_rules.specs.Setup.{Setup}
-use Rattle.rx_history.proofs.UsedLaws.{used_reads}
-use Rattle.rx_between.proofs.EachStep.{EndStep, finishes, gives, reads, shuts, stays, takes, writes}
+use Rattle.rx_history.proofs.Laws.UsedLaws.{used_reads}
+use Rattle.rx_between.proofs.Each.EachStep.{EndStep, finishes, gives, reads, shuts, stays, takes, writes}
 use Rattle.rx_between.proofs.Marks.{packet-more, used-more}
 use Rattle.rx_between.specs.Told.{Grows}
 

@@ -1,5 +1,5 @@
--- What was received of a call that starts only where it has no record, along a legal history of its node: it only grows,
--- and where it was read to its end it is whole.
+-- What was received of a call that starts only where it has no record, along a legal history of its node: it only
+-- grows, and where it was read to its end it is whole.
 use Rattle.std.proofs.Common.{◌≡◌, ℕ, List, [], ◌∷◌, Option, Some, None, sym, subst}
 use Rattle.rx_model.specs.declared.event.Event.{Event}
 use Rattle.rx_model.specs.declared.names.CallName.{CallName}
@@ -15,8 +15,8 @@ use Rattle.rx_law.proofs.ServerHistory.{served-turn, server-serves}
 use Rattle.rx_history.specs.Starts.{StartsOnce}
 use Rattle.rx_between.specs.Told.{Grows}
 use Rattle.rx_between.specs.Acknowledged.{received_by}
-use Rattle.rx_between.proofs.EachEvent.{each_step}
-use Rattle.rx_between.proofs.EachStep.{EndStep}
+use Rattle.rx_between.proofs.Each.EachEvent.{each_step}
+use Rattle.rx_between.proofs.Each.EachStep.{EndStep}
 use Rattle.rx_between.proofs.GivenAcks.{OnlyGrows}
 use Rattle.rx_between.proofs.Grows.{step_grows}
 use Rattle.rx_between.proofs.Onward.{client_anew, end_by, onward, received_is, server_anew}
@@ -93,7 +93,8 @@ whole-step s e h c step may whole =
     subst (λ (r : Received). MayEnd (end_by s now a).received r) (sym (received_is s now b))
     (subst (λ (r : Received). MayEnd r (received_by b)) (sym (received_is s now a)) may) in
     let whole' : EndsWhole (end_by s now a).received = subst EndsWhole (sym (received_is s now a)) whole in
-    subst EndsWhole (received_is s now b) (step_whole s (looks s h) e c (end_by s now a) (end_by s now b) step may' whole')
+    subst EndsWhole (received_is s now b)
+    (step_whole s (looks s h) e c (end_by s now a) (end_by s now b) step may' whole')
 
 none-whole : EndsWhole (received_by None)
 none-whole ended = absurd cc

@@ -1,5 +1,5 @@
--- What an honest end gave makes sense to the other, whenever it comes: data is kept, was there already or has no slot, and
--- an ACK is heard. Of any two ends of which one says what the other has.
+-- What an honest end gave makes sense to the other, whenever it comes: data is kept, was there already or has no slot,
+-- and an ACK is heard. Of any two ends of which one says what the other has.
 use Rattle.std.proofs.Common.{◌≡◌, ◌≤◌, ◌+◌, ◌-◌, ◌*◌, ◌/◌, ◌&&◌, ◌||◌, if◌then◌else◌, max, not, nat_lt, ℕ, zero}
 use Rattle.std.proofs.Common.{suc, Bool, true, false, List, [], ◌∷◌, length, Some, is_some, refl, ◌∙◌, ap, sym}
 use Rattle.std.proofs.Common.{subst, arith}

@@ -1,5 +1,5 @@
--- Between two legal ends of a connection whose network invents nothing on it, whatever message of it is judged at one end
--- was given by the other.
+-- Between two legal ends of a connection whose network invents nothing on it, whatever message of it is judged at one
+-- end was given by the other.
 use Rattle.std.proofs.Common.{◌≡◌, ℕ, true, List, [], ◌∷◌, refl, ap, sym, subst, ◌∙◌}
 use Rattle.std.specs.Prelude.{IfSome}
 use Rattle.rx_model.specs.declared.answers.Took.{Took}

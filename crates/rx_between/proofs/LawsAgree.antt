@@ -11,7 +11,7 @@ use Rattle.rx_history.specs.Sides.{side}
 use Rattle.rx_law.specs.Worlds.{TwoEnds}
 use Rattle.rx_history.proofs.ClientHistory.{client-calls}
 use Rattle.rx_law.proofs.Joint.{Fed}
-use Rattle.rx_history.proofs.SoundLaws.{Below}
+use Rattle.rx_history.proofs.Laws.SoundLaws.{Below}
 use Rattle.rx_between.specs.Agreed.{AgreeHeld, AgreeInWorld, AgreeOn, AgreeOnce, SenseHeld, SenseInWorld, SenseOnce}
 use Rattle.rx_between.proofs.AllAgree.{all_agree}
 use Rattle.rx_between.proofs.CameAll.{CameAll}

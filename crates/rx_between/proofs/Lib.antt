@@ -2,17 +2,10 @@ pub mod Counting
 pub mod Marks
 pub mod Grows
 pub mod Truth
-pub mod EachItem
-pub mod EachPoll
-pub mod EachStep
 pub mod Whole
 pub mod Onward
 pub mod GivenAcks
 pub mod Owing
-pub mod EachChange
-pub mod EachTaken
-pub mod EachGiven
-pub mod EachEvent
 pub mod Histories
 pub mod AckAllItems
 pub mod OwedAckAll
@@ -41,3 +34,4 @@ pub mod Numbered
 pub mod Within
 pub mod HonestRows
 pub mod Sense
+pub mod Each

@@ -1,5 +1,5 @@
--- Lives of calls along the steps of a node: a client's call lives or has ended, and stays ended; a server's is over with
--- no code only by a later call, or by the acknowledgement of its whole reply.
+-- Lives of calls along the steps of a node: a client's call lives or has ended, and stays ended; a server's is over
+-- with no code only by a later call, or by the acknowledgement of its whole reply.
 use Rattle.std.proofs.Common.{◌≡◌, ◌⊎◌, ℕ, ℤ, Bool, true, false}
 use Rattle.std.proofs.Common.{Some, None, refl, ◌∙◌, ap, sym, subst, inl, inr}
 use Rattle.rx_model.specs.declared.answers.End.{End}
@@ -16,8 +16,9 @@ use Rattle.rx_rules.specs.Life as lives
 use Rattle.rx_rules.specs.Looks.{Looks}
 use Rattle.rx_rules.specs.Setup.{Setup}
 use Rattle.rx_between.specs.Agreed.{is_over_well}
-use Rattle.rx_between.proofs.EachStep.{IsFollowedBy, Judges, LifeStep, accepted, cancelled, finished, gone, is_acked}
-use Rattle.rx_between.proofs.EachStep.{is_busy, is_followed, is_silent, is_stopped, lives_on, read_out}
+use Rattle.rx_between.proofs.Each.EachStep.{IsFollowedBy, Judges, LifeStep, accepted, cancelled, finished, gone}
+use Rattle.rx_between.proofs.Each.EachStep.{is_acked}
+use Rattle.rx_between.proofs.Each.EachStep.{is_busy, is_followed, is_silent, is_stopped, lives_on, read_out}
 
 -- ---- at a client
 

@@ -1,15 +1,15 @@
 -- What an acknowledgement tells: marks of kept packets, and two ends of a call of which one knows what the other has.
 use Rattle.std.proofs.Common.{◌≡◌, ℕ, zero, suc, ◌+◌, ◌-◌, ◌<◌, ◌≤◌, Bool, true, false, ◌&&◌, ◌||◌}
 use Rattle.std.proofs.Common.{List, [], ◌∷◌, ◌++◌, length, refl, ap, sym, ◌∙◌, subst, inl, inr, ⊎_elim, arith}
-use Rattle.std.proofs.Common.{Option, Some}
+use Rattle.std.proofs.Common.{Option}
 use Rattle.std.proofs.Common.{nat_lt, nat_le, ◌==◌, is_some, ap₂, slice_index_or}
 use Rattle.std.proofs.lemmas.List.{length_push}
 use Rattle.std.proofs.lemmas.Bool.{ne_eqb, le-leb, leb-true, le-ltb, lt-leb, cases_eq, cases_lt, cases_Bool}
-use Rattle.std.proofs.lemmas.Bool.{or_cases, or_parts, or_right, or_left, both_ways}
+use Rattle.std.proofs.lemmas.Bool.{or_cases, or_parts, both_ways}
 use Rattle.rx_rules.proofs.PacketLaws.{above_greatest, kept_within}
 use Rattle.rx_rules.specs.Received.{Piece, Packet, Received, reach, packet_at, greatest, front_of}
 use Rattle.rx_rules.specs.Received.{used_of, is_done, is_done_by, end_of, payload_of, marks_from, marks_of}
-use Rattle.rx_rules.specs.Sent.{Sent, given_of, is_acked, lowest_of, is_marked, marks_past, after_ack}
+use Rattle.rx_rules.specs.Sent.{Sent, given_of, is_acked, lowest_of, is_marked, marks_past}
 use Rattle.rx_rules.specs.Sent.{is_strange_ack}
 use Rattle.rx_between.specs.Acknowledged.{AreTrue}
 use Rattle.rx_between.proofs.Counting.{reach_le, reach_passes, reach_least}
@@ -105,18 +105,6 @@ marked_is r k above =
 pub marked_none : (u : ℕ) (marks : List Bool) (k : ℕ) → k ≤ u → is_marked (u + 1) marks k ≡ false
 marked_none u marks k low = rw (lt-leb (u + 1) k (omega arith)) refl
 
--- what an ACK of these look-ups acknowledges: each packet that is kept
-pub told_acked : (c : Sent) (r : Received) (w k : ℕ) → 1 ≤ k → c.acked ≤ used_of r → is_some (packet_at r.kept k) ≡ true
-    → is_acked (after_ack (used_of r + 1) (marks_of r) (Some w) c) k ≡ true
-told_acked c r w k low hard there =
-    let less : used_of r + 1 - 1 ≡ used_of r = omega arith in
-    rw less
-    (rw (le-ltb (used_of r) c.acked hard)
-    (elim (cases_lt (used_of r) k) as (λ e. (nat_le k (used_of r) || is_marked (used_of r + 1) (marks_of r) k) ≡ true) [
-      | inl above ↦ or_right (nat_le k (used_of r)) _ (marked_is r k above ∙ there)
-      | inr below ↦ or_left (nat_le k (used_of r)) _ (le-leb k (used_of r) below)
-    ]))
-
 -- ---- one more packet
 
 -- what is kept stays as it is
@@ -164,14 +152,6 @@ told_soft r k marks =
       | inr below ↦ absurd (both_ways (is_marked (used_of r + 1) (marks_of r) k)
           (marked_none (used_of r) (marks_of r) k below) marks)
     ]
-
--- behind an ACK that was made of the other end's look-ups the ends are true to each other
-pub told_true : (c : Sent) (r : Received) (w : ℕ) → c.acked ≤ used_of r
-    → AreTrue (after_ack (used_of r + 1) (marks_of r) (Some w) c) r
-told_true c r w hard =
-    let less : used_of r + 1 - 1 ≡ used_of r = omega arith in
-    rw less (rw (le-ltb (used_of r) c.acked hard)
-    (record { hard = omega arith; soft = λ k low marks. told_soft r k marks }))
 
 past-append : (xs : List Bool) (y : Bool) (k g : ℕ) → marks_past xs k g ≡ false
     → (y && nat_lt g (k + length xs)) ≡ false → marks_past (xs ++ y ∷ []) k g ≡ false

@@ -13,32 +13,34 @@ use Rattle.rx_model.specs.Message.{Message}
 use Rattle.rx_model.specs.Names.{Channel, Connection, channel_of, connection_of, same_connection}
 use Rattle.rx_model.specs.Reading.{reading_of}
 use Rattle.rx_model.proofs.NameLaws.{connection_is, name_itself}
-use Rattle.rx_rules.specs.After.{after, enters, is_end, looks, prepared, taken_at, taken_behind, taken_data, taken_message}
+use Rattle.rx_rules.specs.After.{after, enters, is_end, looks, prepared, taken_at, taken_behind, taken_data}
+use Rattle.rx_rules.specs.After.{taken_message}
 use Rattle.rx_rules.specs.After.{taken_with, turned_away, with_first}
 use Rattle.rx_rules.specs.CallLooks.{after_taken, after_write, fresh_call}
 use Rattle.rx_rules.specs.Judging.{opened, outer_row}
 use Rattle.rx_rules.specs.Life.{after_accept, after_later}
 use Rattle.rx_rules.specs.Life as lives
-use Rattle.rx_rules.specs.Looks.{CallRecord, ChannelLooks, ConnLooks, Looks, call_at, call_named, changed_at, channel_at}
+use Rattle.rx_rules.specs.Looks.{CallRecord, ChannelLooks, ConnLooks, Looks, call_at, call_named, changed_at}
+use Rattle.rx_rules.specs.Looks.{channel_at}
 use Rattle.rx_rules.specs.Looks.{conn_at, fresh_channel, latest_name, on_life}
 use Rattle.rx_rules.specs.Records.{entered, fresh_conn, idle_conn, is_full, placed, started_later, with_conn}
 use Rattle.rx_rules.specs.Rules.{AllowedServer, Legal}
-use Rattle.rx_rules.specs.Setup.{Setup, Kind, Server, Client, FitsSetup, IsServer, named, sending_window}
+use Rattle.rx_rules.specs.Setup.{Client, FitsSetup, IsServer, Kind, Server, Setup, named, pace_of}
 use Rattle.rx_rules.specs.Slots.{node_view}
 use Rattle.rx_rules.proofs.ConnsLaws.{channel_number, number_in, number_of}
 use Rattle.rx_rules.proofs.EveryLaws.{Every, every-append}
 use Rattle.rx_rules.proofs.FindLaws.{find_passes}
 use Rattle.rx_history.proofs.Calls.{call-changed}
 use Rattle.rx_history.proofs.Differ.{every_found}
-use Rattle.rx_history.proofs.Dims.{Dims, Same, dims_life, dims_looks}
-use Rattle.rx_history.proofs.DimsEvents.{finish_dims, polled_dims, read_dims}
-use Rattle.rx_history.proofs.DimsTaken.{data_dims, turned_dims, used_dims, with_dims}
+use Rattle.rx_history.proofs.Dimensions.Dims.{Dims, Same, dims_life, dims_looks}
+use Rattle.rx_history.proofs.Dimensions.DimsEvents.{finish_dims, polled_dims, read_dims}
+use Rattle.rx_history.proofs.Dimensions.DimsTaken.{data_dims, turned_dims, used_dims, with_dims}
 use Rattle.rx_history.proofs.Events.{call-by}
 use Rattle.rx_history.proofs.LifeFalls.{accept_falls}
-use Rattle.rx_history.proofs.OnceLaw.{served}
+use Rattle.rx_history.proofs.Laws.OnceLaw.{served}
 use Rattle.rx_history.proofs.Pairwise.{pairs_every}
 use Rattle.rx_history.proofs.Places.{fresh-number, instead}
-use Rattle.rx_history.proofs.RoomTaken.{challenged-calls}
+use Rattle.rx_history.proofs.Room.RoomTaken.{challenged-calls}
 use Rattle.rx_history.proofs.Takes.{call_at-any}
 use Rattle.rx_between.proofs.Followed.{some_stays}
 
@@ -63,7 +65,8 @@ more m l (r ∷ rs) knows all = ((λ n some. knows _ (all.0 n some)), more m l r
 -- where only what leaves the numbers changes
 by_dims : (m l k : Looks) → Dims l k → HaveLatest m l → HaveLatest m k
 by_dims m l k dims all =
-    pairs_every Same (HasLatest m) (HasLatest m) l.conns k.conns (λ a b same has n some. one a b same has n some) dims.conns
+    pairs_every Same (HasLatest m) (HasLatest m) l.conns k.conns (λ a b same has n some. one a b same has n some)
+    dims.conns
     all
   where
     one : (a b : ConnLooks) → Same a b → HasLatest m a → HasLatest m b
@@ -186,7 +189,7 @@ started_there s got d m l =
     λ (k : CallRecord). record k { looks = after_taken (node_view s r) got m k.looks } in
     let ended : Looks = on_life (latest_name l (channel_of d)) after_later l in
     let new : CallRecord =
-    record { name = d; life = lives.Waiting; looks = fresh_call (sending_window s) s.prompt l.now } in
+    record { name = d; life = lives.Waiting; looks = fresh_call (pace_of s) l.now } in
     let there : call_at (taken_data s got d m r) d ≡ Some (change new) =
     call-by d behind (taken_data s got d m r) (challenged-calls s d behind) ∙ call-changed d d change r (λ k. refl)
     ∙ ap (λ (b : Bool). cond b (option_map change (call_at r d)) (call_at r d)) (name_itself d)
@@ -212,14 +215,19 @@ with_latest : (s : Setup) (got : Took) (d : CallName) (m : Message) (l : Looks) 
     → HaveLatest (taken_with s got d m l) (taken_with s got d m l)
 with_latest s tooks.Kept d m l all = data_latest s tooks.Kept d m l all
 with_latest s tooks.NoSlot d m l all = data_latest s tooks.NoSlot d m l all
-with_latest s tooks.Repeat d m l all = own_dims l (taken_with s tooks.Repeat d m l) (with_dims s tooks.Repeat d m l refl) all
-with_latest s tooks.Beyond d m l all = own_dims l (taken_with s tooks.Beyond d m l) (with_dims s tooks.Beyond d m l refl) all
-with_latest s tooks.Clash d m l all = own_dims l (taken_with s tooks.Clash d m l) (with_dims s tooks.Clash d m l refl) all
-with_latest s tooks.Heard d m l all = own_dims l (taken_with s tooks.Heard d m l) (with_dims s tooks.Heard d m l refl) all
+with_latest s tooks.Repeat d m l all = own_dims l (taken_with s tooks.Repeat d m l)
+    (with_dims s tooks.Repeat d m l refl) all
+with_latest s tooks.Beyond d m l all = own_dims l (taken_with s tooks.Beyond d m l)
+    (with_dims s tooks.Beyond d m l refl) all
+with_latest s tooks.Clash d m l all = own_dims l (taken_with s tooks.Clash d m l) (with_dims s tooks.Clash d m l refl)
+    all
+with_latest s tooks.Heard d m l all = own_dims l (taken_with s tooks.Heard d m l) (with_dims s tooks.Heard d m l refl)
+    all
 with_latest s tooks.Stopped d m l all =
     own_dims l (taken_with s tooks.Stopped d m l) (with_dims s tooks.Stopped d m l refl) all
 with_latest s tooks.Busy d m l all = own_dims l (taken_with s tooks.Busy d m l) (with_dims s tooks.Busy d m l refl) all
-with_latest s tooks.NoRoom d m l all = own_dims l (taken_with s tooks.NoRoom d m l) (with_dims s tooks.NoRoom d m l refl) all
+with_latest s tooks.NoRoom d m l all = own_dims l (taken_with s tooks.NoRoom d m l)
+    (with_dims s tooks.NoRoom d m l refl) all
 with_latest s tooks.Over d m l all = own_dims l (taken_with s tooks.Over d m l) (with_dims s tooks.Over d m l refl) all
 with_latest s tooks.Full d m l all = all
 with_latest s tooks.Old d m l all = all
@@ -291,7 +299,8 @@ latest_there s h ch server fits legal some =
     of None is some = absurd (omega arith)
     of (Some r) is some =
         (let own : r.connection ≡ ch.connection =
-        connection_is r.connection ch.connection (find_passes (λ q. same_connection q.connection ch.connection) l.conns r is)
+        connection_is r.connection ch.connection
+        (find_passes (λ q. same_connection q.connection ch.connection) l.conns r is)
         in
         let has = every_found (HasLatest l) (λ q. same_connection q.connection ch.connection) l.conns r
         (have_latest s h server fits legal) is in

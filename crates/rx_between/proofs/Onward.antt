@@ -16,21 +16,21 @@ use Rattle.rx_rules.specs.Judging.{else_row, facts_of, opened, outer_row, own_ro
 use Rattle.rx_rules.specs.Judging.{took_reading}
 use Rattle.rx_rules.specs.Looks.{CallRecord, Looks, call_at, channel_at, conn_at}
 use Rattle.rx_rules.specs.Rules.{AllowedAt, AllowedClient, AllowedServer, Legal}
-use Rattle.rx_rules.specs.Setup.{Setup, Kind, Client, FitsSetup, IsServer, is_client, named, sending_window}
+use Rattle.rx_rules.specs.Setup.{Client, FitsSetup, IsServer, Kind, Setup, is_client, named, pace_of}
 use Rattle.rx_rules.proofs.ConnsLaws.{number_of}
 use Rattle.rx_history.proofs.Client.{fresh-call}
 use Rattle.rx_history.proofs.ClientHistory.{Called}
-use Rattle.rx_history.proofs.OnceLaw.{served}
+use Rattle.rx_history.proofs.Laws.OnceLaw.{served}
 use Rattle.rx_history.proofs.Openings.{channel_prepared}
-use Rattle.rx_history.proofs.RowsInFront.{above_served, may_start}
-use Rattle.rx_history.proofs.SoundLaws.{Below}
+use Rattle.rx_history.proofs.Rows.RowsInFront.{above_served, may_start}
+use Rattle.rx_history.proofs.Laws.SoundLaws.{Below}
 use Rattle.rx_history.specs.Starts.{StartsBy, StartsNew}
 use Rattle.rx_between.specs.Acknowledged.{received_by, sent_by}
-use Rattle.rx_between.proofs.EachStep.{CallStep, EndStep, Judges, Opens, Starts, is_start, stays, takes}
+use Rattle.rx_between.proofs.Each.EachStep.{CallStep, EndStep, Judges, Opens, Starts, is_start, stays, takes}
 
 -- what passed at its end; nothing, where it has no record
 abbrev pub end_by : Setup → ℕ → Option CallRecord → CallLooks
-end_by s now None = fresh_call (sending_window s) s.prompt now
+end_by s now None = fresh_call (pace_of s) now
 end_by s now (Some k) = k.looks
 
 -- what it said and received is that of its end
@@ -125,7 +125,8 @@ client_anew s host epoch e h c kind fits legal old b (name, inr made) =
 pub server_anew : (s : Setup) (e : Event) (h : List Event) (c : CallName) → IsServer s.kind → Legal s (e ∷ h)
     → StartsNew s (looks s h) e c → NoneAnew s (looks s h) e c (call_at (looks s h) c)
 server_anew s e h c server legal new b (name, inr made) =
-    absurd (subst (λ (x : Event). AllowedServer s (looks s h) x) made.event (served s.kind s (looks s h) e server legal.0))
+    absurd (subst (λ (x : Event). AllowedServer s (looks s h) x) made.event
+    (served s.kind s (looks s h) e server legal.0))
 server_anew s e h c server legal new b (name, inl opens) =
     let t = opens.takes in
     of t.got opens.starts t.judges opens.above

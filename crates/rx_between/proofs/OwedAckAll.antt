@@ -1,6 +1,8 @@
 -- A channel of a client that owes an ACKALL has a latest call whose reply was read to its end.
-use Rattle.std.proofs.Common.{◌≡◌, ◌⊎◌, ◌&&◌, ◌==◌, ◌++◌, ℕ, zero, suc, cond, if◌then◌else◌, nat_lt, Bool, true, false, List}
-use Rattle.std.proofs.Common.{[], ◌∷◌, Option, Some, None, option_map, Result, Ok, Err, refl, ◌∙◌, ap, sym, subst, inl, inr}
+use Rattle.std.proofs.Common.{◌≡◌, ◌⊎◌, ◌&&◌, ◌==◌, ◌++◌, ℕ, zero, suc, cond, if◌then◌else◌, nat_lt, Bool, true, false}
+use Rattle.std.proofs.Common.{List}
+use Rattle.std.proofs.Common.{[], ◌∷◌, Option, Some, None, option_map, Result, Ok, Err, refl, ◌∙◌, ap, sym, subst, inl}
+use Rattle.std.proofs.Common.{inr}
 use Rattle.std.proofs.Common.{⊎_elim, arith, is_some}
 use Rattle.std.specs.List.{find}
 use Rattle.std.proofs.lemmas.Bool.Decides.{nat_tests}
@@ -21,13 +23,15 @@ use Rattle.rx_model.specs.Names.{Connection, channel_of, connection_of, same_con
 use Rattle.rx_model.specs.Reading.{reading_of}
 use Rattle.rx_model.proofs.NameLaws.{connection_is, name_itself, same_number}
 use Rattle.rx_rules.specs.After.{after, acknowledged, enters, is_end, is_ok_end}
-use Rattle.rx_rules.specs.After.{linked, looks, owing_abort, owing_ackall, owing_again, prepared, read_done, served_code}
+use Rattle.rx_rules.specs.After.{linked, looks, owing_abort, owing_ackall, owing_again, prepared, read_done}
+use Rattle.rx_rules.specs.After.{served_code}
 use Rattle.rx_rules.specs.After.{taken_behind, taken_message, taken_over, taken_with, told_code}
 use Rattle.rx_rules.specs.CallLooks.{after_read, after_shut, after_write}
 use Rattle.rx_rules.specs.Judging.{Facts, client_row, facts_of, opened, outer_row, own_row, side_row}
 use Rattle.rx_rules.specs.Life.{Life, after_cancel, after_end, is_calling}
 use Rattle.rx_rules.specs.Life as lives
-use Rattle.rx_rules.specs.Looks.{CallRecord, ChannelLooks, ConnLooks, Looks, call_at, call_named, changed_at, channel_at}
+use Rattle.rx_rules.specs.Looks.{CallRecord, ChannelLooks, ConnLooks, Looks, call_at, call_named, changed_at}
+use Rattle.rx_rules.specs.Looks.{channel_at}
 use Rattle.rx_rules.specs.Looks.{conn_at, is_call, on_channel, on_life, on_looks}
 use Rattle.rx_rules.specs.Records.{entered, fresh_conn, used, with_conn}
 use Rattle.rx_rules.specs.Rules.{AllowedClient, Legal, client_read, own_call}
@@ -43,7 +47,8 @@ use Rattle.rx_between.specs.Acknowledged.{received_by}
 use Rattle.rx_between.proofs.Histories.{client_onward, grown_step}
 use Rattle.rx_between.proofs.Onward.{clients, row_named}
 use Rattle.rx_between.proofs.Owing.{Calm, Clears, calm_abort, calm_channel, calm_same}
-use Rattle.rx_between.proofs.Owing.{calm_polled, calm_started, calm_trans, calm_turned, calm_used, calm_with, owes_in, owes_of}
+use Rattle.rx_between.proofs.Owing.{calm_polled, calm_started, calm_trans, calm_turned, calm_used, calm_with, owes_in}
+use Rattle.rx_between.proofs.Owing.{owes_of}
 
 -- the latest call of a channel, by its connection's record
 abbrev pub latest_of : Looks → Connection → ℕ → CallName
@@ -90,7 +95,8 @@ owes-changed (q ∷ qs) (suc m) (suc n) f is =
     (owes-changed qs m n f is)
 
 -- where the call is its channel's latest
-module _ (d : CallName) (f : ChannelLooks → ChannelLooks) (l : Looks) (keeps : (q : ChannelLooks) → (f q).number ≡ q.number)
+module _ (d : CallName) (f : ChannelLooks → ChannelLooks) (l : Looks)
+    (keeps : (q : ChannelLooks) → (f q).number ≡ q.number)
     (own : (channel_at l (channel_of d)).number ≡ d.number) where
   abbrev told : Looks
   told = on_channel (channel_of d) f l
@@ -131,7 +137,8 @@ module _ (d : CallName) (f : ChannelLooks → ChannelLooks) (l : Looks) (keeps :
                 (find_passes (λ q. same_connection q.connection y) l.conns r there) in
                 let home : y ≡ connection_of d = sym name ∙ connection_is r.connection (connection_of d) mine in
                 let number : number_of (conn_at told y) n ≡ number_of (conn_at l y) n =
-                ap (λ (o : Option ConnLooks). number_of o n) (at ∙ ap (option_map (conn_if (connection_of d) change)) there)
+                ap (λ (o : Option ConnLooks). number_of o n)
+                (at ∙ ap (option_map (conn_if (connection_of d) change)) there)
                 ∙ ap (λ (b : Bool). number_in (cond b (change r) r).channels n) mine
                 ∙ number-stays r.channels d.chan n f keeps
                 ∙ sym (ap (λ (o : Option ConnLooks). number_of o n) there) in
@@ -142,7 +149,8 @@ module _ (d : CallName) (f : ChannelLooks → ChannelLooks) (l : Looks) (keeps :
                 (owes-changed r.channels d.chan n f owed))
             | false ↦ λ other owed. (
                 let number : number_of (conn_at told y) n ≡ number_of (conn_at l y) n =
-                ap (λ (o : Option ConnLooks). number_of o n) (at ∙ ap (option_map (conn_if (connection_of d) change)) there)
+                ap (λ (o : Option ConnLooks). number_of o n)
+                (at ∙ ap (option_map (conn_if (connection_of d) change)) there)
                 ∙ ap (λ (b : Bool). number_in (cond b (change r) r).channels n) other
                 ∙ sym (ap (λ (o : Option ConnLooks). number_of o n) there) in
                 inl (ap (λ (o : Option ConnLooks). owes_of o n) there ∙ owed, number))
@@ -324,7 +332,8 @@ module _ (s : Setup) (host : Host) (epoch : ℕ) (kind : s.kind ≡ Client host 
     where
       of : (b : Bool) → Calm y l (used x (if b then entered s x l else l))
       of true =
-          calm_trans y l (entered s x l) _ (calm_same y l (entered s x l) (conns-entered x)) (calm_used y x (entered s x l))
+          calm_trans y l (entered s x l) _ (calm_same y l (entered s x l) (conns-entered x))
+          (calm_used y x (entered s x l))
       of false = calm_used y x l
 
   with-owes : (from : Host) (bytes : List ℕ) (got : Took) (m : Message)

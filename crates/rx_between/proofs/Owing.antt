@@ -1,5 +1,6 @@
 -- Changes of a node's records by which no channel comes to owe an ACKALL.
-use Rattle.std.proofs.Common.{◌≡◌, ◌&&◌, ◌==◌, ℕ, ℤ, zero, suc, cond, if◌then◌else◌, not, Bool, true, false, List, [], ◌∷◌, drop}
+use Rattle.std.proofs.Common.{◌≡◌, ◌&&◌, ◌==◌, ℕ, ℤ, zero, suc, cond, if◌then◌else◌, not, Bool, true, false, List, []}
+use Rattle.std.proofs.Common.{◌∷◌, drop}
 use Rattle.std.proofs.Common.{Option, Some, None, option_map, Result, Ok, Err, refl, ◌∙◌, ap, sym, subst}
 use Rattle.std.specs.List.{find}
 use Rattle.std.specs.Prelude.{option_and_then, slice_get, unwrap_or}
@@ -17,7 +18,7 @@ use Rattle.rx_model.specs.Message.{Message}
 use Rattle.rx_model.specs.Names.{Channel, Connection, channel_of, connection_of, same_connection}
 use Rattle.rx_rules.specs.After.{challenged, counted, finish_done, given_body, given_by, given_message, is_zero}
 use Rattle.rx_rules.specs.After.{owing_abort}
-use Rattle.rx_rules.specs.After.{owing_again, owing_busy, settled, stopped_all, taken_at, taken_data}
+use Rattle.rx_rules.specs.After.{owing_busy, settled, stopped_all, taken_at, taken_data}
 use Rattle.rx_rules.specs.After.{taken_heard, taken_stopped, taken_unserved, taken_with}
 use Rattle.rx_rules.specs.After.{turned_away, with_first}
 use Rattle.rx_rules.specs.CallLooks.{after_shut}
@@ -212,11 +213,6 @@ calm-stopped y d _ l = calm_same y l l refl
 calm-busy : (y : Connection) (d : CallName) (l : Looks)
     → Calm y l (on_channel (channel_of d) (owing_busy d.number) l)
 calm-busy y d l = calm_channel y (channel_of d) (owing_busy d.number) l (λ q is. (is, refl))
-
--- a message of a call that ended, but not with its reply read
-pub calm_again : (y : Connection) (d : CallName) (body : Body) (life : Life) (l : Looks)
-    → Clears (owing_again body life) → Calm y l (on_channel (channel_of d) (owing_again body life) l)
-calm_again y d body life l clears = calm_channel y (channel_of d) (owing_again body life) l clears
 
 -- any other answer
 pub calm_with : (s : Setup) (got : Took) (y : Connection) (d : CallName) (m : Message) (l : Looks)

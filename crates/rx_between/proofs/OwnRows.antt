@@ -4,6 +4,7 @@ use Rattle.std.proofs.Common.{◌≡◌, ◌≤◌, ◌+◌, ◌&&◌, ◌||◌,
 use Rattle.std.proofs.Common.{false, List, Option, Some, None, refl, ◌∙◌, ap, sym, subst, arith}
 use Rattle.std.proofs.lemmas.Bool.{and_parts}
 use Rattle.std.proofs.lemmas.Bool.Decides.{nat_tests}
+use Rattle.rx_model.specs.declared.pace.Pace.{Pace}
 use Rattle.rx_model.specs.declared.answers.Took.{Took}
 use Rattle.rx_model.specs.declared.answers.Took.TheVariants as tooks
 use Rattle.rx_model.specs.declared.names.CallName.{CallName}
@@ -19,9 +20,9 @@ use Rattle.rx_rules.specs.Life.{after_later}
 use Rattle.rx_rules.specs.Life as lives
 use Rattle.rx_rules.specs.Looks.{CallRecord, Looks, call_at, channel_at, is_proved, latest_name, on_life}
 use Rattle.rx_rules.specs.Records.{started_later}
-use Rattle.rx_rules.specs.Setup.{Setup, Kind, Server, Client, is_client, receiving_window, sending_window}
+use Rattle.rx_rules.specs.Setup.{Client, Kind, Server, Setup, is_client, pace_of, receiving_window}
 use Rattle.rx_rules.specs.Slots.{node_view}
-use Rattle.rx_between.proofs.EachStep.{ViewOf, is_own, is_start}
+use Rattle.rx_between.proofs.Each.EachStep.{ViewOf, is_own, is_start}
 use Rattle.rx_law.proofs.Asks.{data-is}
 use Rattle.rx_history.proofs.Takes.{call_at-any}
 
@@ -131,24 +132,24 @@ no_lower : (b : Bool) (seq : ℕ) → (b && nat_lt seq 0) ≡ false
 no_lower true seq = grind (arith, nat_tests)
 no_lower false seq = refl
 
-fresh_starts : (v : NodeView) (m : Message) (payload : List ℕ) (window now : ℕ) (prompt : Bool) (got : Took)
+fresh_starts : (v : NodeView) (m : Message) (payload : List ℕ) (pace : Pace) (now : ℕ) (got : Took)
     → v.client ≡ false → 1 ≤ m.seq → m.seq ≤ v.window → is_own got ≡ true
-    → call_row v m (bodies.Chunk payload) (fresh_call window prompt now) ≡ got → is_start got ≡ true
-fresh_starts v m payload window now prompt got client some low own is =
+    → call_row v m (bodies.Chunk payload) (fresh_call pace now) ≡ got → is_start got ≡ true
+fresh_starts v m payload pace now got client some low own is =
     let again : nat_le m.seq 0 ≡ false = grind (arith, nat_tests) in
     let within : nat_lt (0 + v.window) m.seq ≡ false = grind (arith, nat_tests) in
     start_by _ (nat_le m.seq 0 || false) (nat_lt (0 + v.window) m.seq)
     (false || (has_flag LAST_PACKET m.flags && nat_lt m.seq 0)) _ got own (rw again refl) within
     (no_lower (has_flag LAST_PACKET m.flags) m.seq) by_row
   where
-    by_row : call_row (record v { client = false }) m (bodies.Chunk payload) (fresh_call window prompt now) ≡ got
+    by_row : call_row (record v { client = false }) m (bodies.Chunk payload) (fresh_call pace now) ≡ got
     by_row = subst (λ (b : Bool). call_row (record v { client = b }) m (bodies.Chunk payload)
-        (fresh_call window prompt now) ≡ got) client is
+        (fresh_call pace now) ≡ got) client is
 
-starts_data : (v : NodeView) (m : Message) (window now : ℕ) (prompt : Bool) (got : Took) (most : ℕ)
+starts_data : (v : NodeView) (m : Message) (pace : Pace) (now : ℕ) (got : Took) (most : ℕ)
     → v.client ≡ false → v.window ≡ most → (is_data m.body && (nat_le 1 m.seq && nat_le m.seq most)) ≡ true
-    → is_own got ≡ true → call_row v m m.body (fresh_call window prompt now) ≡ got → is_start got ≡ true
-starts_data v m window now prompt got most client wide can own is =
+    → is_own got ≡ true → call_row v m m.body (fresh_call pace now) ≡ got → is_start got ≡ true
+starts_data v m pace now got most client wide can own is =
     let parts = and_parts (is_data m.body) (nat_le 1 m.seq && nat_le m.seq most) can in
     let bounds = and_parts (nat_le 1 m.seq) (nat_le m.seq most) parts.1 in
     let first = bounds.0 in
@@ -156,8 +157,8 @@ starts_data v m window now prompt got most client wide can own is =
     let some : 1 ≤ m.seq = grind (arith, nat_tests) in
     let low : m.seq ≤ v.window = grind (arith, nat_tests) in
     let chunk = data-is m.body parts.0 in
-    fresh_starts v m chunk.0 window now prompt got client some low own
-    (subst (λ (b : Body). call_row v m b (fresh_call window prompt now) ≡ got) chunk.1 is)
+    fresh_starts v m chunk.0 pace now got client some low own
+    (subst (λ (b : Body). call_row v m b (fresh_call pace now) ≡ got) chunk.1 is)
 
 -- ---- the row of the message's own call
 
@@ -168,7 +169,7 @@ pub record OwnRows (s : Setup) (l : Looks) (c : CallName) (m : Message) (got : T
   pub starts : nat_lt (channel_at l (channel_of c)).number c.number ≡ true → is_start got ≡ true
   pub fresh :
       nat_lt (channel_at l (channel_of c)).number c.number ≡ true
-      → call_row view m m.body (fresh_call (sending_window s) s.prompt l.now) ≡ got
+      → call_row view m m.body (fresh_call (pace_of s) l.now) ≡ got
   pub there : nat_lt (channel_at l (channel_of c)).number c.number ≡ false → RowOf view m got (call_at l c)
 
 opened_now : (s : Setup) (c : CallName) (l : Looks) → (opened s c l).now ≡ l.now
@@ -184,7 +185,7 @@ own_rows s l c m got number own is =
     let o = own_side s.kind (facts_of s l c m) (own_row s (opened s c l) c m) got own is in
     let r = own_at s (opened s c l) (call_at (opened s c l) c) m got own o.row in
     let new : CallRecord =
-    record { name = c; life = lives.Waiting; looks = fresh_call (sending_window s) s.prompt l.now } in
+    record { name = c; life = lives.Waiting; looks = fresh_call (pace_of s) l.now } in
     let is_above : nat_lt (channel_at l (channel_of c)).number c.number ≡ true → (facts_of s l c m).is_above ≡ true =
     λ above. ap (λ (n : ℕ). nat_lt (channel_at l (channel_of c)).number n) number ∙ above in
     let fresh_row : nat_lt (channel_at l (channel_of c)).number c.number ≡ true
@@ -200,7 +201,7 @@ own_rows s l c m got number own is =
       view = node_view s (opened s c l);
       view_is = record { client = refl; window = refl; now = opened_now s c l };
       starts = λ above.
-          starts_data (node_view s (opened s c l)) m (sending_window s) l.now s.prompt got (receiving_window s)
+          starts_data (node_view s (opened s c l)) m (pace_of s) l.now got (receiving_window s)
           (o.served (is_above above)) refl (o.starts (is_above above)) own (fresh_row above);
       fresh = fresh_row;
       there = λ below. (

@@ -18,10 +18,10 @@ use Rattle.rx_rules.specs.Setup.{Setup, FitsSetup, named, receiving_window}
 use Rattle.rx_rules.specs.Slots.{node_view}
 use Rattle.rx_history.specs.Givings.{GivesItem, GivesPlain, GivesStray}
 use Rattle.rx_history.proofs.Data.{same_message}
-use Rattle.rx_history.proofs.GivingItems.{item_name}
-use Rattle.rx_history.proofs.Givings.{poll_gives}
-use Rattle.rx_between.proofs.EachItem.{IsOther, Sends}
-use Rattle.rx_between.proofs.EachItem as each
+use Rattle.rx_history.proofs.Given.GivingItems.{item_name}
+use Rattle.rx_history.proofs.Given.Givings.{poll_gives}
+use Rattle.rx_between.proofs.Each.EachItem.{IsOther, Sends}
+use Rattle.rx_between.proofs.Each.EachItem as each
 use Rattle.rx_between.proofs.GivenAcks.{sends_there}
 
 -- a part of a stream, or an acknowledgement

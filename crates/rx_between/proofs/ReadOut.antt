@@ -15,7 +15,8 @@ use Rattle.rx_model.specs.Message.{Message}
 use Rattle.rx_model.proofs.NameLaws.{name_itself}
 use Rattle.rx_rules.specs.After.{acknowledged, is_end, looks}
 use Rattle.rx_rules.specs.CallItems.{Sending, Piece, Ack, after_sending}
-use Rattle.rx_rules.specs.CallLooks.{CallLooks, NodeView, after_body, after_chunk, after_read, after_taken, found, slowed}
+use Rattle.rx_rules.specs.CallLooks.{CallLooks, NodeView, after_body, after_chunk, after_read, after_taken, found}
+use Rattle.rx_rules.specs.CallLooks.{slowed}
 use Rattle.rx_rules.specs.Life.{Life, after_end}
 use Rattle.rx_rules.specs.Life as lives
 use Rattle.rx_rules.specs.Looks.{CallRecord, Looks, call_at}
@@ -27,9 +28,10 @@ use Rattle.rx_history.proofs.Calls.{body-ends, found-ends}
 use Rattle.rx_history.proofs.Ends.{Ends}
 use Rattle.rx_between.specs.Acknowledged.{received_by}
 use Rattle.rx_between.specs.Agreed.{HasEnded}
-use Rattle.rx_between.proofs.EachChange.{changed_twice}
-use Rattle.rx_between.proofs.EachEvent.{each_step}
-use Rattle.rx_between.proofs.EachStep.{CallStep, EndStep, Starts, finishes, gives, reads, shuts, stays, takes, writes}
+use Rattle.rx_between.proofs.Each.EachChange.{changed_twice}
+use Rattle.rx_between.proofs.Each.EachEvent.{each_step}
+use Rattle.rx_between.proofs.Each.EachStep.{CallStep, EndStep, Starts, finishes, gives, reads, shuts, stays, takes}
+use Rattle.rx_between.proofs.Each.EachStep.{writes}
 use Rattle.rx_between.proofs.Histories.{StepOf}
 use Rattle.rx_between.proofs.Lives.{IsClients, clients_on, ended_on}
 use Rattle.rx_between.proofs.Onward as onward

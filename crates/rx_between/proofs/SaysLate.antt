@@ -1,7 +1,8 @@
--- A server says nothing of a reply before it has read the whole request: where it gave data of a call, the call's request
--- was read to its end.
+-- A server says nothing of a reply before it has read the whole request: where it gave data of a call, the call's
+-- request was read to its end.
 use Rattle.std.proofs.Common.{◌≡◌, ◌⊎◌, ◌≤◌, ◌++◌, ◌||◌, ℕ, ℤ, suc, not, min, Bool, true, false}
-use Rattle.std.proofs.Common.{List, [], ◌∷◌, length, Option, Some, None, Result, Ok, Err, refl, ap, sym, subst, ◌∙◌, inl, inr}
+use Rattle.std.proofs.Common.{List, [], ◌∷◌, length, Option, Some, None, Result, Ok, Err, refl, ap, sym, subst, ◌∙◌}
+use Rattle.std.proofs.Common.{inl, inr}
 use Rattle.std.proofs.Common.{⊎_elim, arith}
 use Rattle.rx_model.specs.declared.answers.ServeRefused.{ServeRefused}
 use Rattle.rx_model.specs.declared.answers.Took.{Took}
@@ -31,7 +32,7 @@ use Rattle.rx_history.proofs.Calls.{body-ends, found-ends}
 use Rattle.rx_history.proofs.Data.{poll-gives}
 use Rattle.rx_history.proofs.Ends.{Ends}
 use Rattle.rx_law.proofs.Joint.{gives-at, polled-is}
-use Rattle.rx_history.proofs.OnceLaw.{served}
+use Rattle.rx_history.proofs.Laws.OnceLaw.{served}
 use Rattle.rx_history.proofs.Server.{good-silenced}
 use Rattle.rx_law.proofs.ServerHistory.{or_not}
 use Rattle.rx_history.proofs.ServerStands.{running-at, server-stands}
@@ -39,7 +40,7 @@ use Rattle.rx_history.specs.Starts.{StartsOnce}
 use Rattle.rx_law.specs.Worlds.{Gave}
 use Rattle.rx_between.specs.Told.{Grows}
 use Rattle.rx_between.specs.Acknowledged.{received_by, sent_by}
-use Rattle.rx_between.proofs.EachStep.{EndStep, finishes, gives, reads, shuts, stays, takes, writes}
+use Rattle.rx_between.proofs.Each.EachStep.{EndStep, finishes, gives, reads, shuts, stays, takes, writes}
 use Rattle.rx_between.proofs.GivenAcks.{OnlyGrows, before_silence}
 use Rattle.rx_between.proofs.Grows.{step_grows}
 use Rattle.rx_between.proofs.Histories.{server_onward}
@@ -128,7 +129,8 @@ finish-late (Some k) code is zero' =
     or_not k.looks.received.ended (is_zero code)
     (running-at k.life (k.looks.received.ended || not (is_zero code)) tt is).1 zero'
 
-wrote-nothing : (a b : CallLooks) (bytes : List ℕ) → b ≡ record a { sent = record a.sent { said = a.sent.said ++ bytes } }
+wrote-nothing : (a b : CallLooks) (bytes : List ℕ)
+    → b ≡ record a { sent = record a.sent { said = a.sent.said ++ bytes } }
     → bytes ≡ [] → EndSaysLate a → EndSaysLate b
 wrote-nothing a b bytes is none (inl silent) =
     inl (
@@ -156,12 +158,14 @@ step-late s l e c b allowed (stays is) late = subst EndSaysLate (sym is) late
 step-late s l e c b allowed (takes t) late =
     let a : CallLooks = end_by s l.now (call_at l c) in
     let same = taken-says t.view t.got t.message a in
-    silent-as a b (ap (λ (k : CallLooks). k.sent.said) t.is ∙ same.0) (ap (λ (k : CallLooks). k.sent.shut) t.is ∙ same.1)
+    silent-as a b (ap (λ (k : CallLooks). k.sent.said) t.is ∙ same.0)
+    (ap (λ (k : CallLooks). k.sent.shut) t.is ∙ same.1)
     (step_grows s l e c a b (takes t)) late
 step-late s l e c b allowed (gives g) late =
     let a : CallLooks = end_by s l.now (call_at l c) in
     let same = sending-says l.now g.sending a in
-    silent-as a b (ap (λ (k : CallLooks). k.sent.said) g.is ∙ same.0) (ap (λ (k : CallLooks). k.sent.shut) g.is ∙ same.1)
+    silent-as a b (ap (λ (k : CallLooks). k.sent.said) g.is ∙ same.0)
+    (ap (λ (k : CallLooks). k.sent.shut) g.is ∙ same.1)
     (step_grows s l e c a b (gives g)) late
 step-late s l e c b allowed (writes offered got bytes event is) late =
     let a : CallLooks = end_by s l.now (call_at l c) in

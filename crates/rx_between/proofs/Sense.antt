@@ -1,5 +1,5 @@
--- Whatever one end of a call gave makes sense at the other, whenever it comes, along any joint history of its connection
--- whose server starts no call anew.
+-- Whatever one end of a call gave makes sense at the other, whenever it comes, along any joint history of its
+-- connection whose server starts no call anew.
 use Rattle.std.proofs.Common.{◌≡◌, ◌≤◌, ◌*◌, ◌==◌, ◌&&◌, ℕ, Bool, true, false, List, length, Option, Some}
 use Rattle.std.proofs.Common.{None, Ok, is_some, refl, ◌∙◌, ap, sym, subst, arith}
 use Rattle.rx_model.specs.declared.event.Event.{Event}
@@ -27,7 +27,7 @@ use Rattle.rx_law.proofs.Fronts.{ArePieces}
 use Rattle.rx_law.proofs.Joint.{Fed, between, client-grown, given-says, server-grown}
 use Rattle.rx_history.proofs.ServerStands.{server-stands}
 use Rattle.rx_history.proofs.Turns.{SendsOf, counting}
-use Rattle.rx_history.proofs.UsedLaws.{used_within}
+use Rattle.rx_history.proofs.Laws.UsedLaws.{used_within}
 use Rattle.rx_between.specs.Acknowledged.{received_by, sent_by}
 use Rattle.rx_between.specs.Agreed.{Agrees, AreGiven, MakesSense, SenseAt, SenseOn, passed_at}
 use Rattle.rx_between.specs.Told.{IsEarlierAck}
@@ -52,10 +52,6 @@ said_is (Some k) = refl
 shut_is : (o : Option CallRecord) → (ends_of o).shut ≡ (sent_by o).shut
 shut_is None = refl
 shut_is (Some k) = refl
-
-givings_is : (o : Option CallRecord) → (ends_of o).givings ≡ (sent_by o).givings
-givings_is None = refl
-givings_is (Some k) = refl
 
 kept_is : (o : Option CallRecord) → (ends_of o).kept ≡ (received_by o).kept
 kept_is None = refl
@@ -95,7 +91,8 @@ gives_of (Some k) sends =
 pieces_of_it : (a b : Option CallRecord) → Carries (ends_of a).said (ends_of a).shut (ends_of b)
     → ArePieces (sent_by a).said (sent_by a).shut (received_by b).kept
 pieces_of_it a b carries =
-    (let same = subst (λ (ps : List Packet). ArePieces (ends_of a).said (ends_of a).shut ps) (kept_is b) carries.pieces in
+    (let same = subst (λ (ps : List Packet). ArePieces (ends_of a).said (ends_of a).shut ps) (kept_is b)
+    carries.pieces in
     subst (λ (u : Bool). ArePieces (sent_by a).said u (received_by b).kept) (shut_is a)
     (subst (λ (xs : List ℕ). ArePieces xs (ends_of a).shut (received_by b).kept) (said_is a) same))
 
@@ -201,7 +198,8 @@ module _ (x : TwoEnds) (h : List Noted) (f : Fed x h) (came : CameAll x h) (c : 
   request_all : (received_by b).ended ≡ true → is_all_given (sent_by a) ≡ true
   request_all ended =
       all_given a b st.both.request client_gives agrees.request_given (ended_is b ∙ ended)
-      (all-used a b st.both.request (server_whole x.server_setup sv c f.server_kind f.server_fits f.server_legal st.once)
+      (all-used a b st.both.request
+      (server_whole x.server_setup sv c f.server_kind f.server_fits f.server_legal st.once)
       ended)
 
   reply_all : (received_by a).ended ≡ true → is_all_given (sent_by b) ≡ true
@@ -257,7 +255,8 @@ module _ (x : TwoEnds) (h : List Noted) (f : Fed x h) (came : CameAll x h) (c : 
               gave);
           given =
               given_seqs x.server_setup sv c x.connection.host bytes m payload f.server_fits f.server_legal
-              (server_only_gives x.server_setup sv c f.server_kind f.server_fits f.server_legal st.once) is_read chunk name
+              (server_only_gives x.server_setup sv c f.server_kind f.server_fits f.server_legal st.once) is_read chunk
+              name
               gave;
           counts = server_gives.counts;
           fits = server_gives.fits;
@@ -268,14 +267,16 @@ module _ (x : TwoEnds) (h : List Noted) (f : Fed x h) (came : CameAll x h) (c : 
         λ client.
             request_all (given_data x.server_setup sv c x.connection.host bytes m payload f.server_kind f.server_fits
             f.server_legal st.once
-            (server_only_grows x.server_setup sv c f.server_kind f.server_fits f.server_legal st.once) is_read chunk name
+            (server_only_grows x.server_setup sv c f.server_kind f.server_fits f.server_legal st.once) is_read chunk
+            name
             gave),
       ))
       (λ k is.
       given_acks x.server_setup sv c x.connection.host bytes m k f.server_fits f.server_legal
       (server_only_grows x.server_setup sv c f.server_kind f.server_fits f.server_legal st.once) is_read is name gave)
       (λ is.
-      absurd (no_ackalls x.server_setup sv x.connection.host bytes m f.server_kind f.server_fits f.server_legal is_read is
+      absurd (no_ackalls x.server_setup sv x.connection.host bytes m f.server_kind f.server_fits f.server_legal is_read
+      is
       gave))
 
 -- of each call

@@ -15,12 +15,13 @@ use Rattle.rx_rules.specs.Received.{Received, marks_of, used_of}
 use Rattle.rx_rules.specs.Sent.{Sent, after_ack, after_all, pieces_of}
 use Rattle.rx_rules.specs.Setup.{Setup, is_client, receiving_window}
 use Rattle.rx_between.specs.Acknowledged.{AreTrue}
-use Rattle.rx_between.proofs.EachStep.{EndStep, Judges, finishes, gives, is_own, reads, shuts, stays, takes, writes}
+use Rattle.rx_between.proofs.Each.EachStep.{EndStep, Judges, finishes, gives, is_own, reads, shuts, stays, takes}
+use Rattle.rx_between.proofs.Each.EachStep.{writes}
 use Rattle.rx_between.specs.Told.{IsEarlierAck}
 use Rattle.rx_between.proofs.Truth.{true_told}
 
--- what is asked of a message that comes: an ACK was made of the receiver; an ACKALL, and data at a client, come only of a
--- receiver that is done with all
+-- what is asked of a message that comes: an ACK was made of the receiver; an ACKALL, and data at a client, come only of
+-- a receiver that is done with all
 abbrev pub ToldTruly : Setup → Bool → Sent → Received → Took → Body → Type 0
 ToldTruly peer client sent r tooks.Heard (bodies.Ack a) = IsEarlierAck peer r a
 ToldTruly peer client sent r tooks.Heard bodies.AckAll = pieces_of sent ≤ used_of r

@@ -1,5 +1,6 @@
 -- A server owes no ACKALL: no call of it ends with its reply read.
-use Rattle.std.proofs.Common.{◌≡◌, ◌&&◌, ℕ, ℤ, zero, suc, cond, if◌then◌else◌, Bool, true, false, List, [], ◌∷◌, Option, Some, None}
+use Rattle.std.proofs.Common.{◌≡◌, ◌&&◌, ℕ, ℤ, zero, suc, cond, if◌then◌else◌, Bool, true, false, List, [], ◌∷◌, Option}
+use Rattle.std.proofs.Common.{Some, None}
 use Rattle.std.proofs.Common.{Result, Ok, Err, refl, ap, sym, subst, ◌∙◌, inl, inr, is_some}
 use Rattle.rx_model.specs.declared.answers.BadMsg.{BadMsg}
 use Rattle.rx_model.specs.declared.answers.End.TheVariants as ends
@@ -13,7 +14,8 @@ use Rattle.rx_model.specs.Body.{Body}
 use Rattle.rx_model.specs.Message.{Message}
 use Rattle.rx_model.specs.Names.{Connection, channel_of, connection_of, same_connection}
 use Rattle.rx_model.specs.Reading.{reading_of}
-use Rattle.rx_rules.specs.After.{after, enters, is_end, is_ok_end, looks, owing_ackall, owing_again, prepared, read_done}
+use Rattle.rx_rules.specs.After.{after, enters, is_end, is_ok_end, looks, owing_ackall, owing_again, prepared}
+use Rattle.rx_rules.specs.After.{read_done}
 use Rattle.rx_rules.specs.After.{taken_behind, taken_message, taken_over, taken_with}
 use Rattle.rx_rules.specs.CallLooks.{CallLooks}
 use Rattle.rx_rules.specs.Judging.{outer_row}
@@ -27,10 +29,10 @@ use Rattle.rx_rules.specs.Setup.{Setup, Kind, Client, Server, FitsSetup, IsServe
 use Rattle.rx_rules.proofs.EveryLaws.{Every, every-append}
 use Rattle.rx_history.proofs.Differ.{every_map}
 use Rattle.rx_history.proofs.Events.{call-by, calls-prepared}
-use Rattle.rx_history.proofs.OnceLaw.{served}
-use Rattle.rx_between.proofs.EachEvent.{each_step}
-use Rattle.rx_between.proofs.EachStep.{CallStep, Goes, IsMade, LifeStep, Starts}
-use Rattle.rx_between.proofs.EachStep as steps
+use Rattle.rx_history.proofs.Laws.OnceLaw.{served}
+use Rattle.rx_between.proofs.Each.EachEvent.{each_step}
+use Rattle.rx_between.proofs.Each.EachStep.{CallStep, Goes, IsMade, LifeStep, Starts}
+use Rattle.rx_between.proofs.Each.EachStep as steps
 use Rattle.rx_between.proofs.OwedAckAll.{again_clears}
 use Rattle.rx_between.proofs.Owing.{Clears, OwesNone, calm_channel, calm_finish, calm_polled, calm_turned}
 use Rattle.rx_between.proofs.Owing.{calm_used, calm_with}
@@ -216,42 +218,43 @@ call-rests (Some k) serving = not-calling k.life serving
 abbrev Free : Looks → Type 0
 Free l = Every OwesNone l.conns
 
-module _ (s : Setup) (l : Looks) (y : Connection) (serving : (c : CallName) → ServedBy (call_at l c)) (free : Free l) where
-  fresh-free : (x : Connection) (service : ℕ) → OwesNone (fresh_conn x x.host service 1 l)
-  fresh-free x service zero = refl
-  fresh-free x service (suc zero) = refl
-  fresh-free x service (suc (suc zero)) = refl
-  fresh-free x service (suc (suc (suc zero))) = refl
-  fresh-free x service (suc (suc (suc (suc n)))) = refl
+module _ (s : Setup) (l : Looks) (y : Connection) (serving : (c : CallName) → ServedBy (call_at l c)) (free : Free l)
+  where
+    fresh-free : (x : Connection) (service : ℕ) → OwesNone (fresh_conn x x.host service 1 l)
+    fresh-free x service zero = refl
+    fresh-free x service (suc zero) = refl
+    fresh-free x service (suc (suc zero)) = refl
+    fresh-free x service (suc (suc (suc zero))) = refl
+    fresh-free x service (suc (suc (suc (suc n)))) = refl
 
-  placed-free : (new : ConnLooks) (o : Option ConnLooks) → OwesNone new → Free (placed new o l)
-  placed-free new None none = every-append OwesNone l.conns (new ∷ []) free (none, tt)
-  placed-free new (Some old) none =
-      every_map OwesNone OwesNone (λ r. if same_connection r.connection old.connection then new else r) l.conns
-      (λ r own. of (same_connection r.connection old.connection) r own) free
-    where
-      of : (b : Bool) (r : ConnLooks) → OwesNone r → OwesNone (if b then new else r)
-      of true r own = none
-      of false r own = own
+    placed-free : (new : ConnLooks) (o : Option ConnLooks) → OwesNone new → Free (placed new o l)
+    placed-free new None none = every-append OwesNone l.conns (new ∷ []) free (none, tt)
+    placed-free new (Some old) none =
+        every_map OwesNone OwesNone (λ r. if same_connection r.connection old.connection then new else r) l.conns
+        (λ r own. of (same_connection r.connection old.connection) r own) free
+      where
+        of : (b : Bool) (r : ConnLooks) → OwesNone r → OwesNone (if b then new else r)
+        of true r own = none
+        of false r own = own
 
-  with_conn-free : (kind : Kind) (x : Connection) → Free (with_conn s kind x l)
-  with_conn-free (Client host epoch) x = free
-  with_conn-free (Server service nonces) x =
-      placed-free (fresh_conn x x.host service 1 l) (if is_full s l then idle_conn l else None) (fresh-free x service)
+    with_conn-free : (kind : Kind) (x : Connection) → Free (with_conn s kind x l)
+    with_conn-free (Client host epoch) x = free
+    with_conn-free (Server service nonces) x =
+        placed-free (fresh_conn x x.host service 1 l) (if is_full s l then idle_conn l else None) (fresh-free x service)
 
-  entered-free : (x : Connection) → Free (entered s x l)
-  entered-free x = of (is_some (conn_at l x))
-    where
-      of : (b : Bool) → Free (cond b l (with_conn s s.kind x l))
-      of true = free
-      of false = with_conn-free s.kind x
+    entered-free : (x : Connection) → Free (entered s x l)
+    entered-free x = of (is_some (conn_at l x))
+      where
+        of : (b : Bool) → Free (cond b l (with_conn s s.kind x l))
+        of true = free
+        of false = with_conn-free s.kind x
 
-  ready-free : (got : Took) (x : Connection) → Free (prepared s got x l)
-  ready-free got x = of (enters got)
-    where
-      of : (b : Bool) → Free (used x (if b then entered s x l else l))
-      of true = (calm_used y x (entered s x l)).none (entered-free x)
-      of false = (calm_used y x l).none free
+    ready-free : (got : Took) (x : Connection) → Free (prepared s got x l)
+    ready-free got x = of (enters got)
+      where
+        of : (b : Bool) → Free (used x (if b then entered s x l else l))
+        of true = (calm_used y x (entered s x l)).none (entered-free x)
+        of false = (calm_used y x l).none free
 
 over-free : (d : CallName) (body : Body) (o : Option CallRecord) (l : Looks) (y : Connection) → ServedBy o → Free l
     → Free (taken_over d body o l)
@@ -265,53 +268,56 @@ with-free : (s : Setup) (got : Took) (d : CallName) (m : Message) (l : Looks) (y
 with-free s tooks.Over d m l y serving free = over-free d m.body (call_at l d) l y serving free
 with-free s got d m l y serving free = (calm_with s got y d m l (λ same. absurd (cc (same)))).none free
 
-module _ (s : Setup) (l : Looks) (y : Connection) (serving : (c : CallName) → ServedBy (call_at l c)) (free : Free l) where
-  message-free : (from : Host) (got : Took) (reading : Result Message BadMsg) → Free (taken_message s from reading got l)
-  message-free from got (Err bad) = free
-  message-free from got (Ok m) = of (outer_row s s.kind l from m)
-    where
-      d : CallName
-      d = named s from m
+module _ (s : Setup) (l : Looks) (y : Connection) (serving : (c : CallName) → ServedBy (call_at l c)) (free : Free l)
+  where
+    message-free : (from : Host) (got : Took) (reading : Result Message BadMsg)
+        → Free (taken_message s from reading got l)
+    message-free from got (Err bad) = free
+    message-free from got (Ok m) = of (outer_row s s.kind l from m)
+      where
+        d : CallName
+        d = named s from m
 
-      ready : Looks
-      ready = prepared s got (connection_of d) l
+        ready : Looks
+        ready = prepared s got (connection_of d) l
 
-      of : (row : Option Took) → Free (taken_behind s row from d m got l)
-      of (Some row) = (calm_turned y row from m l).none free
-      of None =
-          with-free s got d m ready y
-          (subst ServedBy (sym (call-by d l ready (calls-prepared s got (connection_of d) l))) (serving d))
-          (ready-free s l y serving free got (connection_of d))
+        of : (row : Option Took) → Free (taken_behind s row from d m got l)
+        of (Some row) = (calm_turned y row from m l).none free
+        of None =
+            with-free s got d m ready y
+            (subst ServedBy (sym (call-by d l ready (calls-prepared s got (connection_of d) l))) (serving d))
+            (ready-free s l y serving free got (connection_of d))
 
-  quiet : (b : Bool) → b ≡ false → Clears (owing_ackall b)
-  quiet true no' q owed = absurd cc
-  quiet false no' q owed = (owed, refl)
+    quiet : (b : Bool) → b ≡ false → Clears (owing_ackall b)
+    quiet true no' q owed = absurd cc
+    quiet false no' q owed = (owed, refl)
 
-  either-no : (a b : Bool) → b ≡ false → (a && b) ≡ false
-  either-no true b is = is
-  either-no false b is = refl
+    either-no : (a b : Bool) → b ≡ false → (a && b) ≡ false
+    either-no true b is = is
+    either-no false b is = refl
 
-  read-free : (d : CallName) (end : Bool) (bytes : List ℕ) → Free (read_done d end bytes l)
-  read-free d end bytes =
-      (calm_channel y (channel_of d) (owing_ackall (end && is_call (λ k. is_calling k.life) (call_at l d))) l
-      (quiet (end && is_call (λ k. is_calling k.life) (call_at l d))
-      (either-no end (is_call (λ k. is_calling k.life) (call_at l d)) (call-rests (call_at l d) (serving d))))).none free
+    read-free : (d : CallName) (end : Bool) (bytes : List ℕ) → Free (read_done d end bytes l)
+    read-free d end bytes =
+        (calm_channel y (channel_of d) (owing_ackall (end && is_call (λ k. is_calling k.life) (call_at l d))) l
+        (quiet (end && is_call (λ k. is_calling k.life) (call_at l d))
+        (either-no end (is_call (λ k. is_calling k.life) (call_at l d)) (call-rests (call_at l d) (serving d))))).none
+        free
 
-  -- behind each event
-  event-free : (e : Event) → AllowedServer s l e → Free (after s e l)
-  event-free (events.Accepted (Some d)) allowed = free
-  event-free (events.Accepted None) allowed = free
-  event-free (events.Wrote d offered got bytes) allowed = free
-  event-free (events.HasRead d max got bytes) allowed = read-free d (is_end got) bytes
-  event-free (events.Finished d code got) allowed = (calm_finish y d code got l).none free
-  event-free (events.Taken from bytes got) allowed = message-free from got (reading_of bytes)
-  event-free (events.Polled got) allowed = (calm_polled s y got l).none free
-  event-free (events.Clocked now) allowed = free
-  event-free (events.Linked to service first got) allowed = absurd allowed
-  event-free (events.Called cid got) allowed = absurd allowed
-  event-free (events.Shut d got) allowed = absurd allowed
-  event-free (events.Ended d got) allowed = absurd allowed
-  event-free (events.Cancelled d code got) allowed = absurd allowed
+    -- behind each event
+    event-free : (e : Event) → AllowedServer s l e → Free (after s e l)
+    event-free (events.Accepted (Some d)) allowed = free
+    event-free (events.Accepted None) allowed = free
+    event-free (events.Wrote d offered got bytes) allowed = free
+    event-free (events.HasRead d max got bytes) allowed = read-free d (is_end got) bytes
+    event-free (events.Finished d code got) allowed = (calm_finish y d code got l).none free
+    event-free (events.Taken from bytes got) allowed = message-free from got (reading_of bytes)
+    event-free (events.Polled got) allowed = (calm_polled s y got l).none free
+    event-free (events.Clocked now) allowed = free
+    event-free (events.Linked to service first got) allowed = absurd allowed
+    event-free (events.Called cid got) allowed = absurd allowed
+    event-free (events.Shut d got) allowed = absurd allowed
+    event-free (events.Ended d got) allowed = absurd allowed
+    event-free (events.Cancelled d code got) allowed = absurd allowed
 
 -- no connection of a server owes one
 pub serves_owe : (s : Setup) (h : List Event) (y : Connection) → IsServer s.kind → FitsSetup s → Legal s h

@@ -1,7 +1,6 @@
 -- What a client takes for acknowledged its server has: every step of either end leaves that so, late ACKs too.
 use Rattle.std.proofs.Common.{◌≡◌, ℕ, ◌+◌, ◌-◌, true, false, cond}
 use Rattle.std.proofs.Common.{Some, arith, nat_lt}
-use Rattle.rx_rules.specs.CallLooks.{CallLooks, after_piece}
 use Rattle.rx_rules.specs.Received.{Received, used_of, marks_of}
 use Rattle.rx_rules.specs.Sent.{Sent, after_ack, is_marked}
 use Rattle.rx_rules.specs.Sent as streams
@@ -15,11 +14,6 @@ use Rattle.rx_between.proofs.Marks.{told_soft}
 pub true_grown : (c : Sent) (before after_it : Received) → Grows before after_it → AreTrue c before → AreTrue c after_it
 true_grown c before after_it grows truth =
     record { hard = omega (arith, truth.hard, grows.used); soft = λ k low marks. grows.kept k (truth.soft k low marks) }
-
--- as the client gives a piece
-pub true_given : (now seq : ℕ) (c : CallLooks) (v : Received) → AreTrue c.sent v
-    → AreTrue (after_piece now seq c).sent v
-true_given now seq c v truth = record { hard = truth.hard; soft = truth.soft }
 
 -- as an ACK comes that the server gave then, however late: a stale one changes nothing
 pub true_told : (c : Sent) (then_ now_ : Received) (w : ℕ) → Grows then_ now_ → AreTrue c now_

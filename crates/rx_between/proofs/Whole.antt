@@ -14,7 +14,8 @@ use Rattle.rx_rules.specs.After.{is_end}
 use Rattle.rx_rules.specs.CallItems.{Sending, Piece, Ack, after_sending}
 use Rattle.rx_rules.specs.CallLooks.{CallLooks, NodeView, after_body, after_chunk, after_taken, call_row, packet_of}
 use Rattle.rx_rules.specs.Looks.{Looks}
-use Rattle.rx_rules.specs.Received.{Packet, Received, after_packet, after_read, front_of, is_complete, is_within, last_seq}
+use Rattle.rx_rules.specs.Received.{Packet, Received, after_packet, after_read, front_of, is_complete, is_within}
+use Rattle.rx_rules.specs.Received.{last_seq}
 use Rattle.rx_rules.specs.Received.{unread_of, used_of}
 use Rattle.rx_rules.specs.Received as packets
 use Rattle.rx_rules.specs.Sent.{pieces_by}
@@ -22,9 +23,9 @@ use Rattle.rx_rules.specs.Setup.{Setup}
 use Rattle.rx_history.proofs.Ends.{Ends}
 use Rattle.rx_law.proofs.Carries.{Carries}
 use Rattle.rx_law.proofs.Fronts.{ArePieces}
-use Rattle.rx_history.proofs.WholeLaws.{Whole, end_reads, whole_keeps, whole_reads}
+use Rattle.rx_history.proofs.Laws.WholeLaws.{Whole, end_reads, whole_keeps, whole_reads}
 use Rattle.rx_law.specs.Pieces.{IsAt}
-use Rattle.rx_between.proofs.EachStep.{EndStep, finishes, gives, reads, shuts, stays, takes, writes}
+use Rattle.rx_between.proofs.Each.EachStep.{EndStep, finishes, gives, reads, shuts, stays, takes, writes}
 use Rattle.rx_between.proofs.Grows.{IsNew, row_new}
 
 -- where a read answered End

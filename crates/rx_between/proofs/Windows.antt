@@ -1,5 +1,5 @@
--- The window that a sender takes for its peer's isn't wider than the peer's: each step of the sender's end leaves that so,
--- where each ACK that comes was made by the peer.
+-- The window that a sender takes for its peer's isn't wider than the peer's: each step of the sender's end leaves that
+-- so, where each ACK that comes was made by the peer.
 use Rattle.std.proofs.Common.{◌≡◌, ◌≤◌, ◌-◌, if◌then◌else◌, nat_lt, ℕ, Bool, true, false, List, ◌∷◌, Option}
 use Rattle.std.proofs.Common.{Some, None, sym, subst, arith}
 use Rattle.rx_model.specs.declared.answers.Took.{Took}
@@ -17,7 +17,8 @@ use Rattle.rx_rules.specs.Sent.{Sent, after_ack, is_marked, with_window}
 use Rattle.rx_rules.specs.Setup.{Setup, FitsSetup, receiving_window}
 use Rattle.rx_between.specs.Acknowledged.{sent_by}
 use Rattle.rx_between.specs.Agreed.{IsLetBy}
-use Rattle.rx_between.proofs.EachStep.{EndStep, Judges, finishes, is_own, gives, reads, shuts, stays, takes, writes}
+use Rattle.rx_between.proofs.Each.EachStep.{EndStep, Judges, finishes, is_own, gives, reads, shuts, stays, takes}
+use Rattle.rx_between.proofs.Each.EachStep.{writes}
 use Rattle.rx_between.proofs.Histories.{StepOf}
 use Rattle.rx_between.proofs.Onward.{end_by, sent_is}
 
@@ -73,7 +74,8 @@ module _ (peer : Setup) (fits : FitsSetup peer) where
   taken_let v tooks.Heard m k told low = body_let v.now m m.body k told low
   taken_let v _ m k told low = low
 
-  sending_let : (now : ℕ) (x : Sending) (k : CallLooks) → IsLetBy peer k.sent → IsLetBy peer (after_sending now x k).sent
+  sending_let : (now : ℕ) (x : Sending) (k : CallLooks) → IsLetBy peer k.sent
+      → IsLetBy peer (after_sending now x k).sent
   sending_let now (Piece seq again) k low = low
   sending_let now (Ack reason serial) k low = low
 

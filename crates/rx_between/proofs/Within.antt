@@ -1,6 +1,8 @@
 -- What an end gave lies within the window of the other: a fresh piece is given only where the peer's window lets it go.
-use Rattle.std.proofs.Common.{◌≡◌, ◌⊎◌, ◌≤◌, ◌<◌, ◌+◌, ◌++◌, cond, if◌then◌else◌, filter, max, nat_le, nat_lt, not, ℕ, suc}
-use Rattle.std.proofs.Common.{Bool, true, false, List, [], ◌∷◌, Option, Some, None, option_map, is_some, refl, ◌∙◌, ap, sym}
+use Rattle.std.proofs.Common.{◌≡◌, ◌⊎◌, ◌≤◌, ◌<◌, ◌+◌, ◌++◌, cond, if◌then◌else◌, filter, max, nat_le, nat_lt, not, ℕ}
+use Rattle.std.proofs.Common.{suc}
+use Rattle.std.proofs.Common.{Bool, true, false, List, [], ◌∷◌, Option, Some, None, option_map, is_some, refl, ◌∙◌, ap}
+use Rattle.std.proofs.Common.{sym}
 use Rattle.std.proofs.Common.{subst, arith, inl, inr, ⊎_elim, ◌==◌}
 use Rattle.std.proofs.lemmas.Bool.{and_parts}
 use Rattle.std.proofs.lemmas.Bool.Decides.{nat_tests}
@@ -17,11 +19,12 @@ use Rattle.rx_rules.specs.Lost.{first_lost, is_late, is_overtaken, late_of, lost
 use Rattle.rx_rules.specs.Owing.{Owed}
 use Rattle.rx_rules.specs.Rates.{Cwnd}
 use Rattle.rx_rules.specs.Received.{reach}
-use Rattle.rx_rules.specs.Sent.{Giving, LastGiving, Sent, counting_of, in_flight, orders_of, given_of, greatest_given, is_let, last_giving, lowest_of}
+use Rattle.rx_rules.specs.Sent.{Giving, LastGiving, Sent, counting_of, in_flight, orders_of, given_of, greatest_given}
+use Rattle.rx_rules.specs.Sent.{is_let, last_giving, lowest_of}
 use Rattle.rx_rules.specs.Setup.{Setup}
 use Rattle.rx_between.specs.Acknowledged.{sent_by}
-use Rattle.rx_between.proofs.EachItem.{In, least_in}
-use Rattle.rx_between.proofs.EachStep.{EndStep, finishes, gives, reads, shuts, stays, takes, writes}
+use Rattle.rx_between.proofs.Each.EachItem.{In, least_in}
+use Rattle.rx_between.proofs.Each.EachStep.{EndStep, finishes, gives, reads, shuts, stays, takes, writes}
 use Rattle.rx_between.proofs.GivenSeqs.{taken_givings}
 use Rattle.rx_between.proofs.Histories.{StepOf}
 use Rattle.rx_between.proofs.Onward.{end_by, sent_is}
@@ -32,7 +35,8 @@ in_filtered : {X : Type 0} (p : X → Bool) (x : X) (xs : List X) → In x (filt
 in_filtered p x [] there = absurd there
 in_filtered {X = X} p x (y ∷ ys) there =
     (elim (p y) as (λ b. In x (cond b (y ∷ filter p ys) (filter p ys)) → In x (y ∷ ys)) [
-      | true ↦ λ is. ⊎_elim (λ (same : x ≡ y). inl same) (λ (rest : In x (filter p ys)). inr (in_filtered p x ys rest)) is
+      | true ↦ λ is. ⊎_elim (λ (same : x ≡ y). inl same) (λ (rest : In x (filter p ys)). inr (in_filtered p x ys rest))
+          is
       | false ↦ λ is. inr (in_filtered p x ys is)
     ]) there
 
@@ -51,7 +55,8 @@ MayGive s (Ack reason serial) = Unit {0}
 one_item : (s : Sent) (i : CallItem) (rank : ℕ) (x : Sending) → In i (record { rank = rank; sending = x } ∷ [])
     → MayGive s x → MayGive s i.sending
 one_item s i rank x there may =
-    ⊎_elim (λ (same : i ≡ record { rank = rank; sending = x }). subst (λ (j : CallItem). MayGive s j.sending) (sym same) may)
+    ⊎_elim (λ (same : i ≡ record { rank = rank; sending = x }). subst (λ (j : CallItem). MayGive s j.sending) (sym same)
+    may)
     (λ (none : ⊥). absurd none) there
 
 lowest_low : (test : ℕ → Bool) (n k : ℕ) → lowest_to test n ≡ Some k → k ≤ n
@@ -176,7 +181,8 @@ sending_within : (now : ℕ) (x : Sending) (k : CallLooks) (top : ℕ) → MayGi
     → k.sent.acked + k.sent.peer_window ≤ top → given_of (after_sending now x k).sent ≤ top
 sending_within now (Piece seq again) k top (inl before) low lets = omega (arith, before, low)
 sending_within now (Piece seq again) k top (inr (next, is_let_)) low lets =
-    (let within : seq ≤ k.sent.acked + k.sent.peer_window = grind (arith, nat_tests) in omega (arith, within, lets, low))
+    (let within : seq ≤ k.sent.acked + k.sent.peer_window = grind (arith, nat_tests) in omega
+    (arith, within, lets, low))
 sending_within now (Ack reason serial) k top may low lets = low
 
 same_within : (a b : CallLooks) (top : ℕ) → b.sent.givings ≡ a.sent.givings → given_of a.sent ≤ top

@@ -1,4 +1,5 @@
--- What the two ends of a call agree on, whatever the network loses, repeats or reorders. Public clauses cite this module.
+-- What the two ends of a call agree on, whatever the network loses, repeats or reorders. Public clauses cite this
+-- module.
 use Rattle.std.specs.Prelude.{◌≡◌, ◌⊎◌, ◌≤◌, ◌+◌, is_some, ℕ, true, false, List, Option, Some, None, Ok, slice_get}
 use Rattle.rx_model.specs.declared.answers.End.{End}
 use Rattle.rx_model.specs.declared.answers.Took.{Took}
@@ -14,7 +15,7 @@ use Rattle.rx_rules.specs.Life as lives
 use Rattle.rx_rules.specs.Looks.{CallRecord, call_at, channel_at}
 use Rattle.rx_rules.specs.Received.{Received, greatest, used_of}
 use Rattle.rx_rules.specs.Sent.{Sent, given_of}
-use Rattle.rx_rules.specs.Setup.{Setup, Client, is_client, named, receiving_window, sending_window}
+use Rattle.rx_rules.specs.Setup.{Client, Setup, is_client, named, pace_of, receiving_window}
 use Rattle.rx_law.specs.Premises.{Held, HeldOnce}
 use Rattle.rx_law.specs.Promises.{ServerForgotNone, at_client, at_server, ends_in}
 use Rattle.rx_history.specs.Sides.{Node, side}
@@ -76,7 +77,7 @@ pub record Agrees (client server : Setup) (a b : Option CallRecord) : Type 0 whe
 
 -- what passed at the end of a call; nothing, where it has no record
 abbrev pub passed_at : Setup → ℕ → Option CallRecord → CallLooks
-passed_at s now None = fresh_call (sending_window s) s.prompt now
+passed_at s now None = fresh_call (pace_of s) now
 passed_at s now (Some k) = k.looks
 
 -- a message makes sense at the end of a call of such a node, whatever slots are left there

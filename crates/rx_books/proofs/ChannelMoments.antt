@@ -14,7 +14,7 @@ use Rattle.rx_rules.specs.Looks.{CallRecord, Looks, is_call, latest}
 use Rattle.rx_rules.specs.Setup.{Setup, is_client}
 use Rattle.rx_call.specs.Kept.{call_under}
 use Rattle.rx_call.specs.Standing.{EndOfCall}
-use Rattle.rx_ends.specs.Ends.{StandsAs}
+use Rattle.rx_call_ends.specs.Ends.{StandsAs}
 use Rattle.rx_table.specs.Records.{ConnRecord, record_at, seat_at}
 use Rattle.rx_table.specs.declared.seat.Seat.{Seat}
 use Rattle.rx_node.specs.Due.{OwesAtOnce, death_of, unsilenced}
@@ -25,13 +25,13 @@ use Rattle.rx_node.specs.Node.{NodeState, is_active_life, life_at, life_by, seat
 use Rattle.rx_node.specs.declared.item.Item.{Item as CodeItem}
 use Rattle.rx_node.specs.declared.life.Life.{Life as CodeLife}
 use Rattle.rx_node.proofs.DueItems.{items_active}
-use Rattle.rx_node.proofs.IdleSteps.{place_stands}
+use Rattle.rx_node.proofs.Steps.IdleSteps.{place_stands}
 use Rattle.rx_node.proofs.KeptKeys.{seat_key}
 use Rattle.rx_node.proofs.LeastItems.{least_map}
 use Rattle.rx_node.proofs.LifeLaws.{live_if_active}
-use Rattle.rx_node.proofs.MomentSteps.{end_active, end_lifeless, owed_is, silence_idle}
+use Rattle.rx_node.proofs.Steps.MomentSteps.{end_active, end_lifeless, owed_is, silence_idle}
 use Rattle.rx_node.proofs.OwedItems.{owed_first}
-use Rattle.rx_node.proofs.TableSteps.{get_some}
+use Rattle.rx_node.proofs.Steps.TableSteps.{get_some}
 
 -- ---- items
 
@@ -141,7 +141,8 @@ module _ (class : List ℕ → Class) (n : NodeState) (l : Looks) (m : Mirrors c
     where
       of : (o : Option CallRecord) → latest l ch ≡ o → silence_at n key ≡ death_of o
       of None none =
-          silence_idle n key (inactive_end (ap (λ (o : Option CallRecord). is_active_life (option_map (λ k. k.life) o)) none))
+          silence_idle n key (inactive_end
+          (ap (λ (o : Option CallRecord). is_active_life (option_map (λ k. k.life) o)) none))
       of (Some k) here =
           (elim (is_active k.life) as (λ b. is_active k.life ≡ b
           → silence_at n key ≡ (if b then Some (k.looks.heard + SILENCE_MS) else None)) [

@@ -4,7 +4,7 @@ use Rattle.std.proofs.Common.{Option, Some, None, refl, ◌∙◌, ap, sym, subs
 use Rattle.std.proofs.lemmas.Bool.Decides.{nat_tests}
 use Rattle.std.specs.Prelude.{nat_le}
 use Rattle.rx_node.specs.Due.{lesser_of}
-use Rattle.rx_node.proofs.TableSteps.{decided}
+use Rattle.rx_node.proofs.Steps.TableSteps.{decided}
 
 -- ---- the least of all
 
@@ -67,5 +67,6 @@ module _ {X : Type 0} (rank : X → ℕ) (f g : ℕ → Option X) (all : ℕ) (s
         ∙ ap (λ (o : Option X). lesser_of rank (f n) o) (ap g (sym same) ∙ there)
         ∙ meets (f n) (subst (λ (k : ℕ). Behind (f k)) same (before-it key (omega (arith)))))
         (λ apart. next n within
-        ∙ ap (λ (o : Option X). lesser_of rank o (g n)) (first_of_all n (omega (arith, past, apart)) (omega (arith, within)))
+        ∙ ap (λ (o : Option X). lesser_of rank o (g n))
+        (first_of_all n (omega (arith, past, apart)) (omega (arith, within)))
         ∙ keeps n within (g n) refl)

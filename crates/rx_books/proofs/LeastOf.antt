@@ -138,12 +138,6 @@ module _ (class : List ℕ → Class) (n : NodeState) (b : BooksState) (booked :
           ∙ ended)
           (of-key l ch.channel m ch.at))
 
-  rank-as : (due : Option Due) (i : Option Item) → AreDueAs s l due i → option_map (λ d. d.rank) due ≡ option_map (λ i. i.rank) i
-  rank-as None None is = refl
-  rank-as None (Some i) is = absurd is
-  rank-as (Some d) None is = absurd is
-  rank-as (Some d) (Some i) is = ap (λ (r : ℕ). Some r) is.rank
-
   -- its rank is that of the least item
   pub rank_first : (moment key : ℕ) → IsLeast b.ranks (moment, key)
       → Some moment ≡ option_map (λ i. i.rank) (least_by (λ i. i.rank) (items s (unsilenced l)))

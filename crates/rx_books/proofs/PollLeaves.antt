@@ -14,13 +14,13 @@ use Rattle.rx_rules.specs.Items.{Item, message_on}
 use Rattle.rx_rules.specs.Looks.{Looks}
 use Rattle.rx_rules.specs.Records.{silenced}
 use Rattle.rx_rules.specs.Setup.{Setup}
-use Rattle.rx_history.proofs.Dims.{Dims, dims_channel, dims_conn, dims_looks, dims_trans}
-use Rattle.rx_history.proofs.DimsEvents.{polled_dims}
+use Rattle.rx_history.proofs.Dimensions.Dims.{Dims, dims_channel, dims_conn, dims_looks, dims_trans}
+use Rattle.rx_history.proofs.Dimensions.DimsEvents.{polled_dims}
 use Rattle.rx_node.specs.Due.{AreDueAs, Gave, IsDueAs}
 use Rattle.rx_node.specs.Mirrors.{Mirrors}
 use Rattle.rx_node.specs.Node.{NodeState, setup_of}
 use Rattle.rx_node.specs.declared.item.Due.{Due}
-use Rattle.rx_node.proofs.SmallSteps.{mirrors_strays}
+use Rattle.rx_node.proofs.Steps.SmallSteps.{mirrors_strays}
 use Rattle.rx_books.specs.Polled.{Polled, proofs_of}
 use Rattle.rx_books.proofs.ProvedClients.{proofs_channel, proofs_conn}
 
@@ -45,7 +45,13 @@ leaves-both l m n p q =
 
 leaves-body : (c : CallName) (m : Message) (body : Body) (l : Looks) → Leaves l (given_body c m body l)
 leaves-body c m (bodies.Chunk payload) l =
-    record { dims = dims_looks c (after_piece l.now m.seq) l (λ k is. is); firsts = refl; entered = refl; proved = refl }
+    record {
+      dims = dims_looks c (after_piece l.now m.seq) l (λ k is. is);
+      firsts = refl;
+      entered = refl;
+      proved =
+          refl;
+    }
 leaves-body c m (bodies.Ack a) l =
     record { dims = dims_looks c (after_ack_given l.now) l (λ k is. is); firsts = refl; entered = refl; proved = refl }
 leaves-body c m (bodies.Abort code) l =

@@ -21,8 +21,8 @@ use Rattle.rx_rules.specs.Records.{is_silent, silence_of, silenced, unless_silen
 use Rattle.rx_rules.specs.Rules.{Allowed, AllowedAt, Legal}
 use Rattle.rx_rules.specs.Setup.{Kind, Server, Client, Setup, FitsSetup}
 use Rattle.rx_rules.proofs.EveryLaws.{Every}
-use Rattle.rx_history.proofs.Givings.{poll_gives}
-use Rattle.rx_history.proofs.GivingItems.{item_leaves, stray_leaves}
+use Rattle.rx_history.proofs.Given.Givings.{poll_gives}
+use Rattle.rx_history.proofs.Given.GivingItems.{item_leaves, stray_leaves}
 use Rattle.rx_node.specs.Due.{AreDueAs, Gave, IsDueAs, unsilenced}
 use Rattle.rx_node.specs.Mirrors.{Mirrors, StepsNode}
 use Rattle.rx_node.specs.Node.{KeepsNode, NodeState, setup_of}
@@ -31,8 +31,8 @@ use Rattle.rx_node.specs.declared.item.Due.{Due}
 use Rattle.rx_books.proofs.DueMoment.{NoneSilent, items_same}
 use Rattle.rx_node.proofs.KeptKeys.{kept_setup}
 use Rattle.rx_node.proofs.LeastItems.{least_within, within_rank}
-use Rattle.rx_node.proofs.MomentSteps.{ended_idle}
-use Rattle.rx_node.proofs.SmallSteps.{mirrors_strays}
+use Rattle.rx_node.proofs.Steps.MomentSteps.{ended_idle}
+use Rattle.rx_node.proofs.Steps.SmallSteps.{mirrors_strays}
 
 -- ---- silent calls ended
 

@@ -19,8 +19,8 @@ use Rattle.rx_node.specs.Moments.{owed_on, proved_at}
 use Rattle.rx_node.specs.Node.{KeepsNode, NodeState}
 use Rattle.rx_node.specs.declared.item.Item.{Item}
 use Rattle.rx_node.proofs.KeptKeys.{kept_key}
-use Rattle.rx_node.proofs.MomentSteps.{silence_idle}
-use Rattle.rx_node.proofs.TableSteps.{decided}
+use Rattle.rx_node.proofs.Steps.MomentSteps.{silence_idle}
+use Rattle.rx_node.proofs.Steps.TableSteps.{decided}
 use Rattle.rx_books.specs.Books.{BooksState, IsBooked, IsNoted, KeepsKeys, KeepsPlaces}
 use Rattle.rx_table.proofs.Noted.{none_made}
 

@@ -153,7 +153,8 @@ module _ (class : List ℕ → Class) (n : NodeState) (l : Looks) where
       let silent = silent-latest e.behind.now moment (latest e.behind ch.channel)
       (sym (silence_is class n e.behind e.mirrors key ch.channel ch.at) ∙ dies)
       (let now = e.mirrors.now in omega (arith, now, passed)) in
-      let fewer = one-fewer e.behind.now (latest_name e.behind ch.channel) e.behind.calls silent.0 silent.1.0 silent.1.1 in
+      let fewer = one-fewer e.behind.now (latest_name e.behind ch.channel) e.behind.calls silent.0 silent.1.0
+      silent.1.1 in
       record {
         behind = on_call (latest_name e.behind ch.channel) (unless_silent e.behind.now) e.behind;
         mirrors = changes e.behind ch.channel e.mirrors ch.at;
@@ -171,7 +172,8 @@ module _ (class : List ℕ → Class) (n : NodeState) (l : Looks) where
   module _ (b : BooksState) (booked : IsBooked n b)
       (none : (key moment : ℕ) → moment_of b.silences key ≡ Some moment → n.moment < moment)
       (first steps : ℕ) (e : Ending class n l first steps) where
-    later : (k : CallRecord) → FoundIn e.behind.calls k → is_active k.life ≡ true → e.behind.now < k.looks.heard + SILENCE_MS
+    later : (k : CallRecord) → FoundIn e.behind.calls k → is_active k.life ≡ true
+        → e.behind.now < k.looks.heard + SILENCE_MS
     later k own active =
         let lives = live_at (setup_of class n) e.behind e.mirrors.orderly e.mirrors.roomy.differ e.mirrors.numbered k
         own.found (live_if_active k.life active) in

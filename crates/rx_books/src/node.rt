@@ -1,4 +1,5 @@
-ghost use Rattle.std.specs.Prelude.{◌≡◌, ◌≤◌, ◌<◌, ◌*◌, ◌/◌, Some, None, length, IfOk, IfSome, Option, drop, option_map};
+ghost use Rattle.std.specs.Prelude.{◌≡◌, ◌≤◌, ◌<◌, ◌*◌, ◌/◌, Some, None, length, IfOk, IfSome, Option, drop};
+ghost use Rattle.std.specs.Prelude.{option_map};
 ghost use Rattle.rx_due.specs.Cost.{AtMost};
 ghost use Rattle.rx_rules.specs.Looks.{Looks, at_start};
 ghost use Rattle.rx_rules.specs.Setup.{FitsSetup};
@@ -33,7 +34,7 @@ pub use changes::is_response;
 
 /// A node, with its books. What is said of it is said of the node that it holds; the books have of each channel what
 /// that node says of it.
-#[derive(Drop)]
+#[derive(Debug, Drop)]
 pub struct Node<C: Class> {
     core: Core<C>,
     books: Books,
@@ -104,7 +105,8 @@ impl<C: Class> Node<C> {
     /// From which moment on, in milliseconds, a poll would do something; none where no call lives that isn't broken,
     /// and nothing is owed.
     pub fn due<L: Ledger>(&self, steps: &mut Steps<L>) -> Option<u64>
-        ensures value { (l : Looks) → Mirrors C.class_of self.now l → result ≡ rules_due (setup_of C.class_of self.now) l }
+        ensures value { (l : Looks) → Mirrors C.class_of self.now l
+            → result ≡ rules_due (setup_of C.class_of self.now) l }
         ensures steps { AtMost 4 steps.old steps.new }
     {
         if self.core.has_stray() {

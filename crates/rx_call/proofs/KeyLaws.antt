@@ -16,7 +16,7 @@ use Rattle.rx_call.specs.Kept.{KeptCalls, call_under, with_call_under, slots_und
 use Rattle.rx_call.specs.Keys.{there_from, HasSoundKeys}
 use Rattle.rx_call.proofs.Undisturbed.{idle_slots}
 use Rattle.rx_call.proofs.CallsAt.{key_within, parts_at, count-set, one_if, some_of, some_and}
-use Rattle.rx_call.specs.declared.pace.Pace.{Pace}
+use Rattle.rx_model.specs.declared.pace.Pace.{Pace}
 
 -- ---- by index
 

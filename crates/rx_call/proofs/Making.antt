@@ -9,7 +9,7 @@ use Rattle.rx_call.specs.Standing.{EndOfCall}
 use Rattle.rx_call.specs.Kept.{IsIdleOf}
 use Rattle.rx_call.specs.Keys.{there_from, HasSoundKeys}
 use Rattle.rx_call.proofs.KeyLaws.{free_is_absent, not_free, count_none}
-use Rattle.rx_call.specs.declared.pace.Pace.{Pace}
+use Rattle.rx_model.specs.declared.pace.Pace.{Pace}
 
 -- each call is idle and its key free
 pub record AllFree (calls : Slab EndOfCall) (free : List ℕ) (pace : Pace) : Type 0 where

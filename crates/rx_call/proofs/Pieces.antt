@@ -3,7 +3,8 @@ use Rattle.std.proofs.Common.{◌≡◌, ◌&&◌, not, nat_le, cond, true, fals
 use Rattle.std.proofs.Common.{List, [], ◌∷◌, ◌++◌, Option, Some, None, refl, sym, arith}
 use Rattle.std.specs.Prelude.{filter, option_map, option_and_then}
 use Rattle.std.proofs.lemmas.Bool.Decides.{nat_tests}
-use Rattle.rx_rules.specs.CallItems.{CallItem, Sending, piece_items, lost_items, fresh_items, again_items, can_give, asks, resend_after}
+use Rattle.rx_rules.specs.CallItems.{CallItem, Sending, piece_items, lost_items, fresh_items, again_items, can_give}
+use Rattle.rx_rules.specs.CallItems.{asks, resend_after}
 use Rattle.rx_rules.specs.CallItems as items
 use Rattle.rx_rules.specs.CallLooks.{CallLooks}
 use Rattle.rx_rules.specs.Least.{least_by, lesser_by}

@@ -6,7 +6,7 @@ use Rattle.rx_rules.specs.CallLooks.{CallLooks}
 use Rattle.rx_pool.specs.Pool.{Slots}
 use Rattle.rx_pool.specs.Held.{Keeps}
 use Rattle.rx_call.specs.Standing.{EndOfCall, StandsCall, IsIdle, slots_of, holds_lead}
-use Rattle.rx_call.specs.declared.pace.Pace.{Pace}
+use Rattle.rx_model.specs.declared.pace.Pace.{Pace}
 
 -- how many calls were made; the pace of each; and at each key its call, or none where the key isn't there
 pub record KeptCalls : Type 0 where

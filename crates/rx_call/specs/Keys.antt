@@ -4,7 +4,7 @@ use Rattle.std.specs.Prelude.{length, Option, None, IsSomeAnd}
 use Rattle.rx_pool.specs.Pool.{has, HasNoRepeat}
 use Rattle.rx_call.specs.Kept.{IsIdleOf}
 use Rattle.rx_call.specs.Standing.{EndOfCall}
-use Rattle.rx_call.specs.declared.pace.Pace.{Pace}
+use Rattle.rx_model.specs.declared.pace.Pace.{Pace}
 
 -- the calls whose keys aren't free, the first of them at this key
 abbrev pub there_from : List ℕ → ℕ → List (Option EndOfCall) → List (Option EndOfCall)

@@ -22,7 +22,7 @@ use Rattle.rx_call.specs.declared.giving.Giving.TheVariants as givings
 use Rattle.rx_call.specs.declared.owing.OwedAck.{OwedAck}
 use Rattle.rx_call.specs.declared.side.Side.{Side}
 use Rattle.rx_call.specs.declared.side.Side.TheVariants as sides
-use Rattle.rx_call.specs.declared.pace.Pace.{Pace}
+use Rattle.rx_model.specs.declared.pace.Pace.{Pace}
 
 -- whether it is a client's end; its node's pace; what it received and what it said, in slots; its rates; the
 -- acknowledgement that it owes; the moment at which it was last heard, and that at which it last gave a DATA or an ACK

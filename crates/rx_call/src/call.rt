@@ -8,8 +8,8 @@ ghost use Rattle.rx_call.specs.Standing.{EndOfCall, StandsCall, IsIdle, IsSameEn
 ghost use Rattle.rx_call.specs.Standing.{is_client, leadless};
 
 use crate::owing::OwedAck;
-use crate::pace::Pace;
 use crate::side::Side;
+use rx_model::Pace;
 use rx_model::wire::SILENCE_MS;
 use rx_pool::Pool;
 use rx_recvwin::{AckView, RecvWin};
@@ -165,7 +165,7 @@ impl Call {
         requires idle { IsIdle self.old }
         requires now { now < 2 ^ 62 }
         ensures stands { let pace = self.old.pace in
-            (pool : Slots) → StandsCall pool self.new (fresh_call pace.window pace.prompt now) }
+            (pool : Slots) → StandsCall pool self.new (fresh_call pace now) }
         ensures client { self.new.client ≡ is_client side }
         ensures pace { self.new.pace ≡ self.old.pace }
         ensures slots { slots_of self.new ≡ [] }

@@ -8,8 +8,8 @@ ghost use Rattle.rx_call.specs.Standing.{IsIdle};
 ghost use Rattle.rx_call.specs.Lending.{LendsCall};
 
 use crate::call::Call;
-use crate::pace::Pace;
 use rx_due::Steps;
+use rx_model::Pace;
 use slab::Slab;
 use std::alloc::{AllocError, Global};
 use std::marker::Model;

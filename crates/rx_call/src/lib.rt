@@ -13,7 +13,6 @@ mod calls;
 mod giving;
 mod laws;
 mod owing;
-mod pace;
 mod side;
 
 pub use call::Call;
@@ -21,6 +20,5 @@ pub use calls::Calls;
 pub use giving::Giving;
 pub use laws::{leads_have_slots, one_call_changes};
 pub use owing::OwedAck;
-pub use pace::Pace;
 pub use rx_recvwin::AckView;
 pub use side::Side;

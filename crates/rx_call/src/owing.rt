@@ -149,8 +149,8 @@ pub fn owe_for(
     }
 }
 
-/// What is owed behind an acknowledgement that was given, where nothing was heard for so long: a hole that the end `tells`
-/// is told again, as soon as that has lasted 10 ms, and then each time that it has lasted twice as long.
+/// What is owed behind an acknowledgement that was given, where nothing was heard for so long: a hole that the end
+/// `tells` is told again, as soon as that has lasted 10 ms, and then each time that it has lasted twice as long.
 pub fn owe_for_given(now: u64, tells: bool, silent: u64) -> Option<OwedAck>
     requires now { now < 2 ^ 62 }
     requires silent { silent < 2 ^ 62 }

@@ -3,9 +3,9 @@ ghost use Rattle.rx_packet.specs.Seen.{body_of};
 ghost use Rattle.rx_call.specs.Standing.{HasSpare, HoldsPiece, FitsSlot};
 ghost use Rattle.rx_call_bench.specs.Standing.{Stands};
 
-use rx_call::{Call, Giving, Pace, Side};
-use rx_model::CallRead;
+use rx_call::{Call, Giving, Side};
 use rx_model::wire::{LAST_PACKET, PAYLOAD_BYTES, REQUEST_ACK};
+use rx_model::{CallRead, Pace};
 use rx_packet::{AckBody, Body, Head};
 use rx_pool::Pool;
 use std::alloc::{AllocError, Global};

@@ -2,8 +2,8 @@ ghost use Rattle.std.specs.Prelude.{◌≡◌, ◌≤◌, ◌<◌, ◌^◌, leng
 ghost use Rattle.rx_pool.specs.Held.{Holds};
 ghost use Rattle.rx_call.specs.Standing.{IsIdle, slots_of};
 
-use rx_call::{Call, Giving, Pace, Side};
-use rx_model::{CallRead, Took};
+use rx_call::{Call, Giving, Side};
+use rx_model::{CallRead, Pace, Took};
 use rx_packet::{Body, Head};
 use rx_pool::Pool;
 use std::process::Abort;

@@ -11,7 +11,8 @@ use Rattle.rx_wire.specs.Advances.{Advances, Refused, Turned}
 use Rattle.rx_wire.specs.Journal.{HasNoted}
 use Rattle.rx_wire.specs.Turns.{Runs, after_all, goes, noted, stays}
 use Rattle.rx_wire.proofs.AdvanceLaws.{Advances-append, Advances-none, Advances-one, Turned-of}
-use Rattle.rx_wire.proofs.TurnLaws.{HasNotedButLast-append, HasNotedButLast-one, Runs-append, Runs-one, after_all-append}
+use Rattle.rx_wire.proofs.TurnLaws.{HasNotedButLast-append, HasNotedButLast-one, Runs-append, Runs-one}
+use Rattle.rx_wire.proofs.TurnLaws.{after_all-append}
 use Rattle.rx_asks.specs.Asks.{begun, calling, heard}
 use Rattle.rx_caller.specs.Turn.{Between, CallerStops, CallerWants, Makes, MakesNext, Stays}
 use Rattle.rx_asks.specs.View.{CallerState}
@@ -43,24 +44,11 @@ heard-node v (events.HasRead c max (readers.Client got) bytes) = refl
 heard-node v (events.Cancelled c code got) = refl
 heard-node v _ = refl
 
-heard-call : (v : CallerState) (e : Event) → (heard v e).call ≡ v.call
-heard-call v (events.Wrote c offered got bytes) = refl
-heard-call v (events.Shut c got) = refl
-heard-call v (events.HasRead c max (readers.Client got) bytes) = refl
-heard-call v (events.Cancelled c code got) = refl
-heard-call v _ = refl
-
 -- a caller keeps its node
 pub runs_node : (limit : ℕ) (v w : CallerState) (es : List Event) → Runs (calling limit) v es w → w.node ≡ v.node
 runs_node limit v w es (stays at) = refl
 runs_node limit v w es (goes at a e es' to asked is then) =
     runs_node limit (heard at e) w es' then ∙ heard-node at e
-
--- and its call
-pub runs_call : (limit : ℕ) (v w : CallerState) (es : List Event) → Runs (calling limit) v es w → w.call ≡ v.call
-runs_call limit v w es (stays at) = refl
-runs_call limit v w es (goes at a e es' to asked is then) =
-    runs_call limit (heard at e) w es' then ∙ heard-call at e
 
 module _ (class : List ℕ → Class) (limit : ℕ) (v w u : CallerState) (old mid new : NodeState)
     (before now after : Option (List Noted))

@@ -12,7 +12,7 @@ use crate::fault::CallerFault;
 use rx_asks::{Ask, BLOCK_BYTES, CC_UNMARSHAL, Phase, REPLY_BYTES};
 use rx_class::Class;
 use rx_client::Client;
-use rx_model::{Bytes, CallName, End, Event, ReadGot, WroteGot};
+use rx_model::{Bytes, CallName, End, Event, ReadGot, Room, WroteGot};
 use rx_wire::Journal;
 use std::alloc::{AllocError, Global};
 use std::marker::Model;
@@ -29,6 +29,7 @@ pub struct Caller {
     reply: Vec<u8>,
     end: Option<End>,
     phase: Phase,
+    room: Room,
 }
 
 impl Model for Caller {
@@ -65,6 +66,7 @@ impl Caller {
             reply: Vec::new(alloc),
             end: None,
             phase: Phase::Resting,
+            room: Room::none(alloc),
         }
     }
 
@@ -144,11 +146,13 @@ impl Caller {
         }
     }
 
-    /// Gives back the room that its reply doesn't fill, and its request where all of it was accepted.
+    /// Gives back the room that its reply doesn't fill and that of its reads, and its request where all of it was
+    /// accepted.
     fn let_go(&mut self)
         ensures { self.new ≡ self.old }
     {
         self.reply.shrink_to_fit();
+        self.room = Room::none(self.alloc);
         if self.accepted == self.request.len() {
             self.accepted = 0;
             self.request = Vec::new(self.alloc);
@@ -264,7 +268,7 @@ impl Caller {
         ensures setup { setup_of C.class_of client.new ≡ setup_of C.class_of client.old }
     {
         self.reply.reserve(BLOCK_BYTES)?;
-        let (got, bytes) = read(self.alloc, client, &self.call)?;
+        let (got, bytes) = read(&mut self.room, client, &self.call)?;
         append(&mut self.reply, bytes.as_slice());
         self.end = end_after(got, self.end);
         self.phase = phase_after(got, bytes.as_slice());

@@ -1,6 +1,7 @@
 //! The calls of a client that a caller makes, with the bytes of their events, and what it knows behind them.
 
-ghost use Rattle.std.specs.Prelude.{◌≡◌, ◌≤◌, ◌+◌, ◌++◌, true, IfErr, IfOk, OnErr, OnOk, length, take, drop, vec_capacity, vec_len};
+ghost use Rattle.std.specs.Prelude.{◌≡◌, ◌≤◌, ◌+◌, ◌++◌, true, IfErr, IfOk, OnErr, OnOk, length, take, drop};
+ghost use Rattle.std.specs.Prelude.{vec_capacity, vec_len};
 ghost use Rattle.rx_model.specs.declared.answers.ReadGot.TheVariants as readers;
 ghost use Rattle.rx_model.specs.declared.answers.WroteGot.TheVariants as writers;
 ghost use Rattle.rx_model.specs.declared.event.Event.TheVariants as events;
@@ -16,7 +17,7 @@ use crate::fault::CallerFault;
 use rx_asks::{BLOCK_BYTES, Phase};
 use rx_class::Class;
 use rx_client::Client;
-use rx_model::{CallName, End, Event, NotOpen, ReadAns};
+use rx_model::{CallName, End, Event, NotOpen, ReadAns, Room};
 use rx_wire::Journal;
 use std::alloc::{AllocError, Global};
 
@@ -61,7 +62,7 @@ fn accepted_count(got: &Result<usize, NotOpen>) -> usize
 
 /// Reads bytes, and answers them too.
 pub fn read<C: Class>(
-    alloc: Global,
+    room: &mut Room,
     client: &mut Client<C>,
     call: &CallName,
 ) -> Result<(ReadAns, Vec<u8>), AllocError>
@@ -71,10 +72,9 @@ pub fn read<C: Class>(
     ensures wanting { OnErr result (client.new ≡ client.old) }
     ensures setup { setup_of C.class_of client.new ≡ setup_of C.class_of client.old }
 {
-    let mut bytes = vec![in alloc; 0u8; BLOCK_BYTES]?;
+    let mut bytes = room.lend(BLOCK_BYTES)?;
     let got = client.read(call, &mut bytes);
-    bytes.truncate(given_count(got));
-    Ok((got, bytes))
+    Ok((got, room.filled(bytes, given_count(got))))
 }
 
 /// How many bytes a read gave.

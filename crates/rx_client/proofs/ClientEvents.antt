@@ -38,7 +38,7 @@ use Rattle.rx_rules.specs.Rules as rules
 use Rattle.rx_rules.specs.Setup.{FitsSetup, Kind, Setup, Client, is_client}
 use Rattle.rx_rules.specs.Slots.{room}
 use Rattle.rx_history.proofs.ClientHistory.{client-calls}
-use Rattle.rx_history.proofs.RoomStarts.{RoomyAt}
+use Rattle.rx_history.proofs.Room.RoomStarts.{RoomyAt}
 use Rattle.rx_history.proofs.Turns.{Fine}
 use Rattle.rx_history.proofs.Suffice.{roomy_history}
 use Rattle.rx_recvwin.specs.Window.{given_count, tells_end}

@@ -13,7 +13,7 @@ use Rattle.rx_table.specs.Records.{seat_at}
 use Rattle.rx_node.specs.declared.link.Link.{Link}
 use Rattle.rx_node.specs.Mirrors.{IsChannel, Mirrors}
 use Rattle.rx_node.specs.Node.{NodeState, setup_of}
-use Rattle.rx_node.proofs.IdleSteps.{beside_at}
+use Rattle.rx_node.proofs.Steps.IdleSteps.{beside_at}
 use Rattle.rx_client.specs.Client.{IsCalling}
 use Rattle.rx_client.proofs.StartedCalls.{some_number}
 

@@ -23,10 +23,6 @@ calling_own l key c a = own_latest l c a.latest ∙ calling_latest l key c a
 
 -- ---- whether it lives, and may be said on
 
-pub ended_dead : (o : Option CallRecord) → HasEnded o → is_call (λ k. is_live k.life) o ≡ false
-ended_dead None ended = refl
-ended_dead (Some k) ended = ap is_live ended.1
-
 pub ended_mute : (o : Option CallRecord) → HasEnded o → is_call can_say o ≡ false
 ended_mute None ended = refl
 ended_mute (Some k) ended = ap (λ (b : Bool). b && not k.looks.sent.shut) (ap is_live ended.1)

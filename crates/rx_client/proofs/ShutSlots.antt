@@ -9,16 +9,16 @@ use Rattle.rx_rules.specs.Looks.{Looks, latest_name}
 use Rattle.rx_rules.specs.Received.{Packet, packet_at}
 use Rattle.rx_rules.specs.Setup.{is_client}
 use Rattle.rx_history.proofs.Differ.{every_found}
-use Rattle.rx_history.proofs.Tight.{TightOf}
+use Rattle.rx_history.proofs.Room.Tight.{TightOf}
 use Rattle.rx_pool.specs.Pool.{Slots}
 use Rattle.rx_recvwin.specs.declared.packet.KeptPacket.{KeptPacket}
 use Rattle.rx_recvwin.specs.Places.{leading, place_at, seen_at}
 use Rattle.rx_call.specs.Kept.{call_under}
 use Rattle.rx_call.specs.Standing.{EndOfCall, has_unread}
-use Rattle.rx_ends.specs.Ends.{HasShutSlot, IsUnshut, StandsAs}
+use Rattle.rx_call_ends.specs.Ends.{HasShutSlot, IsUnshut, StandsAs}
 use Rattle.rx_node.specs.Mirrors.{IsActiveAt, IsChannel, Mirrors}
 use Rattle.rx_node.specs.Node.{NodeState}
-use Rattle.rx_node.proofs.EndSteps.{ActiveCall, active_call}
+use Rattle.rx_node.proofs.Steps.EndSteps.{ActiveCall, active_call}
 
 none-leading : (pool : Slots) (ps : List (Option KeptPacket)) → place_at (map (seen_at pool) ps) 0 ≡ None
     → leading ps ≡ 0

@@ -24,18 +24,18 @@ use Rattle.rx_rules.specs.Setup.{FitsSetup, Kind, Setup, Client, is_client, nonc
 use Rattle.rx_rules.specs.Slots.{live}
 use Rattle.rx_rules.proofs.EveryLaws.{Every}
 use Rattle.rx_history.proofs.Conns.{GoodConn}
-use Rattle.rx_history.proofs.FitHistory.{node_stands}
-use Rattle.rx_history.proofs.Orderly.{AmongFirst, HasFour, Orderly}
-use Rattle.rx_history.proofs.OrderlyHistory.{orderly_history}
-use Rattle.rx_history.proofs.RoomStarts.{RoomyAt}
+use Rattle.rx_history.proofs.Fit.FitHistory.{node_stands}
+use Rattle.rx_history.proofs.Order.Orderly.{AmongFirst, HasFour, Orderly}
+use Rattle.rx_history.proofs.Order.OrderlyHistory.{orderly_history}
+use Rattle.rx_history.proofs.Room.RoomStarts.{RoomyAt}
 use Rattle.rx_history.proofs.Suffice.{roomy_history}
 use Rattle.rx_table.specs.Records.{place_of}
 use Rattle.rx_node.specs.Mirrors.{IsChannel, Mirrors}
 use Rattle.rx_node.specs.Node.{NodeState, setup_of}
 use Rattle.rx_node.specs.Steps.{AnswersNode, StandsNode}
-use Rattle.rx_node.proofs.ChannelSteps.{IsThere, channel_started, conn_there}
+use Rattle.rx_node.proofs.Steps.ChannelSteps.{IsThere, channel_started, conn_there}
 use Rattle.rx_node.proofs.KeptKeys.{key_on_channel}
-use Rattle.rx_node.proofs.IdleSteps.{known_at, unknown_at}
+use Rattle.rx_node.proofs.Steps.IdleSteps.{known_at, unknown_at}
 use Rattle.rx_client.specs.Calling.{HasNoneOpen, IsFirstOpen}
 use Rattle.rx_client.proofs.Answering.{allowed_client, answers_by}
 use Rattle.rx_client.proofs.ClientEvents.{unchanged}

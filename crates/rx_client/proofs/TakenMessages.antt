@@ -32,9 +32,9 @@ use Rattle.rx_call.specs.Standing.{FitsSlot}
 use Rattle.rx_node.specs.declared.link.Link.{Link}
 use Rattle.rx_node.specs.Mirrors.{IsChannel, Mirrors}
 use Rattle.rx_node.specs.Node.{NodeState}
-use Rattle.rx_node.proofs.ChannelSteps.{channel_on_conn, conn_there}
-use Rattle.rx_node.proofs.TakingSteps.{opened_own}
-use Rattle.rx_node.proofs.IdleSteps.{beside_at}
+use Rattle.rx_node.proofs.Steps.ChannelSteps.{channel_on_conn, conn_there}
+use Rattle.rx_node.proofs.Steps.TakingSteps.{opened_own}
+use Rattle.rx_node.proofs.Steps.IdleSteps.{beside_at}
 use Rattle.rx_node.specs.Mirrors.{StepsAt}
 use Rattle.rx_node.specs.Node.{KeepsNode, setup_of}
 use Rattle.rx_node.specs.Steps.{IsOwn, stopped_by}

@@ -23,7 +23,7 @@ mod calling;
 mod taking;
 
 /// A client. A call of it takes no memory once it was made.
-#[derive(Drop)]
+#[derive(Debug, Drop)]
 pub struct Client<C: Class> {
     node: Node<C>,
     host: Host,
@@ -62,9 +62,10 @@ impl<C: Class> Client<C> {
         Ok(Client { node, host, epoch })
     }
 
-    /// The same, but prompt: it asks for an acknowledgement behind each half of a call's window, so that no stream waits
-    /// for a delayed one where the peer's window is no narrower than its own, and one half is on its way while the other
-    /// is acknowledged. It gives again at once what it takes for lost, and acknowledges at once what fills a hole.
+    /// The same, but prompt: it asks for an acknowledgement behind each half of a call's window, so that no stream
+    /// waits for a delayed one where the peer's window is no narrower than its own, and one half is on its way while
+    /// the other is acknowledged. It gives again at once what it takes for lost, and acknowledges at once what fills a
+    /// hole.
     pub fn make_prompt(
         alloc: Global,
         limits: &Limits,

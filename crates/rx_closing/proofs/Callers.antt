@@ -1,6 +1,5 @@
 -- The turns of callers, seen from one call of a client.
 pub mod AmongCallers
-pub mod CallerEvents
 pub mod CallerHeld
 pub mod CallerTurn
 pub mod CallerReads
@@ -8,6 +7,5 @@ pub mod CallerRest
 pub mod CallerSays
 pub mod CallersLeave
 pub mod CallersTurn
-pub mod HasCaller
 pub mod CallersHold
 pub mod SceneTurn

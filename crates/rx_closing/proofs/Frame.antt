@@ -15,7 +15,7 @@ use Rattle.rx_law.specs.Promises.{ServerForgotNone}
 use Rattle.rx_law.specs.Times.{Timely}
 use Rattle.rx_law.specs.Worlds.{World}
 use Rattle.rx_plan.specs.Stages.{Stage}
-use Rattle.rx_rounds.proofs.EachItem.{In}
+use Rattle.rx_between.proofs.Each.EachItem.{In}
 use Rattle.rx_closing.specs.Living.{looks_of}
 
 -- ---- the scene

@@ -5,7 +5,6 @@ pub mod KeptBefore
 pub mod Lately
 pub mod KnowsRound
 pub mod LivesBack
-pub mod PlanCarries
 pub mod RoundCarries
 pub mod RoundClocks
 pub mod RoundEvents

@@ -10,7 +10,6 @@ use Rattle.rx_model.specs.declared.answers.ServeRefused.{ServeRefused}
 use Rattle.rx_model.specs.declared.answers.ServeRefused.TheVariants as refusals
 use Rattle.rx_model.specs.declared.answers.WroteGot.TheVariants as writers
 use Rattle.rx_model.specs.declared.event.Event.TheVariants as events
-use Rattle.rx_events.specs.Events.{written_count}
 use Rattle.rx_rules.specs.Classes.{Class}
 use Rattle.rx_server.specs.Server.{Answered, ServerState, handler_count}
 use Rattle.rx_jobs.specs.Handlers.{Handlers}
@@ -27,11 +26,6 @@ use Rattle.rx_jobs.specs.declared.job.Want.TheVariants as wants
 -- no byte is too great
 none_fits : IsBytes []
 none_fits i = omega arith
-
--- the bytes that a write accepted
-pub take_accepted : (got : Result ℕ ServeRefused) (offer : List ℕ) → take (written_count got) offer ≡ accepted offer got
-take_accepted (Ok n) offer = refl
-take_accepted (Err refused) offer = refl
 
 -- a job behind a read, with the bytes that came
 abbrev pub behind_read : JobState → ServeRead → List ℕ → JobState

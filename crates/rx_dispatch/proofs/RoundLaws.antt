@@ -2,7 +2,7 @@
 use Rattle.std.proofs.Common.{◌≡◌, ℕ, ◌+◌, ◌<◌, ◌≤◌, List, [], ◌∷◌, ◌++◌, length, take, drop, Option, Some}
 use Rattle.std.proofs.Common.{refl, sym, ap, ◌∙◌, subst, option_map}
 use Rattle.std.proofs.Math.ListN.{get_or, set}
-use Rattle.std.proofs.lemmas.List.{take-set, drop-set, drop_all, take_all}
+use Rattle.std.proofs.lemmas.List.{take-set, drop-set}
 use Rattle.rx_model.specs.declared.event.Event.{Event}
 use Rattle.rx_rules.specs.Classes.{Class}
 use Rattle.rx_server.specs.Server.{ServerState}
@@ -33,14 +33,6 @@ pub serves_by : (g : Handlers) (r : RoundState) (j : JobState) (todo : List JobS
 serves_by g r j todo serving at =
     ap (λ (s : Stage). turning_at g s r) serving ∙ ap (serving_at g r.next (take r.place r.jobs)) at
 
--- one behind whose last job it stands is over
-pub serves_none : (g : Handlers) (r : RoundState) → r.stage ≡ stages.Serving → length r.jobs ≤ r.place
-    → turning_of g r ≡ over r.jobs
-serves_none g r serving past =
-    ap (λ (s : Stage). turning_at g s r) serving
-    ∙ ap (serving_at g r.next (take r.place r.jobs)) (drop_all r.place r.jobs past)
-    ∙ ap over (take_all r.place r.jobs past)
-
 -- the job whose step it is becomes another one
 pub record Becomes (old new : RoundState) (j k : JobState) : Type 0 where
   pub serving : new.stage ≡ stages.Serving
@@ -69,14 +61,6 @@ module _ (g : Handlers) (old new : RoundState) (j k : JobState) (b : Becomes old
   becomes =
       serves_by g new k (drop (old.place + 1) old.jobs) b.serving is_at
       ∙ ap (λ (done : List JobState). settle g done (resolved g new.next k) (drop (old.place + 1) old.jobs)) front_is
-
-  -- where it is, behind what it still has to do, what it was before, nothing changed
-  pub stays_seen : old.stage ≡ stages.Serving → resolved g new.next k ≡ resolved g old.next j
-      → turning_of g new ≡ turning_of g old
-  stays_seen served same =
-      becomes
-      ∙ ap (λ (m : Moving). settle g (take old.place old.jobs) m (drop (old.place + 1) old.jobs)) same
-      ∙ sym (serves_by g old j (drop (old.place + 1) old.jobs) served was_at)
 
   -- what is remembered before is of its request
   pub remembered_before : (found : Option Found) → IsRemembered g (first_request (drop old.place old.jobs)) found

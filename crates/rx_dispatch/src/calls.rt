@@ -14,13 +14,13 @@ ghost use Rattle.rx_dispatch.specs.Calls as rules;
 use crate::job::Next;
 use rx_class::Class;
 use rx_jobs::{OFFER_BYTES, Phase};
-use rx_model::{CallName, ServeRead, ServeRefused};
+use rx_model::{CallName, Room, ServeRead, ServeRefused};
 use rx_server::Server;
 use std::alloc::{AllocError, Global};
 
 /// Reads bytes, and answers them too.
 pub fn read<C: Class>(
-    alloc: Global,
+    room: &mut Room,
     server: &mut Server<C>,
     call: &CallName,
 ) -> Result<(ServeRead, Vec<u8>), AllocError>
@@ -31,10 +31,9 @@ pub fn read<C: Class>(
     ensures wanting { OnErr result (server.new ≡ server.old) }
     ensures setup { setup_of C.class_of server.new.node ≡ setup_of C.class_of server.old.node }
 {
-    let mut bytes = vec![in alloc; 0u8; OFFER_BYTES]?;
+    let mut bytes = room.lend(OFFER_BYTES)?;
     let got = server.read(call, &mut bytes);
-    bytes.truncate(given_count(got));
-    Ok((got, bytes))
+    Ok((got, room.filled(bytes, given_count(got))))
 }
 
 /// How many bytes a read gave.

@@ -26,7 +26,7 @@ use std::alloc::{AllocError, Global};
 use xdr_value::Interface;
 
 /// The handlers of a server: a job for each call that they accepted and that isn't finished.
-#[derive(Drop)]
+#[derive(Debug, Drop)]
 pub struct Dispatcher {
     alloc: Global,
     node: u32,

@@ -5,7 +5,8 @@ ghost use Rattle.rx_node.specs.Node.{setup_of};
 ghost use Rattle.rx_dispatch.specs.Calls.{Called};
 ghost use Rattle.rx_dispatch.specs.Desks.{IsFound, IsRemembered, handlers_at};
 ghost use Rattle.rx_jobs.specs.Handlers.{served_for};
-ghost use Rattle.rx_jobs.specs.Jobs.{begun, coded_want, decided, grown, heard_write, next_want, settled, stepped, waited, waits, want_in};
+ghost use Rattle.rx_jobs.specs.Jobs.{begun, coded_want, decided, grown, heard_write, next_want, settled, stepped};
+ghost use Rattle.rx_jobs.specs.Jobs.{waited, waits, want_in};
 ghost use Rattle.rx_dispatch.specs.Rounds.{resolved};
 ghost use Rattle.rx_jobs.specs.Keeping.{kept_of};
 ghost use Rattle.rx_dispatch.specs.Wanting.{CopiesBytes, LooksInto};
@@ -17,7 +18,7 @@ use crate::desk::Desk;
 use crate::keeping::kept_of;
 use rx_class::Class;
 pub use rx_jobs::{OFFER_BYTES, Phase, Want};
-use rx_model::{Bytes, CallName, Event, ReadGot, ServeRefused, WroteGot};
+use rx_model::{Bytes, CallName, Event, ReadGot, Room, ServeRefused, WroteGot};
 use rx_script::Served;
 use rx_server::Server;
 use std::alloc::{AllocError, Global};
@@ -280,11 +281,12 @@ impl Job {
 
     // ---- its calls
 
-    /// Makes the call that it wants, and answers the event and what it still has to do before its next call. Where
-    /// memory is wanted, it made none.
+    /// Makes the call that it wants, a read into this room, and answers the event and what it still has to do before
+    /// its next call. Where memory is wanted, it made none.
     pub fn call<C: Class>(
         &mut self,
         alloc: Global,
+        room: &mut Room,
         want: Want,
         server: &mut Server<C>,
     ) -> Result<(Event, Next), AllocError>
@@ -295,7 +297,7 @@ impl Job {
         ensures setup { setup_of C.class_of server.new.node ≡ setup_of C.class_of server.old.node }
     {
         match want {
-            Want::Read => self.read(alloc, server),
+            Want::Read => self.read(room, server),
             Want::Write => self.write(alloc, server),
             Want::Finish(code) => Ok(self.finish(code, server)),
         }
@@ -304,7 +306,7 @@ impl Job {
     /// Reads the next bytes of its request.
     fn read<C: Class>(
         &mut self,
-        alloc: Global,
+        room: &mut Room,
         server: &mut Server<C>,
     ) -> Result<(Event, Next), AllocError>
         ensures called { IfOk result (λ r. Called C.class_of self.old wants.Read self.new r.1
@@ -315,7 +317,7 @@ impl Job {
     {
         let before = self.request.len();
         self.request.reserve(OFFER_BYTES)?;
-        let (got, bytes) = read(alloc, server, &self.call)?;
+        let (got, bytes) = read(room, server, &self.call)?;
         append(&mut self.request, bytes.as_slice());
         self.ended = ended_after(got, self.ended);
         let event = Event::HasRead {

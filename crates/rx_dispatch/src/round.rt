@@ -17,7 +17,7 @@ use crate::desk::Desk;
 use crate::job::{Job, Next};
 use rx_class::Class;
 use rx_jobs::{Phase, Want};
-use rx_model::{CallName, Event};
+use rx_model::{CallName, Event, Room};
 use rx_server::Server;
 use std::alloc::{AllocError, Global};
 
@@ -43,6 +43,8 @@ pub struct Round {
     next: Next,
     /// Its arguments, where they were found whole.
     found: Option<Found>,
+    /// What jobs read into.
+    room: Room,
 }
 
 impl Round {
@@ -56,6 +58,7 @@ impl Round {
             place: 0,
             next: Next::Begin,
             found: None,
+            room: Room::none(alloc),
         }
     }
 
@@ -254,7 +257,7 @@ impl Round {
         ensures remembered { Remembers (handlers_at desk.now) (round_of self.new) }
         ensures setup { setup_of C.class_of server.new.node ≡ setup_of C.class_of server.old.node }
     {
-        let (event, next) = self.jobs[self.place].call(desk.alloc, want, server)?;
+        let (event, next) = self.jobs[self.place].call(desk.alloc, &mut self.room, want, server)?;
         self.next = next;
         Ok(event)
     }

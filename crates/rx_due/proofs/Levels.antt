@@ -10,10 +10,6 @@ use Rattle.rx_due.specs.Cost.{AtMost}
 pub record Levels (moves top bottom : ℕ) : Type 0 where
   pub doubles : 2 ^ moves * (top + 1) ≤ bottom + 1
 
--- no move
-pub levels_none : (i : ℕ) → Levels 0 i i
-levels_none i = record { doubles = omega arith }
-
 twice : (moves a b c : ℕ) → 2 ^ moves * a ≤ b → 2 * b ≤ c → 2 ^ (moves + 1) * a ≤ c
 twice moves a b c so most = rw pow_more (grind (arith, so, most))
 
@@ -48,10 +44,6 @@ pub record Climbs (per top bottom old new : ℕ) : Type 0 where
   pub levels : Levels moves top bottom
   pub grows : old ≤ new
   pub most : new ≤ old + per * moves
-
--- it didn't move yet
-pub climbs_none : (per i old : ℕ) → Climbs per i i old old
-climbs_none per i old = record { moves = 0; levels = levels_none i; grows = omega arith; most = omega arith }
 
 again_most : (per moves old now new : ℕ) → now ≤ old + per * moves → new ≤ now + per → new ≤ old + per * (moves + 1)
 again_most per moves old now new so more =

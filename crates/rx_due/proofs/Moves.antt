@@ -18,10 +18,6 @@ keeps_then a b c key first second = record {
   others = λ q isnt. second.others q isnt ∙ first.others q isnt;
 }
 
--- nothing changed
-pub keeps_none : (h : Heap) (key : ℕ) → KeepsOthers h h key
-keeps_none h key = record { len = refl; cells = refl; places = refl; others = λ _ _. refl }
-
 moved_ranks : (h : Heap) (hole from : ℕ) → hole < length h.entries
     → Moved (rank_at h) (rank_at (stood h hole (entry_at h from))) hole from
 moved_ranks h hole from room = record {

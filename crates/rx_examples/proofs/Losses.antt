@@ -13,16 +13,17 @@ use Rattle.rx_rules.specs.CallLooks.{fresh_call, is_delivered}
 
 -- ---- one end of a call
 
--- it is polled at a moment; an ACK comes then, with the first packet that it speaks of and its marks, 1 for one that came
+-- it is polled at a moment; an ACK comes then, with the first packet that it speaks of and its marks, 1 for one that
+-- came
 pub data Step : Type 0 where
   Poll : (now : ℕ) → Step
   Heard : (now first : ℕ) (marks : List ℕ) → Step
 
--- a server's call that says so many pieces and no more, at a node that is prompt or isn't; its congestion window is open
--- so far already
+-- a server's call that says so many pieces and no more, at a node that is prompt or isn't; its congestion window is
+-- open so far already
 abbrev pub saying : (prompt : Bool) (pieces window : ℕ) → CallLooks
 saying prompt pieces window =
-    let k : CallLooks = fresh_call 32 prompt 0 in
+    let k : CallLooks = fresh_call (record { window = 32; prompt = prompt }) 0 in
     record k {
       sent = record k.sent { said = replicate (1412 * pieces) 90; shut = true };
       cwnd = record k.cwnd { window = window };
@@ -283,7 +284,7 @@ came seq k = after_taken (view 0) tooks.Kept (data_of seq) k
 
 -- packets 1 and 3 come then, which is acknowledged
 abbrev pub hole_told : Bool → CallLooks
-hole_told prompt = after_ack_given 0 (came 3 (came 1 (fresh_call 32 prompt 0)))
+hole_told prompt = after_ack_given 0 (came 3 (came 1 (fresh_call (record { window = 32; prompt = prompt }) 0)))
 
 -- a prompt node tells it again where nothing comes for 10 ms
 hole_told_again : (hole_told true).owed_ack ≡ Some (record { reason = ACK_OUT_OF_SEQUENCE; serial = 0; rank = 10 })
@@ -304,7 +305,8 @@ hole_told_thrice : (after_ack_given 20 told_twice).owed_ack
 hole_told_thrice = refl
 
 -- where packet 2 comes alone, it's told once
-lone_packet_told_once : (after_ack_given 0 (came 2 (fresh_call 32 true 0))).owed_ack ≡ None
+lone_packet_told_once : (after_ack_given 0 (came 2 (fresh_call (record { window = 32; prompt = true }) 0))).owed_ack ≡
+    None
 lone_packet_told_once = refl
 
 -- then packet 2 comes at moment 50
@@ -339,16 +341,18 @@ one_read_unprompted : (read_second false).owed_ack ≡ Some (record { reason = A
 one_read_unprompted = refl
 
 -- packet 1 comes at moment 0 and asks for none: a prompt node acknowledges it 3 milliseconds later, any other 100
-unasked_ack : (came 1 (fresh_call 32 true 0)).owed_ack ≡ Some (record { reason = ACK_DELAY; serial = 1; rank = 3 })
+unasked_ack : (came 1 (fresh_call (record { window = 32; prompt = true }) 0)).owed_ack ≡ Some
+    (record { reason = ACK_DELAY; serial = 1; rank = 3 })
 unasked_ack = refl
 
-unasked_ack_unprompted : (came 1 (fresh_call 32 false 0)).owed_ack
+unasked_ack_unprompted : (came 1 (fresh_call (record { window = 32; prompt = false }) 0)).owed_ack
     ≡ Some (record { reason = ACK_DELAY; serial = 1; rank = 100 })
 unasked_ack_unprompted = refl
 
 -- where it is the last one, both do so 100 milliseconds later
 abbrev last_came : CallLooks
-last_came = after_taken (view 0) tooks.Kept (record (data_of 1) { flags = LAST_PACKET }) (fresh_call 32 true 0)
+last_came = after_taken (view 0) tooks.Kept (record (data_of 1) { flags = LAST_PACKET })
+    (fresh_call (record { window = 32; prompt = true }) 0)
 
 last_ack : last_came.owed_ack ≡ Some (record { reason = ACK_DELAY; serial = 1; rank = 100 })
 last_ack = refl
@@ -356,7 +360,8 @@ last_ack = refl
 -- packet 1 comes at moment 50 and asks for an acknowledgement
 abbrev asked : Bool → CallLooks
 asked prompt =
-    after_taken (view 50) tooks.Kept (record (data_of 1) { flags = REQUEST_ACK }) (fresh_call 32 prompt 0)
+    after_taken (view 50) tooks.Kept (record (data_of 1) { flags = REQUEST_ACK })
+    (fresh_call (record { window = 32; prompt = prompt }) 0)
 
 -- a prompt node leaves it for a millisecond, and any other gives it at once; it goes before what came was read then
 asked_ack : (asked true).owed_ack ≡ Some (record { reason = ACK_REQUESTED; serial = 1; rank = 51 })

@@ -44,7 +44,7 @@ use Rattle.rx_history.specs.Streams.{end_of_life}
 use Rattle.rx_rules.proofs.ConnsLaws.{channel_number, number_in, number_of}
 use Rattle.rx_rules.proofs.FindLaws.{find_passes}
 use Rattle.rx_model.proofs.NameLaws.{both, connection_is, name_is, same_number}
-use Rattle.rx_history.proofs.SoundLaws.{Below, Sound}
+use Rattle.rx_history.proofs.Laws.SoundLaws.{Below, Sound}
 use Rattle.rx_history.proofs.Conns.{Conns, GoodConn, OfKind, found-good}
 use Rattle.rx_history.proofs.Data.{GoodName, OwnName}
 use Rattle.rx_history.proofs.Events.{ReadFacts, behind-turn, client-facts, life-changed, nothing-read, read-turn}
@@ -234,9 +234,6 @@ write-facts s l k o offered got bytes (inr none) is has =
     nothing-written (Unit {0}) k bytes
     (subst (λ (r : Result ℕ NotOpen). HasBytes r bytes) (is ∙ ap
     (λ (x : Option CallRecord). client_write s l x offered) none) has)
-
-abbrev unknown : ReadAns × List ℕ
-unknown = (answers.Unknown, [])
 
 pub reads-client : (k : CallRecord) (o : Option CallRecord) (max : ℕ) (got : ReadAns) (bytes : List ℕ)
     → (o ≡ Some k) ⊎ (o ≡ None)

@@ -22,16 +22,16 @@ use Rattle.rx_model.specs.Names.{Connection, channel_of, connection_of, same_nam
 use Rattle.rx_model.specs.Reading.{reading_of}
 use Rattle.rx_rules.specs.Records.{entered, fresh_conn, placed, silenced, started, with_conn}
 use Rattle.rx_rules.specs.Rules.{AllowedAt, AllowedClient, Legal, connect_answer}
-use Rattle.rx_rules.specs.Setup.{Setup, Kind, Server, Client, FitsSetup, named}
+use Rattle.rx_rules.specs.Setup.{Client, FitsSetup, Kind, Server, Setup, named, pace_of}
 use Rattle.rx_rules.proofs.ConnsLaws.{number_of}
-use Rattle.rx_history.proofs.ForgotLaws.{with-forgotten}
+use Rattle.rx_history.proofs.Laws.ForgotLaws.{with-forgotten}
 use Rattle.rx_rules.proofs.KeepsLaws.{keeps-on_channel, keeps-on_life, keeps-on_looks, keeps-trans}
 use Rattle.rx_model.proofs.NameLaws.{name_is}
-use Rattle.rx_history.proofs.SoundLaws.{Below, Counted, Sound, sound-keeps}
+use Rattle.rx_history.proofs.Laws.SoundLaws.{Below, Counted, Sound, sound-keeps}
 use Rattle.rx_model.proofs.SpelledLaws.{spelled}
 use Rattle.rx_rules.proofs.StartLaws.{call_at-new, fours-start, keeps-started, number-started}
-use Rattle.rx_history.proofs.ForgotAfter.{forgot-polled, forgot-turned}
-use Rattle.rx_history.proofs.GivenLaws.{keeps-polled, keeps-read, keeps-silenced}
+use Rattle.rx_history.proofs.Laws.ForgotAfter.{forgot-polled, forgot-turned}
+use Rattle.rx_history.proofs.Given.GivenLaws.{keeps-polled, keeps-read, keeps-silenced}
 use Rattle.rx_history.proofs.Client.{CauseBy, Fresh, client-turn, fresh-call}
 use Rattle.rx_history.proofs.Conns.{Conns, good-cancelled, good-given, good-linked, good-message, good-read}
 use Rattle.rx_history.proofs.Conns.{good-started}
@@ -153,7 +153,7 @@ client-conns s host epoch l (events.Finished d code got) kind fits allowed conns
 sound-new : (s : Setup) (c : CallName) (l : Looks) → Fresh s l c → Sound l c 0 → Sound (started s lives.Calling c l) c 0
 sound-new s c l f sound =
     let new : CallRecord =
-    record { name = c; life = lives.Calling; looks = fresh_call s.limits.window s.prompt l.now } in
+    record { name = c; life = lives.Calling; looks = fresh_call (pace_of s) l.now } in
     let none = no-record (call_at l c) sound.below f.above in
     let is : call_at (started s lives.Calling c l) c ≡ Some new = call_at-new c new l refl none in
     let top = number-started s lives.Calling c l f.conn f.there f.chan sound.fours in

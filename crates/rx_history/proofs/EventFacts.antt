@@ -16,7 +16,7 @@ use Rattle.rx_rules.specs.Looks.{CallRecord, Looks}
 use Rattle.rx_rules.specs.Rules.{Allowed, AllowedAt}
 use Rattle.rx_rules.specs.Setup.{Setup, Kind, Server, Client, FitsSetup}
 use Rattle.rx_history.proofs.ClientHistory.{cid-fits}
-use Rattle.rx_history.proofs.FitCall.{CallsFit, FitsCall}
+use Rattle.rx_history.proofs.Fit.FitCall.{CallsFit, FitsCall}
 use Rattle.std.proofs.Common.{◌||◌, not, ap, subst}
 use Rattle.rx_model.specs.declared.answers.NotOpen.{NotOpen}
 use Rattle.rx_model.specs.Names.{same_name}
@@ -28,8 +28,8 @@ use Rattle.rx_rules.proofs.FindLaws.{find_passes}
 use Rattle.rx_model.proofs.NameLaws.{name_is}
 use Rattle.rx_history.proofs.Client.{fresh-call}
 use Rattle.rx_history.proofs.Conns.{Conns}
-use Rattle.rx_history.proofs.FitCall.{CallFits}
-use Rattle.rx_history.proofs.Orderly.{Orderly}
+use Rattle.rx_history.proofs.Fit.FitCall.{CallFits}
+use Rattle.rx_history.proofs.Order.Orderly.{Orderly}
 use Rattle.rx_history.proofs.ServerStands.{running-at}
 
 -- the latest call of a channel has a number

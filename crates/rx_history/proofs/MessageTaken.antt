@@ -20,11 +20,11 @@ use Rattle.rx_rules.specs.Records.{entered, used}
 use Rattle.rx_rules.specs.Setup.{Setup, IsServer, named}
 use Rattle.rx_rules.proofs.ConnsLaws.{conn_at-on_conn, conn_if}
 use Rattle.rx_rules.proofs.EnterLaws.{forgot-entered, keeps-entered, keeps-used, there-entered}
-use Rattle.rx_history.proofs.ForgotLaws.{with-forgotten}
+use Rattle.rx_history.proofs.Laws.ForgotLaws.{with-forgotten}
 use Rattle.rx_rules.proofs.KeepsLaws.{Keeps}
 use Rattle.rx_rules.proofs.KeepsLaws.{keeps-refl, keeps-trans}
-use Rattle.rx_history.proofs.SoundLaws.{Sound, sound-keeps}
-use Rattle.rx_history.proofs.TakenLaws.{sound-with}
+use Rattle.rx_history.proofs.Laws.SoundLaws.{Sound, sound-keeps}
+use Rattle.rx_history.proofs.Laws.TakenLaws.{sound-with}
 
 -- ---- a message is taken
 

@@ -26,7 +26,7 @@ use Rattle.rx_rules.specs.Records.{entered, fresh_conn, idle_conn, is_full, plac
 use Rattle.rx_rules.specs.Setup.{Setup, Kind, Server, Client, named}
 use Rattle.rx_history.specs.Sides.{moment, side, with_clock}
 use Rattle.rx_model.specs.Strays.{is_stray}
-use Rattle.rx_history.proofs.ForgotLaws.{with-now}
+use Rattle.rx_history.proofs.Laws.ForgotLaws.{with-now}
 
 -- a place taken leaves the moment
 pub now-placed : (new : ConnLooks) (o : Option ConnLooks) (l : Looks) → (placed new o l).now ≡ l.now

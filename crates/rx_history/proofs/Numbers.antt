@@ -31,15 +31,15 @@ use Rattle.rx_rules.specs.Slots.{live}
 use Rattle.rx_rules.proofs.EnterLaws.{keeps-used}
 use Rattle.rx_rules.proofs.EveryLaws.{Every, every-filter, filter-passes}
 use Rattle.rx_rules.proofs.FindLaws.{find_passes}
-use Rattle.rx_history.proofs.ForgotLaws.{with-forgotten}
+use Rattle.rx_history.proofs.Laws.ForgotLaws.{with-forgotten}
 use Rattle.rx_rules.proofs.KeepsLaws.{Keeps, keeps-on_life, keeps-on_looks, keeps-refl, keeps-trans}
 use Rattle.rx_rules.proofs.LifeLaws.{accept_waits}
 use Rattle.rx_model.proofs.NameLaws.{connection_is}
-use Rattle.rx_history.proofs.SoundLaws.{Sound, sound-keeps}
-use Rattle.rx_history.proofs.TakenLaws.{sound-with}
-use Rattle.rx_history.proofs.GivenLaws.{keeps-finish, keeps-polled, keeps-read, keeps-silenced}
+use Rattle.rx_history.proofs.Laws.SoundLaws.{Sound, sound-keeps}
+use Rattle.rx_history.proofs.Laws.TakenLaws.{sound-with}
+use Rattle.rx_history.proofs.Given.GivenLaws.{keeps-finish, keeps-polled, keeps-read, keeps-silenced}
 use Rattle.rx_history.proofs.MessageTaken.{turned-keeps, there-used}
-use Rattle.rx_history.proofs.ForgotAfter.{forgot-finish, forgot-polled, forgot-turned}
+use Rattle.rx_history.proofs.Laws.ForgotAfter.{forgot-finish, forgot-polled, forgot-turned}
 use Rattle.rx_history.proofs.Places.{Spared, spared-as, keeps-entered, spared-entered, there-entered}
 
 -- ---- a taking

@@ -9,7 +9,7 @@ use Rattle.rx_rules.specs.CallLooks.{fresh_call}
 use Rattle.rx_rules.specs.Life.{Life, is_live}
 use Rattle.rx_rules.specs.Looks.{CallRecord, Looks, call_at, on_call}
 use Rattle.rx_rules.specs.Records.{started, with_call}
-use Rattle.rx_rules.specs.Setup.{Setup, sending_window}
+use Rattle.rx_rules.specs.Setup.{Setup, pace_of}
 use Rattle.rx_rules.specs.Slots.{beside, beside_all, common, count_live, live}
 use Rattle.rx_model.proofs.NameLaws.{name_is}
 use Rattle.rx_rules.proofs.CallsLaws.{changed_if}
@@ -91,9 +91,9 @@ common_one c change l k differ there =
 -- a call that starts gives back the slots of an earlier life of its name
 pub common_started : (s : Setup) (life : Life) (c : CallName) (l : Looks) → Differ by_name l.calls
     → common (started s life c l) + weight_at beside (call_at l c)
-    ≡ common l + beside (record { name = c; life = life; looks = fresh_call (sending_window s) s.prompt l.now })
+    ≡ common l + beside (record { name = c; life = life; looks = fresh_call (pace_of s) l.now })
 common_started s life c l differ =
-    let k : CallRecord = record { name = c; life = life; looks = fresh_call (sending_window s) s.prompt l.now } in
+    let k : CallRecord = record { name = c; life = life; looks = fresh_call (pace_of s) l.now } in
     let new : common (started s life c l) ≡ total beside (with_call k l.calls) = beside-total (with_call k l.calls) in
     let old : common l ≡ total beside l.calls = beside-total l.calls in
     let one : total beside (with_call k l.calls) + weight_at beside (call_at l c) ≡ total beside l.calls + beside k =
@@ -130,9 +130,9 @@ live_one c change l k differ there =
 -- a call that starts is one more, in place of an earlier life of its name
 pub live_started : (s : Setup) (life : Life) (c : CallName) (l : Looks) → Differ by_name l.calls
     → live (started s life c l) + weight_at life_of (call_at l c)
-    ≡ live l + life_of (record { name = c; life = life; looks = fresh_call (sending_window s) s.prompt l.now })
+    ≡ live l + life_of (record { name = c; life = life; looks = fresh_call (pace_of s) l.now })
 live_started s life c l differ =
-    let k : CallRecord = record { name = c; life = life; looks = fresh_call (sending_window s) s.prompt l.now } in
+    let k : CallRecord = record { name = c; life = life; looks = fresh_call (pace_of s) l.now } in
     let new : live (started s life c l) ≡ total life_of (with_call k l.calls) = live-total (with_call k l.calls) in
     let old : live l ≡ total life_of l.calls = live-total l.calls in
     let one : total life_of (with_call k l.calls) + weight_at life_of

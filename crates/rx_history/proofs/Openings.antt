@@ -14,7 +14,7 @@ use Rattle.rx_rules.specs.Life as lives
 use Rattle.rx_rules.specs.Looks.{CallRecord, ChannelLooks, ConnLooks, Looks, call_named, channel_at, conn_at}
 use Rattle.rx_rules.specs.Records.{entered, fresh_conn, idle_conn, is_full, placed, started_later, used, with_call}
 use Rattle.rx_rules.specs.Records.{with_conn}
-use Rattle.rx_rules.specs.Setup.{Setup, Kind, Server, Client, sending_window}
+use Rattle.rx_rules.specs.Setup.{Client, Kind, Server, Setup, pace_of}
 use Rattle.rx_rules.proofs.CallsLaws.{changed_if}
 use Rattle.rx_rules.proofs.ConnsLaws.{channel_number, conn_at-on_conn, conn_if, number_in, number_of}
 use Rattle.rx_rules.proofs.EnterLaws.{fresh_channels}
@@ -123,7 +123,7 @@ now-prepared s got x l = of (enters got)
 abbrev pub opened_by : Setup → CallName → ℕ → ℕ → List CallRecord → List CallRecord
 opened_by s c number now ks =
     if nat_lt number c.number then
-    with_call (record { name = c; life = lives.Waiting; looks = fresh_call (sending_window s) s.prompt now })
+    with_call (record { name = c; life = lives.Waiting; looks = fresh_call (pace_of s) now })
     (map (changed_if (call_named (channel_of c) number) (λ k. record k { life = after_later k.life })) ks)
     else ks
 
@@ -134,7 +134,7 @@ calls_opened s c l = of (nat_lt (channel_at l (channel_of c)).number c.number)
   where
     started : List CallRecord
     started =
-        with_call (record { name = c; life = lives.Waiting; looks = fresh_call (sending_window s) s.prompt l.now })
+        with_call (record { name = c; life = lives.Waiting; looks = fresh_call (pace_of s) l.now })
         (map (changed_if (call_named (channel_of c) (channel_at l (channel_of c)).number)
         (λ k. record k { life = after_later k.life })) l.calls)
 

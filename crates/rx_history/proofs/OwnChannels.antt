@@ -11,7 +11,7 @@ use Rattle.rx_rules.specs.Looks.{ChannelLooks, ConnLooks, Looks, call_named, cha
 use Rattle.rx_rules.specs.Setup.{Setup, Kind, Server, Client}
 use Rattle.rx_rules.proofs.EveryLaws.{Every, every-append}
 use Rattle.rx_history.proofs.Data.{GoodName, OwnName}
-use Rattle.rx_history.proofs.FitChannels.{FitsConn, OwnConn}
+use Rattle.rx_history.proofs.Fit.FitChannels.{FitsConn, OwnConn}
 
 -- a channel of a connection that the node has
 pub record OwnChannel (s : Setup) (ch : Channel) : Type 0 where

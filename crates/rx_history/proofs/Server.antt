@@ -42,7 +42,7 @@ use Rattle.rx_rules.specs.Setup.{Setup, Kind, Server, Client, FitsSetup, IsServe
 use Rattle.rx_rules.specs.Slots.{left_slots, room}
 use Rattle.rx_rules.proofs.ConnsLaws.{channel_number, number_of}
 use Rattle.rx_model.proofs.NameLaws.{name_is, name_itself}
-use Rattle.rx_history.proofs.SoundLaws.{Below, Sound}
+use Rattle.rx_history.proofs.Laws.SoundLaws.{Below, Sound}
 use Rattle.rx_model.proofs.SpelledLaws.{spelled}
 use Rattle.rx_history.proofs.Lives.{is_running, gone-moves}
 use Rattle.rx_history.proofs.Calls.{calls-on_life, calls-silenced}
@@ -179,9 +179,6 @@ serve-facts Safe s l k (lives.Broken code) ended offered got bytes unshut is has
     nothing-written Safe k bytes (subst (λ (r : Result ℕ ServeRefused). HasBytes r bytes) is has)
 serve-facts Safe s l k _ ended offered got bytes unshut is has =
     nothing-written Safe k bytes (subst (λ (r : Result ℕ ServeRefused). HasBytes r bytes) is has)
-
-abbrev no_read : ServeRead × List ℕ
-no_read = (reads.NotOpen, [])
 
 pub read-server : (k : CallRecord) (max : ℕ) (got : ServeRead) (bytes : List ℕ)
     → ◌≡◌ {A = ServeRead × List ℕ} (got, bytes) (served_read_by k.life (read_of k.looks.received max))

@@ -13,7 +13,7 @@ use Rattle.rx_rules.specs.Records.{silenced}
 use Rattle.rx_rules.specs.Rules.{AllowedServer, Legal, served_by}
 use Rattle.rx_rules.specs.Setup.{Setup, FitsSetup, IsServer}
 use Rattle.rx_history.proofs.Conns.{Conns, good-message, good-given, good-read, good-finish}
-use Rattle.rx_history.proofs.OnceLaw.{served}
+use Rattle.rx_history.proofs.Laws.OnceLaw.{served}
 use Rattle.rx_history.proofs.Server.{Arrives, Standing, Uncounted, good-turn, none-yet, server-turn}
 
 server-conns : (s : Setup) (l : Looks) (e : Event) → FitsSetup s → AllowedServer s l e → Conns s l

@@ -17,16 +17,16 @@ use Rattle.rx_rules.specs.Looks.{CallRecord, Looks, call_at, is_call}
 use Rattle.rx_rules.specs.Rules.{AllowedAt, AllowedClient, AllowedServer, HasBytes, Legal, can_say, client_write}
 use Rattle.rx_rules.specs.Rules.{done_where, own_call}
 use Rattle.rx_rules.specs.Rules.{served_by, served_read, served_write}
-use Rattle.rx_rules.specs.Setup.{Setup, Kind, Server, Client, is_client, sending_window}
+use Rattle.rx_rules.specs.Setup.{Client, Kind, Server, Setup, is_client, pace_of}
 use Rattle.rx_rules.specs.Slots.{room}
 use Rattle.rx_model.proofs.NameLaws.{name_itself}
 use Rattle.rx_history.specs.Alone.{SlotsSuffice}
 use Rattle.rx_history.proofs.Client.{own-is, reads-client}
 use Rattle.rx_history.proofs.LifeFalls.{accept_falls, cancel_falls, is_begun}
-use Rattle.rx_history.proofs.RoomEvents.{Wrote, roomy_polled, roomy_read, roomy_wrote}
-use Rattle.rx_history.proofs.RoomShut.{roomy_finished, roomy_shut}
-use Rattle.rx_history.proofs.RoomStarts.{RoomyAt, fresh_tight, roomy_by, roomy_life, roomy_started}
-use Rattle.rx_history.proofs.RoomTaken.{roomy_message}
+use Rattle.rx_history.proofs.Room.RoomEvents.{Wrote, roomy_polled, roomy_read, roomy_wrote}
+use Rattle.rx_history.proofs.Room.RoomShut.{roomy_finished, roomy_shut}
+use Rattle.rx_history.proofs.Room.RoomStarts.{RoomyAt, fresh_tight, roomy_by, roomy_life, roomy_started}
+use Rattle.rx_history.proofs.Room.RoomTaken.{roomy_message}
 use Rattle.rx_history.proofs.Server.{read-server}
 
 -- ---- a server
@@ -136,7 +136,7 @@ client-after s host epoch l (events.Linked to service first (Ok cid)) client all
 client-after s host epoch l (events.Linked to service first (Err full)) client allowed r = r
 client-after s host epoch l (events.Called cid (Ok c)) client allowed r =
     roomy_started s lives.Calling c l
-    (fresh_tight (is_client s.kind) lives.Calling c (sending_window s) s.prompt l.now
+    (fresh_tight (is_client s.kind) lives.Calling c (pace_of s) l.now
     (λ server. absurd (cc (client, server)))) r
 client-after s host epoch l (events.Called cid (Err refused)) client allowed r = r
 client-after s host epoch l (events.Wrote c offered (writers.Client got) bytes) client allowed r =

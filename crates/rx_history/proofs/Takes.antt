@@ -24,7 +24,7 @@ use Rattle.std.specs.List.{find, list_any}
 use Rattle.rx_rules.proofs.CallsLaws.{call_at-on_calls}
 use Rattle.rx_rules.proofs.FindLaws.{find_passes, list_any-some}
 use Rattle.rx_rules.specs.Records.{with_call, started, started_later}
-use Rattle.rx_rules.specs.Setup.{Setup}
+use Rattle.rx_rules.specs.Setup.{Setup, pace_of}
 use Rattle.rx_rules.specs.Slots.{node_view}
 use Rattle.rx_model.proofs.NameLaws.{name_is}
 use Rattle.rx_rules.proofs.StartLaws.{call_at-new, call_at-other, replaced}
@@ -119,7 +119,7 @@ module _ (Safe Served Good : Type 0) (Cause : End → Type 0) (Comes : Packet �
       → is_ok_end life ≡ false → end_of_life life ≡ None → (same_name c d ≡ true → (Safe → call_at l d ≡ None) × Good)
       → Still Safe Served Good Cause (call_at l c) (call_at (started s life d l) c)
   start-still s life d l rests lives on new =
-      let k : CallRecord = record { name = d; life = life; looks = fresh_call s.limits.window s.prompt l.now } in
+      let k : CallRecord = record { name = d; life = life; looks = fresh_call (pace_of s) l.now } in
       (elim (same_name c d) as (λ b. same_name c d ≡ b → Still Safe Served Good Cause (call_at l c)
       (call_at (started s life d l) c)) [
         | true ↦ λ same. (

@@ -50,8 +50,8 @@ pub fn lives_keep_what_counts()
         → m.job.request ≡ kept_of g (bytes_read h) }
 {}
 
-/// In each history of a server that a dispatcher drives each of its jobs, in its step or not, has of its request what is
-/// kept of the bytes that were read for its call.
+/// In each history of a server that a dispatcher drives each of its jobs, in its step or not, has of its request what
+/// is kept of the bytes that were read for its call.
 pub fn turns_keep_what_counts()
     ensures { (g : Handlers) (t : Turning) (h : List Event) → Drives g t h → HaveKept g h t }
 {}

@@ -1,7 +1,7 @@
 //! What handlers do by a script, as definitions and laws: what is served for a request and which codes come early
-//! (`specs/Handlers.antt`), what is kept of a request (`specs/Keeping.antt`), a job and its step as a program that makes
-//! calls of a server (`specs/Jobs.antt`), the turn of a dispatcher (`specs/Dispatching.antt`), and what holds of whole
-//! lives of jobs (`specs/Lives.antt`, `specs/History.antt`).
+//! (`specs/Handlers.antt`), what is kept of a request (`specs/Keeping.antt`), a job and its step as a program that
+//! makes calls of a server (`specs/Jobs.antt`), the turn of a dispatcher (`specs/Dispatching.antt`), and what holds of
+//! whole lives of jobs (`specs/Lives.antt`, `specs/History.antt`).
 #![tactic(auto)]
 
 mod job;

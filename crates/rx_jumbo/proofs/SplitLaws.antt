@@ -91,9 +91,6 @@ single_alone b h = ap (λ t. parts_to b (cond t (if_had b (unfollowed b)) None))
 pub count_split : (b : List ℕ) (last : ℕ) → last_part b ≡ Some last → length (parts_of b) ≡ suc last
 count_split b last h = ap (λ o. length (parts_to b o)) h ∙ length-map-range_with_len (part_at b) 0 (suc last)
 
-pub count_alone : (b : List ℕ) → last_part b ≡ None → length (parts_of b) ≡ 1
-count_alone b h = ap (λ o. length (parts_to b o)) h
-
 -- part k of them
 pub part_split : (b : List ℕ) (last k : ℕ) → last_part b ≡ Some last → k ≤ last →
     slice_get (parts_of b) k ≡ Some (part_at b k)

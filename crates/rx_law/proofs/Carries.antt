@@ -7,7 +7,7 @@ use Rattle.rx_rules.specs.Received.{Packet, heard_of}
 use Rattle.rx_history.specs.Streams.{Begins}
 use Rattle.rx_history.proofs.Ends.{Ends, no_ends, Grows, Moves, left_of}
 use Rattle.rx_law.specs.Pieces.{IsAt}
-use Rattle.rx_history.proofs.WholeLaws.{none_left}
+use Rattle.rx_history.proofs.Laws.WholeLaws.{none_left}
 use Rattle.rx_law.proofs.Fronts.{ArePieces, pieces_grow, heard_begins, heard_whole}
 
 -- what the receiver has of a stream

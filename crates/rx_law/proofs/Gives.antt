@@ -26,7 +26,7 @@ use Rattle.rx_history.proofs.Data.{some_pair}
 use Rattle.rx_law.proofs.Due.{IsDue, made-header, next-due}
 use Rattle.rx_law.proofs.Firm.{Firm, busy_of, firm-counted, firm-trans, young-now}
 use Rattle.rx_law.proofs.FirmAfter.{firm-body}
-use Rattle.rx_history.proofs.GivenLaws.{keeps-body, keeps-counted}
+use Rattle.rx_history.proofs.Given.GivenLaws.{keeps-body, keeps-counted}
 use Rattle.rx_law.proofs.Joint.{server-name}
 use Rattle.rx_law.proofs.Recalls.{Recalls, lives-some, recalls-keeps}
 

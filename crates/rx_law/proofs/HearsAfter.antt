@@ -37,7 +37,7 @@ use Rattle.rx_law.proofs.Hears.{Hears, heard_at, heard_by, heard-on_calls, heard
 use Rattle.rx_law.proofs.HearsTaken.{HeardBy, hears-started, hears-with}
 use Rattle.rx_history.proofs.Moments.{now-prepared}
 use Rattle.rx_history.proofs.Server.{Standing, good-silenced}
-use Rattle.rx_history.proofs.SoundLaws.{Below, Sound}
+use Rattle.rx_history.proofs.Laws.SoundLaws.{Below, Sound}
 
 -- a message of the call came, with an answer for which it is heard
 pub record HeardFrom (s : Setup) (l : Looks) (from : Host) (bytes : List ℕ) (got : Took) (c : CallName) : Type 0 where

@@ -17,7 +17,7 @@ use Rattle.rx_rules.specs.Looks.{CallRecord, Looks, call_at, channel_at, latest_
 use Rattle.rx_model.specs.Message.{Message}
 use Rattle.rx_model.specs.Names.{channel_of, same_name}
 use Rattle.rx_rules.specs.Records.{started, started_later}
-use Rattle.rx_rules.specs.Setup.{Setup}
+use Rattle.rx_rules.specs.Setup.{Setup, pace_of}
 use Rattle.rx_rules.specs.Slots.{node_view}
 use Rattle.rx_model.proofs.NameLaws.{name_is}
 use Rattle.rx_rules.proofs.StartLaws.{call_at-other}
@@ -32,7 +32,7 @@ use Rattle.rx_law.proofs.Hears.{heard_at, heard_by, hears, hears-trans}
 pub hears-started : (s : Setup) (life : Life) (c d : CallName) (l : Looks)
     → Hears l.now (same_name c d ≡ true) (heard_at l c) (heard_at (started s life d l) c)
 hears-started s life c d l =
-    let k : CallRecord = record { name = d; life = life; looks = fresh_call s.limits.window s.prompt l.now } in
+    let k : CallRecord = record { name = d; life = life; looks = fresh_call (pace_of s) l.now } in
     (elim (same_name c d) as (λ b. same_name c d ≡ b → Hears l.now (b ≡ true) (heard_at l c)
     (heard_at (started s life d l) c)) [
       | true ↦ λ same. inr (ap heard_by (call_at-any c k l (sym (name_is c d same)) (call_at l c) refl), refl)

@@ -26,7 +26,7 @@ use Rattle.rx_law.proofs.Asks.{waits}
 use Rattle.rx_law.proofs.Firm.{Firm, Young, busy_in, busy_of, firm-same, firm-trans}
 use Rattle.rx_law.proofs.FirmAfter.{firm-data, firm-heard, firm-over, firm-started, firm-stopped}
 use Rattle.rx_law.proofs.Recalls.{Recalls}
-use Rattle.rx_history.proofs.TakenLaws.{keeps-data, keeps-heard, keeps-over, keeps-stopped, there-is}
+use Rattle.rx_history.proofs.Laws.TakenLaws.{keeps-data, keeps-heard, keeps-over, keeps-stopped, there-is}
 
 -- the answers that may start a call
 abbrev pub starts : Took → Bool

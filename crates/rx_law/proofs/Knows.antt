@@ -31,7 +31,7 @@ use Rattle.rx_law.proofs.Waits.{recalls-waits}
 use Rattle.rx_history.proofs.Moments.{now-prepared}
 use Rattle.rx_history.proofs.Numbers.{there-prepared}
 use Rattle.rx_law.proofs.Recalls.{Recalls, lives-some, recalls-keeps}
-use Rattle.rx_history.proofs.TakenLaws.{keeps-data}
+use Rattle.rx_history.proofs.Laws.TakenLaws.{keeps-data}
 
 -- DATA of the call came, and asked for it
 pub record AskedFor (s : Setup) (l : Looks) (from : Host) (bytes : List ℕ) (got : Took) (c : CallName) : Type 0 where

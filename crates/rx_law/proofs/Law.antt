@@ -29,7 +29,7 @@ use Rattle.rx_history.specs.Sides.{side}
 use Rattle.rx_history.specs.Streams.{Begins, end_at, end_by, end_of_life, is_shut_by, read_by, said_by}
 use Rattle.rx_law.specs.Worlds.{Gave, TwoEnds}
 use Rattle.rx_model.proofs.NameLaws.{number_itself, name_itself, same_number}
-use Rattle.rx_history.proofs.OnceLaw.{served}
+use Rattle.rx_history.proofs.Laws.OnceLaw.{served}
 use Rattle.rx_history.proofs.Client.{CauseBy}
 use Rattle.rx_history.proofs.ClientHistory.{called-turn, client-calls}
 use Rattle.rx_history.proofs.Ends.{ends_of}

@@ -26,7 +26,7 @@ use Rattle.rx_model.proofs.SpelledLaws.{spelled}
 use Rattle.rx_history.proofs.Conns.{Conns}
 use Rattle.rx_law.proofs.Firm.{Firm, firm-same}
 use Rattle.rx_law.proofs.FirmAfter.{firm-finish, firm-read, firm-turned}
-use Rattle.rx_history.proofs.GivenLaws.{keeps-finish, keeps-read, keeps-silenced}
+use Rattle.rx_history.proofs.Given.GivenLaws.{keeps-finish, keeps-read, keeps-silenced}
 use Rattle.rx_law.proofs.Joint.{gives-at}
 use Rattle.rx_history.proofs.MessageTaken.{turned-keeps}
 use Rattle.rx_law.proofs.Recalls.{Recalls, lives-some, recalls-clock, recalls-keeps}

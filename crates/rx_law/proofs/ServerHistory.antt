@@ -17,8 +17,8 @@ use Rattle.rx_rules.specs.Rules.{AllowedServer, Legal, can_enter, served_finish}
 use Rattle.rx_rules.specs.Setup.{Setup, FitsSetup, IsServer}
 use Rattle.rx_rules.proofs.FindLaws.{find_passes}
 use Rattle.rx_model.proofs.NameLaws.{both, name_is, name_itself}
-use Rattle.rx_history.proofs.SoundLaws.{Sound}
-use Rattle.rx_history.proofs.OnceLaw.{served, is_call-some}
+use Rattle.rx_history.proofs.Laws.SoundLaws.{Sound}
+use Rattle.rx_history.proofs.Laws.OnceLaw.{served, is_call-some}
 use Rattle.rx_history.proofs.Calls.{call-changed}
 use Rattle.rx_history.proofs.Data.{GoodName}
 use Rattle.rx_history.proofs.Lives.{is_running}

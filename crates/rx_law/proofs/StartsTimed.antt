@@ -26,7 +26,7 @@ use Rattle.rx_law.proofs.Joint.{not-both}
 use Rattle.rx_law.proofs.Late.{FedLately, Timed, lately-before}
 use Rattle.rx_law.proofs.Learns.{starts-new}
 use Rattle.rx_history.proofs.Moments.{now-side}
-use Rattle.rx_history.proofs.OnceLaw.{served}
+use Rattle.rx_history.proofs.Laws.OnceLaw.{served}
 use Rattle.rx_history.proofs.ServerStands.{server-stands}
 use Rattle.rx_law.proofs.TimedClient.{client-timed}
 use Rattle.rx_law.proofs.TimedServer.{asks-new, server-timed}

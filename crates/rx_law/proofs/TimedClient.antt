@@ -25,7 +25,7 @@ use Rattle.rx_law.proofs.HearsAfter.{HeardFrom, HeardIn, gives-heard, hears-clie
 use Rattle.rx_law.proofs.Joint.{client-name, gives-at, server-name}
 use Rattle.rx_law.proofs.Late.{LateAny, Timed, alike-since}
 use Rattle.rx_history.proofs.Server.{Standing}
-use Rattle.rx_history.proofs.SoundLaws.{Sound}
+use Rattle.rx_history.proofs.Laws.SoundLaws.{Sound}
 
 -- ---- why a call is heard
 

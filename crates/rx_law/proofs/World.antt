@@ -36,7 +36,7 @@ use Rattle.rx_history.specs.Starts.{StartsOnce}
 use Rattle.rx_history.specs.Alone.{ForgotNone}
 use Rattle.rx_law.specs.Worlds.{AreApart, AreNodes, Carried, Datagram, Gave, IsFrom, World, bag, given_at, with_given}
 use Rattle.rx_model.proofs.NameLaws.{number_itself, same_number}
-use Rattle.rx_history.proofs.OnceLaw.{once_under_forgery}
+use Rattle.rx_history.proofs.Laws.OnceLaw.{once_under_forgery}
 use Rattle.rx_history.proofs.ClientHistory.{client-calls}
 use Rattle.rx_history.proofs.Data.{OwnName, poll-flag, poll-gives}
 use Rattle.rx_law.proofs.Joint.{Came, CameOn, DataCame, Fed, gives-at, legal-before, polled-is, server-name}
@@ -44,7 +44,7 @@ use Rattle.rx_law.proofs.Law.{law-on}
 use Rattle.rx_history.proofs.Server.{Standing, good-silenced}
 use Rattle.rx_law.proofs.ServerHistory.{spared-once}
 use Rattle.rx_history.proofs.ServerStands.{server-stands}
-use Rattle.rx_history.proofs.ForgotLaws.{with-strays}
+use Rattle.rx_history.proofs.Laws.ForgotLaws.{with-strays}
 use Rattle.rx_history.proofs.StraysStay.{strays-prepared}
 
 -- ---- a client owes no stray abort

@@ -29,7 +29,7 @@ use Rattle.rx_law.proofs.Asks.{asks-data, data-is}
 use Rattle.rx_law.proofs.Enters.{above-prepared}
 use Rattle.rx_law.proofs.Joint.{legal-before}
 use Rattle.rx_law.proofs.Law.{law-on}
-use Rattle.rx_history.proofs.OnceLaw.{served}
+use Rattle.rx_history.proofs.Laws.OnceLaw.{served}
 use Rattle.rx_law.proofs.ServerHistory.{finishes_well, server-serves}
 use Rattle.rx_law.proofs.StartsTimed.{starts-once}
 use Rattle.rx_history.proofs.Turns.{CountedOf}

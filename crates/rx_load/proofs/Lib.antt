@@ -1,3 +1,9 @@
+pub mod Given
+pub mod Leads
+pub mod Said
+pub mod Callers
+pub mod Knowing
+pub mod Noticing
 pub mod Loading
 pub mod Nodes
 pub mod Sound

@@ -1,5 +1,5 @@
 -- What a load makes leaves a history sound.
-use Rattle.std.proofs.Common.{◌≡◌, ℕ, zero, suc, List, [], ◌∷◌, All, refl}
+use Rattle.std.proofs.Common.{ℕ, zero, suc, List, [], refl}
 use Rattle.std.proofs.lemmas.List.Elements.{All-nil}
 use Rattle.rand_pcg.specs.Lcg.{Lcg}
 use Rattle.rand_pcg.specs.Pcg.{pcg32}
@@ -7,13 +7,13 @@ use Rattle.rx_model.specs.declared.event.Noted.{Noted}
 use Rattle.rx_plan.specs.Finds.{at_client}
 use Rattle.rx_plan.specs.Lines.{connects, invokes}
 use Rattle.rx_plan.specs.Lossy.{carries}
-use Rattle.rx_plan.specs.Parts.{To, Part, each}
+use Rattle.rx_plan.specs.Parts.{To, each}
 use Rattle.rx_plan.specs.Rounds.{polls}
 use Rattle.rx_plan.proofs.Bags.{behind}
-use Rattle.rx_plan.proofs.Sound.{Ends, Good, In, Is, Safe, all_behind, each_safe, ends_safe, then_safe}
-use Rattle.rx_plan.proofs.SoundLossy.{IsLossy, carries_safe}
-use Rattle.rx_plan.proofs.SoundRounds.{IsPoll, polls_safe}
-use Rattle.rx_plan.proofs.SoundTurns.{numbers_safe, test_safe}
+use Rattle.rx_plan.proofs.Soundness.Sound.{Good, In, Is, Safe, all_behind, each_safe, ends_safe, then_safe}
+use Rattle.rx_plan.proofs.Soundness.SoundLossy.{IsLossy, carries_safe}
+use Rattle.rx_plan.proofs.Soundness.SoundRounds.{IsPoll, polls_safe}
+use Rattle.rx_plan.proofs.Soundness.SoundTurns.{numbers_safe, test_safe}
 use Rattle.rx_load.specs.Loads.{Load, all_ended, body_length, clients, connects_all, load_begun, load_handlers}
 use Rattle.rx_load.specs.Loads.{load_nodes, load_part, load_request, load_round, load_rounds, lossy_with, may_open}
 use Rattle.rx_load.specs.Loads.{next_call, opens, opens_all, opens_free, opens_number}

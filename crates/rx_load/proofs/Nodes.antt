@@ -1,21 +1,20 @@
 -- The nodes of a load are those of a world.
-use Rattle.std.proofs.Common.{◌≡◌, ◌≢◌, ◌⊎◌, ◌≤◌, ◌<◌, ◌^◌, ℕ, zero, suc, List, [], ◌∷◌, ◌++◌, reverse, refl, sym, subst}
+use Rattle.std.proofs.Common.{◌≢◌, ◌<◌, ◌^◌, ℕ, zero, suc, List, [], ◌∷◌, ◌++◌, reverse, refl}
+use Rattle.std.proofs.Common.{subst}
 use Rattle.std.proofs.Common.{arith, slice_get, IfSome, Option, Some, None}
 use Rattle.rx_model.specs.declared.event.Noted.{Noted}
 use Rattle.rx_class.specs.NullLaws.{null_fits}
 use Rattle.rx_rules.specs.Setup.{FitsLimits, FitsSetup}
-use Rattle.rx_history.specs.Counts.{Once}
 use Rattle.rx_history.specs.Sides.{Node, side}
-use Rattle.rx_history.proofs.OnceLaw.{once_under_forgery}
-use Rattle.rx_law.specs.Promises.{ServerForgotNone}
-use Rattle.rx_law.specs.Worlds.{AreApart, AreNodes, Sides, World}
+use Rattle.rx_history.proofs.Laws.OnceLaw.{once_under_forgery}
+use Rattle.rx_law.specs.Worlds.{AreApart, AreNodes, World}
 use Rattle.rx_law.proofs.WorldLaw.{world-law}
 use Rattle.rx_plan.specs.Follows.{server_node}
 use Rattle.rx_plan.specs.Parts.{Came}
 use Rattle.rx_plan.specs.Promises.{AreDistinct}
 use Rattle.rx_plan.proofs.Allowed.{AreClients, allowed_before, are_nodes, sides_of}
 use Rattle.rx_plan.proofs.Bags.{behind_none, carried_before}
-use Rattle.rx_plan.proofs.Sound.{Good}
+use Rattle.rx_plan.proofs.Soundness.Sound.{Good}
 use Rattle.rx_load.specs.Keeping.{LoadPromised, LoadPromises}
 use Rattle.rx_load.specs.Loads.{Load, load_client, load_host, load_limits, load_nodes, load_part}
 use Rattle.rx_load.proofs.Loading.{load_safe}
@@ -43,7 +42,10 @@ load_clients = load_client 1 ∷ load_client 2 ∷ load_client 3 ∷ load_client
 clients_are : AreClients load_clients
 clients_are = (
   (refl, client_fits 1 (omega arith)),
-  ((refl, client_fits 2 (omega arith)), ((refl, client_fits 3 (omega arith)), ((refl, client_fits 4 (omega arith)), tt))),
+  (
+    (refl, client_fits 2 (omega arith)),
+    ((refl, client_fits 3 (omega arith)), ((refl, client_fits 4 (omega arith)), tt)),
+  ),
 )
 
 abbrev load_server : Node
@@ -52,7 +54,7 @@ load_server = server_node (load_host 0) 1 load_limits None 0
 server_fits : FitsSetup load_server.setup
 server_fits = record { kind = (omega arith, omega arith); limits = limits_fit; class = null_fits }
 
-nodes_are : AreNodes load_nodes
+pub nodes_are : AreNodes load_nodes
 nodes_are = are_nodes load_server load_clients tt server_fits clients_are
 
 -- a server is apart from every node

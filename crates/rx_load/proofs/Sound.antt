@@ -12,9 +12,9 @@ use Rattle.rx_plan.specs.Finds.{at_client, client_at, found_or}
 use Rattle.rx_plan.specs.Lines.{IsInvoked, connects, invokes, with_called, with_caller}
 use Rattle.rx_plan.specs.Parts.{To, Refused, Part}
 use Rattle.rx_plan.specs.Stages.{Stage, name_called}
-use Rattle.rx_plan.proofs.Sound.{Good, Is, Safe, calm_by, calm_honest, ends_safe, event_with_safe}
-use Rattle.rx_plan.proofs.Sound.{is_next}
-use Rattle.rx_plan.proofs.SoundLines.{line_safe}
+use Rattle.rx_plan.proofs.Soundness.Sound.{Good, Is, Safe, calm_by, calm_honest, ends_safe, event_with_safe}
+use Rattle.rx_plan.proofs.Soundness.Sound.{is_next}
+use Rattle.rx_plan.proofs.Soundness.SoundLines.{line_safe}
 use Rattle.rx_load.specs.Loads.{load_handlers}
 
 module _ (Honest : Type 0) (nodes : List Node) where

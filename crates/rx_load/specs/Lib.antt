@@ -1,4 +1,4 @@
 pub mod Keeping
 pub mod Loads
 pub mod Summing
-pub mod Tallies
+pub mod Saying

@@ -1,5 +1,6 @@
 -- What a load makes: its nodes and handlers, its calls, and its rounds. Public clauses cite this module.
-use Rattle.std.specs.Prelude.{◌==◌, ◌+◌, ◌*◌, ◌-◌, ◌%◌, ◌^◌, ◌&&◌, not, nat_lt, if◌then◌else◌, ℕ, zero, suc, Bool, false}
+use Rattle.std.specs.Prelude.{◌==◌, ◌+◌, ◌*◌, ◌-◌, ◌%◌, ◌^◌, ◌&&◌, not, nat_lt, if◌then◌else◌, ℕ, zero, suc, Bool}
+use Rattle.std.specs.Prelude.{false}
 use Rattle.std.specs.Prelude.{true, List, [], ◌∷◌, Option, Some, None, codes, replicate, set, slice_get, unwrap_or}
 use Rattle.std.specs.List.{list_all}
 use Rattle.rand_pcg.specs.Lcg.{Lcg, increment_of, started}
@@ -19,8 +20,8 @@ use Rattle.rx_plan.specs.Rounds.{polls}
 use Rattle.rx_plan.specs.Stages.{Stage}
 use Rattle.rx_reply.specs.Sent.{sent_spelling}
 use Rattle.rx_script.specs.Saying.{size}
-use Rattle.rx_load.specs.Tallies.{no_tally, tallied}
-use Rattle.rx_load.specs.declared.tally.Tally.{Tally}
+use Rattle.rx_plan.specs.Tallies.{no_tally, tallied}
+use Rattle.rx_plan.specs.declared.tally.Tally.{Tally}
 use Rattle.xdr_value.specs.Data.{Data, Procedure, basic, end, more, octets}
 use Rattle.xdr_value.specs.declared.def.Mode.TheVariants as modes
 use Rattle.xdr_value.specs.declared.ty.Basic.TheVariants as basics

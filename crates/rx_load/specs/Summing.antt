@@ -8,7 +8,7 @@ use Rattle.rx_plan.specs.Stages.{InvokedState}
 use Rattle.rx_load.specs.Loads.{Load}
 use Rattle.rx_load.specs.declared.ends.Ends.{Ends}
 use Rattle.rx_load.specs.declared.summary.Summary.{Summary}
-use Rattle.rx_load.specs.declared.tally.Tally.{Tally}
+use Rattle.rx_plan.specs.declared.tally.Tally.{Tally}
 
 -- one more, where a count of 32 bits has room for it
 abbrev pub one_up : ℕ → ℕ

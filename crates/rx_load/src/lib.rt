@@ -1,14 +1,15 @@
-//! What a large load makes: four clients that call one server over a network that loses, until each of so many calls ended.
+//! What a large load makes: four clients that call one server over a network that loses, until each of so many calls
+//! ended.
 //!
 //! What a load may make stands in `specs/Loads.antt`, over the parts of plans; what became of datagrams and calls, in
-//! numbers, in `Tallies` and `Summing`; what holds of each load in `Keeping`, and its law in `laws.rt`. `rx_loader` makes one.
+//! numbers, in `Summing`; what holds of each load in `Keeping`, and its law in `laws.rt`. `rx_loader`
+//! makes one.
 #![tactic(auto)]
 
 mod ends;
 mod laws;
 mod limits;
 mod summary;
-mod tally;
 
 pub use ends::Ends;
 pub use laws::loads_keep_promises;
@@ -17,4 +18,3 @@ pub use limits::{
     SERVER_PORT, SERVICE, SIZE, load_limits,
 };
 pub use summary::{Loaded, Summary};
-pub use tally::Tally;

@@ -7,6 +7,7 @@ use Rattle.rx_law.specs.Worlds.{World}
 use Rattle.rx_model.specs.declared.event.Noted.{Noted}
 use Rattle.rx_load.specs.Keeping.{LoadPromises}
 use Rattle.rx_load.specs.Loads.{Load, connects_all, load_begun, load_nodes, load_part, load_rounds}
+use Rattle.rx_load.specs.Saying.{SaidOf}
 use Rattle.rx_load.specs.Summing.{summary_of}
 use Rattle.rx_load.specs.declared.summary.Loaded.{Loaded}
 use Rattle.rx_load.specs.declared.summary.Loaded.TheVariants as loads
@@ -97,6 +98,11 @@ whole_is number calls w summary a b exact r = of r.events r.came r.made r.fits
 pub load_keeps : ((number calls : ℕ) (es : List Noted) (came : Came Load) → load_part number calls es came
     → World load_nodes (reverse es))
     → ((number calls : ℕ) (es : List Noted) (came : Came Load) → load_part number calls es came → LoadPromises es)
+    → ((number calls : ℕ) (es : List Noted) (came : Came Load) → load_part number calls es came
+    → SaidOf (reverse es) came)
     → (number calls : ℕ) (loaded : Loaded) (a b : Told) → LoadKeeps number calls loaded a b
-load_keeps world promises number calls loaded a b r =
-    (world number calls r.events r.came r.made, promises number calls r.events r.came r.made)
+load_keeps world promises says number calls loaded a b r = (
+  world number calls r.events r.came r.made,
+  promises number calls r.events r.came r.made,
+  says number calls r.events r.came r.made,
+)

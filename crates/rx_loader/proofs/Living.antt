@@ -6,7 +6,7 @@ use Rattle.rx_model.specs.declared.event.Noted.{Noted}
 use Rattle.rx_history.specs.Sides.{Node, side}
 use Rattle.rx_rules.specs.After.{looks}
 use Rattle.rx_rules.specs.Slots.{live}
-use Rattle.rx_nodes.specs.Nodes.{NodesState, Standing, nodes_of}
+use Rattle.rx_joint.specs.Nodes.{NodesState, Standing, nodes_of}
 use Rattle.rx_load.specs.Loads.{live_at, live_of}
 use Rattle.rx_plan.specs.Stages.{Stage}
 use Rattle.rx_stage.specs.Shown.{Shows, WorldState}

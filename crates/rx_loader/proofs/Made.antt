@@ -8,7 +8,7 @@ use Rattle.rx_law.specs.Worlds.{Datagram}
 use Rattle.rx_script.specs.Saying.{Answering}
 use Rattle.rx_load.specs.Loads.{Load, all_ended, at_stage, clients, connects_all, load_handlers, load_round}
 use Rattle.rx_load.specs.Loads.{load_rounds, lossy_with}
-use Rattle.rx_load.specs.Tallies.{tallied}
+use Rattle.rx_plan.specs.Tallies.{tallied}
 use Rattle.rx_loader.specs.Showing.{Loads, PlaysLoad, ShowsLoad}
 use Rattle.rx_loader.specs.declared.loading.Loading.{Loading}
 use Rattle.rx_plan.specs.Finds.{at_client}

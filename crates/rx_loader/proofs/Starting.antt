@@ -6,7 +6,7 @@ use Rattle.rx_model.specs.declared.names.Limits.{Limits}
 use Rattle.rx_rules.specs.Classes.{null}
 use Rattle.rx_rules.specs.Setup.{Client, Server, unprompted}
 use Rattle.rx_history.specs.Sides.{Node}
-use Rattle.rx_nodes.specs.Nodes.{NodesState, Standing, nodes_of}
+use Rattle.rx_joint.specs.Nodes.{NodesState, Standing, nodes_of}
 use Rattle.rx_load.specs.Loads.{first_stage, load_client, load_host, load_limits, load_nodes}
 use Rattle.rx_stage.specs.Showing.{started}
 use Rattle.rx_stage.specs.Shown.{Shows, WorldState, jobs_of, stage_of}

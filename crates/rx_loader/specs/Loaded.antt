@@ -4,6 +4,7 @@ use Rattle.rx_model.specs.declared.event.Noted.{Noted}
 use Rattle.rx_law.specs.Worlds.{World}
 use Rattle.rx_load.specs.Keeping.{LoadPromises}
 use Rattle.rx_load.specs.Loads.{Load, load_nodes, load_part}
+use Rattle.rx_load.specs.Saying.{SaidOf}
 use Rattle.rx_load.specs.Summing.{summary_of}
 use Rattle.rx_load.specs.declared.summary.Loaded.{Loaded}
 use Rattle.rx_load.specs.declared.summary.Loaded.TheVariants as loads
@@ -17,8 +18,8 @@ abbrev pub loaded_of : Result Summary Stop → Loaded
 loaded_of (Ok summary) = loads.Ran summary
 loaded_of (Err stop) = loads.OutOfMemory
 
--- what was noted, by how the load ended and what it came to: all its events, and its Summary is that of what it came to;
--- or it is out of memory where memory was wanted, or where a polling or a turn has no end
+-- what was noted, by how the load ended and what it came to: all its events, and its Summary is that of what it came
+-- to; or it is out of memory where memory was wanted, or where a polling or a turn has no end
 abbrev pub LoadTells : ℕ → Loaded → Came Load → Told → Told → List Noted → Type 0
 LoadTells calls (loads.Ran summary) (To l) old new es = (summary ≡ summary_of calls l) × Gains old new es
 LoadTells calls (loads.Ran summary) (Refused why) old new es = ⊥
@@ -36,8 +37,9 @@ pub record LoadIs (number calls : ℕ) (loaded : Loaded) (old new : Told) : Type
   pub made : load_part number calls events came
   pub tells : LoadTells calls loaded came old new events
 
--- the events that a load made and noted are those of a world, in which the network invents nothing, and they are
--- promised so at each moment
+-- the events that a load made and noted are those of a world, in which the network invents nothing; they are promised
+-- so at each moment; and the numbers of what the load came to are those of their history
 abbrev pub LoadKeeps : ℕ → ℕ → Loaded → Told → Told → Type 0
 LoadKeeps number calls loaded old new =
-    (r : LoadIs number calls loaded old new) → World load_nodes (reverse r.events) × LoadPromises r.events
+    (r : LoadIs number calls loaded old new)
+    → World load_nodes (reverse r.events) × LoadPromises r.events × SaidOf (reverse r.events) r.came

@@ -14,14 +14,15 @@ use crate::nodes::nodes;
 use crate::summary::sum_up;
 use rand_pcg::Pcg32;
 use rx_base::{Discarding, Sink};
-use rx_load::{CLIENTS, MAX_CALLS, MAX_ROUNDS, SERVICE, Summary, Tally};
+use rx_load::{CLIENTS, MAX_CALLS, MAX_ROUNDS, SERVICE, Summary};
+use rx_plan::Tally;
 use rx_stage::{Datagram, Stop, World, at_start};
 use rx_wire::Journal;
 use std::alloc::{AllocError, Global};
 use xdr_value::Interface;
 
 /// A load at work.
-#[derive(Drop)]
+#[derive(Debug, Drop)]
 pub struct Loading {
     pub world: World,
     /// Where all is drawn from.

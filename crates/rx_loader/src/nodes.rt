@@ -2,12 +2,12 @@
 ghost use Rattle.std.specs.Prelude.{[], ◌≡◌, ◌≤◌, IfOk, List};
 ghost use Rattle.rx_load.specs.Loads.{load_host, load_limits, load_nodes};
 ghost use Rattle.rx_model.specs.declared.event.Noted.{Noted};
-ghost use Rattle.rx_nodes.specs.Nodes.{Standing, nodes_of};
+ghost use Rattle.rx_joint.specs.Nodes.{Standing, nodes_of};
 
+use rx_joint::{Nodes, SERVER};
 use rx_load::{CLIENT_PORT, CLIENTS, FIRST_ADDR, SERVER_PORT, SERVICE};
 use rx_model::wire::{DEFAULT_CALLS, DEFAULT_CONNS, DEFAULT_SLOTS, DEFAULT_WINDOW};
 use rx_model::{Host, Limits};
-use rx_nodes::{Nodes, SERVER};
 use rx_token::Chosen;
 use std::alloc::{AllocError, Global};
 

@@ -2,7 +2,8 @@
 ghost use Rattle.std.specs.Prelude.{◌≡◌};
 ghost use Rattle.rx_load.specs.Summing.{is_answered, summed};
 
-use rx_load::{Ends, Summary, Tally};
+use rx_load::{Ends, Summary};
+use rx_plan::Tally;
 use rx_stage::Invoked;
 
 /// Whether the reply of a call spells the length of its Body.

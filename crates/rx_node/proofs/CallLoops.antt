@@ -15,11 +15,11 @@ use Rattle.rx_rules.proofs.CallsLaws.{KeepsNames, changed_if}
 use Rattle.rx_rules.proofs.ConnsLaws.{channel_number, number_of}
 use Rattle.rx_rules.proofs.FindLaws.{find_passes}
 use Rattle.rx_history.proofs.Differ.{Differ, by_name}
-use Rattle.rx_history.proofs.Orderly.{IsLatest, Orderly}
+use Rattle.rx_history.proofs.Order.Orderly.{IsLatest, Orderly}
 use Rattle.rx_node.specs.Mirrors.{IsChannel, channel_in}
 use Rattle.rx_node.proofs.CallChanges.{FoundIn, every_own, every_then, map_both, map_same}
-use Rattle.rx_node.proofs.ChannelSteps.{place_is}
-use Rattle.rx_node.proofs.TableSteps.{decided}
+use Rattle.rx_node.proofs.Steps.ChannelSteps.{place_is}
+use Rattle.rx_node.proofs.Steps.TableSteps.{decided}
 
 -- ---- the key of a call's channel
 

@@ -17,8 +17,8 @@ use Rattle.rx_node.specs.Mirrors.{IsActiveAt, IsChannel, Mirrors}
 use Rattle.rx_node.specs.Node.{NodeState, setup_of}
 use Rattle.rx_node.specs.declared.item.Item.{Item as CodeItem}
 use Rattle.rx_node.specs.declared.item.Item.TheVariants as kinds
-use Rattle.rx_ends.specs.Ends.{EndsState, StandsEnd}
-use Rattle.rx_node.proofs.EndSteps.{active_call}
+use Rattle.rx_call_ends.specs.Ends.{EndsState, StandsEnd}
+use Rattle.rx_node.proofs.Steps.EndSteps.{active_call}
 use Rattle.rx_node.proofs.LeastItems.{least_map}
 
 -- ---- a call that isn't silent

@@ -9,8 +9,8 @@ use Rattle.rx_table.specs.declared.seat.Seat.{Seat}
 use Rattle.rx_table.specs.Records.{ConnRecord, Records, fresh_record, fresh_seat, on_place, record_at, seat_at}
 use Rattle.rx_node.specs.declared.link.Link.{Link}
 use Rattle.rx_node.specs.Node.{IsSeated, IsSetUp, NodeState}
-use Rattle.rx_node.proofs.PlaceSteps.{OldOrNew, New, Old, four-seats, old_or_new}
-use Rattle.rx_node.proofs.TableSteps.{changed-length, decided, record_changed, record_stays}
+use Rattle.rx_node.proofs.Steps.PlaceSteps.{OldOrNew, New, Old, four-seats, old_or_new}
+use Rattle.rx_node.proofs.Steps.TableSteps.{changed-length, decided, record_changed, record_stays}
 
 -- another table, of which each seat that names an end was there, and each connection's cid has room
 pub record FewerNamed (n : NodeState) (table : Records) : Type 0 where

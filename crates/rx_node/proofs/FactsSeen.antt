@@ -8,7 +8,7 @@ use Rattle.rx_rules.specs.Looks.{CallRecord, ConnLooks, Looks, conn_at, is_call}
 use Rattle.rx_node.specs.Mirrors.{IsChannel, Mirrors}
 use Rattle.rx_node.specs.Node.{NodeState}
 use Rattle.rx_node.specs.Steps.{IsChannelAt}
-use Rattle.rx_node.proofs.IdleSteps.{channel_conn}
+use Rattle.rx_node.proofs.Steps.IdleSteps.{channel_conn}
 
 -- whether a life passes a test; where there is none it doesn't
 abbrev pub holds : (Life → Bool) → Option Life → Bool

@@ -26,9 +26,9 @@ use Rattle.rx_node.specs.declared.item.Due.{Due}
 use Rattle.rx_node.specs.declared.item.Item.{Item as CodeItem}
 use Rattle.rx_node.specs.declared.item.Item.TheVariants as items
 use Rattle.rx_node.specs.declared.link.Link.{Link}
-use Rattle.rx_node.proofs.ChannelSteps.{LeavesChannels, channel_on_conn, latest_on_conn}
+use Rattle.rx_node.proofs.Steps.ChannelSteps.{LeavesChannels, channel_on_conn, latest_on_conn}
 use Rattle.rx_node.proofs.GivenItem.{item_channel}
-use Rattle.rx_node.proofs.IdleSteps.{channel_conn, place_stands}
+use Rattle.rx_node.proofs.Steps.IdleSteps.{channel_conn, place_stands}
 use Rattle.rx_node.proofs.KeptKeys.{kept_setup}
 
 -- ---- a datagram is counted

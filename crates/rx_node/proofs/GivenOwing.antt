@@ -1,7 +1,7 @@
 -- What a channel owes no longer once it was given.
 use Rattle.std.proofs.Common.{false, None, refl}
 use Rattle.rx_table.specs.declared.seat.Seat.{Seat}
-use Rattle.rx_node.proofs.OwingSteps.{Owing}
+use Rattle.rx_node.proofs.Steps.OwingSteps.{Owing}
 
 -- an ABORT
 pub abort_given : (seat : Seat) → Owing seat (record seat { owed_abort = None }) (λ q. record q { owed_abort = None })

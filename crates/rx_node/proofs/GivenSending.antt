@@ -24,17 +24,17 @@ use Rattle.rx_rules.specs.Looks.{CallRecord, Looks, call_at, latest_name, on_loo
 use Rattle.rx_rules.specs.Sent.{piece_at}
 use Rattle.rx_rules.specs.Setup.{Kind, Server, Client, Setup, is_client, receiving_window, shared_slots, side_flag}
 use Rattle.rx_rules.proofs.FindLaws.{find_passes}
-use Rattle.rx_history.proofs.Roomy.{roomy_one}
-use Rattle.rx_history.proofs.RoomStarts.{RoomyAt}
-use Rattle.rx_history.proofs.Tight.{gives_ack, gives_piece}
+use Rattle.rx_history.proofs.Room.Roomy.{roomy_one}
+use Rattle.rx_history.proofs.Room.RoomStarts.{RoomyAt}
+use Rattle.rx_history.proofs.Room.Tight.{gives_ack, gives_piece}
 use Rattle.rx_call.specs.Standing.{after_given, giving_of}
 use Rattle.rx_call.specs.declared.giving.Giving.TheVariants as givings
-use Rattle.rx_ends.specs.Ends.{EndsState, StandsEnd, StepsEnd, view_at}
+use Rattle.rx_call_ends.specs.Ends.{EndsState, StandsEnd, StepsEnd, view_at}
 use Rattle.rx_node.specs.Due.{SendsItem, message_of_item}
 use Rattle.rx_node.specs.Mirrors.{IsActiveAt, IsChannel, Mirrors}
 use Rattle.rx_node.specs.Node.{IsSeated, NodeState, setup_of}
 use Rattle.rx_node.proofs.CallChanges.{same_change}
-use Rattle.rx_node.proofs.EndSteps.{active_call, mirrors_end}
+use Rattle.rx_node.proofs.Steps.EndSteps.{active_call, mirrors_end}
 use Rattle.rx_node.proofs.LeastItems.{least_within, within_rank}
 
 -- ---- what a datagram says of it

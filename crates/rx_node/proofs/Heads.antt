@@ -22,7 +22,7 @@ use Rattle.rx_node.specs.declared.link.Link.{Link}
 use Rattle.rx_node.specs.Mirrors.{IsChannel, Mirrors}
 use Rattle.rx_node.specs.Node.{NodeState, setup_of}
 use Rattle.rx_node.specs.Due.{at_once, challenge_of}
-use Rattle.rx_node.proofs.IdleSteps.{channel_conn, place_stands}
+use Rattle.rx_node.proofs.Steps.IdleSteps.{channel_conn, place_stands}
 
 module _ (class : List ℕ → Class) (n : NodeState) (l : Looks) (m : Mirrors class n l) (key : ℕ) (ch : Channel)
     (at : IsChannel l key ch) where

@@ -13,7 +13,7 @@ use Rattle.rx_rules.specs.Received.{Received, used_of}
 use Rattle.rx_rules.specs.Received as packets
 use Rattle.rx_rules.proofs.CallsLaws.{changed_if}
 use Rattle.rx_node.proofs.ChannelChanges.{channel_same}
-use Rattle.rx_node.proofs.ReadSteps.{not-ended}
+use Rattle.rx_node.proofs.Steps.ReadSteps.{not-ended}
 
 -- ---- nothing changes
 

@@ -11,9 +11,9 @@ use Rattle.rx_table.specs.declared.seat.Seat.{Seat}
 use Rattle.rx_table.specs.Records.{ConnRecord, names, record_at, seat_at}
 use Rattle.rx_node.specs.Mirrors.{IsChannel, IsKey, Mirrors}
 use Rattle.rx_node.specs.Node.{KeepsNode, NodeState, setup_of}
-use Rattle.rx_node.proofs.ActiveSteps.{there_low}
-use Rattle.rx_node.proofs.EndingSteps.{channel_after}
-use Rattle.rx_node.proofs.IdleSteps.{channel_conn, place_stands}
+use Rattle.rx_node.proofs.Steps.ActiveSteps.{there_low}
+use Rattle.rx_node.proofs.Steps.EndingSteps.{channel_after}
+use Rattle.rx_node.proofs.Steps.IdleSteps.{channel_conn, place_stands}
 
 -- ---- a channel that is there
 

@@ -6,8 +6,8 @@ use Rattle.rx_model.specs.Names.{Connection}
 use Rattle.rx_table.specs.declared.seat.Seat.{Seat}
 use Rattle.rx_table.specs.Records.{ConnRecord, Records, changed_at, names, on_place, record_at, seat_at, with_seat}
 use Rattle.rx_node.specs.Node.{IsSeated, IsSetUp, KeepsNode, NodeState}
-use Rattle.rx_node.proofs.ConnSteps.{record-from, seats-same}
-use Rattle.rx_node.proofs.TableSteps.{changed-length, decided, record_seated, seat_changed, seat_stays, seated}
+use Rattle.rx_node.proofs.Steps.ConnSteps.{record-from, seats-same}
+use Rattle.rx_node.proofs.Steps.TableSteps.{changed-length, decided, record_seated, seat_changed, seat_stays, seated}
 
 -- another seat names the same end
 pub record FromSeat (t : Records) (key : ℕ) (after : Seat) : Type 0 where

@@ -18,17 +18,17 @@ use Rattle.rx_table.specs.declared.seat.Seat.{Seat}
 use Rattle.rx_table.specs.Records.{Records, names, seat_at, with_seat}
 use Rattle.rx_call.specs.Kept.{call_under, live_count}
 use Rattle.rx_call.specs.Standing.{EndOfCall, IsIdle}
-use Rattle.rx_ends.specs.Ends.{EndsState, IsIdleAt, KeepsEnds, StandsEnd, beside_looks}
+use Rattle.rx_call_ends.specs.Ends.{EndsState, IsIdleAt, KeepsEnds, StandsEnd, beside_looks}
 use Rattle.rx_node.specs.declared.life.Life.{Life as CodeLife}
 use Rattle.rx_node.specs.Lives.{end_of, ended_life, is_of, life_of}
 use Rattle.rx_node.specs.Mirrors.{ChannelStands, IsChannel, Mirrors}
 use Rattle.rx_node.specs.Node.{IsSeated, IsSetUp, KeepsNode, NodeState, is_active_life, life_by}
 use Rattle.rx_node.proofs.CallChanges.{same_change}
 use Rattle.rx_node.proofs.KeptNode.{names-changed}
-use Rattle.rx_node.proofs.LifeSteps.{Lives, mirrors_life}
-use Rattle.rx_node.proofs.SeatedSteps.{one_seat, reseated, same_end, same_records, set_up_alike}
-use Rattle.rx_node.proofs.TableSteps.{changed-length, record_seated, seat_changed, seat_stays, seated, set-other}
-use Rattle.rx_node.proofs.TableSteps.{set-own}
+use Rattle.rx_node.proofs.Steps.LifeSteps.{Lives, mirrors_life}
+use Rattle.rx_node.proofs.Steps.SeatedSteps.{one_seat, reseated, same_end, same_records, set_up_alike}
+use Rattle.rx_node.proofs.Steps.TableSteps.{changed-length, record_seated, seat_changed, seat_stays, seated, set-other}
+use Rattle.rx_node.proofs.Steps.TableSteps.{set-own}
 use Rattle.rx_node.proofs.LifeLaws.{live_if_active}
 
 -- ---- lives

@@ -11,12 +11,12 @@ use Rattle.rx_rules.specs.Records.{unless_silent}
 use Rattle.rx_rules.specs.Setup.{Setup}
 use Rattle.rx_model.proofs.NameLaws.{connection_itself, refuted}
 use Rattle.rx_history.proofs.Differ.{Differ, by_name}
-use Rattle.rx_history.proofs.Orderly.{Orderly}
+use Rattle.rx_history.proofs.Order.Orderly.{Orderly}
 use Rattle.rx_node.specs.declared.life.Turn.TheVariants as turns
 use Rattle.rx_node.proofs.CallChanges.{FoundIn, every_own, every_then, map_both}
 use Rattle.rx_node.proofs.CallLoops.{LiveAt, OfLive, among, change_among, key_of, live_at}
-use Rattle.rx_node.proofs.ChannelSteps.{place_is}
-use Rattle.rx_node.proofs.TableSteps.{decided}
+use Rattle.rx_node.proofs.Steps.ChannelSteps.{place_is}
+use Rattle.rx_node.proofs.Steps.TableSteps.{decided}
 use Rattle.rx_node.proofs.LifeLaws.{turn_ended}
 
 within-place : (key place : ℕ) → key / 4 ≡ place → (nat_le (4 * place) key && nat_lt key (4 * place + 4)) ≡ true

@@ -19,8 +19,8 @@ use Rattle.rx_table.specs.Records.{ConnRecord, record_at, seat_at}
 use Rattle.rx_node.specs.Due.{OwesAtOnce, at_once, challenge_of, owed_at, owed_by, unsilenced}
 use Rattle.rx_node.specs.Mirrors.{IsChannel, Mirrors, OwesAs, channel_in}
 use Rattle.rx_node.specs.Node.{NodeState, setup_of}
-use Rattle.rx_node.proofs.IdleSteps.{channel_conn, place_stands}
-use Rattle.rx_node.proofs.TableSteps.{get_some}
+use Rattle.rx_node.proofs.Steps.IdleSteps.{channel_conn, place_stands}
+use Rattle.rx_node.proofs.Steps.TableSteps.{get_some}
 use Rattle.rx_node.specs.declared.item.Item.TheVariants as kinds
 
 -- ---- keys

@@ -10,7 +10,7 @@ use Rattle.rx_rules.specs.Rules.{own_call}
 use Rattle.rx_model.proofs.NameLaws.{number_itself, refuted, same_number}
 use Rattle.rx_rules.proofs.ConnsLaws.{channel_number, number_in, number_of}
 use Rattle.rx_rules.proofs.KeepsLaws.{Fours}
-use Rattle.rx_history.proofs.Orderly.{four_there}
+use Rattle.rx_history.proofs.Order.Orderly.{four_there}
 use Rattle.rx_table.specs.declared.seat.Seat.{Seat}
 use Rattle.rx_table.specs.Records.{seat_at}
 use Rattle.rx_node.specs.Mirrors.{IsChannel, Mirrors}

@@ -6,7 +6,7 @@ use Rattle.std.proofs.lemmas.Bool.{false≢true}
 use Rattle.rx_rules.specs.Life.{is_active}
 use Rattle.rx_call.specs.Kept.{call_under}
 use Rattle.rx_call.specs.Standing.{EndOfCall}
-use Rattle.rx_ends.specs.Ends.{EndsState, KeepsEnds}
+use Rattle.rx_call_ends.specs.Ends.{EndsState, KeepsEnds}
 use Rattle.rx_table.specs.declared.seat.Seat.{Seat}
 use Rattle.rx_table.specs.Records.{ConnRecord, Records, on_place, record_at, seat_at, with_seat}
 use Rattle.rx_node.specs.Due.{owed_at}
@@ -15,10 +15,11 @@ use Rattle.rx_node.specs.Lives.{life_of}
 use Rattle.rx_node.specs.Node.{IsSeated, NodeState}
 use Rattle.rx_node.specs.declared.life.Life.{Life}
 use Rattle.rx_node.specs.declared.link.Link.{Link}
-use Rattle.rx_node.proofs.ConnSteps.{seats-same}
-use Rattle.rx_node.proofs.MomentSteps.{end_free, end_inactive}
-use Rattle.rx_node.proofs.TableSteps.{decided, record_changed, record_stays, seat_changed, seat_stays, seated, set-other}
-use Rattle.rx_node.proofs.TableSteps.{set-own}
+use Rattle.rx_node.proofs.Steps.ConnSteps.{seats-same}
+use Rattle.rx_node.proofs.Steps.MomentSteps.{end_free, end_inactive}
+use Rattle.rx_node.proofs.Steps.TableSteps.{decided, record_changed, record_stays, seat_changed, seat_stays, seated}
+use Rattle.rx_node.proofs.Steps.TableSteps.{set-other}
+use Rattle.rx_node.proofs.Steps.TableSteps.{set-own}
 
 -- ---- in general
 
@@ -208,7 +209,8 @@ module _ (n : NodeState) (seats : IsSeated n) (key end : ℕ) (code : Life) (e :
       → SameChannel n
       (record n { table = with_seat n.table key after; ends = e; lives = set n.lives key code; live = live }) q
   same_opened q apart =
-      same_parts n (record n { table = with_seat n.table key after; ends = e; lives = set n.lives key code; live = live })
+      same_parts n (record n
+      { table = with_seat n.table key after; ends = e; lives = set n.lives key code; live = live })
       q (seat_stays n.table key q after (λ same. apart (sym same)))
       (proved-kept n.table (key / 4) (seated (key % 4) after) (q / 4) (λ r. refl))
       (set-other n.lives key q code (λ same. apart (sym same)))

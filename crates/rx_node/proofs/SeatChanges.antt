@@ -4,7 +4,7 @@ use Rattle.std.specs.Result.{IsOk, OnOk}
 use Rattle.std.proofs.lemmas.Bool.{false≢true}
 use Rattle.rx_rules.specs.After.{owing_abort, owing_ackall, owing_busy}
 use Rattle.rx_table.specs.declared.seat.Seat.{Seat}
-use Rattle.rx_node.proofs.OwingSteps.{Owing}
+use Rattle.rx_node.proofs.Steps.OwingSteps.{Owing}
 
 -- an ABORT
 pub abort_owing : (seat : Seat) (owed code : ℤ) → owed ≡ code

@@ -11,12 +11,12 @@ use Rattle.rx_rules.specs.Life.{is_active}
 use Rattle.rx_rules.specs.Looks.{Looks, call_named}
 use Rattle.rx_rules.specs.Records.{started}
 use Rattle.rx_rules.specs.Setup.{is_client}
-use Rattle.rx_history.proofs.Orderly.{Orderly}
-use Rattle.rx_history.proofs.RoomStarts.{RoomyAt}
+use Rattle.rx_history.proofs.Order.Orderly.{Orderly}
+use Rattle.rx_history.proofs.Room.RoomStarts.{RoomyAt}
 use Rattle.rx_call.specs.Kept.{call_under, live_count}
 use Rattle.rx_call.specs.Standing.{EndOfCall}
-use Rattle.rx_call.specs.declared.pace.Pace.{Pace}
-use Rattle.rx_ends.specs.Ends.{EndsState, KeepsEnds, StandsAs, StandsEnd}
+use Rattle.rx_model.specs.declared.pace.Pace.{Pace}
+use Rattle.rx_call_ends.specs.Ends.{EndsState, KeepsEnds, StandsAs, StandsEnd}
 use Rattle.rx_table.specs.declared.seat.Seat.{Seat}
 use Rattle.rx_table.specs.Records.{seat_at, with_seat}
 use Rattle.rx_node.specs.declared.life.Life.{Life as CodeLife}
@@ -25,10 +25,10 @@ use Rattle.rx_node.specs.Mirrors.{IsChannel, Mirrors}
 use Rattle.rx_node.specs.Node.{IsSeated, IsSetUp, KeepsNode, NodeState, is_active_life, setup_of}
 use Rattle.rx_node.proofs.KeptNode.{names-changed}
 use Rattle.rx_node.proofs.LifeLaws.{live_if_active}
-use Rattle.rx_node.proofs.SeatedSteps.{reseated, set_up_alike}
-use Rattle.rx_node.proofs.StartSteps.{mirrors_started, started_seat}
-use Rattle.rx_node.proofs.TableSteps.{changed-length, record_seated, seat_changed, seat_stays, seated, set-other}
-use Rattle.rx_node.proofs.TableSteps.{set-own}
+use Rattle.rx_node.proofs.Steps.SeatedSteps.{reseated, set_up_alike}
+use Rattle.rx_node.proofs.Steps.StartSteps.{mirrors_started, started_seat}
+use Rattle.rx_node.proofs.Steps.TableSteps.{changed-length, record_seated, seat_changed, seat_stays, seated, set-other}
+use Rattle.rx_node.proofs.Steps.TableSteps.{set-own}
 
 -- what a node has for a call that starts under a free seat, with an end that wasn't there
 pub record Opens (n : NodeState) (key end : ℕ) (old : Seat) (code before : CodeLife) (e : EndsState) : Type 0 where
@@ -39,7 +39,7 @@ pub record Opens (n : NodeState) (key end : ℕ) (old : Seat) (code before : Cod
   pub kind : is_of (is_client n.kind) (life_of code) ≡ true
   pub absent : call_under n.ends.calls end ≡ None
   pub keeps : KeepsEnds n.ends e end
-  pub stands : StandsEnd e end (fresh_call n.ends.calls.pace.window n.ends.calls.pace.prompt n.moment)
+  pub stands : StandsEnd e end (fresh_call n.ends.calls.pace n.moment)
   pub count : live_count e.calls ≡ live_count n.ends.calls + 1
   pub common : e.common ≡ n.ends.common
 
@@ -97,7 +97,7 @@ module _ (class : List ℕ → Class) (n : NodeState) (set_up : IsSetUp class n)
         names = λ s q is names. (
             let both : Some end ≡ Some q = ap (λ (u : Seat). u.live) (its-seat s is) ∙ names in cc (both));
         there = λ s q is names. stands-there (call_under e.calls end)
-            (fresh_call n.ends.calls.pace.window n.ends.calls.pace.prompt n.moment) by.stands;
+            (fresh_call n.ends.calls.pace n.moment) by.stands;
         idle = λ s q is names inactive.
             absurd (false≢true (sym inactive
             ∙ ap (λ (o : Option CodeLife). is_active_life (option_map life_of o)) own-code
@@ -133,8 +133,8 @@ module _ (class : List ℕ → Class) (n : NodeState) (set_up : IsSetUp class n)
         living = live_if_active (life_of code) by.active;
         its_life = ap (option_map life_of) own-code;
         others = λ k apart. set-other n.lives key k code apart;
-        stands = subst (λ (w : Pace). StandsEnd e end (fresh_call w.window w.prompt l.now)) set_up.pace
-            (subst (λ (t : ℕ). StandsEnd e end (fresh_call n.ends.calls.pace.window n.ends.calls.pace.prompt t)) m.now
+        stands = subst (λ (w : Pace). StandsEnd e end (fresh_call w l.now)) set_up.pace
+            (subst (λ (t : ℕ). StandsEnd e end (fresh_call n.ends.calls.pace t)) m.now
             by.stands);
         aside = λ q looks apart s. by.keeps.stands q looks apart s;
         absent = not-named;

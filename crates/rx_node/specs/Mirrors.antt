@@ -7,10 +7,10 @@ use Rattle.rx_rules.specs.Classes.{Class}
 use Rattle.rx_rules.specs.Life.{is_active, is_live}
 use Rattle.rx_rules.specs.Looks.{CallRecord, ChannelLooks, ConnLooks, Looks, call_at, channel_at, is_call, latest}
 use Rattle.rx_rules.specs.Setup.{Kind, nonce_of}
-use Rattle.rx_history.proofs.Orderly.{Orderly}
-use Rattle.rx_history.proofs.RoomStarts.{RoomyAt}
+use Rattle.rx_history.proofs.Order.Orderly.{Orderly}
+use Rattle.rx_history.proofs.Room.RoomStarts.{RoomyAt}
 use Rattle.rx_rules.specs.Slots.{common, live}
-use Rattle.rx_ends.specs.Ends.{StandsEnd}
+use Rattle.rx_call_ends.specs.Ends.{StandsEnd}
 use Rattle.rx_table.specs.Records.{ConnRecord, record_at, seat_at}
 use Rattle.rx_table.specs.declared.seat.Seat.{Seat}
 use Rattle.rx_table.specs.declared.seat.TheConstants.{CHANNELS}

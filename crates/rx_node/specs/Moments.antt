@@ -6,7 +6,7 @@ use Rattle.rx_model.specs.declared.wire.TheConstants.{SILENCE_MS}
 use Rattle.rx_rules.specs.Life.{is_active}
 use Rattle.rx_call.specs.Kept.{call_under}
 use Rattle.rx_call.specs.Standing.{EndOfCall}
-use Rattle.rx_ends.specs.Ends.{IsDueOf}
+use Rattle.rx_call_ends.specs.Ends.{IsDueOf}
 use Rattle.rx_table.specs.Records.{record_at, seat_at}
 use Rattle.rx_table.specs.declared.seat.TheConstants.{CHANNELS}
 use Rattle.rx_node.specs.Due.{owed_at}

@@ -8,7 +8,7 @@ use Rattle.rx_rules.specs.Classes.{Class}
 use Rattle.rx_rules.specs.Life.{Life, is_active}
 use Rattle.rx_rules.specs.Setup.{Setup, Kind, FitsSetup, is_client}
 use Rattle.rx_call.specs.Kept.{live_count}
-use Rattle.rx_ends.specs.Ends.{EndsState, IsIdleAt, IsThere}
+use Rattle.rx_call_ends.specs.Ends.{EndsState, IsIdleAt, IsThere}
 use Rattle.rx_table.specs.Records.{ConnRecord, Records, names, record_at, seat_at}
 use Rattle.rx_table.specs.declared.seat.Seat.{Seat}
 use Rattle.rx_table.specs.declared.seat.TheConstants.{CHANNELS}

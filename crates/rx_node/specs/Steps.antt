@@ -14,7 +14,7 @@ use Rattle.rx_rules.specs.Judging.{Facts}
 use Rattle.rx_rules.specs.Life.{Life}
 use Rattle.rx_rules.specs.Looks.{CallRecord, Looks, call_at, conn_at, latest_name}
 use Rattle.rx_rules.specs.Rules.{Allowed, Legal}
-use Rattle.rx_history.proofs.Dims.{Dims}
+use Rattle.rx_history.proofs.Dimensions.Dims.{Dims}
 use Rattle.rx_table.specs.Records.{place_of}
 use Rattle.rx_node.specs.Mirrors.{IsChannel, IsKey, Mirrors}
 use Rattle.rx_node.specs.Node.{NodeState, setup_of}

@@ -12,7 +12,7 @@ ghost use Rattle.rx_rules.specs.Records.{fresh_conn, placed, used};
 ghost use Rattle.rx_rules.specs.Life.{is_live};
 ghost use Rattle.rx_rules.specs.Rules.{own_call};
 ghost use Rattle.rx_rules.specs.Setup.{FitsSetup, client_host, is_client, nonce_of};
-ghost use Rattle.rx_history.proofs.Orderly.{Orderly};
+ghost use Rattle.rx_history.proofs.Order.Orderly.{Orderly};
 ghost use Rattle.rx_table.specs.Records.{IsLongestIdle, idle_since, place_of, record_at, seat_at};
 ghost use Rattle.rx_node.specs.Kinds.{kind_of};
 ghost use Rattle.rx_node.specs.Mirrors.{IsChannel, IsKey, Mirrors, StepsNode};
@@ -25,8 +25,8 @@ use crate::life::Life;
 use crate::link::Link;
 use crate::strays::stray_of;
 use circular_buffer::HeapCircularBuffer;
+use rx_call_ends::Ends;
 use rx_class::Class;
-use rx_ends::Ends;
 use rx_model::wire::STRAYS;
 use rx_model::{CallName, Host, Limits, Stray};
 use rx_packet::Head;
@@ -45,7 +45,7 @@ pub use taking::is_data;
 /// A channel goes by its key, which is four times the place of its connection and the channel. Its seat in the table
 /// says of its latest call the number and how it ended; while that call lives, the seat has the key of its end in
 /// `ends`, and `lives` has its life by the channel's key.
-#[derive(Drop)]
+#[derive(Debug, Drop)]
 pub struct Node<C: Class> {
     kind: Kind,
     limits: Limits,

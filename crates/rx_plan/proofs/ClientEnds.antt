@@ -20,7 +20,7 @@ use Rattle.rx_rules.specs.Life.{Life, after_end, is_live}
 use Rattle.rx_rules.specs.Life as lives
 use Rattle.rx_rules.specs.Looks.{CallRecord, Looks, call_at, channel_at, conn_at, is_call, on_call, on_life, on_looks}
 use Rattle.rx_rules.specs.Rules.{AllowedAt, AllowedClient, Legal}
-use Rattle.rx_rules.specs.Setup.{Setup, Kind, Client, FitsSetup, is_client, named, sending_window}
+use Rattle.rx_rules.specs.Setup.{Client, FitsSetup, Kind, Setup, is_client, named, pace_of}
 use Rattle.rx_rules.proofs.CallsLaws.{KeepsNames, call_at-on_call, changed_if}
 use Rattle.rx_rules.proofs.ConnsLaws.{number_of}
 use Rattle.rx_history.specs.Streams.{end_at, end_by, end_of_life}
@@ -28,14 +28,14 @@ use Rattle.rx_history.proofs.Client.{fresh-call}
 use Rattle.rx_history.proofs.ClientHistory.{client-calls}
 use Rattle.rx_history.proofs.Conns.{Conns}
 use Rattle.rx_history.proofs.Openings.{channel_prepared}
-use Rattle.rx_history.proofs.RowsInFront.{above_served, may_start}
-use Rattle.rx_history.proofs.SoundLaws.{Below, Sound}
+use Rattle.rx_history.proofs.Rows.RowsInFront.{above_served, may_start}
+use Rattle.rx_history.proofs.Laws.SoundLaws.{Below, Sound}
 use Rattle.rx_history.proofs.Takes.{call_at-any}
 use Rattle.rx_asks.specs.History.{IsCalled}
 use Rattle.rx_asks.proofs.Kept.{GoesOn, Kept, on-end, on-refl}
 use Rattle.rx_asks.proofs.KeptEvents.{StartsNoCall, kept_after}
 use Rattle.rx_asks.proofs.KeptTaken.{StartsNone, StartsNoneBy, StartsNoneOf}
-use Rattle.rx_plan.proofs.AbortCauses.{named_row}
+use Rattle.rx_plan.proofs.Aborts.AbortCauses.{named_row}
 
 -- ---- a call goes on
 
@@ -123,7 +123,7 @@ onward_after s host epoch l c (events.Finished d code got) allowed none = absurd
 -- ---- no message starts one
 
 module _ (s : Setup) (host : Host) (epoch : ℕ) (kind : s.kind ≡ Client host epoch) where
-  starts_none : (l : Looks) (from : Host) (bytes : List ℕ) (got : Took) (m : Message) (c : CallName)
+  pub starts_none : (l : Looks) (from : Host) (bytes : List ℕ) (got : Took) (m : Message) (c : CallName)
       → got ≡ took_of s l from bytes → reading_of bytes ≡ Ok m → outer_row s s.kind l from m ≡ None
       → may_start got ≡ true → StartsNone c (named s from m) (prepared s got (connection_of (named s from m)) l)
   starts_none l from bytes got m c is reads front starts same above =
@@ -176,7 +176,7 @@ module _ (s : Setup) (host : Host) (epoch : ℕ) (kind : s.kind ≡ Client host 
   step l (events.Called cid (Ok d)) c fits conns sound allowed = of (same_name c d) refl
     where
       new : CallRecord
-      new = record { name = d; life = lives.Calling; looks = fresh_call (sending_window s) s.prompt l.now }
+      new = record { name = d; life = lives.Calling; looks = fresh_call (pace_of s) l.now }
 
       of : (b : Bool) → same_name c d ≡ b → Begins l (after s (events.Called cid (Ok d)) l) c
           ⊎ Onward (call_at l c) (call_at (after s (events.Called cid (Ok d)) l) c)

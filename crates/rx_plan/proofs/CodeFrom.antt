@@ -18,7 +18,7 @@ use Rattle.rx_history.specs.Sides.{side}
 use Rattle.rx_history.proofs.Client.{StoppedBy}
 use Rattle.rx_wire.specs.Turns.{noted}
 use Rattle.rx_plan.specs.Causes.{IsSilenced}
-use Rattle.rx_plan.proofs.AbortCauses.{GivesCode, HasCode, LaterBy, WrongBy}
+use Rattle.rx_plan.proofs.Aborts.AbortCauses.{GivesCode, HasCode, LaterBy, WrongBy}
 
 -- a handler finished the call with the code, which isn't 0
 pub record FinishedIn (h : List Noted) (c : CallName) (code : ℤ) : Type 0 where

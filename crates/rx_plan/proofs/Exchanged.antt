@@ -28,7 +28,7 @@ use Rattle.rx_law.specs.Worlds.{TwoEnds, World}
 use Rattle.rx_history.proofs.Ends.{ends_of}
 use Rattle.rx_law.proofs.Joint.{between, Fed, Grown, client-grown, fed-at, fed-before, server-grown}
 use Rattle.rx_law.proofs.Law.{law-of}
-use Rattle.rx_history.proofs.OnceLaw.{served}
+use Rattle.rx_history.proofs.Laws.OnceLaw.{served}
 use Rattle.rx_law.proofs.StartsTimed.{starts-once}
 use Rattle.rx_law.proofs.World.{if-some, world-fed, world-fed-by}
 use Rattle.rx_law.proofs.WorldTimed.{world-lately}

@@ -13,7 +13,7 @@ use Rattle.rx_rules.specs.Setup.{Setup, IsServer}
 use Rattle.rx_rules.proofs.EveryLaws.{Every}
 use Rattle.rx_history.specs.Counts.{Once, times_accepted}
 use Rattle.rx_history.specs.Starts.{StartsOnce}
-use Rattle.rx_history.proofs.OnceLaw.{served}
+use Rattle.rx_history.proofs.Laws.OnceLaw.{served}
 use Rattle.rx_jobs.specs.Dispatching.{Turning, accepts, serves, over, dispatching}
 use Rattle.rx_jobs.specs.Handlers.{Handlers}
 use Rattle.rx_jobs.specs.History.{Drives, gives, handles, is_accept, life_of, turn_calls}

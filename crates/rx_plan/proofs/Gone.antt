@@ -24,7 +24,7 @@ use Rattle.rx_rules.specs.Rules.{served_read_got, served_write}
 use Rattle.rx_rules.specs.Setup.{Setup, IsServer}
 use Rattle.rx_rules.specs.Slots.{room}
 use Rattle.rx_history.specs.Starts.{StartsNew, StartsOnce}
-use Rattle.rx_history.proofs.OnceLaw.{served}
+use Rattle.rx_history.proofs.Laws.OnceLaw.{served}
 use Rattle.rx_jobs.specs.History.{gives, handles, life_of}
 use Rattle.rx_jobs.specs.Lives.{has_gone, tells_gone}
 use Rattle.rx_history.proofs.LifeFalls.{Falls, end_falls}

@@ -35,7 +35,7 @@ use Rattle.rx_rules.specs.Looks.{on_call, on_calls, on_channel, on_life, on_look
 use Rattle.rx_rules.specs.Records.{is_silent, silence_of, silenced}
 use Rattle.rx_rules.specs.Records.{started, started_later, unless_silent}
 use Rattle.rx_rules.specs.Rules.{AllowedServer}
-use Rattle.rx_rules.specs.Setup.{Setup, named, sending_window}
+use Rattle.rx_rules.specs.Setup.{Setup, named, pace_of}
 use Rattle.rx_rules.specs.Slots.{node_view}
 use Rattle.rx_rules.proofs.CallsLaws.{KeepsNames, call_at-on_call, call_at-on_calls, changed_if, changed_if-name}
 use Rattle.rx_rules.proofs.FindLaws.{find_passes}
@@ -177,7 +177,7 @@ module _ (P : Option CallRecord → Type 0)
   holds-started s life c d l none held = of (same_name c d) refl
     where
       new : CallRecord
-      new = record { name = d; life = life; looks = fresh_call (sending_window s) s.prompt l.now }
+      new = record { name = d; life = life; looks = fresh_call (pace_of s) l.now }
 
       of : (b : Bool) → same_name c d ≡ b → Holds c (started s life d l)
       of true same =

@@ -23,16 +23,16 @@ use Rattle.rx_history.specs.Givings.{GivesItem, GivesStray}
 use Rattle.rx_history.specs.Sides.{Node, side, GivesTo}
 use Rattle.rx_law.specs.Worlds.{AreApart, AreNodes, Gave, bag}
 use Rattle.rx_history.proofs.ClientHistory.{client-calls}
-use Rattle.rx_history.proofs.GivenLaws.{silent-name}
-use Rattle.rx_history.proofs.GivingItems.{item_name}
-use Rattle.rx_history.proofs.Givings.{next_is, poll_gives}
+use Rattle.rx_history.proofs.Given.GivenLaws.{silent-name}
+use Rattle.rx_history.proofs.Given.GivingItems.{item_name}
+use Rattle.rx_history.proofs.Given.Givings.{next_is, poll_gives}
 use Rattle.rx_law.proofs.Joint.{client-name, gives-at, polled-is, server-name}
-use Rattle.rx_history.proofs.OrderlyHistory.{orderly_history}
-use Rattle.rx_history.proofs.PlainBodies.{IsSent}
-use Rattle.rx_history.proofs.SoundLaws.{Below}
+use Rattle.rx_history.proofs.Order.OrderlyHistory.{orderly_history}
+use Rattle.rx_history.proofs.Plain.PlainBodies.{IsSent}
+use Rattle.rx_history.proofs.Laws.SoundLaws.{Below}
 use Rattle.rx_law.proofs.World.{Giver, giver-client, if-some}
-use Rattle.rx_plan.proofs.AbortCauses.{LaterBy}
-use Rattle.rx_plan.proofs.AbortComes.{contains_in, giver_of}
+use Rattle.rx_plan.proofs.Aborts.AbortCauses.{LaterBy}
+use Rattle.rx_plan.proofs.Aborts.AbortComes.{contains_in, giver_of}
 use Rattle.rx_plan.proofs.ClientEnds.{IsThere, there_stays}
 
 module _ (s : Setup) (host : Host) (epoch : ℕ) (kind : s.kind ≡ Client host epoch) (fits : FitsSetup s) where

@@ -16,7 +16,7 @@ use Rattle.rx_plan.specs.Programs.{Turn, cut_there, goes, is_endless, is_over}
 use Rattle.rx_plan.specs.Stages.{Stage}
 use Rattle.rx_plan.specs.Stages.{with_event}
 use Rattle.rx_plan.specs.Turned.{jobs_left}
-use Rattle.rx_plan.proofs.Sound.{IfTo}
+use Rattle.rx_plan.proofs.Soundness.Sound.{IfTo}
 
 -- ---- parts that come to something
 

@@ -29,8 +29,8 @@ use Rattle.rx_rules.proofs.EveryLaws.{Every}
 use Rattle.rx_rules.proofs.FindLaws.{find_passes}
 use Rattle.rx_history.specs.Starts.{StartsOnce}
 use Rattle.rx_history.proofs.Differ.{Differ, by_connection, every_found}
-use Rattle.rx_history.proofs.OnceLaw.{served}
-use Rattle.rx_history.proofs.TakenLaws.{abort-number, again-number}
+use Rattle.rx_history.proofs.Laws.OnceLaw.{served}
+use Rattle.rx_history.proofs.Laws.TakenLaws.{abort-number, again-number}
 use Rattle.rx_plan.proofs.ChannelsHold.{Channels, channel_changed, channels_changed, fresh_channels}
 use Rattle.rx_plan.proofs.ConnsHold.{Bears, Lasts, MayTake, MayTakeFrom, MayTell, hold_after}
 use Rattle.rx_plan.proofs.Holding.{holds-on_call, holds-on_life, holds_after}

@@ -32,7 +32,7 @@ use Rattle.rx_rules.specs.Setup.{Setup, IsServer, named}
 use Rattle.rx_rules.proofs.CallsLaws.{KeepsNames}
 use Rattle.rx_history.specs.Starts.{StartsBy, StartsNew, StartsOnce}
 use Rattle.rx_history.proofs.Calls.{call-changed}
-use Rattle.rx_history.proofs.OnceLaw.{served}
+use Rattle.rx_history.proofs.Laws.OnceLaw.{served}
 use Rattle.rx_jobs.specs.History.{gives, handles, life_of}
 use Rattle.rx_jobs.specs.Lives.{bytes_read, bytes_written, has_end, read_by, tells_end, written_by}
 use Rattle.rx_plan.proofs.Passed.{LeavesStreams, Passed, StartsAnew, StartsAnewAt, StartsAnewBy, StartsAnewOf}

@@ -12,7 +12,7 @@ use Rattle.rx_jobs.specs.Jobs.{Ask, IsCall, accept, finish, read, write}
 use Rattle.rx_events.specs.Events.{IsAsked, IsCancelled, IsClocked, IsLinked, IsPolled, IsTaken}
 use Rattle.rx_plan.specs.Stages.{service_of}
 use Rattle.rx_plan.proofs.Handling.{IsQuiet}
-use Rattle.rx_plan.proofs.ServicesStay.{LinksTo}
+use Rattle.rx_plan.proofs.Keys.ServicesStay.{LinksTo}
 
 -- a connection that is made is for the service of the server of these nodes
 abbrev pub LinksServed : List Node → Event → Type 0

@@ -46,8 +46,9 @@ use Rattle.rx_script.specs.Words.{epoch_word, fault_word, host_word, max_word, m
 use Rattle.rx_script.specs.Words.{node_word}
 use Rattle.rx_script.specs.Words.{nodes_word, not_zero, seed_word, word}
 use Rattle.rx_plan.specs.Lines.{IsWell, TakesArguments}
-use Rattle.rx_plan.proofs.Given.{FewBytes, InRange, IsNamed, args_well, bytes_few, fault_well, first_well, nonce_well}
-use Rattle.rx_plan.proofs.Given.{options_well, proc_well, service_well}
+use Rattle.rx_plan.proofs.Givings.Given.{FewBytes, InRange, IsNamed, args_well, bytes_few, fault_well, first_well}
+use Rattle.rx_plan.proofs.Givings.Given.{nonce_well}
+use Rattle.rx_plan.proofs.Givings.Given.{options_well, proc_well, service_well}
 use Rattle.rx_plan.proofs.Words.{Within, any_ok, if_and, if_any, if_either, if_end, if_or, if_value, if_word}
 use Rattle.rx_plan.proofs.Words.{number_well}
 use Rattle.rx_plan.proofs.Words.{within_well}

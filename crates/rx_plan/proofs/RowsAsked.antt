@@ -17,7 +17,8 @@ use Rattle.rx_rules.specs.Records.{started_later}
 use Rattle.rx_rules.specs.Setup.{Client, IsServer, Kind, Server, Setup}
 use Rattle.rx_rules.proofs.FindLaws.{find_passes}
 use Rattle.rx_model.specs.declared.wire.TheConstants.{CLIENT_INITIATED}
-use Rattle.rx_plan.proofs.RowsOver.{Latest, above-starts, not_false, passed, same_numbers, side-stopped, skipped}
+use Rattle.rx_history.proofs.Rows.RowsAborting.{Latest, above-starts, not_false, passed, side-stopped, skipped}
+use Rattle.rx_plan.proofs.Aborts.RowsOver.{same_numbers}
 
 -- ---- a message that is heard
 

@@ -24,7 +24,7 @@ use Rattle.rx_script.specs.Scripts.{placed_from, has_block, script_step, with_bl
 use Rattle.rx_script.specs.Texts.{Given, after, is_skipped, read_back, with_line}
 use Rattle.rx_script.specs.Verbs.{verb_in}
 use Rattle.rx_script.specs.Words.{and_then, bytes_word, end, fault_word, not_zero, number_word, word}
-use Rattle.rx_plan.proofs.Given.{fault_well}
+use Rattle.rx_plan.proofs.Givings.Given.{fault_well}
 use Rattle.rx_plan.proofs.Reading.{after_well, given_either}
 use Rattle.rx_plan.proofs.Words.{Within, if_any, if_either, if_end, if_value, if_word, number_well}
 
@@ -166,7 +166,8 @@ module _ (t : Types) (ps : Procs) where
       on_bounded (Err fault) all = tt
       on_bounded (Ok done) all =
           begun_bounded n done (on_line ps done words)
-          (if_word (block_word ps done) end IsOpen IsOpen (block_bounded ps done) (λ b own. if_end b IsOpen own) words) all
+          (if_word (block_word ps done) end IsOpen IsOpen (block_bounded ps done) (λ b own. if_end b IsOpen own) words)
+          all
   verb_bounded n d verb words a = in_bounded n d.done d.block verb words a.done a.block
 
   word_bounded : (n : ℕ) (d : Draft) (o : Option Verb) (words : List (List ℕ)) → AreBounded d
@@ -180,10 +181,12 @@ module _ (t : Types) (ps : Procs) where
 
   -- ---- a text
 
-  taken_bounded : (n : ℕ) (line : List ℕ) (d : Draft) → AreBounded d → IfOk (with_line (script_step t ps) n line d) AreBounded
+  taken_bounded : (n : ℕ) (line : List ℕ) (d : Draft) → AreBounded d
+      → IfOk (with_line (script_step t ps) n line d) AreBounded
   taken_bounded n line d a =
       given_either (nat_lt MAX_LINES n) (Err _) _ AreBounded tt
-      (given_either (is_skipped line) (Ok d) (script_step t ps n line d) AreBounded a (words_bounded n d (words_of line) a))
+      (given_either (is_skipped line) (Ok d) (script_step t ps n line d) AreBounded a
+      (words_bounded n d (words_of line) a))
 
   back_bounded : (before : List (List ℕ)) → IfOk (read_back (script_step t ps) no_lines before) AreBounded
   back_bounded [] = record { done = All-nil IsBounded; block = tt }

@@ -35,7 +35,7 @@ use Rattle.rx_rules.specs.Life as lives
 use Rattle.rx_rules.specs.Looks.{CallRecord, Looks, call_at, channel_at, latest_name, on_call, on_calls, on_channel}
 use Rattle.rx_rules.specs.Looks.{on_life, on_looks}
 use Rattle.rx_rules.specs.Records.{is_silent, silence_of, silenced, started, started_later, unless_silent}
-use Rattle.rx_rules.specs.Setup.{Setup, Kind, Server, Client, named, sending_window}
+use Rattle.rx_rules.specs.Setup.{Client, Kind, Server, Setup, named, pace_of}
 use Rattle.rx_rules.specs.Slots.{node_view}
 use Rattle.rx_rules.proofs.CallsLaws.{KeepsNames, call_at-on_calls}
 use Rattle.rx_rules.proofs.FindLaws.{find_passes}
@@ -106,7 +106,7 @@ module _ (K : ℤ → Type 0) (c : CallName) where
   told-started s life d l none t = of (same_name c d) refl
     where
       new : CallRecord
-      new = record { name = d; life = life; looks = fresh_call (sending_window s) s.prompt l.now }
+      new = record { name = d; life = life; looks = fresh_call (pace_of s) l.now }
 
       of : (b : Bool) → same_name c d ≡ b → Told (started s life d l)
       of true same =

@@ -1,5 +1,6 @@
 -- What the answer lines of a driven plan say: what the script answers to each invoke. Public clauses cite this module.
-use Rattle.std.specs.Prelude.{◌≡◌, ◌≢◌, ◌⊎◌, ◌<◌, ◌≤◌, ◌^◌, ◌∷◌, ◌++◌, Ok, is_some, if◌then◌else◌, ℕ, ℤ, pos, Bool, List, []}
+use Rattle.std.specs.Prelude.{◌≡◌, ◌≢◌, ◌⊎◌, ◌<◌, ◌≤◌, ◌^◌, ◌∷◌, ◌++◌, Ok, is_some, if◌then◌else◌, ℕ, ℤ, pos, Bool}
+use Rattle.std.specs.Prelude.{List, []}
 use Rattle.std.specs.Prelude.{Option, Some, None, option_map, option_and_then, slice_get, string_bytes, All, IsTrue}
 use Rattle.std.specs.Prelude.{IfSome, IsSomeAnd}
 use Rattle.xdr_value.specs.Data.{Data, Procedure}

@@ -11,4 +11,5 @@ pub mod Programs
 pub mod Promises
 pub mod Rounds
 pub mod Stages
+pub mod Tallies
 pub mod Turned

@@ -58,9 +58,9 @@ pub record Lossy : Type 0 where
   pub words : Lcg
   pub held : List Datagram
 
--- what a lossy round does with what its polls gave, by this generator and with what is held: the datagrams that were given
--- meet their fates, and those that were held come behind them; then come the turns; and where nothing was given and
--- nothing was held, the clocks move
+-- what a lossy round does with what its polls gave, by this generator and with what is held: the datagrams that were
+-- given meet their fates, and those that were held come behind them; then come the turns; and where nothing was given
+-- and nothing was held, the clocks move
 abbrev pub carries : Handlers → Lcg → List Datagram → List Datagram → Stage → Part Lossy
 carries g words held given s =
     Then (each delivers (gathered comes (fated words given) ++ held) s) (λ s1.

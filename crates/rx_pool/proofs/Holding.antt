@@ -4,8 +4,8 @@ use Rattle.std.proofs.Common.{List, [], ◌∷◌, length, get_or, set, refl, sy
 use Rattle.std.proofs.lemmas.Bool.{cases_eq, cases_Bool, false≢true}
 use Rattle.std.proofs.lemmas.List.{get_or-set_other, get_or-set_same, length-set}
 use Rattle.rx_pool.specs.declared.pool.TheConstants.{SLOT_BYTES}
-use Rattle.rx_pool.specs.Pool.{Slots, IsSlotOf, Takes, has, HasNoRepeat, bytes_at}
-use Rattle.rx_pool.specs.Held.{Holds, Keeps, Stays}
+use Rattle.rx_pool.specs.Pool.{Slots, IsSlotOf, Takes, has, HasNoRepeat}
+use Rattle.rx_pool.specs.Held.{Holds, Keeps}
 use Rattle.rx_pool.proofs.Numbers.{has_rest, has_cases, has_later, not_first, not_later, not_has, two}
 
 pub or_left : (a b : Bool) → a ≡ true → (a || b) ≡ true
@@ -178,20 +178,4 @@ keeps_put old s bytes held wide y h =
           ]);
       count = refl;
       size = length-set old.bytes s bytes;
-    }
-
--- what another holds stays with it, as it was
-pub record Undisturbed (old new : Slots) (after other : List ℕ) : Type 0 where
-  pub holds : Holds new other
-  pub bytes : (s : ℕ) → has s other ≡ true → bytes_at new s ≡ bytes_at old s
-  pub apart : (s : ℕ) → has s other ≡ true → has s after ≡ false
-
-pub undisturbed : (old new : Slots) (before after other : List ℕ) → Keeps old new before after → Holds old other →
-    ((s : ℕ) → has s other ≡ true → has s before ≡ false) → Undisturbed old new after other
-undisturbed old new before after other k h apart =
-    let stays : (s : ℕ) → has s other ≡ true → Stays old new after s = (λ s y. k.others s (h.of s y) (apart s y)) in
-    record {
-      holds = record { of = λ s y. (stays s y).of; apart = h.apart };
-      bytes = λ s y. (stays s y).bytes;
-      apart = λ s y. (stays s y).apart;
     }

@@ -76,14 +76,6 @@ pub below_not : (n : ℕ) (xs : List ℕ) → AllBelow n xs → has n xs ≡ fal
 below_not n [] b = refl
 below_not n (x ∷ xs) b = not_has x n xs (λ e. (let h = b.0 in omega (arith, h, e))) (below_not n xs b.1)
 
-pub below_has : (n s : ℕ) (xs : List ℕ) → AllBelow n xs → has s xs ≡ true → s < n
-below_has n s [] b h = absurd (false≢true h)
-below_has n s (x ∷ xs) b h =
-    elim (has_cases x s xs h) as (λ _. s < n) [
-      | inl e ↦ (let l = b.0 in omega (arith, l, e))
-      | inr r ↦ below_has n s xs b.1 r
-    ]
-
 -- all below n, and n
 pub has_next : (n : ℕ) (before after : List ℕ) → after ≡ before ++ n ∷ [] → ((s : ℕ) → has s before ≡ nat_lt s n) →
     (s : ℕ) → has s after ≡ nat_lt s (n + 1)

@@ -51,7 +51,8 @@ module _ (x : TwoEnds) (h : List Noted) (f : Fed x h) (came : CameAll x h) (c : 
       by (inl silent) = silent
       by (inr ended) =
           absurd (let used = all-used a b (between x h c f on).request
-          (server_whole x.server_setup (side x.server h) c f.server_kind f.server_fits f.server_legal (f.once c on)) ended
+          (server_whole x.server_setup (side x.server h) c f.server_kind f.server_fits f.server_legal (f.once c on))
+          ended
           in
           let counts = (client_gives x h f came c on).counts in
           let there = used_kept (received_by b) (lowest_of (sent_by a)) (omega arith)
@@ -63,7 +64,8 @@ module _ (x : TwoEnds) (h : List Noted) (f : Fed x h) (came : CameAll x h) (c : 
   request_moves bytes m gave is_read name v payload client window chunk seq given drained =
       subst (λ (r : Received). Moves (sent_by a) r (behind_message v m k).received) received
       (moves (sent_by a) v m payload k
-      (subst (λ (r : Received). AreTrue (sent_by a) r) (sym received) (all_agree x c h f came on).request_true) chunk seq
+      (subst (λ (r : Received). AreTrue (sent_by a) r) (sym received) (all_agree x c h f came on).request_true) chunk
+      seq
       given (subst (λ (r : Received). used_of r ≡ front_of r.kept) (sym received) drained) leadless
       (sense_at_server x h f came c on bytes m gave is_read name v client window))
     where

@@ -1,5 +1,5 @@
--- The lowest piece that a sender doesn't know to be there, as it comes to a drained end: it is the next one, and so kept
--- whatever slots are left, or it is there already.
+-- The lowest piece that a sender doesn't know to be there, as it comes to a drained end: it is the next one, and so
+-- kept whatever slots are left, or it is there already.
 use Rattle.std.proofs.Common.{◌≡◌, ◌≤◌, ◌<◌, ◌+◌, ◌-◌, ◌&&◌, ◌||◌, ◌==◌, if◌then◌else◌, not, nat_le, nat_lt, is_some}
 use Rattle.std.proofs.Common.{ℕ, Bool, true, false, List, ◌∷◌, length, refl, ◌∙◌, ap, sym}
 use Rattle.std.proofs.Common.{subst, arith, inl, inr}
@@ -11,11 +11,12 @@ use Rattle.rx_model.specs.Body.{Body}
 use Rattle.rx_model.specs.Body as bodies
 use Rattle.rx_model.specs.Message.{Message}
 use Rattle.rx_model.proofs.NameLaws.{number_itself}
-use Rattle.rx_rules.specs.CallLooks.{CallLooks, NodeView, after_chunk, after_taken, arrival, call_row, found, freed, has_lead, packet_of}
+use Rattle.rx_rules.specs.CallLooks.{CallLooks, NodeView, after_chunk, after_taken, arrival, call_row, found, freed}
+use Rattle.rx_rules.specs.CallLooks.{has_lead, packet_of}
 use Rattle.rx_rules.specs.Received.{Packet, Received, arrival_row, front_of, greatest, packet_at, used_of}
 use Rattle.rx_rules.specs.Sent.{Sent, given_of, held_pieces, is_acked, lowest_of, pieces_by, pieces_of}
 use Rattle.rx_rules.proofs.PacketLaws.{kept_within}
-use Rattle.rx_history.proofs.UsedLaws.{front_next}
+use Rattle.rx_history.proofs.Laws.UsedLaws.{front_next}
 use Rattle.rx_between.specs.Acknowledged.{AreTrue}
 use Rattle.rx_between.specs.Agreed.{MakesSense}
 use Rattle.rx_between.proofs.Counting.{reach_fails, reach_least, reach_passes}
@@ -170,6 +171,7 @@ moves sent v m payload k truth chunk seq given drained leadless sense =
         row : call_row v m m.body k ≡ tooks.Kept
         row =
             ap (λ (b : Body). call_row v m b k) chunk
-            ∙ row_kept v.client v.window (v.left + freed v.client k) (packet_of m payload) k (leadless away) (seq ∙ next)
+            ∙ row_kept v.client v.window (v.left + freed v.client k) (packet_of m payload) k (leadless away)
+            (seq ∙ next)
             above (subst (λ (n : ℕ). is_some (packet_at k.received.kept n) ≡ false) (sym seq) away)
             (subst (λ (b : Body). MakesSense (call_row v m b k)) chunk sense)

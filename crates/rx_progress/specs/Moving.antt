@@ -1,5 +1,5 @@
--- What moves one direction of a call: the front of what its receiver has, and how far its sender knows that. Public clauses
--- cite this module.
+-- What moves one direction of a call: the front of what its receiver has, and how far its sender knows that. Public
+-- clauses cite this module.
 use Rattle.std.specs.Prelude.{◌≡◌, ◌⊎◌, ◌<◌, ◌≤◌, ℕ, List, Option, Some, Ok, slice_get}
 use Rattle.rx_model.specs.declared.event.Noted.{Noted}
 use Rattle.rx_model.specs.declared.names.CallName.{CallName}

@@ -43,7 +43,8 @@ key_has cs n k is =
 found_some : (i : ℕ) (cs : List (Option ℕ)) (n j : ℕ) → moment_of cs j ≡ Some n → is_some (key_from i cs n) ≡ true
 unfolding key_from
 found_some i [] n j is = absurd (cc (is))
-found_some i (c ∷ cs) n zero is = ap (λ (o : Option ℕ). is_some (if is_count o n then Some i else key_from (suc i) cs n)) is
+found_some i (c ∷ cs) n zero is = ap
+    (λ (o : Option ℕ). is_some (if is_count o n then Some i else key_from (suc i) cs n)) is
     ∙ ap (λ (b : Bool). is_some (if b then Some i else key_from (suc i) cs n)) (one n)
 found_some i (c ∷ cs) n (suc j) is =
     (elim (is_count c n) as (λ b. is_some (if b then Some i else key_from (suc i) cs n) ≡ true) [

@@ -1,6 +1,8 @@
 -- The order of a queue's keys, behind each change of their numbers.
-use Rattle.std.proofs.Common.{◌≡◌, ◌≢◌, ◌<◌, ◌≤◌, ◌+◌, ◌-◌, ◌==◌, ◌||◌, ◌++◌, ◌∷◌, ◌⊎◌, inl, inr, ℕ, zero, suc, cond, if◌then◌else◌}
-use Rattle.std.proofs.Common.{Bool, true, false, List, [], Option, Some, None, refl, ◌∙◌, ap, sym, subst, arith, is_some}
+use Rattle.std.proofs.Common.{◌≡◌, ◌≢◌, ◌<◌, ◌≤◌, ◌+◌, ◌-◌, ◌==◌, ◌||◌, ◌++◌, ◌∷◌, ◌⊎◌, inl, inr, ℕ, zero, suc, cond}
+use Rattle.std.proofs.Common.{if◌then◌else◌}
+use Rattle.std.proofs.Common.{Bool, true, false, List, [], Option, Some, None, refl, ◌∙◌, ap, sym, subst, arith}
+use Rattle.std.proofs.Common.{is_some}
 use Rattle.std.proofs.Common.{not, filter}
 use Rattle.std.specs.List.{cons_option, filter_map, find, list_any}
 use Rattle.std.specs.Option.{option_or}
@@ -220,7 +222,8 @@ order_less cs low (suc d) below =
 any-one : (k : ℕ) (o : Option ℕ) → o ≡ Some k → list_any (λ q. q == k) (cons_option o []) ≡ true
 any-one k None is = absurd (cc (is))
 any-one k (Some q) is =
-    (let same : q ≡ k = cc (is) in let test : (q == k) ≡ true = grind (arith, nat_tests) in ap (λ (b : Bool). b || false) test)
+    (let same : q ≡ k = cc (is) in let test : (q == k) ≡ true = grind (arith, nat_tests) in ap
+    (λ (b : Bool). b || false) test)
 
 or-right : (a b : Bool) → b ≡ true → (a || b) ≡ true
 or-right true b is = refl
@@ -276,7 +279,8 @@ find-none p (x ∷ xs) none = ap (λ (b : Bool). cond b (Some x) (find p xs)) (n
 -- none is
 pub first_none : (ready order : List _) → ((q : ℕ) → moment_of ready q ≡ None)
     → find (λ q. is_some (moment_of ready q)) order ≡ None
-first_none ready order none = find-none (λ q. is_some (moment_of ready q)) order (λ q. ap (λ (o : Option ℕ). is_some o) (none q))
+first_none ready order none = find-none (λ q. is_some (moment_of ready q)) order
+    (λ q. ap (λ (o : Option ℕ). is_some o) (none q))
 
 module _ (cs ready : List (Option ℕ)) (k m : ℕ) (apart : IsApart cs)
     (told : (q n : ℕ) → moment_of ready q ≡ Some n → moment_of cs q ≡ Some n) (there : moment_of ready k ≡ Some m)

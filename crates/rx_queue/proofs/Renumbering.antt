@@ -1,5 +1,6 @@
 -- One key is given its new number: the least of those that are ready.
-use Rattle.std.proofs.Common.{◌++◌, ◌^◌, ◌-◌, nat_le, ◌≡◌, ◌≢◌, ◌<◌, ◌≤◌, ◌+◌, ◌==◌, ◌⊎◌, inl, inr, ℕ, zero, suc, cond, Bool, true, false, List, []}
+use Rattle.std.proofs.Common.{◌++◌, ◌^◌, ◌-◌, nat_le, ◌≡◌, ◌≢◌, ◌<◌, ◌≤◌, ◌+◌, ◌==◌, ◌⊎◌, inl, inr, ℕ, zero, suc, cond}
+use Rattle.std.proofs.Common.{Bool, true, false, List, []}
 use Rattle.std.proofs.Common.{◌∷◌, Option, Some, None, refl, ◌∙◌, ap, sym, subst, arith, is_some, length}
 use Rattle.std.specs.Prelude.{slice_index_or, slice_set, take}
 use Rattle.std.specs.List.{list_any}
@@ -152,7 +153,8 @@ module _ (was cs ready : List (Option ℕ)) (next count k m : ℕ) (r : Renumber
           apart = apart;
           told = λ q n is. (let both = told q n is in c.others q both.0 ∙ r.queue.told q n both.1);
         };
-        order = order_falls cs ds k count m r.queue.apart apart its c empty falls next (r.queue.below k m its) ∙ r.order;
+        order = order_falls cs ds k count m r.queue.apart apart its c empty falls next (r.queue.below k m its)
+            ∙ r.order;
         same = λ q. same q (q == k) refl;
         given = λ q n is. split_key cs ds k q n (Some count) c is ((n < count + 1) ⊎ (moment_of left q ≡ Some n))
             (λ at own. inl (let same : count ≡ n = cc (own) in omega (arith, same)))

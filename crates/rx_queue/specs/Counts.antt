@@ -1,5 +1,6 @@
 -- How the numbers of a queue's keys stand. Its invariant cites this module; no public clause does.
-use Rattle.std.specs.Prelude.{◌≡◌, ◌<◌, ◌^◌, ◌==◌, ◌++◌, ◌∷◌, ℕ, zero, suc, Bool, false, List, [], Option, Some, None, length}
+use Rattle.std.specs.Prelude.{◌≡◌, ◌<◌, ◌^◌, ◌==◌, ◌++◌, ◌∷◌, ℕ, zero, suc, Bool, false, List, [], Option, Some, None}
+use Rattle.std.specs.Prelude.{length}
 use Rattle.std.specs.Prelude.{if◌then◌else◌}
 use Rattle.std.specs.List.{filter_map}
 use Rattle.rx_due.specs.Book.{moment_of}
@@ -31,8 +32,8 @@ order_of counts next = filter_map (key_at counts) (upto next)
 abbrev pub IsApart : List (Option ℕ) → Type 0
 IsApart counts = (p q n : ℕ) → moment_of counts p ≡ Some n → moment_of counts q ≡ Some n → p ≡ q
 
--- each number is below the next; no two keys have one; a key that is ready has its number in the book, and there is room
--- for each key there
+-- each number is below the next; no two keys have one; a key that is ready has its number in the book, and there is
+-- room for each key there
 pub record IsQueue (counts ready : List (Option ℕ)) (next : ℕ) : Type 0 where
   pub room : length counts ≡ length ready
   pub limit : length counts < 2 ^ 32

@@ -1,6 +1,6 @@
 -- Places and what lies in them.
 use Rattle.std.proofs.Common.{◌≡◌, inl, inr, ◌<◌, ◌≤◌, ◌+◌, ◌-◌, ◌^◌, is_some}
-use Rattle.std.proofs.Common.{true, false, ℕ, suc, zero, List, [], ◌∷◌, ◌++◌, length, get_or, set, drop}
+use Rattle.std.proofs.Common.{true, false, ℕ, suc, zero, List, [], ◌∷◌, ◌++◌, length, set, drop}
 use Rattle.std.proofs.Common.{Option, Some, None, refl, sym, ap, subst, ◌∙◌, arith}
 use Rattle.std.proofs.lemmas.Bool.{cases_lt, cases_eq, false≢true}
 use Rattle.rx_model.specs.declared.wire.TheConstants.{PAYLOAD_BYTES}
@@ -51,26 +51,6 @@ place_set_past [] i j x le = refl
 place_set_past (y ∷ xs) zero j x le = absurd (omega (arith, le))
 place_set_past (y ∷ xs) (suc i) zero x le = refl
 place_set_past (y ∷ xs) (suc i) (suc j) x le = place_set_past xs i j x (omega (arith, le))
-
-leading_next : {X : Type 0} (bs : List (Option X)) (n : ℕ) (x : Option X) → x ≡ get_or bs n x → n < length bs →
-    is_some x ≡ true → leading (drop n bs) ≡ suc (leading (drop (suc n) bs))
-leading_next [] n x e lt h = absurd (omega (arith, lt))
-leading_next (None ∷ bs) zero x e lt h = absurd (false≢true (sym (ap is_some e) ∙ h))
-leading_next (Some b ∷ bs) zero x e lt h = refl
-leading_next (b ∷ bs) (suc n) x e lt h = leading_next bs n x e (omega (arith, lt)) h
-
-pub leading_end : {X : Type 0} (bs : List (Option X)) (n : ℕ) (x : Option X) → x ≡ get_or bs n x → n < length bs →
-    is_some x ≡ false → leading (drop n bs) ≡ 0
-leading_end [] n x e lt h = absurd (omega (arith, lt))
-leading_end (None ∷ bs) zero x e lt h = refl
-leading_end (Some b ∷ bs) zero x e lt h = absurd (false≢true (sym h ∙ ap is_some e))
-leading_end (b ∷ bs) (suc n) x e lt h = leading_end bs n x e (omega (arith, lt)) h
-
-pub leading_past : {X : Type 0} (bs : List (Option X)) (n : ℕ) → length bs ≤ n → leading (drop n bs) ≡ 0
-leading_past [] zero le = refl
-leading_past [] (suc n) le = refl
-leading_past (b ∷ bs) zero le = absurd (omega (arith, le))
-leading_past (b ∷ bs) (suc n) le = leading_past bs n (omega (arith, le))
 
 pub leading_fits : {X : Type 0} (u : ℕ) (bs : List (Option X)) → HasSeqs u bs → u + leading bs < 2 ^ 32 - 1
 leading_fits u bs f =

@@ -41,8 +41,8 @@ pub fn download_front(down: bool, reply: &[u8]) -> Option<(&[u8], &[u8])>
     }
 }
 
-/// Writes into the four bytes at this place how many are behind them, of which there are at most `MAX_COUNTED_BYTES`: what
-/// is from there on becomes a counted stream.
+/// Writes into the four bytes at this place how many are behind them, of which there are at most `MAX_COUNTED_BYTES`:
+/// what is from there on becomes a counted stream.
 pub fn set_count(bytes: &mut [u8], at: usize)
     requires room { at + 4 ≤ length bytes.old }
     requires fits { length bytes.old ≤ at + 4 + MAX_COUNTED_BYTES }

@@ -1,5 +1,5 @@
--- All rounds of an invoke of a plan: each is worth one of four for each piece, one for each turn that its handler waits,
--- and a few more.
+-- All rounds of an invoke of a plan: each is worth one of four for each piece, one for each turn that its handler
+-- waits, and a few more.
 use Rattle.std.proofs.Common.{◌≡◌, ◌≢◌, ◌<◌, ◌≤◌, inl, ◌+◌, ◌*◌, ◌^◌, ◌++◌, ℕ, ℤ, pos, zero, suc, Bool, true, false}
 use Rattle.std.proofs.Common.{List, [], ◌∷◌, refl, ap, sym, subst, ◌∙◌, arith, nat_lt}
 use Rattle.std.specs.List.{list_any}
@@ -13,18 +13,19 @@ use Rattle.rx_plan.specs.Parts.{To, Then, by_test, ends}
 use Rattle.rx_plan.specs.Rounds.{round, rounds}
 use Rattle.rx_plan.specs.Stages.{Stage}
 use Rattle.rx_rounds.specs.Bounds.{served_pieces}
-use Rattle.rx_rounds.proofs.ArrivingNext.{ArrivingNext, arriving_next, comes_on, refuses_now, replies_now, waits_now}
+use Rattle.rx_rounds.proofs.Arriving.ArrivingNext.{ArrivingNext, arriving_next, comes_on, refuses_now, replies_now}
+use Rattle.rx_rounds.proofs.Arriving.ArrivingNext.{waits_now}
 use Rattle.rx_rounds.proofs.Between.{Arriving, HasCome, Serving, Waiting, at_work, client_at, caller_with}
 use Rattle.rx_rounds.proofs.Between.{not_yet}
 use Rattle.rx_rounds.proofs.Flow.{total}
 use Rattle.rx_rounds.proofs.Making.{ends_to, then_to}
-use Rattle.rx_rounds.proofs.OneCall.{Ends}
-use Rattle.rx_rounds.proofs.OneFields.{FitsEnds}
-use Rattle.rx_rounds.proofs.ReadsNext.{TurnsNext, reads_more, refuses_next, replies_next, waits_next}
-use Rattle.rx_rounds.proofs.ReplyAll.{refusing_ends, replying_ends}
+use Rattle.rx_rounds.proofs.One.OneCall.{Ends}
+use Rattle.rx_rounds.proofs.One.OneFields.{FitsEnds}
+use Rattle.rx_rounds.proofs.Reading.ReadsNext.{TurnsNext, reads_more, refuses_next, replies_next, waits_next}
+use Rattle.rx_rounds.proofs.Replies.ReplyAll.{refusing_ends, replying_ends}
 use Rattle.rx_rounds.proofs.Rounded.{Made, RoundMade, caller_at, rounds_more}
 use Rattle.rx_rounds.proofs.Two.{AreApart, Two, any_two}
-use Rattle.rx_rounds.proofs.WaitingRound.{WaitingNext, then_refuses, then_replies, waiting_next, waits_less}
+use Rattle.rx_rounds.proofs.Arriving.WaitingRound.{WaitingNext, then_refuses, then_replies, waiting_next, waits_less}
 
 -- ---- rounds in two parts
 
@@ -43,7 +44,8 @@ rounds_split g (suc f) r (suc n) s t is made =
     none_more zero dead = ([], (refl, inl refl))
     none_more (suc m) dead = (
       [],
-      subst (λ (b : Bool). by_test b (Then (round g s) (rounds g m)) (ends (To s)) [] (To s)) (sym dead) (refl, inl refl),
+      subst (λ (b : Bool). by_test b (Then (round g s) (rounds g m)) (ends (To s)) [] (To s)) (sym dead)
+          (refl, inl refl),
     )
 
     by : ((u : Stage) → Made (rounds g n) u t → (v : Stage) × Made (rounds g f) u v × Made (rounds g r) v t)
@@ -61,7 +63,8 @@ rounds_split g (suc f) r (suc n) s t is made =
           r2.0,
           (
             b.front ++ r2.1.0,
-            subst (λ (b2 : Bool). by_test b2 (Then (round g s) (rounds g f)) (ends (To s)) (b.front ++ r2.1.0) (To r2.0))
+            subst (λ (b2 : Bool). by_test b2 (Then (round g s) (rounds g f)) (ends (To s)) (b.front ++ r2.1.0)
+                (To r2.0))
                 (sym lives_) (record {
                   front = b.front;
                   rest = r2.1.0;
@@ -123,7 +126,8 @@ module _ (x : Ends) (g : Handlers) (fits : FitsEnds x) (apart : AreApart x) (req
       by u others again (then_replies reply r) =
           let is : replied ≡ total reply = reply_pieces g request reply r.served in
           let some : 1 ≤ turns = h.some in
-          replying_ends x g fits apart request call line (omega arith) left now 0 0 3 reply u t (omega arith) (omega arith)
+          replying_ends x g fits apart request call line (omega arith) left now 0 0 3 reply u t (omega arith)
+          (omega arith)
           r others
       by u others again (then_refuses code r) =
           let some : 1 ≤ turns = h.some in
@@ -164,13 +168,15 @@ module _ (x : Ends) (g : Handlers) (fits : FitsEnds x) (apart : AreApart x) (req
       by u others again (comes_on now2 a2 n2 q2 from far further h2) =
           again now2 a2 n2 q2 (omega arith) (some_given h2 further) (omega arith) h2
         where
-          some_given : Arriving x g request call line now2 a2 n2 q2 u → 2 * (a + n) + q2 + 1 ≤ 2 * (a2 + n2) + q → 1 ≤ n2
+          some_given : Arriving x g request call line now2 a2 n2 q2 u → 2 * (a + n) + q2 + 1 ≤ 2 * (a2 + n2) + q
+              → 1 ≤ n2
           some_given h3 more = (let ready : q ≤ 1 = h.ready in let known2 : a2 ≤ n2 = h3.up.known in omega arith)
       by u others again (waits_now h2) =
           waiting_ends left now (wait_of g request) u t (omega arith) (omega arith) h2 others
       by u others again (replies_now reply r) =
           let is : replied ≡ total reply = reply_pieces g request reply r.served in
-          replying_ends x g fits apart request call line (omega arith) left now 0 0 3 reply u t (omega arith) (omega arith)
+          replying_ends x g fits apart request call line (omega arith) left now 0 0 3 reply u t (omega arith)
+          (omega arith)
           r others
       by u others again (refuses_now code r) =
           refusing_ends x g fits apart request call line (omega arith) left now code u t (omega arith) r others

@@ -1,5 +1,5 @@
--- The stages of an invoke of a plan between two rounds, where its server knows its client: its request comes, its handler
--- waits, its reply comes, its code comes; and that its caller ended.
+-- The stages of an invoke of a plan between two rounds, where its server knows its client: its request comes, its
+-- handler waits, its reply comes, its code comes; and that its caller ended.
 use Rattle.std.proofs.Common.{◌≡◌, ◌≢◌, ◌<◌, ◌≤◌, ◌*◌, ◌+◌, ◌⊎◌, ℕ, ℤ, pos, Bool, true, false, List, [], ◌∷◌, ◌++◌}
 use Rattle.std.proofs.Common.{Option, Some, None, length}
 use Rattle.std.specs.Prelude.{IfSome}
@@ -23,9 +23,9 @@ use Rattle.rx_jobs.specs.Keeping.{kept_of}
 use Rattle.rx_plan.specs.Stages.{Stage}
 use Rattle.rx_rounds.proofs.Flow.{total}
 use Rattle.rx_rounds.proofs.Keeping.{HasEnded}
-use Rattle.rx_rounds.proofs.OneCall.{Ends, from_client, from_server, node_of, the_call}
-use Rattle.rx_rounds.proofs.OneSteps.{empty_at}
-use Rattle.rx_rounds.proofs.OneWay.{IsOwedBy, IsSteady, Reads, Sends, Tells}
+use Rattle.rx_rounds.proofs.One.OneCall.{Ends, from_client, from_server, node_of, the_call}
+use Rattle.rx_rounds.proofs.One.OneSteps.{empty_at}
+use Rattle.rx_rounds.proofs.One.OneWay.{IsOwedBy, IsSteady, Reads, Sends, Tells}
 use Rattle.rx_rounds.proofs.Rounded.{caller_at}
 use Rattle.rx_rounds.proofs.Two.{Two}
 
@@ -60,8 +60,8 @@ pub record InTouch (far now : ℕ) (kc ks : CallLooks) : Type 0 where
   pub server : now ≤ ks.heard + 1000
   pub spoke : now ≤ kc.spoke + 1000
 
--- of a stream of which n pieces were given and a are acknowledged: if all are, the moment since which they were given is
--- now; else an ACK is owed within 100 ms of it, and both ends took part in it since
+-- of a stream of which n pieces were given and a are acknowledged: if all are, the moment since which they were given
+-- is now; else an ACK is owed within 100 ms of it, and both ends took part in it since
 pub record OnTime (far since now a n : ℕ) (kc ks receiver : CallLooks) : Type 0 where
   pub touch : InTouch far since kc ks
   pub past : since ≤ now
@@ -75,7 +75,8 @@ pub record OnTime (far since now a n : ℕ) (kc ks receiver : CallLooks) : Type 
 -- the server doesn't know the call yet; or its handler has read all that came
 pub data Serving (x : Ends) (g : Handlers) (request : List ℕ) (now n : ℕ) (ks : CallLooks)
     : Looks → List JobState → Type 0 where
-  not_yet : n ≡ 0 → ks ≡ fresh_call 32 false now → Serving x g request now n ks (empty_at now) []
+  not_yet : n ≡ 0 → ks ≡ fresh_call (record { window = 32; prompt = false }) now
+      → Serving x g request now n ks (empty_at now) []
   at_work : (given used : ℕ) → 1 ≤ n
       → Serving x g request now n ks (server_at x given used now lives.Accepted ks)
       (record (begun (the_call x)) { request = kept_of g ks.received.read } ∷ [])
@@ -97,7 +98,8 @@ pub record Arriving (x : Ends) (g : Handlers) (request : List ℕ) (call line no
   pub up : Sends request since a n kc
   pub offers : request ≡ kc.sent.said ++ offering
   pub closed : kc.sent.shut ≡ shut
-  pub out : ((offering ≡ []) × (shut ≡ true)) ⊎ ((shut ≡ false) × (0 < length offering) × (length kc.sent.said ≡ 1412 * (a + 32)))
+  pub out : ((offering ≡ []) × (shut ≡ true))
+      ⊎ ((shut ≡ false) × (0 < length offering) × (length kc.sent.said ≡ 1412 * (a + 32)))
   pub quiet : kc.received ≡ nothing_received
   pub owes_none : kc.owed_ack ≡ None
   pub reads : Reads request n ks
@@ -112,8 +114,8 @@ pub record Arriving (x : Ends) (g : Handlers) (request : List ℕ) (call line no
 
 -- ---- its handler waits
 
--- how a client and a server stay in touch while a handler waits: nothing is owed; the server owes an ACK at once; it owes
--- one that may be due later; a ping is due
+-- how a client and a server stay in touch while a handler waits: nothing is owed; the server owes an ACK at once; it
+-- owes one that may be due later; a ping is due
 pub data Waits (now : ℕ) (kc ks : CallLooks) : Type 0 where
   rests : ks.owed_ack ≡ None → InTouch 1000 now kc ks → Waits now kc ks
   answers : IsOwedBy now ks → InTouch 6000 now kc ks → Waits now kc ks
@@ -173,7 +175,8 @@ pub data Answering_ (x : Ends) (g : Handlers) (request : List ℕ) (said : List 
       } ∷ [])
   finished : shut ≡ true → rest ≡ [] → Answering_ x g request said shut rest lives.Finished []
 
--- whether the server owes an ACK while its reply comes: none; one that is due, which counts one; or any, which counts two
+-- whether the server owes an ACK while its reply comes: none; one that is due, which counts one; or any, which counts
+-- two
 pub data Owing (now : ℕ) (o : Option Owed) (owing : ℕ) : Type 0 where
   owes_none : o ≡ None → Owing now o owing
   owes_now : 1 ≤ owing → IfSome o (λ w. w.rank ≤ now) → Owing now o owing
@@ -221,33 +224,34 @@ pub record Replying (x : Ends) (g : Handlers) (request reply : List ℕ) (call l
 -- ---- its code comes
 
 -- the handler finished with a code, and the server owes an ABORT with it
-pub record Refusing (x : Ends) (g : Handlers) (request : List ℕ) (call line now : ℕ) (code : ℤ) (s : Stage) : Type 0 where
-  pub kc : CallLooks
-  pub ks : CallLooks
-  pub given_client : ℕ
-  pub used_client : ℕ
-  pub given_server : ℕ
-  pub used_server : ℕ
-  pub offering : List ℕ
-  pub shut : Bool
-  pub phase : Phase
-  pub two : Two x
-      (node_of x (record (from_server x given_server used_server)
-      { channel = record (fresh_channel x.first) { owed_abort = Some code } }) (the_call x ∷ []) now
-      (lives.Over (Some code)) ks)
-      (client_at x given_client used_client [] now kc)
-      (caller_at call line (caller_with x offering shut [] phase) ∷ []) [] s
-  pub served : served_for g request ≡ refusal code
-  pub some : code ≢ pos 0
-  pub fits : IsCode code
-  pub awake : now ≤ kc.heard + 4100
-  pub quiet : kc.received ≡ nothing_received
-  pub owes_none : kc.owed_ack ≡ None
-  pub a : ℕ
-  pub n : ℕ
-  pub since : ℕ
-  pub up : Sends request since a n kc
-  pub soon : a < n → now ≤ since + 100
+pub record Refusing (x : Ends) (g : Handlers) (request : List ℕ) (call line now : ℕ) (code : ℤ) (s : Stage) : Type 0
+  where
+    pub kc : CallLooks
+    pub ks : CallLooks
+    pub given_client : ℕ
+    pub used_client : ℕ
+    pub given_server : ℕ
+    pub used_server : ℕ
+    pub offering : List ℕ
+    pub shut : Bool
+    pub phase : Phase
+    pub two : Two x
+        (node_of x (record (from_server x given_server used_server)
+        { channel = record (fresh_channel x.first) { owed_abort = Some code } }) (the_call x ∷ []) now
+        (lives.Over (Some code)) ks)
+        (client_at x given_client used_client [] now kc)
+        (caller_at call line (caller_with x offering shut [] phase) ∷ []) [] s
+    pub served : served_for g request ≡ refusal code
+    pub some : code ≢ pos 0
+    pub fits : IsCode code
+    pub awake : now ≤ kc.heard + 4100
+    pub quiet : kc.received ≡ nothing_received
+    pub owes_none : kc.owed_ack ≡ None
+    pub a : ℕ
+    pub n : ℕ
+    pub since : ℕ
+    pub up : Sends request since a n kc
+    pub soon : a < n → now ≤ since + 100
 
 -- ---- it ended
 

@@ -1,7 +1,8 @@
--- A turn of a caller that says its request: as much of it as there is room for; or all, and then it shuts. Then it reads
--- nothing, as no reply came.
+-- A turn of a caller that says its request: as much of it as there is room for; or all, and then it shuts. Then it
+-- reads nothing, as no reply came.
 use Rattle.std.proofs.Common.{◌≡◌, ◌<◌, ◌⊎◌, inl, inr, ⊎_elim, if◌then◌else◌, ◌≤◌, ◌+◌, ◌-◌, ◌*◌, ◌++◌, ℕ, suc, zero}
-use Rattle.std.proofs.Common.{min, Bool, true, false, cond, List, [], ◌∷◌, refl, ap, sym, subst, ◌∙◌, Option, Some, Result, Err, not}
+use Rattle.std.proofs.Common.{min, Bool, true, false, cond, List, [], ◌∷◌, refl, ap, sym, subst, ◌∙◌, Option, Some}
+use Rattle.std.proofs.Common.{Result, Err, not}
 use Rattle.std.proofs.Common.{Ok, length, take, drop, nat_lt, arith, append_assoc, append-nil, length-take, length-drop}
 use Rattle.std.proofs.lemmas.Bool.{cases_lt, ltb-true, ltb-false}
 use Rattle.std.proofs.lemmas.List.{length-append, take-append-drop, take-take}
@@ -31,12 +32,13 @@ use Rattle.rx_jobs.specs.Jobs.{JobState}
 use Rattle.rx_plan.specs.Stages.{InvokedState, Stage}
 use Rattle.rx_plan.specs.Turned.{turns_all}
 use Rattle.rx_rounds.proofs.Between.{caller_with}
-use Rattle.rx_rounds.proofs.OneCall.{Ends, answering_link, client_setup, node_of, the_call}
+use Rattle.rx_rounds.proofs.One.OneCall.{Ends, answering_link, client_setup, node_of, the_call}
 use Rattle.rx_rounds.proofs.Room.{lead_low, room_numbers, slots_numbers}
 use Rattle.rx_rounds.proofs.RoundParts.{two_callers}
-use Rattle.rx_rounds.proofs.OneSteps.{client_read_on, client_shut, own_is, wrote}
+use Rattle.rx_rounds.proofs.One.OneSteps.{client_read_on, client_shut, own_is, wrote}
 use Rattle.rx_rounds.proofs.Rounded.{Made, call_to, caller_at}
-use Rattle.rx_rounds.proofs.Turned.{Calls, Calls_, calls_offer, calls_over, calls_read, calls_shut, offer_event, read_event}
+use Rattle.rx_rounds.proofs.Turned.{Calls, Calls_, calls_offer, calls_over, calls_read, calls_shut, offer_event}
+use Rattle.rx_rounds.proofs.Turned.{read_event}
 use Rattle.rx_rounds.proofs.Turned.{shut_event}
 use Rattle.rx_rounds.proofs.Two.{Two, two_as}
 
@@ -65,7 +67,8 @@ room_is x answer now given used a k h =
 -- ---- the turn
 
 -- of a client that owes a RESPONSE or doesn't
-module _ (x : Ends) (answer : Option (List ℕ)) (ls : Looks) (cs : List InvokedState) (js : List JobState) (now given used : ℕ) where
+module _ (x : Ends) (answer : Option (List ℕ)) (ls : Looks) (cs : List InvokedState) (js : List JobState)
+    (now given used : ℕ) where
   abbrev c : CallName
   c = the_call x
 
@@ -127,7 +130,8 @@ module _ (x : Ends) (answer : Option (List ℕ)) (ls : Looks) (cs : List Invoked
       (calls_read x REPLY_BYTES ls (calling_with k) cs js v w s t c 4096 go.0 asked go.1) in
       let two1 : Two x ls (calling_with k) cs js f.stage =
       two_as x ls (after (client_setup x) e (calling_with k)) ls (calling_with k) cs js f.stage f.stage refl
-      (client_read_on x (answering_link x answer given used) [] now 4096 k answers.NotYet [] refl ∙ ap calling_with same) refl
+      (client_read_on x (answering_link x answer given used) [] now 4096 k answers.NotYet [] refl
+      ∙ ap calling_with same) refl
       f.two in
       let o = calls_over REPLY_BYTES (caller_with x left shut [] phases.Resting) w f.stage t refl f.goes in (
         o.0,
@@ -147,7 +151,8 @@ module _ (x : Ends) (answer : Option (List ℕ)) (ls : Looks) (cs : List Invoked
       let d = subst (λ (h : Event). Calls_ x REPLY_BYTES ls (calling_with k) cs js v h w t) is
       (calls_shut x REPLY_BYTES ls (calling_with k) cs js v w s t c go.0 refl go.1) in
       let two1 : Two x ls (calling_with (after_shut k)) cs js d.stage =
-      two_as x ls (after (client_setup x) e (calling_with k)) ls (calling_with (after_shut k)) cs js d.stage d.stage refl
+      two_as x ls (after (client_setup x) e (calling_with k)) ls (calling_with (after_shut k)) cs js d.stage d.stage
+      refl
       (client_shut x (answering_link x answer given used) [] now k) refl d.two in
       let r = reads_none (after_shut k) [] true phases.Offering d.stage t w can.quiet refl (two1, d.goes) in
       let none : k ≡ after_write [] k = ap (λ (ys : List ℕ). record k { sent = record k.sent { said = ys } })
@@ -208,7 +213,8 @@ module _ (x : Ends) (answer : Option (List ℕ)) (ls : Looks) (cs : List Invoked
       min_left m l low = omega arith
 
       cases_le : (m l : ℕ) → (m ≤ l) ⊎ (l < m)
-      cases_le m l = elim (cases_lt l m) as (λ c1. (m ≤ l) ⊎ (l < m)) [ inl less ↦ inr less | inr not_less ↦ inl not_less ]
+      cases_le m l = elim (cases_lt l m) as (λ c1. (m ≤ l) ⊎ (l < m))
+          [ inl less ↦ inr less | inr not_less ↦ inl not_less ]
 
       of : (m l : ℕ) → (min m l ≡ m) ⊎ (min m l ≡ l)
       of m l = ⊎_elim (λ (h : m ≤ l). inl (omega arith)) (λ (h : l < m). inr (omega arith)) (cases_le m l)
@@ -295,17 +301,20 @@ module _ (x : Ends) (answer : Option (List ℕ)) (ls : Looks) (cs : List Invoked
 
 pub says_turn : (x : Ends) (answer : Option (List ℕ)) (ls : Looks) (js : List JobState) (now given used call line a : ℕ)
     (k : CallLooks) (rest : List ℕ) (phase : Phase) (s t : Stage) → CanSay a k
-    → Two x ls (node_of x (answering_link x answer given used) [] now lives.Calling k) (caller_at call line (caller_with x rest false [] phase) ∷ []) js s
+    → Two x ls (node_of x (answering_link x answer given used) [] now lives.Calling k)
+    (caller_at call line (caller_with x rest false [] phase) ∷ []) js s
     → Made turns_all s t
     → (w : CallerState) × (u : Stage)
     × Said x answer ls (caller_at call line (caller_with x rest false [] phase) ∷ []) js now given used a k rest w u
     × (t ≡ record u { callers = caller_at call line w ∷ [] })
 says_turn x answer ls js now given used call line a k rest phase s t can two made =
-    let m = call_to x ls (node_of x (answering_link x answer given used) [] now lives.Calling k) js call line (caller_with x rest false [] phase) s t two
+    let m = call_to x ls (node_of x (answering_link x answer given used) [] now lives.Calling k) js call line
+    (caller_with x rest false [] phase) s t two
     made in (
       m.view,
       m.stage,
-      says_out x answer ls (caller_at call line (caller_with x rest false [] phase) ∷ []) js now given used (length rest) a k rest
+      says_out x answer ls (caller_at call line (caller_with x rest false [] phase) ∷ []) js now given used
+          (length rest) a k rest
           s m.stage m.view (omega arith) can (two, m.calls),
       m.then_,
     )
@@ -322,6 +331,7 @@ waits_turn x answer ls js now given used call line k phase s t quiet two made =
     let lc : Looks = node_of x (answering_link x answer given used) [] now lives.Calling k in
     let cs : List InvokedState = caller_at call line (caller_with x [] true [] phase) ∷ [] in
     let m = call_to x ls lc js call line (caller_with x [] true [] phase) s t two made in
-    let r = reads_none x answer ls cs js now given used k [] true phases.Offering s m.stage m.view quiet refl (two, m.calls) in
+    let r = reads_none x answer ls cs js now given used k [] true phases.Offering s m.stage m.view quiet refl
+    (two, m.calls) in
     two_callers x ls lc cs (caller_at call line (caller_with x [] true [] phases.Resting) ∷ []) js m.stage t
     (m.then_ ∙ ap (λ (v : CallerState). record m.stage { callers = caller_at call line v ∷ [] }) r.0) r.1

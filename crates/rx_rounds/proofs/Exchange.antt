@@ -1,6 +1,7 @@
 -- One end of a call by itself: the messages of a stream, and which of them it gives when it is polled.
 use Rattle.std.proofs.Common.{◌≡◌, ◌<◌, ◌≤◌, ◌+◌, ◌%◌, ◌^◌, ◌==◌, ◌++◌, ◌⊎◌, ℕ, zero, suc, min, Bool}
-use Rattle.std.proofs.Common.{true, false, List, [], ◌∷◌, refl, ap, sym, subst, ◌∙◌, inl, inr, ⊎_elim, arith, Some, None}
+use Rattle.std.proofs.Common.{true, false, List, [], ◌∷◌, refl, ap, sym, subst, ◌∙◌, inl, inr, ⊎_elim, arith, Some}
+use Rattle.std.proofs.Common.{None}
 use Rattle.std.proofs.Common.{if◌then◌else◌, length, is_some}
 use Rattle.std.proofs.lemmas.Bool.{eq-eqb, ne_eqb, cases_eq, cases_lt, or_left}
 use Rattle.std.proofs.lemmas.Bool.{both_ways, cases_Bool}
@@ -17,9 +18,9 @@ use Rattle.rx_rules.specs.Sent.{Giving, after_giving, counting_of}
 use Rattle.rx_rules.specs.Sent.{last_giving, orders_of, piece_at}
 use Rattle.rx_rounds.proofs.Flow.{total}
 use Rattle.rx_rounds.proofs.Keeper.{piece}
-use Rattle.rx_rounds.proofs.OneWay.{Sends}
+use Rattle.rx_rounds.proofs.One.OneWay.{Sends}
 use Rattle.rx_rounds.proofs.Pair.{CallEnd, Place, gave, message_of, next_of}
-use Rattle.rx_rounds.proofs.SendsLaws.{sends_sooner, piece_same, piece_is, gives_piece, next_more, may_go}
+use Rattle.rx_rounds.proofs.Serving.SendsLaws.{sends_sooner, piece_same, piece_is, gives_piece, next_more, may_go}
 
 -- ---- what is given
 
@@ -90,7 +91,8 @@ pub record PiecesOut (p : Place) (whole : List ℕ) (since a n : ℕ) (e : CallE
   pub is : behind.looks ≡ record e.looks { sent = record e.looks.sent { givings = givings }; spoke = spoke }
   pub spoke_is : (spoke ≡ p.now) ⊎ ((spoke ≡ e.looks.spoke) × (last ≡ n))
   pub some : can_give e.looks.cwnd e.looks.sent ≡ true → n < last
-  pub none : can_give e.looks.cwnd e.looks.sent ≡ false → (last ≡ n) × (messages ≡ []) × (givings ≡ e.looks.sent.givings) × (spoke ≡ e.looks.spoke)
+  pub none : can_give e.looks.cwnd e.looks.sent ≡ false → (last ≡ n) × (messages ≡ [])
+      × (givings ≡ e.looks.sent.givings) × (spoke ≡ e.looks.spoke)
 
 message_is : (p : Place) (whole : List ℕ) (since a n : ℕ) (e : CallEnd) → Sends whole since a n e.looks
     → suc n ≤ counting_of e.looks.sent
@@ -188,7 +190,8 @@ pieces_out (suc fuel) p whole since a n e enough h =
           messages = first ∷ rest.messages;
           behind = rest.behind;
           more = (let m : suc n ≤ rest.last = rest.more in omega arith);
-          burst = a_piece n rest.last (suc e.given % 2 ^ 32) (asks e.looks.cwnd e.looks.sent (suc n) false) rest.messages
+          burst = a_piece n rest.last (suc e.given % 2 ^ 32) (asks e.looks.cwnd e.looks.sent (suc n) false)
+              rest.messages
               (omega arith) (last_asks whole since a n e.looks h go.0) rest.burst;
           polls = λ ms f others. subst (λ (m : Message). PollsOut p e (m ∷ rest.messages ++ ms) f)
               (message_is p whole since a n e h go.0)

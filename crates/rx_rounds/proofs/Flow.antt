@@ -17,7 +17,7 @@ use Rattle.rx_rules.specs.Received.{nothing_received, reach}
 use Rattle.rx_rules.specs.Sent.{Giving, Sent, after_giving, given_of, greatest_given, in_flight, is_acked, last_giving}
 use Rattle.rx_rules.specs.Sent.{is_marked, lowest_of, marks_past, opened, orders_of, Newly, newly_of}
 use Rattle.rx_rounds.proofs.Pair.{Place, gave, next_of, row_of}
-use Rattle.rx_rounds.proofs.Counting.{count_rest, reach_least, reach_short}
+use Rattle.rx_between.proofs.Counting.{count_rest, reach_least, reach_short}
 
 -- what is due of several items
 abbrev pub ripe : ℕ → List CallItem → List CallItem
@@ -62,10 +62,6 @@ writer_at bytes v a soft n =
       spoke = 0;
     }
 
--- nothing is soft acknowledged
-abbrev pub IsHard : (ℕ → Bool) → Type 0
-IsHard soft = (k : ℕ) → soft k ≡ false
-
 -- the first a are acknowledged and no other: the first h of them hard, the others by marks
 pub record Marked (a : ℕ) (soft : ℕ → Bool) : Type 0 where
   pub h : ℕ
@@ -98,9 +94,11 @@ module _ (bytes : List ℕ) (a : ℕ) (soft : ℕ → Bool) (hard : Marked a sof
 
   pub lowest_is : (n : ℕ) → a ≤ n → lowest_of (flow bytes hard.h soft n) ≡ suc a
   lowest_is n within =
-      let low : a ≤ reach (is_acked (flow bytes hard.h soft n)) n = reach_least (is_acked (flow bytes hard.h soft n)) n a
+      let low : a ≤ reach (is_acked (flow bytes hard.h soft n)) n = reach_least (is_acked (flow bytes hard.h soft n)) n
+      a
       within (λ j from to. acked_low n j to) in
-      let high : reach (is_acked (flow bytes hard.h soft n)) n < suc a = reach_short (is_acked (flow bytes hard.h soft n)) n
+      let high : reach (is_acked (flow bytes hard.h soft n)) n < suc a = reach_short
+      (is_acked (flow bytes hard.h soft n)) n
       (suc a) (omega arith) (acked_high n (suc a) (omega arith)) in
       rw (given_is n) (omega arith)
 

@@ -1,6 +1,7 @@
 -- Where the lines of callers say what is served, their calls have ended.
 use Rattle.std.proofs.Common.{◌≡◌, ◌≤◌, ◌==◌, ◌∙◌, ◌++◌, ◌||◌, not, ℕ, Bool, true, false, List, [], ◌∷◌, refl, ap, drop}
-use Rattle.std.proofs.Common.{Option, Some, None, option_map, IfSome, IsSomeAnd, slice_get, length, nat_le, if◌then◌else◌}
+use Rattle.std.proofs.Common.{Option, Some, None, option_map, IfSome, IsSomeAnd, slice_get, length, nat_le}
+use Rattle.std.proofs.Common.{if◌then◌else◌}
 use Rattle.std.specs.Prelude.{codes, decimal}
 use Rattle.std.proofs.lemmas.List.{append_cancel_left}
 use Rattle.rx_model.specs.declared.answers.End.{End}

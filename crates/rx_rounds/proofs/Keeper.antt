@@ -11,7 +11,7 @@ use Rattle.rx_model.specs.declared.answers.Took.TheVariants as tooks
 use Rattle.rx_model.specs.declared.wire.TheConstants.{LAST_PACKET, REQUEST_ACK, ACK_REQUESTED}
 use Rattle.rx_model.specs.Body as bodies
 use Rattle.rx_model.specs.Message.{Message, has_flag}
-use Rattle.rx_history.proofs.UsedLaws.{used_within}
+use Rattle.rx_history.proofs.Laws.UsedLaws.{used_within}
 use Rattle.rx_rules.proofs.PacketLaws.{bytes_split, end_is}
 use Rattle.rx_rules.specs.CallLooks.{CallLooks, NodeView, after_taken, fresh_call, freed, has_lead, held, lead}
 use Rattle.rx_rules.specs.Owing.{Owed, at_once, delayed}
@@ -19,7 +19,7 @@ use Rattle.rx_rules.specs.Received.{Packet, Piece, Received, bytes_to, count_abo
 use Rattle.rx_rules.specs.Received.{has_slot, heard_of, is_done, last_seq, marks_of, packet_at, unread_of, used_of}
 use Rattle.rx_rules.specs.Sent.{piece_at}
 use Rattle.rx_rounds.proofs.Pair.{Place, row_of}
-use Rattle.rx_rounds.proofs.Counting.{reach_all}
+use Rattle.rx_between.proofs.Counting.{reach_all}
 use Rattle.rx_rounds.proofs.Flow.{flow, total}
 use Rattle.rx_rules.specs.CallItems.{flags_of}
 
@@ -89,7 +89,8 @@ module _ (bytes : List ℕ) where
   part_read read previous n = record { kept = kept_to bytes n; read = read; ended = false; previous = previous }
 
   abbrev pub keeper_at : List ℕ → Option Owed → ℕ → ℕ → CallLooks
-  keeper_at read o previous n = record (fresh_call 32 false 0) { received = part_read read previous n; owed_ack = o }
+  keeper_at read o previous n = record (fresh_call (record { window = 32; prompt = false }) 0)
+      { received = part_read read previous n; owed_ack = o }
 
   pub used_few : (read : List ℕ) (previous n : ℕ) → used_of (part_read read previous n) ≤ n
   used_few read previous n = omega (arith, used_within (part_read read previous n), front_kept n)

@@ -39,14 +39,14 @@ use Rattle.rx_law.proofs.Fronts.{ArePieces}
 use Rattle.rx_history.proofs.Server.{Arrives}
 use Rattle.rx_law.specs.Pieces.{IsAt, IsPiece}
 use Rattle.rx_law.proofs.Joint.{Fed, Grown, between, client-grown, client-name, legal-before, of_call, server-name}
-use Rattle.rx_history.proofs.OnceLaw.{served}
+use Rattle.rx_history.proofs.Laws.OnceLaw.{served}
 use Rattle.rx_law.proofs.ServerHistory.{server-serves, served-turn, spared-once}
 use Rattle.rx_law.proofs.World.{Giver, client-address, flagged-any, flagged-server, gave-mine, if-some, is_server}
 use Rattle.rx_law.proofs.World.{world-fed-by}
-use Rattle.rx_plan.proofs.AbortCauses.{named_row}
-use Rattle.rx_plan.proofs.AbortComes.{contains_in, giver_of}
+use Rattle.rx_plan.proofs.Aborts.AbortCauses.{named_row}
+use Rattle.rx_plan.proofs.Aborts.AbortComes.{contains_in, giver_of}
 use Rattle.rx_plan.proofs.LaterComes.{gave_there}
-use Rattle.rx_rounds.proofs.OneConn.{Alone, EntersOnly, alone_after, shape}
+use Rattle.rx_rounds.proofs.One.OneConn.{Alone, EntersOnly, alone_after, shape}
 use Rattle.rx_rounds.specs.Bounds.{pieces}
 use Rattle.rx_rounds.proofs.Growing.{side_grew}
 use Rattle.rx_rounds.proofs.OtherCalls.{CallsOnly, there_is}

@@ -47,10 +47,6 @@ then_to {A = A} {B = B} first next es b t = of t.came t.made t.goes
     of Cut made onward = absurd (ends_cut b t.rest onward)
     of Endless made onward = absurd (ends_endless b t.rest onward)
 
--- one event
-pub record OneIs (node : ℕ) (is : Event → Type 0) (e : Event) : Type 0 where
-  pub holds : is e
-
 pub one_to : (node : ℕ) (is : Event → Type 0) (es : List Noted) (e : Event) → One node is es (To e) → is e
 one_to node is es e (makes f holds) = holds
 

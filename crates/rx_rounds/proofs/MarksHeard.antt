@@ -9,12 +9,12 @@ use Rattle.rx_model.specs.Body.{AckBody}
 use Rattle.rx_rules.specs.CallLooks.{CallLooks, after_taken, sampled}
 use Rattle.rx_rules.specs.Rates.{after_acked}
 use Rattle.rx_rules.specs.Sent.{held_pieces, is_marked, marks_past, newly_of}
-use Rattle.rx_rounds.proofs.KeyMarks.{marked_to, marks_given}
-use Rattle.rx_rounds.proofs.OneCall.{Ends, client_place}
-use Rattle.rx_rounds.proofs.OneSteps.{ack_of}
-use Rattle.rx_rounds.proofs.OneWay.{Sends}
+use Rattle.rx_rounds.proofs.Keys.KeyMarks.{marked_to, marks_given}
+use Rattle.rx_rounds.proofs.One.OneCall.{Ends, client_place}
+use Rattle.rx_rounds.proofs.One.OneSteps.{ack_of}
+use Rattle.rx_rounds.proofs.One.OneWay.{Sends}
 use Rattle.rx_rounds.proofs.Pair.{row_of, view_of}
-use Rattle.rx_rounds.proofs.TakingAck.{even_sampled, slow_sampled}
+use Rattle.rx_rounds.proofs.Takes.TakingAck.{even_sampled, slow_sampled}
 
 -- ---- an ACK with marks
 

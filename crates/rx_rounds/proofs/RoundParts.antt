@@ -1,5 +1,5 @@
--- The parts of a round of a server and one client with one call, at any moment: the polls of both, deliveries of both, and a
--- turn of the dispatcher in which nothing is there to read.
+-- The parts of a round of a server and one client with one call, at any moment: the polls of both, deliveries of both,
+-- and a turn of the dispatcher in which nothing is there to read.
 use Rattle.std.proofs.Common.{◌≡◌, ◌-◌, ◌++◌, ℕ, Bool, true, false, cond, List, [], ◌∷◌, refl, ap, sym, subst, ◌∙◌, inl}
 use Rattle.std.proofs.Common.{Option, None, append-nil, arith, nat_le, nat_lt}
 use Rattle.std.proofs.lemmas.Bool.{le-ltb}
@@ -32,9 +32,9 @@ use Rattle.rx_plan.specs.Turned.{dispatches, jobs_left}
 use Rattle.rx_rounds.proofs.Between.{client_at, server_at}
 use Rattle.rx_rounds.proofs.Exchange.{PollsOut}
 use Rattle.rx_rounds.proofs.Making.{then_to}
-use Rattle.rx_rounds.proofs.OneCall.{Ends, client_place, from_server, server_place, server_setup, the_call}
-use Rattle.rx_rounds.proofs.OneNode.{ArePlain, client_polled_out, datagrams, server_polled_out}
-use Rattle.rx_rounds.proofs.OneSteps.{call_is, empty_at, server_accepts_none, server_read}
+use Rattle.rx_rounds.proofs.One.OneCall.{Ends, client_place, from_server, server_place, server_setup, the_call}
+use Rattle.rx_rounds.proofs.One.OneNode.{ArePlain, client_polled_out, datagrams, server_polled_out}
+use Rattle.rx_rounds.proofs.One.OneSteps.{call_is, empty_at, server_accepts_none, server_read}
 use Rattle.rx_rounds.proofs.Pair.{CallEnd}
 use Rattle.rx_rounds.proofs.Rounded.{Made, dispatch_to}
 use Rattle.rx_rounds.proofs.Turned.{Serves, Serves_, serves_accept, serves_over, serves_read}
@@ -71,11 +71,13 @@ module _ (x : Ends) (now : ℕ) (cs : List InvokedState) (js : List JobState) wh
       → (q.given ≡ datagrams x.client x.server ms ++ datagrams x.server x.client ns)
       × ((last_client : ℕ) × ((last_server : ℕ) × Two x (server_at x h.given last_server now life h.looks)
       (client_at x f.given last_client firsts now f.looks) cs js q.stage))
-  both_polled firsts life e f ms d h ns gives_ plain awake gives2 plain2 awake2 active living used_client used_server s q
+  both_polled firsts life e f ms d h ns gives_ plain awake gives2 plain2 awake2 active living used_client used_server s
+      q
       two made =
       let ls : Looks = server_at x d.given used_server now life d.looks in
       let m = polls_to x ls (client_at x e.given used_client firsts now e.looks) cs js s q made.0 two made.1 in
-      let b = client_polled_out x now cs js firsts ls e f ms gives_ plain awake used_client [] s m.0.stage m.2 two m.4 in
+      let b = client_polled_out x now cs js firsts ls e f ms gives_ plain awake used_client [] s m.0.stage m.2 two
+      m.4 in
       let lc : Looks = client_at x f.given b.1.0 firsts now f.looks in
       let c = out_to 0 x.server m.0 q m.1 (host_server x ls lc cs js m.0.stage b.1.1) m.5 in
       let g = server_polled_out x now cs js lc life d h ns active living gives2 plain2 awake2 used_server m.0.given
@@ -95,7 +97,8 @@ module _ (x : Ends) (now : ℕ) (cs : List InvokedState) (js : List JobState) wh
   client_polled firsts e f ms gives_ plain awake used_client s q two made =
       let ls : Looks = empty_at now in
       let m = polls_to x ls (client_at x e.given used_client firsts now e.looks) cs js s q made.0 two made.1 in
-      let b = client_polled_out x now cs js firsts ls e f ms gives_ plain awake used_client [] s m.0.stage m.2 two m.4 in
+      let b = client_polled_out x now cs js firsts ls e f ms gives_ plain awake used_client [] s m.0.stage m.2 two
+      m.4 in
       let lc : Looks = client_at x f.given b.1.0 firsts now f.looks in
       let c = out_to 0 x.server m.0 q m.1 (host_server x ls lc cs js m.0.stage b.1.1) m.5 in
       let g = server_polls_none x ls lc cs js m.0.stage q.stage x.server m.0.given c.0 b.1.1 refl c.2 in

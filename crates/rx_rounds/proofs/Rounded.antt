@@ -9,7 +9,7 @@ use Rattle.rx_asks.specs.declared.ask.TheConstants.{REPLY_BYTES}
 use Rattle.rx_asks.specs.Asks.{begun, calling}
 use Rattle.rx_rules.specs.Looks.{Looks}
 use Rattle.rx_jobs.specs.Jobs.{JobState}
-use Rattle.rx_rounds.proofs.OneCall.{Ends}
+use Rattle.rx_rounds.proofs.One.OneCall.{Ends}
 use Rattle.rx_rounds.proofs.Two.{Two}
 use Rattle.std.specs.Prelude.{set, slice_get, nat_lt}
 use Rattle.rx_asks.specs.View.{CallerState}

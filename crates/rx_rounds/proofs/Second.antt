@@ -1,5 +1,6 @@
 -- The second round of an invoke: its first pieces come to a server that didn't know the call, and its handler begins.
-use Rattle.std.proofs.Common.{◌≡◌, ◌≢◌, ◌<◌, ◌≤◌, inl, ⊎_elim, ◌+◌, ◌*◌, ◌==◌, ◌++◌, ℕ, ℤ, pos, true, false, List, [], ◌∷◌, refl, ap}
+use Rattle.std.proofs.Common.{◌≡◌, ◌≢◌, ◌<◌, ◌≤◌, inl, ⊎_elim, ◌+◌, ◌*◌, ◌==◌, ◌++◌, ℕ, ℤ, pos, true, false, List, []}
+use Rattle.std.proofs.Common.{◌∷◌, refl, ap}
 use Rattle.std.proofs.Common.{sym, subst, ◌∙◌, None, length, arith}
 use Rattle.std.proofs.lemmas.Bool.{both_ways, ne_eqb}
 use Rattle.rx_model.specs.Message.{IsBytes}
@@ -11,16 +12,16 @@ use Rattle.rx_asks.specs.declared.ask.Phase.TheVariants as phases
 use Rattle.rx_jobs.specs.Handlers.{Handlers, served_for}
 use Rattle.rx_plan.specs.Stages.{InvokedState, Stage}
 use Rattle.rx_rounds.proofs.Between.{caller_with, client_at}
-use Rattle.rx_rounds.proofs.FirstCame.{FirstCame, first_comes}
+use Rattle.rx_rounds.proofs.Arriving.FirstCame.{FirstCame, first_comes}
 use Rattle.rx_rounds.proofs.Flow.{total}
-use Rattle.rx_rounds.proofs.OneCall.{Ends, Link, node_of, open_link, the_call}
-use Rattle.rx_rounds.proofs.OneFields.{FitsEnds, fresh}
-use Rattle.rx_rounds.proofs.ReadOn.{begins_read}
-use Rattle.rx_rounds.proofs.ReadsNext.{Came, TurnsNext, turns_next}
+use Rattle.rx_rounds.proofs.One.OneCall.{Ends, Link, node_of, open_link, the_call}
+use Rattle.rx_rounds.proofs.One.OneFields.{FitsEnds, fresh}
+use Rattle.rx_rounds.proofs.Reading.ReadOn.{begins_read}
+use Rattle.rx_rounds.proofs.Reading.ReadsNext.{Came, TurnsNext, turns_next}
 use Rattle.rx_rounds.proofs.Rounded.{RoundMade, caller_at, settles_not}
-use Rattle.rx_rounds.proofs.ServeTurns.{turn_begins}
+use Rattle.rx_rounds.proofs.Serving.ServeTurns.{turn_begins}
 use Rattle.rx_rounds.proofs.Starts.{Started}
-use Rattle.rx_rounds.proofs.Taking.{came_behind}
+use Rattle.rx_rounds.proofs.Takes.Taking.{came_behind}
 use Rattle.rx_rounds.proofs.Two.{AreApart, Two}
 
 module _ (x : Ends) (g : Handlers) (fits : FitsEnds x) (apart : AreApart x) (open_ : x.key ≡ None) (request : List ℕ)
@@ -58,7 +59,8 @@ module _ (x : Ends) (g : Handlers) (fits : FitsEnds x) (apart : AreApart x) (ope
         done = λ closed. ⊎_elim
             (λ (w : (first.said.offering ≡ []) × (first.said.shut ≡ true)). w.0)
             (λ (w : (first.said.shut ≡ false) × (0 < length first.said.offering)
-            × (length first.said.more ≡ 1412 * (0 + 32))). absurd (both_ways first.said.shut w.0 closed)) first.said.out;
+            × (length first.said.more ≡ 1412 * (0 + 32))). absurd (both_ways first.said.shut w.0 closed))
+            first.said.out;
         new = refl;
         steady = record { wide = omega arith; most = refl; steady = refl; even = refl; slow = omega arith };
         plain = f.plain;
@@ -75,7 +77,8 @@ module _ (x : Ends) (g : Handlers) (fits : FitsEnds x) (apart : AreApart x) (ope
   turned =
       turns_next x g request call line small 0 0 f.last 0 f.gc f.uc 0 f.us f.kc2 ks first.said.offering first.said.shut
       phases.Resting came m.served m.called m.calls_are
-      (turn_begins x g request lc cs 0 0 f.us f.last f.last ks [] m.delivered m.served are_bytes coded refl f.within refl
+      (turn_begins x g request lc cs 0 0 f.us f.last f.last ks [] m.delivered m.served are_bytes coded refl f.within
+      refl
       (begins_read request 0 f.last f.last ks [] 0 refl (omega arith) refl refl)
       (subst (λ (l : Link). Two x (node_of x l (the_call x ∷ []) 0 lives.Waiting ks) lc cs [] m.delivered)
       (open_link x 0 f.us open_) f.two) m.serves_are)

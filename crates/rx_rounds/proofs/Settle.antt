@@ -1,5 +1,5 @@
--- The end of a round of a server and one client: where nothing was given both clocks move to the least moment from which
--- something is due, and else nothing changes.
+-- The end of a round of a server and one client: where nothing was given both clocks move to the least moment from
+-- which something is due, and else nothing changes.
 use Rattle.std.proofs.Common.{◌≡◌, ◌<◌, ◌≤◌, ◌+◌, ◌-◌, ◌^◌, ◌⊎◌, ◌++◌, not, max, ℕ, zero, suc, Bool, true, false}
 use Rattle.std.proofs.Common.{List, [], ◌∷◌, refl, ap, sym, subst, ◌∙◌, inl, inr, Option, Some, None, option_map, map}
 use Rattle.std.proofs.Common.{nat_le, append-nil, leb-true, leb-false, arith}
@@ -21,10 +21,10 @@ use Rattle.rx_jobs.specs.Jobs.{JobState}
 use Rattle.rx_events.specs.Waits.{least_of, least_wait, over_nodes, wait_at}
 use Rattle.rx_plan.specs.Rounds.{may_move, settles}
 use Rattle.rx_plan.specs.Stages.{InvokedState, Stage}
-use Rattle.rx_rounds.proofs.Clocked.{later, moment_client, moment_server, settles_moves}
-use Rattle.rx_rounds.proofs.EachItem.{In, in_behind, in_front, in_map, least_in, least_low, least_none}
-use Rattle.rx_rounds.proofs.OneCall.{Ends, client_setup, from_client, from_server, node_of, server_setup, the_record}
-use Rattle.rx_rounds.proofs.OneSteps.{empty_at}
+use Rattle.rx_rounds.proofs.Clocks.Clocked.{later, moment_client, moment_server, settles_moves}
+use Rattle.rx_between.proofs.Each.EachItem.{In, in_behind, in_front, in_map, least_in, least_low, least_none}
+use Rattle.rx_rounds.proofs.One.OneCall.{Ends, client_setup, from_client, from_server, node_of, server_setup}
+use Rattle.rx_rounds.proofs.One.OneCall.{the_record}
 use Rattle.rx_rounds.proofs.Rounded.{Made, settles_not, settles_still}
 use Rattle.rx_rounds.proofs.Two.{Two}
 
@@ -148,7 +148,8 @@ module _ (x : Ends) (ls lc : Looks) (cs : List InvokedState) (js : List JobState
       → wait_at s.history 0 (record { host = x.server; setup = server_setup x }) ≡ wait_in now due_server
   server_waits s two =
       ap (λ (l : Looks). option_map (λ m. m - moment 0 s.history) (due (server_setup x) l)) two.server
-      ∙ ap (λ (n : ℕ). option_map (λ m. m - n) (due (server_setup x) ls)) (moment_server x ls lc cs js s two ∙ server_now)
+      ∙ ap (λ (n : ℕ). option_map (λ m. m - n) (due (server_setup x) ls))
+      (moment_server x ls lc cs js s two ∙ server_now)
       ∙ ap (λ (n : ℕ). option_map (λ m. m - now) (option_map (max n) (least_by (λ (m : ℕ). m)
       (moments (server_setup x) ls)))) server_now
       ∙ ap (wait_in now) server_due
@@ -157,7 +158,8 @@ module _ (x : Ends) (ls lc : Looks) (cs : List InvokedState) (js : List JobState
       → wait_at s.history 1 (record { host = x.client; setup = client_setup x }) ≡ wait_in now due_client
   client_waits s two =
       ap (λ (l : Looks). option_map (λ m. m - moment 1 s.history) (due (client_setup x) l)) two.client
-      ∙ ap (λ (n : ℕ). option_map (λ m. m - n) (due (client_setup x) lc)) (moment_client x ls lc cs js s two ∙ client_now)
+      ∙ ap (λ (n : ℕ). option_map (λ m. m - n) (due (client_setup x) lc))
+      (moment_client x ls lc cs js s two ∙ client_now)
       ∙ ap (λ (n : ℕ). option_map (λ m. m - now) (option_map (max n) (least_by (λ (m : ℕ). m)
       (moments (client_setup x) lc)))) client_now
       ∙ ap (wait_in now) client_due
@@ -250,12 +252,9 @@ server_moments x firsts now used given life k active living awake =
     (append-nil (map (item_of (server_setup x) r) (call_items false k)))
     ∙ ap (λ (ms : List ℕ). ms ++ (k.heard + SILENCE_MS) ∷ []) (ranks_map (server_setup x) r (call_items false k))))
 
--- a server that knows nothing has nothing due
-pub empty_moments : (x : Ends) (now : ℕ) → moments (server_setup x) (empty_at now) ≡ []
-empty_moments x now = refl
-
 -- an item's rank is one of the moments
-pub in_end : (client : Bool) (k : CallLooks) (i : CallItem) → In i (call_items client k) → In i.rank (end_moments client k)
+pub in_end : (client : Bool) (k : CallLooks) (i : CallItem) → In i (call_items client k)
+    → In i.rank (end_moments client k)
 in_end client k i there =
     in_front i.rank (map (λ (j : CallItem). j.rank) (call_items client k)) ((k.heard + SILENCE_MS) ∷ [])
     (in_map (λ (j : CallItem). j.rank) i (call_items client k) there)
@@ -266,9 +265,3 @@ in_ping k =
     in_end true k (record { rank = k.spoke + PING_MS; sending = Ack ACK_PING 0 })
     (in_behind _ (piece_items k.rtt.rto k.cwnd k.sent) (ack_items k.owed_ack ++ ping_items true k.spoke)
     (in_behind _ (ack_items k.owed_ack) (ping_items true k.spoke) (inl refl)))
-
--- and so is its death
-pub in_death : (client : Bool) (k : CallLooks) → In (k.heard + SILENCE_MS) (end_moments client k)
-in_death client k =
-    in_behind (k.heard + SILENCE_MS) (map (λ (i : CallItem). i.rank) (call_items client k)) ((k.heard + SILENCE_MS) ∷ [])
-    (inl refl)

@@ -16,7 +16,8 @@ use Rattle.rx_jobs.specs.Handlers.{Handlers, served_for}
 use Rattle.rx_reply.specs.Sent.{CanSend, UploadFits, upload_spelling}
 use Rattle.rx_script.specs.Answers.{Answer, answer_of, block_named, code, reply}
 use Rattle.rx_script.specs.ScriptRows.{is_down}
-use Rattle.rx_script.specs.Served.{as_counted, block_has, bytes, is_reply, refusal, served_answer, served_by, served_from}
+use Rattle.rx_script.specs.Served.{as_counted, block_has, bytes, is_reply, refusal, served_answer, served_by}
+use Rattle.rx_script.specs.Served.{served_from}
 use Rattle.rx_script.specs.Served.{served_with, upload_of}
 use Rattle.rx_script.specs.declared.limits.TheConstants.{MAX_BYTES}
 use Rattle.rx_plan.specs.Answering.{Invoked, request_for}

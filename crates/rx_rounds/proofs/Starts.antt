@@ -12,19 +12,19 @@ use Rattle.rx_plan.specs.Parts.{To, each}
 use Rattle.rx_plan.specs.Stages.{InvokedState, Stage}
 use Rattle.rx_law.specs.Worlds.{Datagram}
 use Rattle.rx_rounds.proofs.Between.{caller_with, client_at}
-use Rattle.rx_rounds.proofs.SendsLaws.{must_go}
+use Rattle.rx_rounds.proofs.Serving.SendsLaws.{must_go}
 use Rattle.rx_rounds.proofs.Exchange.{none_due}
 use Rattle.rx_rounds.proofs.Making.{ends_to}
-use Rattle.rx_rounds.proofs.OneCall.{Ends}
-use Rattle.rx_rounds.proofs.OneFields.{fresh}
-use Rattle.rx_rounds.proofs.OneSteps.{empty_at}
-use Rattle.rx_rounds.proofs.OneWay.{Sends}
+use Rattle.rx_rounds.proofs.One.OneCall.{Ends}
+use Rattle.rx_rounds.proofs.One.OneFields.{fresh}
+use Rattle.rx_rounds.proofs.One.OneSteps.{empty_at}
+use Rattle.rx_rounds.proofs.One.OneWay.{Sends}
 use Rattle.rx_rounds.proofs.Pair.{CallEnd}
-use Rattle.rx_rounds.proofs.ReplyMoments.{in_piece}
+use Rattle.rx_rounds.proofs.Replies.ReplyMoments.{in_piece}
 use Rattle.rx_rounds.proofs.RoundParts.{client_polled, idle_dispatch}
 use Rattle.rx_rounds.proofs.Rounded.{Made, RoundMade, caller_at}
-use Rattle.rx_rounds.proofs.SaidMore.{said_more}
-use Rattle.rx_rounds.proofs.SaysOn.{SaidOn, says_on}
+use Rattle.rx_rounds.proofs.Serving.SaidMore.{said_more}
+use Rattle.rx_rounds.proofs.Serving.SaysOn.{SaidOn, says_on}
 use Rattle.rx_rounds.proofs.Settle.{client_moments, end_moments, settles_two}
 use Rattle.rx_rounds.proofs.Two.{Two}
 

@@ -26,7 +26,7 @@ use Rattle.rx_plan.specs.Parts.{To}
 use Rattle.rx_plan.specs.Programs.{Turn}
 use Rattle.rx_plan.specs.Stages.{InvokedState, Stage, with_event}
 use Rattle.rx_rounds.proofs.Making.{turn_over, turn_goes}
-use Rattle.rx_rounds.proofs.OneCall.{Ends, client_setup, server_setup}
+use Rattle.rx_rounds.proofs.One.OneCall.{Ends, client_setup, server_setup}
 use Rattle.rx_rounds.proofs.Two.{Two, at_client, at_server, two_client, two_server}
 
 -- ---- the dispatcher

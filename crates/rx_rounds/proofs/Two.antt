@@ -26,7 +26,7 @@ use Rattle.rx_plan.specs.Rounds.{Polling, Polled, polling, polls, polls_at, poll
 use Rattle.rx_plan.specs.Stages.{InvokedState, IsAllowedNext, Stage, event, host_at, with_event}
 use Rattle.rx_rounds.specs.Bounds.{default_limits}
 use Rattle.rx_rounds.proofs.Making.{then_to, ends_to, event_to, turn_over, turn_goes}
-use Rattle.rx_rounds.proofs.OneCall.{Ends, client_setup, server_setup}
+use Rattle.rx_rounds.proofs.One.OneCall.{Ends, client_setup, server_setup}
 use Rattle.std.specs.List.{list_any}
 use Rattle.std.proofs.Common.{nat_lt}
 use Rattle.rx_rules.specs.Slots.{live}
@@ -235,15 +235,6 @@ out_to node from p q es there made =
             (sym (ap (λ (r : Polled). r.stage) same)) b.made,
       ),
     )
-
--- first the client is polled out, and then the server
-pub record PollsMade (x : Ends) (s : Stage) (p : Polled) : Type 0 where
-  pub between : Stage
-  pub first : Polling
-  pub client : Polls 1 x.client [] s first between
-  pub second : Polling
-  pub server : host_at between 0 ≡ Some x.server → Polls 0 x.server first.given between second p.stage
-  pub given : host_at between 0 ≡ Some x.server → p.given ≡ second.given
 
 pub polls_to : (x : Ends) (ls lc : Looks) (cs : List InvokedState) (js : List JobState) (s : Stage) (p : Polled)
     (es : List Noted)

@@ -46,5 +46,3 @@ pub call_at-on_call : (c d : CallName) (change : CallRecord → CallRecord) (l :
     → call_at (on_call d change l) c ≡ option_map (changed_if d change) (call_at l c)
 call_at-on_call c d change l keeps =
     call_at-on_calls c (changed_if d change) l (λ k. changed_if-name (same_name k.name d) change k (keeps k))
-
--- ---- slots

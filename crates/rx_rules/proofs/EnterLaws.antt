@@ -1,5 +1,5 @@
 -- What entering a connection leaves and makes, where none is forgotten for it.
-use Rattle.std.proofs.Common.{◌≡◌, ◌≤◌, ℕ, zero, suc, cond, if◌then◌else◌, Bool, true, false, List, [], length, map}
+use Rattle.std.proofs.Common.{◌≡◌, ◌≤◌, ℕ, cond, if◌then◌else◌, Bool, true, false, List, [], length, map}
 use Rattle.std.proofs.Common.{Option, Some, None, refl, ap, arith, sym, subst, is_some}
 use Rattle.rx_model.specs.declared.names.CallName.{CallName}
 use Rattle.rx_rules.specs.Looks.{ChannelLooks, ConnLooks, Looks, conn_at, fresh_channel}
@@ -7,7 +7,7 @@ use Rattle.rx_rules.specs.Looks.{call_at}
 use Rattle.rx_model.specs.Names.{Connection, channels_of, connection_of, same_connection}
 use Rattle.rx_rules.specs.Records.{entered, fresh_conn, idle_conn, is_full, placed, used, with_conn}
 use Rattle.rx_rules.specs.Setup.{Setup, Kind, Server, Client, IsServer}
-use Rattle.rx_rules.proofs.ConnsLaws.{number_in, number_of}
+use Rattle.rx_rules.proofs.ConnsLaws.{number_of}
 use Rattle.rx_rules.proofs.FindLaws.{find-before, find-last}
 use Rattle.rx_rules.proofs.KeepsLaws.{Fours, Keeps, keeps-on_conn, keeps-refl, lives-refl}
 use Rattle.rx_model.proofs.NameLaws.{connection_itself}
@@ -15,13 +15,6 @@ use Rattle.rx_model.proofs.NameLaws.{connection_itself}
 -- the channels of a connection that is entered
 abbrev pub fresh_channels : Connection → List ChannelLooks
 fresh_channels x = map (λ ch. fresh_channel 0) (channels_of x)
-
-fresh-number : (x : Connection) (n : ℕ) → number_in (fresh_channels x) n ≡ 0
-fresh-number x zero = refl
-fresh-number x (suc zero) = refl
-fresh-number x (suc (suc zero)) = refl
-fresh-number x (suc (suc (suc zero))) = refl
-fresh-number x (suc (suc (suc (suc n)))) = refl
 
 fresh-fours : (test : Bool) (x : Connection) (new : ConnLooks) → new.channels ≡ fresh_channels x
     → Fours (cond test (Some new) None)

@@ -2,7 +2,7 @@
 use Rattle.std.proofs.Common.{◌≡◌, inl, inr, ◌<◌, ◌≤◌, ◌+◌, ◌==◌, is_some, true, false, ℕ, suc, zero, List, [], ◌∷◌}
 use Rattle.std.proofs.Common.{◌++◌, length, Some, None, refl, sym, ap, ◌∙◌, arith, append_assoc}
 use Rattle.std.proofs.Common.{length-append}
-use Rattle.std.proofs.lemmas.Bool.{cases_lt, cases_eq, cases_Bool, false≢true}
+use Rattle.std.proofs.lemmas.Bool.{cases_lt, cases_eq, false≢true}
 use Rattle.std.proofs.lemmas.Bool.Decides.{nat_tests}
 use Rattle.std.proofs.lemmas.List.{append-nil}
 use Rattle.rx_rules.specs.Received.{Piece, Packet, Received, packet_at, payload_of, greatest, front_of, bytes_to}
@@ -64,16 +64,6 @@ done_kept d k h =
       | Some b ↦ λ h. refl
     ]) h
 
-pub used_all : (d : Received) (k : ℕ) → k < used_of d → is_done d (suc k) ≡ true
-used_all d k lt = reach_passes (is_done d) (front_of d.kept) k lt
-
-not_kept : (d : Received) (k : ℕ) → is_some (packet_at d.kept k) ≡ false → is_done d k ≡ false
-not_kept d k h =
-    elim (cases_Bool (is_done d k)) as (λ _. is_done d k ≡ false) [
-      | inl t ↦ absurd (false≢true (sym h ∙ done_kept d k t))
-      | inr f ↦ f
-    ]
-
 pub used_only : (d : Received) (u : ℕ) → ((k : ℕ) → k < u → is_done d (suc k) ≡ true) → is_done d (suc u) ≡ false →
     used_of d ≡ u
 used_only d u all stops =
@@ -87,15 +77,6 @@ used_only d u all stops =
     reach_only (is_done d) (front_of d.kept) u within all (λ _. stops)
 
 -- ---- bytes
-
--- a packet above k changes none of the bytes up to k
-pub bytes_below : (seq : ℕ) (piece : Piece) (kept : List Packet) (k : ℕ) → k < seq →
-    bytes_to (record { seq = seq; piece = piece } ∷ kept) k ≡ bytes_to kept k
-bytes_below seq piece kept zero lt = refl
-bytes_below seq piece kept (suc k) lt =
-    let rest = bytes_below seq piece kept k (omega (arith, lt)) in
-    let here = at_other seq piece kept (suc k) (λ e. omega (arith, lt, e)) in
-    λ i. rest i ++ payload_of (here i)
 
 -- where packet k ends is how many bytes there are up to it
 pub end_is : (kept : List Packet) (k : ℕ) → end_of kept k ≡ length (bytes_to kept k)

@@ -1,5 +1,5 @@
 -- A history played again: each event with the answer that the rules give after those before it. For examples.
-use Rattle.std.specs.Prelude.{◌+◌, ◌-◌, ◌*◌, if◌then◌else◌, nat_lt, ℕ, List, [], ◌∷◌, Option}
+use Rattle.std.specs.Prelude.{◌+◌, ◌-◌, ◌*◌, if◌then◌else◌, nat_lt, ℕ, List, [], ◌∷◌}
 use Rattle.rx_model.specs.declared.answers.ReadAns.{ReadAns}
 use Rattle.rx_model.specs.declared.answers.ReadGot.{ReadGot}
 use Rattle.rx_model.specs.declared.answers.ReadGot.TheVariants as readers
@@ -10,14 +10,13 @@ use Rattle.rx_model.specs.declared.event.Event.{Event}
 use Rattle.rx_model.specs.declared.event.Event.TheVariants as events
 use Rattle.rx_model.specs.declared.names.CallName.{CallName}
 use Rattle.rx_rules.specs.After.{after}
-use Rattle.rx_rules.specs.Items.{due, poll_answer}
+use Rattle.rx_rules.specs.Items.{poll_answer}
 use Rattle.rx_rules.specs.Judging.{took_of}
 use Rattle.rx_rules.specs.Life.{is_live}
 use Rattle.rx_rules.specs.Looks.{Looks, at_start, call_at, is_call}
 use Rattle.rx_rules.specs.Rules.{accept_answer, call_answer, can_say, client_read, client_write, connect_answer}
 use Rattle.rx_rules.specs.Rules.{done_where, end_answer, own_call, served_finish, served_read, served_write}
 use Rattle.rx_rules.specs.Setup.{Setup, Kind, Server, Client}
-use Rattle.rx_rules.specs.Slots.{common, live}
 
 -- ---- the same events with the rules' answers
 
@@ -73,21 +72,3 @@ abbrev pub unhex : List ℕ → List ℕ
 unhex [] = []
 unhex (a ∷ []) = []
 unhex (a ∷ b ∷ rest) = (16 * digit a + digit b) ∷ unhex rest
-
--- ---- what a node tells of itself
-
--- when something is due, how many calls live, and how many slots they hold beside their own
-pub record Watched : Type 0 where
-  pub due : Option ℕ
-  pub live : ℕ
-  pub common : ℕ
-
-abbrev pub watched_from : Setup → List Event → Looks → List Watched
-watched_from s [] l = []
-watched_from s (e ∷ es) l =
-    record { due = due s (after s e l); live = live (after s e l); common = common (after s e l) }
-    ∷ watched_from s es (after s e l)
-
--- behind each event
-abbrev pub watched : Setup → List Event → List Watched
-watched s es = watched_from s es at_start

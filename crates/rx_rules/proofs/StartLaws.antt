@@ -8,7 +8,7 @@ use Rattle.rx_rules.specs.Life.{Life}
 use Rattle.rx_rules.specs.Looks.{CallRecord, ConnLooks, Looks, call_at, changed_at, conn_at, fresh_channel}
 use Rattle.rx_model.specs.Names.{Connection, connection_of, same_connection, same_name}
 use Rattle.rx_rules.specs.Records.{started, with_call}
-use Rattle.rx_rules.specs.Setup.{Setup}
+use Rattle.rx_rules.specs.Setup.{Setup, pace_of}
 use Rattle.rx_rules.proofs.CallsLaws.{call_at-on_calls}
 use Rattle.rx_rules.proofs.ConnsLaws.{conn_if, conn_at-on_conn, length-changed, number_in, number_in-changed}
 use Rattle.rx_rules.proofs.ConnsLaws.{number_in-here, number_of}
@@ -122,7 +122,7 @@ keeps-started s life c d l other low =
     record {
       calls =
           subst (λ (o : Option CallRecord). Lives (call_at l c) o)
-          (sym (call_at-other c (record { name = d; life = life; looks = fresh_call s.limits.window s.prompt l.now }) l
+          (sym (call_at-other c (record { name = d; life = life; looks = fresh_call (pace_of s) l.now }) l
           other (call_at l c) refl))
           (lives-refl (call_at l c));
       numbers =

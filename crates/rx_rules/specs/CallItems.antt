@@ -1,5 +1,6 @@
 -- What one end of a call owes. Public clauses cite this module.
-use Rattle.std.specs.Prelude.{◌==◌, ◌&&◌, ◌||◌, ◌+◌, ◌-◌, ◌/◌, ◌%◌, if◌then◌else◌, nat_lt, nat_le, ℕ, suc, Bool, true, false}
+use Rattle.std.specs.Prelude.{◌==◌, ◌&&◌, ◌||◌, ◌+◌, ◌-◌, ◌/◌, ◌%◌, if◌then◌else◌, nat_lt, nat_le, ℕ, suc, Bool, true}
+use Rattle.std.specs.Prelude.{false}
 use Rattle.std.specs.Prelude.{List, [], ◌∷◌, ◌++◌, filter, Option, Some, None, option_map}
 use Rattle.rx_model.specs.declared.wire.TheConstants.{ACK_DELAY_MS, REQUEST_ACK, LAST_PACKET, ACK_PING, PING_MS}
 use Rattle.rx_model.specs.Body.{Body, AckBody}
@@ -42,8 +43,8 @@ abbrev pub lost_items : Option ℕ → List CallItem
 lost_items None = []
 lost_items (Some k) = item_at 0 (Piece k true)
 
--- how long a piece waits for its acknowledgement behind its last giving: one RTO; where it was given once, a prompt node
--- waits longer by what a peer may delay one that wasn't asked for (RFC 9002, section 6.2.1)
+-- how long a piece waits for its acknowledgement behind its last giving: one RTO; where it was given once, a prompt
+-- node waits longer by what a peer may delay one that wasn't asked for (RFC 9002, section 6.2.1)
 abbrev pub resend_after : ℕ → Bool → Option LastGiving → ℕ
 resend_after rto prompt g = if prompt && is_once g then rto + ACK_DELAY_MS else rto
 

@@ -3,6 +3,7 @@ use Rattle.std.specs.Prelude.{◌&&◌, ◌||◌, ◌+◌, ◌-◌, not, if◌th
 use Rattle.std.specs.Prelude.{Option, Some, None}
 use Rattle.rx_model.specs.declared.answers.Took.{Took}
 use Rattle.rx_model.specs.declared.answers.Took.TheVariants as tooks
+use Rattle.rx_model.specs.declared.pace.Pace.{Pace}
 use Rattle.rx_model.specs.declared.wire.TheConstants.{LAST_PACKET}
 use Rattle.rx_model.specs.Body.{Body, AckBody}
 use Rattle.rx_model.specs.Body as bodies
@@ -30,14 +31,14 @@ pub record CallLooks : Type 0 where
   pub heard : ℕ
   pub spoke : ℕ
 
--- a call that starts at a node with this window, which is prompt or isn't
-abbrev pub fresh_call : ℕ → Bool → ℕ → CallLooks
-fresh_call window prompt now =
+-- a call that starts at a node of this pace
+abbrev pub fresh_call : Pace → ℕ → CallLooks
+fresh_call pace now =
     record {
       received = nothing_received;
       sent = nothing_sent;
-      rtt = first_rtt prompt;
-      cwnd = first_cwnd window prompt;
+      rtt = first_rtt pace.prompt;
+      cwnd = first_cwnd pace.window pace.prompt;
       owed_ack = None;
       heard = now;
       spoke = now;

@@ -1,5 +1,5 @@
--- Which pieces a prompt node takes for lost before their time is up (RFC 6675, section 5; RFC 9002, section 6.1.1). Public
--- clauses cite this module.
+-- Which pieces a prompt node takes for lost before their time is up (RFC 6675, section 5; RFC 9002, section 6.1.1).
+-- Public clauses cite this module.
 use Rattle.std.specs.Prelude.{◌==◌, ◌&&◌, not, if◌then◌else◌, nat_lt, nat_le, ℕ, suc, Bool, false, Option, Some, None}
 use Rattle.rx_rules.specs.Rates.{Cwnd}
 use Rattle.rx_rules.specs.Received.{reach}
@@ -58,8 +58,8 @@ abbrev pub first_lost : Option ℕ → Option ℕ → Option ℕ
 first_lost (Some k) late = Some k
 first_lost None late = late
 
--- the piece that a prompt node gives again at once: the lowest that is overtaken, or else, as far as its window lets it,
--- the lowest that is late
+-- the piece that a prompt node gives again at once: the lowest that is overtaken, or else, as far as its window lets
+-- it, the lowest that is late
 abbrev pub lost_of : Cwnd → Sent → Option ℕ
 lost_of c s =
     if c.prompt then first_lost (overtaken_of s) (if nat_lt (under_way s) c.window then late_of s else None) else None

@@ -10,8 +10,8 @@ pub record Estimate : Type 0 where
   pub smoothed : ℕ
   pub variance : ℕ
 
--- the estimate, once a round trip was measured, and the milliseconds after which a piece is given again; whether the node
--- is prompt
+-- the estimate, once a round trip was measured, and the milliseconds after which a piece is given again; whether the
+-- node is prompt
 pub record Rtt : Type 0 where
   pub estimate : Option Estimate
   pub rto : ℕ

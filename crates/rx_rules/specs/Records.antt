@@ -13,7 +13,7 @@ use Rattle.rx_rules.specs.Life as lives
 use Rattle.rx_rules.specs.Looks.{CallRecord, ConnLooks, Looks, fresh_channel, conn_at, latest, is_call, on_calls}
 use Rattle.rx_rules.specs.Looks.{on_conn, on_channel, on_life, latest_name}
 use Rattle.rx_model.specs.Names.{Connection, channel_of, channels_of, same_connection, same_name}
-use Rattle.rx_rules.specs.Setup.{Setup, Kind, Server, Client, sending_window}
+use Rattle.rx_rules.specs.Setup.{Setup, Kind, Server, Client, pace_of}
 
 -- ---- connections
 
@@ -89,7 +89,7 @@ abbrev pub started : Setup → Life → CallName → Looks → Looks
 started s life c l =
     record (on_channel (channel_of c) (λ q. fresh_channel c.number) l) {
       calls =
-          with_call (record { name = c; life = life; looks = fresh_call (sending_window s) s.prompt l.now }) l.calls;
+          with_call (record { name = c; life = life; looks = fresh_call (pace_of s) l.now }) l.calls;
       firsts = filter (λ d. not (same_name d c)) l.firsts;
     }
 

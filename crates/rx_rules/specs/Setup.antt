@@ -3,6 +3,7 @@ use Rattle.std.specs.Prelude.{◌+◌, ◌-◌, ◌%◌, ◌^◌, ◌<◌, ◌�
 use Rattle.rx_model.specs.declared.names.CallName.{CallName}
 use Rattle.rx_model.specs.declared.names.Host.{Host}
 use Rattle.rx_model.specs.declared.names.Limits.{Limits}
+use Rattle.rx_model.specs.declared.pace.Pace.{Pace}
 use Rattle.rx_model.specs.declared.wire.TheConstants.{CLIENT_INITIATED, MIN_WINDOW, MAX_WINDOW}
 use Rattle.rx_model.specs.Message.{Message}
 use Rattle.rx_model.specs.Names.{name_of}
@@ -13,8 +14,8 @@ pub data Kind : Type 0 where
   Server : (service nonces : ℕ) → Kind
   Client : (host : Host) (epoch : ℕ) → Kind
 
--- a node: its kind, its limits, whether it is prompt (it asks for an acknowledgement behind each half of its window, and
--- gives again at once what it takes for lost), and its class
+-- a node: its kind, its limits, whether it is prompt (it asks for an acknowledgement behind each half of its window,
+-- and gives again at once what it takes for lost), and its class
 pub record Setup : Type 0 where
   pub kind : Kind
   pub limits : Limits
@@ -87,6 +88,10 @@ receiving_window s = s.limits.window
 -- the window by which pieces are held: so many that aren't hard acknowledged
 abbrev pub sending_window : Setup → ℕ
 sending_window s = s.limits.window
+
+-- how its calls send and take in
+abbrev pub pace_of : Setup → Pace
+pace_of s = record { window = sending_window s; prompt = s.prompt }
 
 -- the slots that calls may hold beside one for each
 abbrev pub shared_slots : Setup → ℕ

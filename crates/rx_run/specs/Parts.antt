@@ -2,8 +2,8 @@
 -- one by one, as an event of a node. Public clauses cite this module.
 use Rattle.std.specs.Prelude.{◌≡◌, ◌⊎◌, Bool, true, false, List, [], ◌∷◌, ◌++◌}
 
--- what a part came to: something; an end of its own, for a reason; nothing, where the run was cut off as it was told; or
--- it has no end
+-- what a part came to: something; an end of its own, for a reason; nothing, where the run was cut off as it was told;
+-- or it has no end
 pub data Came (Why A : Type 0) : Type 0 where
   To : (a : A) → Came Why A
   Ended : (why : Why) → Came Why A

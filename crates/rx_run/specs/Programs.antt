@@ -4,8 +4,8 @@ use Rattle.rx_model.specs.declared.event.Event.{Event}
 use Rattle.rx_wire.specs.Turns.{Program}
 use Rattle.rx_run.specs.Parts.{Came, To, Cut, Endless}
 
--- what a run stands at, as far as events of nodes go: which event of a node the rules allow next; what stands behind it;
--- and the step that it is
+-- what a run stands at, as far as events of nodes go: which event of a node the rules allow next; what stands behind
+-- it; and the step that it is
 pub record Stages (S Step : Type 0) : Type 1 where
   pub may : S → ℕ → Event → Type 0
   pub after : ℕ → Event → S → S

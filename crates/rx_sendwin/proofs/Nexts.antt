@@ -91,15 +91,18 @@ next_fresh now rto c s seq asking none fresh is asked =
       half = sym (halves_none c s (suc (given_of s)) none) i;
     }))
     ∙ sym ((λ i. piece_by now c s (items_by (none i) (fresh i) rto c s (again_of s)))
-    ∙ at_once now c s (fresh_item s) (again_items (resend_after rto c.prompt (again_of s)) (lowest_of s) (again_of s)) refl)
+    ∙ at_once now c s (fresh_item s) (again_items (resend_after rto c.prompt (again_of s)) (lowest_of s) (again_of s))
+    refl)
 
 -- where neither is so, the lowest one that isn't acknowledged decides
 later : (now rto : ℕ) (c : Cwnd) (s : Sent) (g : Option LastGiving) → lost_of c s ≡ None → can_give c s ≡ false →
-    again_of s ≡ g → next_piece now rto c s ≡ piece_by now c s (again_items (resend_after rto c.prompt g) (lowest_of s) g)
+    again_of s ≡ g → next_piece now rto c s ≡ piece_by now c s
+    (again_items (resend_after rto c.prompt g) (lowest_of s) g)
 later now rto c s g none fresh given = λ i. piece_by now c s (items_by (none i) (fresh i) rto c s (given i))
 
 pub next_due : (now rto : ℕ) (c : Cwnd) (s : Sent) (seq : ℕ) (g : LastGiving) → lost_of c s ≡ None →
-    can_give c s ≡ false → seq ≡ lowest_of s → again_of s ≡ Some g → g.moment + resend_after rto c.prompt (Some g) ≤ now →
+    can_give c s ≡ false → seq ≡ lowest_of s → again_of s ≡ Some g
+    → g.moment + resend_after rto c.prompt (Some g) ≤ now →
     ◌≡◌ {A = Option NextPiece} (Some (record { seq = seq; again = true; asks = true; up = true; half = false }))
     (next_piece now rto c s)
 next_due now rto c s seq g none fresh is given le =
@@ -119,7 +122,8 @@ next_due now rto c s seq g none fresh is given le =
     (least_by (λ (i : CallItem). i.rank) (cond b item []))) test)
 
 pub next_waits : (now rto : ℕ) (c : Cwnd) (s : Sent) (g : LastGiving) → lost_of c s ≡ None → can_give c s ≡ false →
-    again_of s ≡ Some g → now < g.moment + resend_after rto c.prompt (Some g) → ◌≡◌ {A = Option NextPiece} None (next_piece now rto c s)
+    again_of s ≡ Some g → now < g.moment + resend_after rto c.prompt (Some g)
+    → ◌≡◌ {A = Option NextPiece} None (next_piece now rto c s)
 next_waits now rto c s g none fresh given lt =
     let test : nat_le (g.moment + resend_after rto c.prompt (Some g)) now ≡ false = grind (arith, nat_tests, lt) in
     let item : List CallItem = again_item (resend_after rto c.prompt (Some g)) s g ∷ [] in

@@ -6,8 +6,8 @@
 //! (`piece_slots`). A caller imports `specs/Window.antt` and `specs/Next.antt`; `proofs/Undisturbed.antt` has that a
 //! window stands for what it stood for where others used the same pool. After `make` no call takes memory.
 //!
-//! Which pieces are lost is kept ready (`src/lost.rt`): an ACK with marks and a piece that is sent again look through the
-//! pieces held, once; a poll and a piece that is sent for the first time don't.
+//! Which pieces are lost is kept ready (`src/lost.rt`): an ACK with marks and a piece that is sent again look through
+//! the pieces held, once; a poll and a piece that is sent for the first time don't.
 #![tactic(auto)]
 
 mod lost;

@@ -168,8 +168,8 @@ pub fn goes(counts: bool, fits: bool, lets: bool) -> bool
     counts && fits && lets
 }
 
-/// Whether a piece asks for an acknowledgement: it is the last, or fills the window of congestion or the peer's, or ends
-/// half of a prompt node's own.
+/// Whether a piece asks for an acknowledgement: it is the last, or fills the window of congestion or the peer's, or
+/// ends half of a prompt node's own.
 pub fn asks(last: bool, fits: bool, fills: bool, prompts: bool) -> bool
     ensures { result ≡ (last || ((not fits || fills) || prompts)) }
 {

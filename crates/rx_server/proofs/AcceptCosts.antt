@@ -45,7 +45,8 @@ pub ready_fewer : (book : List (Option ℕ)) (k : ℕ) → is_some (moment_of bo
     → entries_of (slice_set book k None) + 1 ≡ entries_of book
 ready_fewer book k is = of (moment_of book k) refl is
   where
-    of : (o : Option ℕ) → moment_of book k ≡ o → is_some o ≡ true → entries_of (slice_set book k None) + 1 ≡ entries_of book
+    of : (o : Option ℕ) → moment_of book k ≡ o → is_some o ≡ true
+        → entries_of (slice_set book k None) + 1 ≡ entries_of book
     of None at is = absurd (cc (is))
     of (Some m) at is = entries_less book k m at
 

@@ -18,11 +18,11 @@ use Rattle.rx_rules.specs.Looks.{CallRecord, Looks, is_call, is_proved, latest, 
 use Rattle.rx_rules.specs.Rules.{accept_answer, can_enter}
 use Rattle.rx_rules.specs.Setup.{Setup}
 use Rattle.rx_rules.proofs.EveryLaws.{Every}
-use Rattle.rx_history.proofs.Dims.{dims_life}
+use Rattle.rx_history.proofs.Dimensions.Dims.{dims_life}
 use Rattle.rx_history.proofs.LifeFalls.{accept_falls}
 use Rattle.rx_node.specs.Mirrors.{IsChannel, IsKey, Mirrors}
 use Rattle.rx_node.specs.Node.{KeepsNode, NodeState, setup_of}
-use Rattle.rx_node.proofs.ChannelSteps.{latest_changed}
+use Rattle.rx_node.proofs.Steps.ChannelSteps.{latest_changed}
 use Rattle.rx_node.proofs.OwedItems.{HasChannel, has_channel}
 use Rattle.rx_server.specs.Handling.{IsFirst, enters_at, passes}
 use Rattle.rx_queue.specs.Queue.{QueueState, is_ready}

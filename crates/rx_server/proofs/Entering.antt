@@ -13,8 +13,8 @@ use Rattle.rx_rules.specs.Records.{entered, fresh_conn, has_place, idle_conn, is
 use Rattle.rx_rules.specs.Setup.{FitsLimits, Kind, Setup, Server, Client, IsServer, nonce_of}
 use Rattle.rx_rules.proofs.EveryLaws.{Every, filter-passes}
 use Rattle.rx_rules.proofs.LeastLaws.{least-keeps}
-use Rattle.rx_history.proofs.Orderly.{Orderly}
-use Rattle.rx_history.proofs.OrderlyEnter.{orderly_entered}
+use Rattle.rx_history.proofs.Order.Orderly.{Orderly}
+use Rattle.rx_history.proofs.Order.OrderlyEnter.{orderly_entered}
 use Rattle.rx_history.proofs.Places.{there-entered}
 use Rattle.rx_node.specs.Mirrors.{IsChannel, IsKey, Mirrors}
 use Rattle.rx_node.specs.Node.{NodeState, setup_of}

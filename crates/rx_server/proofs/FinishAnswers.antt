@@ -13,7 +13,7 @@ use Rattle.rx_rules.specs.Life.{Life, after_gone}
 use Rattle.rx_rules.specs.Life as lives
 use Rattle.rx_rules.specs.Looks.{CallRecord, Looks, call_at, latest, latest_name, on_life}
 use Rattle.rx_rules.specs.Rules.{served_by, served_finish}
-use Rattle.rx_history.proofs.DimsEvents.{finish_dims}
+use Rattle.rx_history.proofs.Dimensions.DimsEvents.{finish_dims}
 use Rattle.rx_node.specs.Mirrors.{IsChannel, Mirrors}
 use Rattle.rx_node.specs.Node.{KeepsNode, NodeState, setup_of}
 use Rattle.rx_server.specs.Handling.{IsFound}

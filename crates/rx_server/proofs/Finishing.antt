@@ -21,25 +21,25 @@ use Rattle.rx_rules.specs.Rules.{served_by, served_finish}
 use Rattle.rx_rules.specs.Setup.{Client, Kind, Server, Setup, is_client}
 use Rattle.rx_rules.proofs.CallsLaws.{changed_if}
 use Rattle.rx_history.proofs.Differ.{every_found}
-use Rattle.rx_history.proofs.DimsEvents.{finish_dims}
+use Rattle.rx_history.proofs.Dimensions.DimsEvents.{finish_dims}
 use Rattle.rx_history.proofs.LifeFalls.{is_begun}
-use Rattle.rx_history.proofs.RoomShut.{roomy_finished}
-use Rattle.rx_history.proofs.RoomStarts.{RoomyAt}
-use Rattle.rx_history.proofs.TakenLaws.{abort-number}
-use Rattle.rx_history.proofs.Tight.{TightOf}
+use Rattle.rx_history.proofs.Room.RoomShut.{roomy_finished}
+use Rattle.rx_history.proofs.Room.RoomStarts.{RoomyAt}
+use Rattle.rx_history.proofs.Laws.TakenLaws.{abort-number}
+use Rattle.rx_history.proofs.Room.Tight.{TightOf}
 use Rattle.rx_recvwin.specs.Places.{leading}
 use Rattle.rx_recvwin.specs.Window.{window_of}
 use Rattle.rx_recvwin.proofs.Nearness.{front_is, used_is}
 use Rattle.rx_recvwin.proofs.SlotLaws.{leading_seen}
 use Rattle.rx_call.specs.Kept.{call_under}
 use Rattle.rx_call.specs.Standing.{EndOfCall, has_unread}
-use Rattle.rx_ends.specs.Ends.{HasShutSlot, IsUnshut, StandsAs, StandsEnd}
+use Rattle.rx_call_ends.specs.Ends.{HasShutSlot, IsUnshut, StandsAs, StandsEnd}
 use Rattle.rx_node.specs.Lives.{after_turn}
 use Rattle.rx_node.specs.Mirrors.{IsActiveAt, IsChannel, Mirrors}
 use Rattle.rx_node.specs.Node.{KeepsNode, NodeState, is_active_life, life_at, setup_of}
 use Rattle.rx_node.specs.declared.life.Turn.{Turn}
-use Rattle.rx_node.proofs.ActiveSteps.{active_stands, life_latest}
-use Rattle.rx_node.proofs.ChannelSteps.{number_stays}
+use Rattle.rx_node.proofs.Steps.ActiveSteps.{active_stands, life_latest}
+use Rattle.rx_node.proofs.Steps.ChannelSteps.{number_stays}
 use Rattle.rx_node.proofs.KeptKeys.{key_on_channel, kept_setup}
 use Rattle.rx_server.specs.Handling.{IsFound, MayFinish}
 use Rattle.rx_server.specs.Server.{IsServerOf, IsServing, ServerState, Serves}

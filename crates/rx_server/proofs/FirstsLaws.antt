@@ -18,15 +18,15 @@ use Rattle.rx_rules.specs.Looks.{CallRecord, ChannelLooks, ConnLooks, Looks, cal
 use Rattle.rx_rules.specs.Looks.{channel_at, fresh_channel}
 use Rattle.rx_rules.specs.Looks.{is_call, latest, latest_name}
 use Rattle.rx_rules.specs.Records.{started}
-use Rattle.rx_rules.specs.Setup.{Setup, sending_window}
+use Rattle.rx_rules.specs.Setup.{Setup, pace_of}
 use Rattle.rx_rules.proofs.ConnsLaws.{channel_number, conn_if}
 use Rattle.rx_rules.proofs.EveryLaws.{Every, every-append, every-filter}
-use Rattle.rx_history.proofs.Dims.{Dims, Fades, Same, has_first}
-use Rattle.rx_history.proofs.DimsLeave.{numbers_stay}
-use Rattle.rx_history.proofs.Orderly.{Orderly}
+use Rattle.rx_history.proofs.Dimensions.Dims.{Dims, Fades, Same, has_first}
+use Rattle.rx_history.proofs.Dimensions.DimsLeave.{numbers_stay}
+use Rattle.rx_history.proofs.Order.Orderly.{Orderly}
 use Rattle.rx_history.proofs.Pairwise.{Pairwise}
 use Rattle.rx_rules.proofs.StartLaws.{call_at-other}
-use Rattle.rx_node.proofs.ChannelSteps.{channel_unstarted, latest_unstarted, place_is}
+use Rattle.rx_node.proofs.Steps.ChannelSteps.{channel_unstarted, latest_unstarted, place_is}
 use Rattle.rx_node.specs.Mirrors.{IsChannel, channel_in}
 use Rattle.rx_server.specs.Server.{FirstsStand, lacks_at, lacks_on, waits, waits_at, waits_on}
 
@@ -392,7 +392,7 @@ module _ (s : Setup) (c : CallName) (key : ℕ) (l : Looks) (at : IsChannel l ke
       of false is =
           ap (λ (q : Option CallRecord). is_call (λ k. is_waiting k.life) q)
           (call_at-other d
-          (record { name = c; life = lives.Waiting; looks = fresh_call (sending_window s) s.prompt l.now }) l is
+          (record { name = c; life = lives.Waiting; looks = fresh_call (pace_of s) l.now }) l is
           (call_at l d) refl)
 
   -- the channels that are listed stay listed

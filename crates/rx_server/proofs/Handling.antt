@@ -17,7 +17,7 @@ use Rattle.rx_rules.specs.Life as lives
 use Rattle.rx_rules.specs.Looks.{CallRecord, Looks, call_at, is_call, latest, latest_name}
 use Rattle.rx_rules.specs.Received.{read_of}
 use Rattle.rx_rules.specs.Rules.{served_by, served_read, served_read_by, served_read_got}
-use Rattle.rx_history.proofs.DimsEvents.{read_dims}
+use Rattle.rx_history.proofs.Dimensions.DimsEvents.{read_dims}
 use Rattle.rx_recvwin.specs.Window.{given_count, tells_end}
 use Rattle.rx_node.specs.Mirrors.{IsChannel, Mirrors}
 use Rattle.rx_node.specs.Node.{KeepsNode, NodeState}

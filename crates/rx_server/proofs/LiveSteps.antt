@@ -30,8 +30,8 @@ use Rattle.rx_rules.specs.Slots.{node_view}
 use Rattle.rx_rules.proofs.CallsLaws.{call_at-on_call, changed_if}
 use Rattle.rx_rules.proofs.EveryLaws.{Every}
 use Rattle.rx_rules.proofs.FindLaws.{find_passes}
-use Rattle.rx_history.proofs.Dims.{Dims, Same, has_first}
-use Rattle.rx_history.proofs.DimsTaken.{data_dims, with_dims}
+use Rattle.rx_history.proofs.Dimensions.Dims.{Dims, Same, has_first}
+use Rattle.rx_history.proofs.Dimensions.DimsTaken.{data_dims, with_dims}
 use Rattle.rx_history.proofs.Events.{call-by}
 use Rattle.rx_node.specs.Mirrors.{IsChannel, Mirrors, channel_in}
 use Rattle.rx_node.specs.Node.{NodeState, setup_of}
@@ -303,7 +303,8 @@ module _ (class : List ℕ → Class) (sv : ServerState) (new : NodeState) (l : 
           firsts = subst (λ (keys : List ℕ). FirstsStand keys (taken_with s got c m l)) (sym order)
               (subst (λ (q : Looks). FirstsStand (sv.firsts.order ++ key ∷ []) q) (sym is-after)
               (listed s l c k m key at name there live here kept.1 sv.firsts.order serves.firsts));
-          ready = ready_behind (class new.secret).challenges sv.firsts firsts (taken_with s got c m l) key order keeps own
+          ready = ready_behind (class new.secret).challenges sv.firsts firsts (taken_with s got c m l) key order keeps
+              own
               (subst (λ (b : Bool). ReadyStand b sv.firsts (taken_with s got c m l))
               (sym (challenges_by class sv.node new role))
               (subst (λ (q : Looks). ReadyStand (class sv.node.secret).challenges sv.firsts q) (sym is-after)

@@ -20,7 +20,7 @@ use Rattle.rx_rules.specs.Judging.{else_row, is_data, outer_row, server_outer, t
 use Rattle.rx_rules.specs.Rules.{AllowedAt}
 use Rattle.rx_rules.specs.Looks.{Looks}
 use Rattle.rx_rules.specs.Setup.{Kind, Server, Client, IsServer, Setup, named}
-use Rattle.rx_history.proofs.Dims.{dims_refl}
+use Rattle.rx_history.proofs.Dimensions.Dims.{dims_refl}
 use Rattle.rx_node.specs.Mirrors.{Mirrors}
 use Rattle.rx_node.specs.Node.{NodeState, setup_of}
 use Rattle.rx_server.specs.Server.{Answered, IsServerOf, ServerState, Serves}

@@ -15,11 +15,11 @@ use Rattle.rx_rules.specs.Looks.{on_life}
 use Rattle.rx_rules.specs.Records.{started, started_later}
 use Rattle.rx_rules.specs.Setup.{Setup, nonce_of}
 use Rattle.rx_rules.proofs.EveryLaws.{Every, filter-passes}
-use Rattle.rx_history.proofs.Dims.{dims_life}
+use Rattle.rx_history.proofs.Dimensions.Dims.{dims_life}
 use Rattle.rx_history.proofs.LifeFalls.{later_falls}
-use Rattle.rx_history.proofs.OrderlyOpens.{ended_dead, orderly_opened, room_behind}
-use Rattle.rx_history.proofs.Orderly.{Orderly, orderly_dims}
-use Rattle.rx_history.proofs.RoomStarts.{RoomyAt, roomy_opened}
+use Rattle.rx_history.proofs.Order.OrderlyOpens.{ended_dead, orderly_opened, room_behind}
+use Rattle.rx_history.proofs.Order.Orderly.{Orderly, orderly_dims}
+use Rattle.rx_history.proofs.Room.RoomStarts.{RoomyAt, roomy_opened}
 use Rattle.rx_table.specs.declared.seat.Seat.{Seat}
 use Rattle.rx_table.specs.Records.{seat_at}
 use Rattle.rx_node.specs.Mirrors.{IsChannel, Mirrors, channel_in}

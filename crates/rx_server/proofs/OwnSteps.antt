@@ -22,9 +22,9 @@ use Rattle.rx_history.proofs.Events.{call-by, calls-prepared}
 use Rattle.rx_history.proofs.Openings.{channel_prepared}
 use Rattle.rx_history.proofs.Places.{is_none}
 use Rattle.rx_node.specs.Node.{setup_of}
-use Rattle.rx_node.proofs.ChannelSteps.{IsThere, channel_started}
+use Rattle.rx_node.proofs.Steps.ChannelSteps.{IsThere, channel_started}
 use Rattle.rx_node.proofs.KeptKeys.{key_on_channel}
-use Rattle.rx_node.proofs.OwingSteps.{key_there}
+use Rattle.rx_node.proofs.Steps.OwingSteps.{key_there}
 use Rattle.rx_server.specs.Server.{ServerState, Serves}
 use Rattle.rx_server.specs.Taking.{HasNoPlace, IsOwnActive, IsReady, Opening, Passes, Takes, TakesLive}
 use Rattle.rx_server.proofs.Serving.{serves_unused}

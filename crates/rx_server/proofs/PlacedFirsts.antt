@@ -18,12 +18,12 @@ use Rattle.rx_rules.specs.Looks.{is_call, latest, latest_name}
 use Rattle.rx_rules.specs.Records.{fresh_conn, has_live, is_idle, placed}
 use Rattle.rx_rules.specs.Setup.{Setup}
 use Rattle.rx_rules.proofs.FindLaws.{find-before, find-last}
-use Rattle.rx_history.proofs.Orderly.{Orderly}
-use Rattle.rx_history.proofs.Dims.{has_first}
+use Rattle.rx_history.proofs.Order.Orderly.{Orderly}
+use Rattle.rx_history.proofs.Dimensions.Dims.{has_first}
 use Rattle.rx_node.specs.Mirrors.{channel_in}
 use Rattle.rx_queue.specs.Queue.{QueueState}
 use Rattle.rx_server.specs.Server.{FirstsStand, ReadyStand, lacks_at, lacks_on, waits, waits_at, waits_on}
-use Rattle.rx_node.proofs.ChannelSteps.{channel_of_record, conn_there}
+use Rattle.rx_node.proofs.Steps.ChannelSteps.{channel_of_record, conn_there}
 use Rattle.rx_server.proofs.FirstsLaws.{firsts_alike, on_alike, waits_lives}
 use Rattle.rx_server.proofs.ReadyLaws.{FallsAt, admits_there, every_all, ready_alike, waits_there}
 

@@ -6,7 +6,7 @@ use Rattle.rx_rules.specs.After.{after, looks}
 use Rattle.rx_rules.specs.Classes.{Class}
 use Rattle.rx_rules.specs.Looks.{Looks}
 use Rattle.rx_rules.specs.Setup.{Setup}
-use Rattle.rx_history.proofs.DimsEvents.{polled_dims}
+use Rattle.rx_history.proofs.Dimensions.DimsEvents.{polled_dims}
 use Rattle.rx_node.specs.Mirrors.{Mirrors}
 use Rattle.rx_node.specs.Node.{KeepsNode, NodeState, setup_of}
 use Rattle.rx_node.specs.Steps.{AnswersNode}
@@ -37,7 +37,8 @@ module _ (class : List ℕ → Class) (sv : ServerState) (new : NodeState) (kept
       serves : Mirrors class new (after (setup_of class sv.node) (events.Polled got) l)
           → Serves class (record sv { node = new }) (after (setup_of class sv.node) (events.Polled got) l)
       serves mirrors =
-          serves_quiet class sv new l (after (setup_of class sv.node) (events.Polled got) l) (role_stays sv.node new kept)
+          serves_quiet class sv new l (after (setup_of class sv.node) (events.Polled got) l)
+          (role_stays sv.node new kept)
           (polled_dims (setup_of class sv.node) got l) (polled_rests (setup_of class sv.node) got l)
           mirrors stands.serves
 

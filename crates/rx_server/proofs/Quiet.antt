@@ -6,7 +6,7 @@ use Rattle.rx_rules.specs.Classes.{Class}
 use Rattle.rx_rules.specs.Looks.{Looks}
 use Rattle.rx_rules.specs.Rules.{Allowed, AllowedAt, AllowedServer}
 use Rattle.rx_rules.specs.Setup.{Client, Kind, Server}
-use Rattle.rx_history.proofs.Dims.{Dims}
+use Rattle.rx_history.proofs.Dimensions.Dims.{Dims}
 use Rattle.rx_node.specs.Mirrors.{Mirrors}
 use Rattle.rx_node.specs.Node.{NodeState, setup_of}
 use Rattle.rx_server.specs.Server.{Answered, IsServerOf, IsServing, ServerState, Serves}
@@ -39,7 +39,8 @@ module _ (class : List ℕ → Class) (sv : ServerState) (new : NodeState) (e : 
   pub quiet_serves : (l : Looks) → Serves class sv l
       → Serves class (record sv { node = new }) (after (setup_of class sv.node) e l)
   quiet_serves l serves =
-      serves_quiet class sv new l (after (setup_of class sv.node) e l) (role_of sv.node new quiet.parts) (quiet.dims l) (quiet.rests l)
+      serves_quiet class sv new l (after (setup_of class sv.node) e l) (role_of sv.node new quiet.parts) (quiet.dims l)
+      (quiet.rests l)
       (quiet.mirrors l serves) serves
 
   -- its answer

@@ -15,12 +15,12 @@ use Rattle.rx_rules.specs.Rules.{can_enter}
 use Rattle.rx_rules.specs.Setup.{Setup}
 use Rattle.rx_rules.proofs.ConnsLaws.{conn_if}
 use Rattle.rx_rules.proofs.EveryLaws.{Every, every-append, every-filter, filter-passes}
-use Rattle.rx_history.proofs.Dims.{Dims}
-use Rattle.rx_history.proofs.Orderly.{Orderly}
+use Rattle.rx_history.proofs.Dimensions.Dims.{Dims}
+use Rattle.rx_history.proofs.Order.Orderly.{Orderly}
 use Rattle.rx_due.specs.Book.{moment_of}
 use Rattle.rx_queue.specs.Queue.{QueueState, is_listed, is_ready}
 use Rattle.rx_node.specs.Mirrors.{IsChannel, channel_in}
-use Rattle.rx_node.proofs.ChannelSteps.{conn_there, place_is}
+use Rattle.rx_node.proofs.Steps.ChannelSteps.{conn_there, place_is}
 use Rattle.rx_books.specs.Polled.{proofs_of}
 use Rattle.rx_server.specs.Handling.{enters_at, passes}
 use Rattle.rx_server.specs.Server.{IsReadyAt, ReadyStand, admits_at, waits, waits_at, waits_on}
@@ -94,7 +94,8 @@ enters_parts s l k o = of (slice_get l.conns (k / 4)) refl
     of : (q : Option ConnLooks) → slice_get l.conns (k / 4) ≡ q
         → enters_at s l k ≡ (is_some (waits_at l k) && admits_at s.class.challenges l k)
     of None is =
-        (let none : waits_at l k ≡ None = ap (option_and_then (λ (x : ConnLooks). waits_on l (channel_in x (k % 4)))) is in
+        (let none : waits_at l k ≡ None = ap (option_and_then (λ (x : ConnLooks). waits_on l (channel_in x (k % 4))))
+        is in
         ap (passes (can_enter s l)) none
         ∙ sym (ap (λ (w : Option CallName). is_some w && admits_at s.class.challenges l k) none))
     of (Some x) is =
@@ -180,7 +181,8 @@ passing-there test (Some c) is = refl
 -- a call that waits behind changes that bring none to life waited before
 pub waited : (l m : Looks) → Dims l m → (k : ℕ) → is_some (waits_at m k) ≡ true → is_some (waits_at l k) ≡ true
 waited l m dims k is =
-    passing-there (waits m) (waits_at l k) (ap (λ (o : Option CallName). is_some o) (sym (waits_behind l m dims k)) ∙ is)
+    passing-there (waits m) (waits_at l k)
+    (ap (λ (o : Option CallName). is_some o) (sym (waits_behind l m dims k)) ∙ is)
 
 -- where no call comes to life and no client is proved none is
 pub ready_dims : (b : Bool) (q : QueueState) (l m : Looks) → Dims l m → proofs_of m ≡ proofs_of l → ReadyStand b q l
@@ -241,7 +243,8 @@ pub ready_enters : (s : Setup) (q : QueueState) (l : Looks) → Orderly s l → 
 ready_enters s q l o =
     every_map (IsReadyAt s.class.challenges q l) (λ k. enters_at s l k ≡ true → is_ready q k ≡ true) q.order
     (λ k was enters. (
-    let parts = both (is_some (waits_at l k)) (admits_at s.class.challenges l k) (sym (enters_parts s l k o) ∙ enters) in
+    let parts = both (is_some (waits_at l k)) (admits_at s.class.challenges l k)
+    (sym (enters_parts s l k o) ∙ enters) in
     was parts.0 parts.1))
 
 -- where each that passes is ready, the first that is ready is the first that passes, if it does

@@ -8,7 +8,7 @@ use Rattle.rx_rules.specs.Looks.{Looks, channel_at, fresh_channel}
 use Rattle.rx_rules.specs.Records.{started}
 use Rattle.rx_rules.specs.Setup.{Setup}
 use Rattle.rx_rules.proofs.EveryLaws.{Every}
-use Rattle.rx_history.proofs.Orderly.{Orderly}
+use Rattle.rx_history.proofs.Order.Orderly.{Orderly}
 use Rattle.rx_queue.specs.Queue.{QueueState}
 use Rattle.rx_node.specs.Mirrors.{IsChannel}
 use Rattle.rx_books.proofs.ProvedClients.{proofs_channel}

@@ -23,11 +23,12 @@ use Rattle.rx_rules.specs.After.{stopped_all, taken_at, taken_data, taken_heard,
 use Rattle.rx_rules.specs.After.{taken_with, with_first}
 use Rattle.rx_rules.specs.Life.{after_code, is_calling}
 use Rattle.rx_rules.specs.CallLooks.{after_shut}
-use Rattle.rx_rules.specs.Looks.{CallRecord, ChannelLooks, Looks, call_at, is_call, is_proved, latest_name, on_call, on_channel}
+use Rattle.rx_rules.specs.Looks.{CallRecord, ChannelLooks, Looks, call_at, is_call, is_proved, latest_name, on_call}
+use Rattle.rx_rules.specs.Looks.{on_channel}
 use Rattle.rx_rules.specs.Looks.{on_life, on_looks}
 use Rattle.rx_rules.specs.Records.{silenced}
 use Rattle.rx_rules.specs.Setup.{Setup, is_client, named}
-use Rattle.rx_history.proofs.RowsInFront.{may_start}
+use Rattle.rx_history.proofs.Rows.RowsInFront.{may_start}
 use Rattle.rx_node.specs.Steps.{is_response}
 use Rattle.rx_books.specs.Polled.{proofs_of}
 use Rattle.rx_books.proofs.ProvedClients.{proofs_channel, proofs_conn}

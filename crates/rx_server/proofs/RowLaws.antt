@@ -3,6 +3,7 @@ use Rattle.std.proofs.Common.{◌≡◌, ◌⊎◌, ◌≤◌, ◌&&◌, ◌+◌
 use Rattle.std.proofs.Common.{is_some, Bool, true, false}
 use Rattle.std.proofs.Common.{List, refl, inl, inr, arith}
 use Rattle.std.proofs.lemmas.Bool.Decides.{nat_tests}
+use Rattle.rx_model.specs.declared.pace.Pace.{Pace}
 use Rattle.rx_model.specs.declared.answers.Took.{Took}
 use Rattle.rx_model.specs.declared.answers.Took.TheVariants as tooks
 use Rattle.rx_model.specs.declared.names.CallName.{CallName}
@@ -19,7 +20,7 @@ use Rattle.rx_rules.specs.Records.{entered, used}
 use Rattle.rx_rules.specs.Setup.{Setup, is_client, receiving_window}
 use Rattle.rx_rules.specs.Received.{Arrival, Packet, arrival_row}
 use Rattle.rx_model.specs.declared.wire.TheConstants.{LAST_SEQ}
-use Rattle.rx_history.proofs.RowsInFront.{may_start}
+use Rattle.rx_history.proofs.Rows.RowsInFront.{may_start}
 use Rattle.rx_rules.specs.Slots.{node_view}
 
 -- ---- a place for the connection is looked for last
@@ -64,18 +65,18 @@ prepared_enters s got x l enter = rw enter refl
 -- ---- a call that starts
 
 -- its first packet within the window is kept, or has no slot
-pub fresh_row : (s : Setup) (l : Looks) (name : CallName) (life : Life) (window : ℕ) (prompt : Bool)
+pub fresh_row : (s : Setup) (l : Looks) (name : CallName) (life : Life) (pace : Pace)
     (now : ℕ) (m : Message) (payload : List ℕ)
     → is_client s.kind ≡ false → 1 ≤ m.seq → m.seq ≤ receiving_window s → receiving_window s ≤ LAST_SEQ
-    → may_start (end_row s l (record { name = name; life = life; looks = fresh_call window prompt now })
+    → may_start (end_row s l (record { name = name; life = life; looks = fresh_call pace now })
     (record m { body = bodies.Chunk payload })) ≡ true
-fresh_row s l name life window prompt now m payload server low high fits = of refl refl refl refl
+fresh_row s l name life pace now m payload server low high fits = of refl refl refl refl
   where
     v : NodeView
     v = node_view s l
 
     k : CallLooks
-    k = fresh_call window prompt now
+    k = fresh_call pace now
 
     p : Packet
     p = packet_of m payload

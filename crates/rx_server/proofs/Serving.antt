@@ -19,12 +19,12 @@ use Rattle.rx_rules.proofs.ConnsLaws.{conn_if}
 use Rattle.rx_rules.proofs.EveryLaws.{Every, every-append, every-filter}
 use Rattle.rx_rules.proofs.FindLaws.{list_any-none}
 use Rattle.rx_history.proofs.Differ.{every_other}
-use Rattle.rx_history.proofs.DimsTaken.{used_dims, with_dims}
-use Rattle.rx_history.proofs.Dims.{Dims}
+use Rattle.rx_history.proofs.Dimensions.DimsTaken.{used_dims, with_dims}
+use Rattle.rx_history.proofs.Dimensions.Dims.{Dims}
 use Rattle.rx_queue.specs.Queue.{QueueState}
 use Rattle.rx_table.specs.Records.{ConnRecord}
 use Rattle.rx_node.specs.Mirrors.{IsChannel, IsKey, Mirrors}
-use Rattle.rx_node.proofs.EndingSteps.{channel_after}
+use Rattle.rx_node.proofs.Steps.EndingSteps.{channel_after}
 use Rattle.rx_node.specs.Node.{KeepsNode, KeepsSetup, NodeState, setup_of}
 use Rattle.rx_books.proofs.ProvedClients.{proofs_conn}
 use Rattle.rx_server.specs.Server.{Answered, IsServerOf, IsServing, ReadyStand, ServerState, Serves, Stands}

@@ -22,15 +22,15 @@ use Rattle.rx_rules.specs.Looks.{is_proved}
 use Rattle.rx_rules.specs.Looks.{latest_name, on_life}
 use Rattle.rx_rules.specs.Records.{entered, fresh_conn, has_place, idle_conn, is_full, placed, started_later, used}
 use Rattle.rx_rules.specs.Records.{with_conn}
-use Rattle.rx_rules.specs.Setup.{Setup, Kind, Server, Client, IsServer, is_client, receiving_window, sending_window}
+use Rattle.rx_rules.specs.Setup.{Client, IsServer, Kind, Server, Setup, is_client, pace_of, receiving_window}
 use Rattle.rx_rules.proofs.ConnsLaws.{channel_number, number_of}
 use Rattle.rx_history.proofs.Events.{call-by}
 use Rattle.rx_history.proofs.Places.{is_none}
 use Rattle.rx_history.proofs.Openings.{calls_ready, channel_prepared}
-use Rattle.rx_history.proofs.OrderlyOpens.{Opens}
-use Rattle.rx_history.proofs.OrderlyTaken.{opens_ready}
-use Rattle.rx_history.proofs.RowsInFront.{may_start}
-use Rattle.rx_node.proofs.ChannelSteps.{IsThere, channel_started, latest_started}
+use Rattle.rx_history.proofs.Order.OrderlyOpens.{Opens}
+use Rattle.rx_history.proofs.Order.OrderlyTaken.{opens_ready}
+use Rattle.rx_history.proofs.Rows.RowsInFront.{may_start}
+use Rattle.rx_node.proofs.Steps.ChannelSteps.{IsThere, channel_started, latest_started}
 use Rattle.rx_node.proofs.UsedConns.{live_by, used_same}
 use Rattle.rx_server.proofs.RowLaws.{early, fresh_row, prepared_enters, prepared_known, row_placed}
 
@@ -143,17 +143,17 @@ now-opened s c l = of (nat_lt (channel_at l (channel_of c)).number c.number)
 fresh-live : (s : Setup) (l : Looks) (c : CallName) (m : Message) (now : ℕ) → is_client s.kind ≡ false
     → is_data m.body ≡ true → 1 ≤ m.seq → m.seq ≤ receiving_window s → receiving_window s ≤ LAST_SEQ
     → may_start (live_row s l
-    (record { name = c; life = lives.Waiting; looks = fresh_call (sending_window s) s.prompt now }) m m.body)
+    (record { name = c; life = lives.Waiting; looks = fresh_call (pace_of s) now }) m m.body)
     ≡ true
 fresh-live s l c m now server said low high fits = of m.body refl said
   where
     k : CallRecord
-    k = record { name = c; life = lives.Waiting; looks = fresh_call (sending_window s) s.prompt now }
+    k = record { name = c; life = lives.Waiting; looks = fresh_call (pace_of s) now }
 
     of : (b : Body) → m.body ≡ b → is_data b ≡ true → may_start (live_row s l k m m.body) ≡ true
     of (bodies.Chunk payload) is said =
         ap (λ (b : Body). may_start (live_row s l k (record m { body = b }) b)) is
-        ∙ fresh_row s l c lives.Waiting (sending_window s) s.prompt now m payload server low high fits
+        ∙ fresh_row s l c lives.Waiting (pace_of s) now m payload server low high fits
     of bodies.Busy is said = absurd (cc (said))
     of (bodies.Ack a) is said = absurd (cc (said))
     of (bodies.Abort code) is said = absurd (cc (said))
@@ -270,7 +270,7 @@ module _ (s : Setup) (c : CallName) (m : Message) (l : Looks) (server : IsServer
 
   module _ (at : IsThere ready (channel_of c)) where
     abbrev fresh : CallRecord
-    fresh = record { name = c; life = lives.Waiting; looks = fresh_call (sending_window s) s.prompt ready.now }
+    fresh = record { name = c; life = lives.Waiting; looks = fresh_call (pace_of s) ready.now }
 
     -- a call that starts is there
     pub fresh_there : above ≡ true → call_at its c ≡ Some fresh

@@ -18,8 +18,8 @@ use Rattle.rx_rules.specs.Looks.{ChannelLooks, Looks, call_at, call_named, chann
 use Rattle.rx_rules.specs.Looks.{on_life}
 use Rattle.rx_rules.specs.Records.{used}
 use Rattle.rx_rules.specs.Setup.{Kind, Setup, Server, Client, IsServer}
-use Rattle.rx_history.proofs.Dims.{dims_channel, dims_life}
-use Rattle.rx_history.proofs.DimsTaken.{with_dims}
+use Rattle.rx_history.proofs.Dimensions.Dims.{dims_channel, dims_life}
+use Rattle.rx_history.proofs.Dimensions.DimsTaken.{with_dims}
 use Rattle.rx_history.proofs.LifeFalls.{Falls}
 use Rattle.rx_history.proofs.Openings.{channel_prepared}
 use Rattle.rx_history.proofs.Places.{is_none}
@@ -45,7 +45,8 @@ pub serves_owing : (class : List ℕ → Class) (sv : ServerState) (new : NodeSt
     → Mirrors class new (on_channel ch f l) → Serves class sv l
     → Serves class (record sv { node = new }) (on_channel ch f l)
 serves_owing class sv new l ch f keeps role mirrors serves =
-    serves_quiet class sv new l (on_channel ch f l) role (dims_channel ch f l keeps) (rests_channel ch f l) mirrors serves
+    serves_quiet class sv new l (on_channel ch f l) role (dims_channel ch f l keeps) (rests_channel ch f l) mirrors
+    serves
 
 -- the life of a call falls
 pub serves_life : (class : List ℕ → Class) (sv : ServerState) (new : NodeState) (l : Looks) (c : CallName)

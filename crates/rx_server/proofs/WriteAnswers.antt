@@ -17,7 +17,7 @@ use Rattle.rx_rules.specs.Looks.{CallRecord, Looks, call_at, is_call, latest, la
 use Rattle.rx_rules.specs.Rules.{served_by, served_write}
 use Rattle.rx_rules.specs.Setup.{Setup}
 use Rattle.rx_rules.specs.Slots.{room}
-use Rattle.rx_history.proofs.Dims.{dims_looks}
+use Rattle.rx_history.proofs.Dimensions.Dims.{dims_looks}
 use Rattle.rx_node.specs.Mirrors.{IsChannel, Mirrors}
 use Rattle.rx_node.specs.Node.{KeepsNode, NodeState, setup_of}
 use Rattle.rx_node.proofs.Arguments.{no_bytes, take_bytes}

@@ -13,7 +13,7 @@ use Rattle.rx_rules.specs.Life.{is_live, is_waiting}
 use Rattle.rx_rules.specs.Looks.{Looks, call_at, is_call, latest, latest_name}
 use Rattle.rx_rules.specs.Rules.{Allowed, Legal}
 use Rattle.rx_rules.specs.Setup.{Kind, Server, Client, FitsLimits, nonce_of}
-use Rattle.rx_history.proofs.Dims.{has_first}
+use Rattle.rx_history.proofs.Dimensions.Dims.{has_first}
 use Rattle.rx_rules.proofs.EveryLaws.{Every}
 use Rattle.rx_queue.specs.Queue.{QueueState, is_ready}
 use Rattle.rx_table.specs.declared.seat.TheConstants.{CHANNELS}

@@ -14,7 +14,7 @@ use Rattle.rx_rules.specs.Looks.{CallRecord, Looks, call_at, call_named, channel
 use Rattle.rx_rules.specs.Life.{is_active}
 use Rattle.rx_rules.specs.Records.{entered, has_place, used, with_conn}
 use Rattle.rx_rules.specs.Setup.{Setup}
-use Rattle.rx_history.proofs.OrderlyOpens.{Opens}
+use Rattle.rx_history.proofs.Order.OrderlyOpens.{Opens}
 use Rattle.rx_node.specs.Mirrors.{IsChannel}
 use Rattle.rx_node.specs.Node.{setup_of}
 use Rattle.rx_node.specs.Steps.{is_response}

@@ -28,7 +28,7 @@ mod taking;
 mod waiting;
 
 /// A server of one service. A call of it takes no memory once it was made.
-#[derive(Drop)]
+#[derive(Debug, Drop)]
 pub struct Server<C: Class> {
     node: Node<C>,
     service: u16,
@@ -71,9 +71,10 @@ impl<C: Class> Server<C> {
         Server::make_paced(alloc, limits, false, service, class, nonces)
     }
 
-    /// The same, but prompt: it asks for an acknowledgement behind each half of a call's window, so that no stream waits
-    /// for a delayed one where the peer's window is no narrower than its own, and one half is on its way while the other
-    /// is acknowledged. It gives again at once what it takes for lost, and acknowledges at once what fills a hole.
+    /// The same, but prompt: it asks for an acknowledgement behind each half of a call's window, so that no stream
+    /// waits for a delayed one where the peer's window is no narrower than its own, and one half is on its way while
+    /// the other is acknowledged. It gives again at once what it takes for lost, and acknowledges at once what fills a
+    /// hole.
     pub fn make_prompt(
         alloc: Global,
         limits: &Limits,

@@ -1,5 +1,5 @@
-//! Tests of what no plan can say: what a server counts. They stand in a crate of their own, since each crate with tests is
-//! proved twice.
+//! Tests of what no plan can say: what a server counts. They stand in a crate of their own, since each crate with tests
+//! is proved twice.
 #![tactic(auto)]
 
 #[cfg(test)]

@@ -1,6 +1,7 @@
 -- Lines that make a node.
-use Rattle.std.proofs.Common.{◌≡◌, ◌<◌, ◌≤◌, ◌+◌, ◌^◌, ◌∙◌, ◌&&◌, ℕ, suc, Bool, true, false, List, [], ◌∷◌, ◌++◌, Option}
-use Rattle.std.proofs.Common.{Some, None, Ok, Err}
+use Rattle.std.proofs.Common.{◌≡◌, ◌<◌, ◌≤◌, ◌+◌, ◌^◌, ◌∙◌, ◌&&◌, ℕ, suc, Bool, true, false, List, [], ◌∷◌, ◌++◌}
+use Rattle.std.proofs.Common.{Option}
+use Rattle.std.proofs.Common.{Some, None, Ok}
 use Rattle.std.proofs.Common.{refl, sym, subst, ap, length, arith, nat_le, nat_lt, slice_get}
 use Rattle.std.proofs.Common.{if◌then◌else◌}
 use Rattle.std.specs.Prelude.{IsErr, IsErrAnd, Result}
@@ -13,10 +14,10 @@ use Rattle.rx_model.specs.declared.names.Host.{Host}
 use Rattle.rx_model.specs.declared.names.Limits.{Limits}
 use Rattle.rx_history.specs.Sides.{Node}
 use Rattle.rx_law.specs.Worlds.{AreOf}
-use Rattle.rx_nodes.specs.Nodes as nodes
-use Rattle.rx_nodes.specs.Nodes.{NodesState, Standing, nodes_of}
+use Rattle.rx_joint.specs.Nodes as nodes
+use Rattle.rx_joint.specs.Nodes.{NodesState, Standing, nodes_of}
 use Rattle.rx_rules.specs.Classes.{Class}
-use Rattle.rx_rules.specs.Setup.{FitsLimits, Server, unprompted}
+use Rattle.rx_rules.specs.Setup.{Server, unprompted}
 use Rattle.rx_script.specs.declared.outcome.PlanWhy.TheVariants as causes
 use Rattle.rx_script.specs.declared.plan.PlanLine.TheVariants as lines
 use Rattle.rx_plan.specs.Follows.{Progress, adds, begins, begun, class_of, fits_limits, has_room, made_node}
@@ -36,19 +37,6 @@ use Rattle.rx_stage.proofs.Stepping.{nodes_shown}
 
 -- ---- limits
 
-pub fits_means : (l : Limits) → fits_limits l ≡ true → FitsLimits l
-fits_means l fits =
-    record {
-      some_conns = grind (arith, nat_tests);
-      few_conns = grind (arith, nat_tests);
-      some_calls = grind (arith, nat_tests);
-      few_calls = grind (arith, nat_tests);
-      some_slots = grind (arith, nat_tests);
-      few_slots = grind (arith, nat_tests);
-      wide = grind (arith, nat_tests);
-      narrow = grind (arith, nat_tests);
-    }
-
 front_holds : (a b : Bool) → (a && b) ≡ true → a ≡ true
 front_holds true b both = refl
 front_holds false b both = both
@@ -57,9 +45,6 @@ rest_holds : (a b : Bool) → (a && b) ≡ true → b ≡ true
 rest_holds true b both = both
 rest_holds false true both = refl
 rest_holds false false both = both
-
-pub slots_fit : (l : Limits) (slots : ℕ) → has_slots l slots ≡ true → FitsLimits l
-slots_fit l slots fit = fits_means l (front_holds (fits_limits l) (nat_le (slots + l.slots) MAX_SLOTS) fit)
 
 pub slots_within : (l : Limits) (slots : ℕ) → has_slots l slots ≡ true → slots + l.slots ≤ MAX_SLOTS
 slots_within l slots fit =
@@ -88,14 +73,6 @@ client_room l ns clients many =
     ∙ grouped (fits_limits l) (nat_le (slots_of ns + l.slots) MAX_SLOTS) (nat_lt clients MAX_CLIENTS)
 
 -- ---- the server
-
--- it wasn't made
-pub slots_refused : (host : Host) (service : ℕ) (limits : Limits) (key : Option (List ℕ)) (nonce : ℕ)
-    → has_slots limits 0 ≡ false
-    → IsBegun (begins (lines.Server host service limits key nonce)) (Err (stops.Refused causes.Slots))
-slots_refused host service limits key nonce full =
-    ap (λ b. if b then To (begun (server_node host service limits key nonce)) else Refused causes.Slots)
-    (first_room limits ∙ full)
 
 begun_so : (host : Host) (service : ℕ) (limits : Limits) (key : Option (List ℕ)) (nonce : ℕ)
     → has_slots limits 0 ≡ true

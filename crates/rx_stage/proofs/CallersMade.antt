@@ -1,12 +1,13 @@
 -- Turns of callers, whatever else is kept.
-use Rattle.std.proofs.Common.{◌≡◌, ◌≢◌, ◌≤◌, ◌<◌, ◌⊎◌, ◌+◌, ◌∙◌, ℕ, zero, suc, List, [], ◌∷◌, arith, Option, Some, None, Result, true}
+use Rattle.std.proofs.Common.{◌≡◌, ◌≢◌, ◌≤◌, ◌<◌, ◌⊎◌, ◌+◌, ◌∙◌, ℕ, zero, suc, List, [], ◌∷◌, arith, Option, Some, None}
+use Rattle.std.proofs.Common.{Result, true}
 use Rattle.std.proofs.Common.{refl, sym, subst, ap, length, take, drop, set, get_or}
 use Rattle.std.specs.Result.{IsErr, IsErrAnd}
 use Rattle.rx_model.specs.declared.event.Noted.{Noted}
 use Rattle.rx_asks.specs.Asks.{begun as caller_begun, calling}
 use Rattle.rx_asks.specs.declared.ask.TheConstants.{REPLY_BYTES}
 use Rattle.rx_asks.specs.View.{CallerState}
-use Rattle.rx_nodes.specs.Nodes.{NodesState}
+use Rattle.rx_joint.specs.Nodes.{NodesState}
 use Rattle.rx_stage.specs.declared.stop.Stop.{Stop}
 use Rattle.rx_stage.specs.Done.{KeepsDone, LeavesOut, PlaysCallers, is_done_at}
 use Rattle.rx_plan.specs.Network.{below}
@@ -44,7 +45,8 @@ caller_turned cs ds place i read j written now n nodes stop a b low sees reads s
     (subst (λ xs. j ≡ get_or xs place j) (sym is_cs) writes) some
     (subst (λ (m : NodesState). read.node ≤ length m.clients) (sym is_n) within)
     (subst (λ xs. ds ≡ set xs place (record written { caller = now })) (sym is_cs) same)
-    (subst (λ m. PlaysTurn (calling REPLY_BYTES) read.node (caller_begun written.caller) now m nodes stop a b) (sym is_n)
+    (subst (λ m. PlaysTurn (calling REPLY_BYTES) read.node (caller_begun written.caller) now m nodes stop a b)
+    (sym is_n)
     turn)
 
 pub caller_unturned : (cs : List InvokedState) (place : ℕ) (i read : InvokedState) (n : NodesState) (t : Told)

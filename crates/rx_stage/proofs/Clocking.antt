@@ -9,12 +9,12 @@ use Rattle.std.proofs.lemmas.List.{length-map}
 use Rattle.std.proofs.lemmas.Bool.Decides.{nat_tests}
 use Rattle.rx_history.specs.Sides.{moment}
 use Rattle.rx_events.specs.Events.{IsClocked}
-use Rattle.rx_nodes.specs.Nodes.{IsNodeThere, KeepsOthers, NodesState, client_node, moment_of, nodes_of}
+use Rattle.rx_joint.specs.Nodes.{IsNodeThere, KeepsOthers, NodesState, client_node, moment_of, nodes_of}
 use Rattle.rx_script.specs.declared.outcome.PlanWhy.TheVariants as causes
 use Rattle.rx_events.specs.Waits.{is_later, over_nodes}
-use Rattle.rx_nodes.specs.Nodes.{moments_of}
-use Rattle.rx_nodes.specs.declared.nodes.ClientAt.{ClientAt}
-use Rattle.rx_nodes.proofs.Times.{moment_is, moments_are}
+use Rattle.rx_joint.specs.Nodes.{moments_of}
+use Rattle.rx_joint.specs.declared.nodes.ClientAt.{ClientAt}
+use Rattle.rx_joint.proofs.Times.{moment_is, moments_are}
 use Rattle.rx_stage.specs.declared.stop.Stop.{Stop}
 use Rattle.rx_stage.specs.declared.stop.Stop.TheVariants as stops
 use Rattle.rx_plan.specs.Lines.{clocks, clocks_all, is_back, sets_clocks}

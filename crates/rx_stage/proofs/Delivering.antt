@@ -9,7 +9,7 @@ use Rattle.rx_model.specs.declared.names.Host.{Host}
 use Rattle.rx_model.specs.Names.{same_host}
 use Rattle.rx_law.specs.Worlds.{Datagram}
 use Rattle.rx_events.specs.Events.{IsTaken}
-use Rattle.rx_nodes.specs.Nodes.{IsNodeThere, Makes, NodesState, host_of}
+use Rattle.rx_joint.specs.Nodes.{IsNodeThere, Makes, NodesState, host_of}
 use Rattle.rx_wire.specs.Turns.{noted}
 use Rattle.rx_stage.specs.declared.stop.Stop.{Stop}
 use Rattle.rx_stage.specs.declared.stop.Stop.TheVariants as stops
@@ -20,7 +20,7 @@ use Rattle.rx_stage.specs.Shown.{Plays, PlaysNodes, Shows, WorldState}
 use Rattle.rx_plan.specs.Stages.{Stage, event}
 use Rattle.rx_stage.specs.Tells.{IsTold, Told}
 use Rattle.rx_stage.proofs.Finding.{count_shown, host_shown}
-use Rattle.rx_stage.proofs.Making.{cut_as, cut_off, each_cut, event_cut, stop_is, where_fails, where_holds}
+use Rattle.rx_stage.proofs.Making.{cut_as, each_cut, event_cut, stop_is, where_fails, where_holds}
 use Rattle.rx_stage.proofs.Ordering.{Around, around, below_one}
 use Rattle.rx_stage.proofs.Playing.{each_none, each_one, each_stops}
 use Rattle.rx_stage.proofs.Stepping.{event_plays}
@@ -80,12 +80,6 @@ comes_cut d node s = of (is_for d s node)
 
 pub delivers_cut : (d : Datagram) (s : Stage) → delivers d s [] Cut
 delivers_cut d s = each_cut (comes_to d) (comes_cut d) (all_nodes s) s
-
--- a delivery before which memory was wanted
-pub delivers_wants : (d : Datagram) (old new : NodesState) (stop : Stop) (t : Told) → stop ≡ stops.OutOfMemory
-    → PlaysNodes (delivers d) old new (Some stop) t t
-delivers_wants d old new stop t wants w is s shown =
-    cut_off (delivers d s) (Shows (record w { nodes = new })) stop t (delivers_cut d s) wants
 
 -- ---- one node
 

@@ -1,6 +1,7 @@
 -- Callers that are done: their turns make nothing, so a run that leaves them out is one of all.
 use Rattle.std.proofs.Common.{◌≡◌, ◌<◌, ◌∙◌, ℕ, zero, suc, Bool, true, false, List, [], ◌∷◌, ◌++◌, not, cond}
-use Rattle.std.proofs.Common.{Option, Some, None, refl, inl, inr, sym, subst, ap, set, arith, length, option_map, filter}
+use Rattle.std.proofs.Common.{Option, Some, None, refl, inl, inr, sym, subst, ap, set, arith, length, option_map}
+use Rattle.std.proofs.Common.{filter}
 use Rattle.std.specs.List.{All}
 use Rattle.std.specs.Prelude.{if◌then◌else◌, is_some, nat_lt, slice_get}
 use Rattle.std.proofs.lemmas.List.{length-append}

@@ -73,7 +73,8 @@ each_then {A} {X} part xs more s shows after stop a b c r next = of xs s a (whol
         (let parts : Split plan_telling a b es rest = split a b es rest told in
         both (part y s) (each part (ys ++ more)) after stop a parts.between c es m made parts.first
         (onward m parts.between (record { events = rest; to = t; made = goes; there = there; told = parts.then_rest })))
-    behind y ys s a es (Refused why) made rest t (none, inl same) there told onward = elim (is_to t (Refused why) same) [ ]
+    behind y ys s a es (Refused why) made rest t (none, inl same) there told onward = elim (is_to t (Refused why) same)
+        [ ]
     behind y ys s a es (Refused why) made rest t (none, inr same) there told onward = elim (is_to t Cut same) [ ]
     behind y ys s a es Cut made rest t (none, inl same) there told onward = elim (is_to t Cut same) [ ]
     behind y ys s a es Cut made rest t (none, inr same) there told onward = elim (is_to t Cut same) [ ]
@@ -81,7 +82,8 @@ each_then {A} {X} part xs more s shows after stop a b c r next = of xs s a (whol
     behind y ys s a es Endless made rest t (none, inr same) there told onward = elim (is_to t Cut same) [ ]
 
     -- behind none
-    first : (s : A) (a : Told) (es : List Noted) (t : A) → es ≡ [] → (◌≡◌ {A = Came A} (To t) (To s)) ⊎ (◌≡◌ {A = Came A} (To t) Cut)
+    first : (s : A) (a : Told) (es : List Noted) (t : A) → es ≡ [] → (◌≡◌ {A = Came A} (To t) (To s))
+        ⊎ (◌≡◌ {A = Came A} (To t) Cut)
         → shows t → Gains a b es → Ran (each part more s) after stop a c
     first s a es t none (inr same) there told = elim (is_to t Cut same) [ ]
     first s a es t none (inl same) there told =

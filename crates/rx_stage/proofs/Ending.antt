@@ -1,8 +1,6 @@
 -- How the run of a plan ends, from how its lines went and what was put behind them.
 use Rattle.std.proofs.Common.{◌≡◌, List, [], ◌∷◌, Ok, Err, Result, refl, sym, subst}
 use Rattle.std.proofs.Common.{ap, inl, inr, false, length, arith}
-use Rattle.std.specs.Prelude.{IsErr, IsErrAnd}
-use Rattle.std.proofs.lemmas.Result.{err_from_is_err_and}
 use Rattle.rx_model.specs.declared.event.Noted.{Noted}
 use Rattle.rx_jobs.specs.Handlers.{Handlers}
 use Rattle.rx_script.specs.declared.outcome.Outcome.{Outcome}
@@ -21,49 +19,6 @@ use Rattle.rx_stage.specs.declared.stop.Stop.{Stop}
 use Rattle.rx_stage.specs.declared.stop.Stop.TheVariants as stops
 
 -- ---- the lines behind the first
-
-stopped_tells : (g : Handlers) (plan : List Numbered) (shows : Stage → Type 0) (outcome : Outcome) (went : Went)
-    (a b : Told) (es : List Noted) → Ends shows (Err outcome) went a b es → Tells g plan outcome went a b es
-stopped_tells g plan shows (outcomes.Refused line why) (RefusedAt its cause) a b es ends = ends
-stopped_tells g plan shows outcomes.SinkFault CutOff a b es ends = ends
-stopped_tells g plan shows outcomes.OutOfMemory CutOff a b es ends = ends
-stopped_tells g plan shows outcomes.OutOfMemory EndlessIn a b es ends = ends
-stopped_tells g plan shows outcomes.Ran Empty a b es ends = elim ends [ ]
-stopped_tells g plan shows outcomes.Ran (Whole s) a b es ends = elim ends [ ]
-stopped_tells g plan shows outcomes.Ran (RefusedAt its cause) a b es ends = elim ends [ ]
-stopped_tells g plan shows outcomes.Ran CutOff a b es ends = elim ends [ ]
-stopped_tells g plan shows outcomes.Ran EndlessIn a b es ends = elim ends [ ]
-stopped_tells g plan shows (outcomes.Refused line why) Empty a b es ends = elim ends [ ]
-stopped_tells g plan shows (outcomes.Refused line why) (Whole s) a b es ends = elim ends [ ]
-stopped_tells g plan shows (outcomes.Refused line why) CutOff a b es ends = elim ends [ ]
-stopped_tells g plan shows (outcomes.Refused line why) EndlessIn a b es ends = elim ends [ ]
-stopped_tells g plan shows outcomes.SinkFault Empty a b es ends = elim ends [ ]
-stopped_tells g plan shows outcomes.SinkFault (Whole s) a b es ends = elim ends [ ]
-stopped_tells g plan shows outcomes.SinkFault (RefusedAt its cause) a b es ends = elim ends [ ]
-stopped_tells g plan shows outcomes.SinkFault EndlessIn a b es ends = elim ends [ ]
-stopped_tells g plan shows outcomes.OutOfMemory Empty a b es ends = elim ends [ ]
-stopped_tells g plan shows outcomes.OutOfMemory (Whole s) a b es ends = elim ends [ ]
-stopped_tells g plan shows outcomes.OutOfMemory (RefusedAt its cause) a b es ends = elim ends [ ]
-
--- one of them ended the run
-runs_stopped : (g : Handlers) (plan rest : List Numbered) (p : Progress) (shows : Stage → Type 0)
-    (outcome : Outcome) (a b : Told) → Made g rest p shows (Err outcome) a b → RunsOn g plan rest p outcome a b
-runs_stopped g plan rest p shows outcome a b m =
-    record {
-      events = m.events;
-      went = m.went;
-      goes = m.goes;
-      tells = stopped_tells g plan shows outcome m.went a b m.events m.ends;
-    }
-
-pub runs_ended : (g : Handlers) (plan rest : List Numbered) (p : Progress) (shows : Stage → Type 0)
-    (made r : Result (Unit {0}) Outcome) (outcome : Outcome) (a b : Told) → Made g rest p shows made a b
-    → made ≡ Err outcome → IsErr r × IsErrAnd r (λ o. o ≡ outcome) → RunsOn g plan rest p (outcome_of r) a b
-runs_ended g plan rest p shows made r outcome a b m is was =
-    (let given = err_from_is_err_and r was.1 in
-    subst (λ x. RunsOn g plan rest p (outcome_of x) a b) (sym given.1)
-    (subst (λ o. RunsOn g plan rest p o a b) (sym given.2)
-    (runs_stopped g plan rest p shows outcome a b (subst (λ x. Made g rest p shows x a b) is m))))
 
 -- what was put of the answer lines
 put_tells : (g : Handlers) (plan : List Numbered) (s : Stage) (result : Result (Unit {0}) Outcome) (a b c : Told)

@@ -6,8 +6,8 @@ use Rattle.rand_pcg.specs.Lcg.{Lcg}
 use Rattle.rand_pcg.specs.Pcg.{pcg32}
 use Rattle.rx_law.specs.Worlds.{Datagram}
 use Rattle.rx_model.specs.declared.event.Noted.{Noted}
-use Rattle.rx_load.specs.Tallies.{tallied, with_fate}
-use Rattle.rx_load.specs.declared.tally.Tally.{Tally}
+use Rattle.rx_plan.specs.Tallies.{tallied, with_fate}
+use Rattle.rx_plan.specs.declared.tally.Tally.{Tally}
 use Rattle.rx_stage.specs.declared.stop.Stop.{Stop}
 use Rattle.rx_plan.specs.declared.fate.Fate.{Fate}
 use Rattle.rx_plan.specs.Lossy.{comes, drawn, fate_of, fated, gathered, stays}

@@ -1,5 +1,5 @@
 -- Parts from what is shown to what is shown, whatever they begin and end with.
-use Rattle.std.proofs.Common.{◌≡◌, List, [], ◌∷◌, ◌++◌, Option, Some, None, refl, inl, inr, sym, subst}
+use Rattle.std.proofs.Common.{◌≡◌, List, [], ◌∷◌, ◌++◌, Option, Some, None, refl, inl, sym, subst}
 use Rattle.rx_stage.specs.declared.stop.Stop.{Stop}
 use Rattle.rx_stage.specs.declared.stop.Stop.TheVariants as stops
 use Rattle.rx_plan.specs.Parts.{Cut, To, Part, Then, each, ends}
@@ -46,12 +46,6 @@ then_cut first next made = record {
         refl,
   );
 }
-
--- each of a list may be cut off before the first
-pub each_cut : {A X : Type 0} (part : X → A → Part A) (xs : List X) (x : A) → ((y : X) → part y x [] Cut)
-    → each part xs x [] Cut
-each_cut part [] x cut = (refl, inr refl)
-each_cut part (y ∷ ys) x cut = then_cut (part y x) (each part ys) (cut y)
 
 -- ---- one for each of a list
 

@@ -3,7 +3,7 @@ use Rattle.std.proofs.Common.{◌≡◌, ◌≤◌, ◌+◌, ◌-◌, ◌^◌, �
 use Rattle.std.proofs.Common.{refl, sym, subst, ap}
 use Rattle.std.specs.Prelude.{IsErrAnd}
 use Rattle.rx_model.specs.declared.event.Event.{Event}
-use Rattle.rx_nodes.specs.Nodes.{IsNodeThere, NodesState}
+use Rattle.rx_joint.specs.Nodes.{IsNodeThere, NodesState}
 use Rattle.rx_wire.specs.Turns.{Program, noted}
 use Rattle.rx_stage.specs.declared.stop.Stop.{Stop}
 use Rattle.rx_stage.specs.declared.stop.Stop.TheVariants as stops
@@ -42,9 +42,11 @@ next_known p node v m new e c w t known =
     }
 
 -- one call more
-going_more : {View Ask : Type 0} (p : Program View Ask) (node made : ℕ) (v w u : View) (old mid new : NodesState) (a b c :
+going_more : {View Ask : Type 0} (p : Program View Ask) (node made : ℕ) (v w u : View) (old mid new : NodesState)
+    (a b c :
     Told)
-    (e : Event) → Going p node made v w old mid a b → CallsNext p node w mid new e → u ≡ p.heard w e → IsNodeThere mid node
+    (e : Event) → Going p node made v w old mid a b → CallsNext p node w mid new e → u ≡ p.heard w e
+    → IsNodeThere mid node
     → GainsOne b c (noted node e) → Going p node (made + 1) v u old new a c
 going_more p node made v w u old mid new a b c e g calls heard there one m is s shown =
     began_more p node made v s (Knows w (record m { nodes = mid })) (Knows u (record m { nodes = new })) a b c e
@@ -62,7 +64,8 @@ going_told p node made v w u old mid new a b c g one there =
     going_more p node made v w u old mid new a b c one.event g one.calls one.heard there one.told
 
 -- what is known asks nothing more: the turn is over
-pub turn_whole : {View Ask : Type 0} (p : Program View Ask) (node made : ℕ) (v w : View) (old mid : NodesState) (a b : Told)
+pub turn_whole : {View Ask : Type 0} (p : Program View Ask) (node made : ℕ) (v w : View) (old mid : NodesState)
+    (a b : Told)
     → Going p node made v w old mid a b → p.asks w ≡ None → PlaysTurn p node v w old mid None a b
 turn_whole p node made v w old mid a b g over m is s shown =
     began_over p node made v s (Knows w (record m { nodes = mid }))
@@ -95,7 +98,8 @@ turn_endless p node made v w u old mid new a b g long m is s shown =
     (λ r. Knows u (record m { nodes = new }) r.0 r.1) a b (g m is s shown) long
 
 -- the run ended at the next call
-pub turn_stops : {View Ask : Type 0} (p : Program View Ask) (node made : ℕ) (v w u : View) (old mid new last : NodesState)
+pub turn_stops : {View Ask : Type 0} (p : Program View Ask) (node made : ℕ) (v w u : View)
+    (old mid new last : NodesState)
     (stop : Stop) (a b c : Told) → Going p node made v w old mid a b → IsNodeThere mid node
     → CallStops p node w mid new stop b c → PlaysTurn p node v u old last (Some stop) a c
 turn_stops p node made v w u old mid new last stop a b c g there (wants_first x) =
@@ -113,7 +117,8 @@ turn_stops p node made v w u old mid new last stop a b c g there (wants_behind x
 -- there was one
 pub goes_more : {View Ask : Type 0} (p : Program View Ask) (node made : ℕ) (rests : View → Type 0) (v w u : View)
     (old mid new : NodesState) (again : Bool) (a b c : Told) → Going p node made v w old mid a b
-    → GoesOn p node rests w u mid new (Ok again) b c → again ≡ true → IsNodeThere mid node → Going p node (made + 1) v u old new
+    → GoesOn p node rests w u mid new (Ok again) b c → again ≡ true → IsNodeThere mid node
+    → Going p node (made + 1) v u old new
     a c
 goes_more p node made rests v w u old mid new again a b c g goes on there =
     going_told p node made v w u old mid new a b c g
@@ -138,7 +143,8 @@ goes_rest {View} {Ask} p node rests w u mid new again b c goes off = of (subst (
     of o = o.rest
 
 -- the run ended
-pub goes_ended : {View Ask : Type 0} (p : Program View Ask) (node made : ℕ) (v w u : View) (old mid new last : NodesState)
+pub goes_ended : {View Ask : Type 0} (p : Program View Ask) (node made : ℕ) (v w u : View)
+    (old mid new last : NodesState)
     (r : Result (Unit {0}) Stop) (stop : Stop) (a b c : Told) → Going p node made v w old mid a b → IsNodeThere mid node
     → IsErrAnd r (λ why. why ≡ stop) → CallStops p node w mid new stop b c → PlaysTurn p node v u old last (stop_of
     r) a c

@@ -3,21 +3,20 @@ use Rattle.std.proofs.Common.{◌≡◌, ◌<◌, ◌≤◌, ◌∙◌, ◌+◌,
 use Rattle.std.proofs.Common.{true, false}
 use Rattle.std.proofs.Common.{Option, Some, None, Result, Err, refl, sym, subst, ap, arith, add-one, drop}
 use Rattle.std.proofs.Common.{take, length}
-use Rattle.std.proofs.Common.{get_or, slice_get, nat_le, inr}
+use Rattle.std.proofs.Common.{slice_get, nat_le, inr}
 use Rattle.std.specs.Result.{IsErr, IsErrAnd}
 use Rattle.std.proofs.lemmas.Bool.Decides.{nat_tests}
 use Rattle.rx_model.specs.declared.names.Host.{Host}
 use Rattle.rx_law.specs.Worlds.{Datagram}
 use Rattle.rx_jumbo.specs.JoinerState.{JoinerState}
 use Rattle.rx_jumbo.specs.declared.sizes.TheConstants.{JUMBO_PARTS}
-use Rattle.rx_nodes.proofs.Waiting.{rest_is}
 use Rattle.rx_script.specs.declared.outcome.PlanWhy.TheVariants as causes
 use Rattle.rx_stage.specs.LinesPlayed.{Found}
 use Rattle.rx_plan.specs.Finds.{at_packet, numbered}
-use Rattle.rx_plan.specs.Lines.{can_join, joined, joins, joins_all, joins_to, jumbo_line, packets_in}
+use Rattle.rx_plan.specs.Lines.{can_join, joins_all, joins_to, jumbo_line, packets_in}
 use Rattle.rx_plan.specs.Network.{delivers}
 use Rattle.rx_plan.specs.Parts.{Cut, Part, Refused, by_test, each, ends}
-use Rattle.rx_stage.specs.Ran.{Ran, stop_of}
+use Rattle.rx_stage.specs.Ran.{stop_of}
 use Rattle.rx_stage.specs.Shown.{Plays, Shows, WorldState}
 use Rattle.rx_plan.specs.Stages.{Stage}
 use Rattle.rx_stage.specs.Tells.{Told}
@@ -25,7 +24,7 @@ use Rattle.rx_stage.specs.declared.stop.Stop.{Stop}
 use Rattle.rx_stage.specs.declared.stop.Stop.TheVariants as stops
 use Rattle.rx_stage.proofs.Delivering.{delivers_cut}
 use Rattle.rx_stage.proofs.Keeping.{packets_shown}
-use Rattle.rx_stage.proofs.Making.{each_cut, found_goes, names_none, stop_is, where_fails, where_holds}
+use Rattle.rx_stage.proofs.Making.{each_cut, found_goes, names_none, stop_is, where_fails}
 use Rattle.rx_stage.proofs.Playing.{each_one, each_stops}
 use Rattle.rx_stage.proofs.Running.{ran_refused}
 
@@ -45,32 +44,6 @@ joiner_begun j ds most none =
     ap (λ m. joins_all (record { most = m; host = j.host; datagrams = j.datagrams }) ds) most
     ∙ ap (λ xs. joins_all (record { most = JUMBO_PARTS; host = j.host; datagrams = xs }) ds) none
     ∙ joins_any JUMBO_PARTS j.host (record { addr = 0; port = 0 }) ds
-
--- it took one
-pub joins_on : (j new : JoinerState) (ds : List Datagram) (i : ℕ) (d : Datagram) (taken : Bool) → i < length ds
-    → d ≡ get_or ds i d → taken ≡ joins j d → taken ≡ true → new ≡ joined j d
-    → joins_all new (drop (i + 1) ds) ≡ joins_all j (drop i ds)
-joins_on j new ds i d taken less is takes holds behind =
-    ap (λ x. joins_all x (drop (i + 1) ds)) behind
-    ∙ sym (ap (joins_all j) (rest_is ds i d less is)
-    ∙ ap (λ b. b && joins_all (joined j d) (drop (i + 1) ds)) (sym takes ∙ holds))
-
--- it took one not
-pub joins_not : (j : JoinerState) (ds : List Datagram) (i : ℕ) (d : Datagram) (taken : Bool) → i < length ds
-    → d ≡ get_or ds i d → taken ≡ joins j d → taken ≡ false → joins_all j (drop i ds) ≡ false
-joins_not j ds i d taken less is takes fails =
-    ap (joins_all j) (rest_is ds i d less is)
-    ∙ ap (λ b. b && joins_all (joined j d) (drop (i + 1) ds)) (sym takes ∙ fails)
-
-drop_past : {X : Type 0} (xs : List X) (i : ℕ) → length xs ≤ i → drop i xs ≡ []
-drop_past [] zero past = refl
-drop_past [] (suc i) past = refl
-drop_past (x ∷ xs) zero past = absurd (omega (arith, past))
-drop_past (x ∷ xs) (suc i) past = drop_past xs i (omega (arith, past))
-
--- it took all
-pub joins_end : (j : JoinerState) (ds : List Datagram) (i : ℕ) → length ds ≤ i → joins_all j (drop i ds) ≡ true
-joins_end j ds i past = ap (joins_all j) (drop_past ds i past)
 
 -- ---- datagrams from one place to another
 
@@ -180,18 +153,6 @@ joins_fail first last w t fails =
     (Some (stops.Refused causes.Jumbo)) t t
     (λ s shown. ap (λ ps. nat_le first last && can_join ps) (in_shown first last w s shown) ∙ fails)
     (λ s shown. ran_refused (Shows w) causes.Jumbo t)
-
--- they do
-pub joins_hold : (first last : ℕ) (w new : WorldState) (stop : Option Stop) (a b : Told)
-    → (nat_le first last && can_join (take (suc last - first) (drop (first - 1) w.packets))) ≡ true
-    → Plays (each delivers (take (suc last - first) (drop (first - 1) w.packets))) w new stop a b
-    → Plays (joins_to first last) w new stop a b
-joins_hold first last w new stop a b holds plays =
-    where_holds (λ s. nat_le first last && can_join (packets_in first last s))
-    (λ s. each delivers (packets_in first last s) s) (λ s. ends (Refused causes.Jumbo)) w new stop a b
-    (λ s shown. ap (λ ps. nat_le first last && can_join ps) (in_shown first last w s shown) ∙ holds)
-    (λ s shown. subst (λ ps. Ran (each delivers ps s) (Shows new) stop a b) (sym (in_shown first last w s shown))
-    (plays s shown))
 
 -- ---- parts, one after another
 

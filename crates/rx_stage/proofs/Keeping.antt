@@ -8,7 +8,7 @@ use Rattle.rx_model.specs.declared.event.Event.{Event}
 use Rattle.rx_model.specs.declared.names.CallName.{CallName}
 use Rattle.rx_model.specs.declared.names.Host.{Host}
 use Rattle.rx_law.specs.Worlds.{Datagram}
-use Rattle.rx_nodes.specs.Nodes.{IsNodeThere, host_of}
+use Rattle.rx_joint.specs.Nodes.{IsNodeThere, host_of}
 use Rattle.rx_script.specs.declared.outcome.PlanWhy.TheVariants as causes
 use Rattle.rx_plan.specs.declared.limits.TheConstants.{MAX_PACKETS}
 use Rattle.rx_stage.specs.declared.stop.Stop.{Stop}

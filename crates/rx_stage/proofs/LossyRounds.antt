@@ -8,7 +8,7 @@ use Rattle.rx_model.specs.declared.event.Noted.{Noted}
 use Rattle.rx_law.specs.Worlds.{Datagram}
 use Rattle.rx_jobs.specs.Handlers.{Handlers}
 use Rattle.rx_script.specs.Saying.{Answering}
-use Rattle.rx_nodes.specs.Nodes.{Standing, nodes_of}
+use Rattle.rx_joint.specs.Nodes.{Standing, nodes_of}
 use Rattle.rx_events.specs.Waits.{any_lives}
 use Rattle.rx_stage.specs.declared.stop.Stop.{Stop}
 use Rattle.rx_plan.specs.Lossy.{Lossy, carries, comes, drawn, fated, gathered, lossy, lossy_round}

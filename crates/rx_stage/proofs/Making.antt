@@ -5,7 +5,7 @@ use Rattle.std.specs.Result.{IsErr, IsErrAnd}
 use Rattle.rx_model.specs.declared.names.Host.{Host}
 use Rattle.rx_model.specs.declared.event.Event.{Event}
 use Rattle.rx_events.specs.Events.{IsLinked}
-use Rattle.rx_nodes.specs.Nodes.{IsNodeThere, Makes, NodesState, host_of}
+use Rattle.rx_joint.specs.Nodes.{IsNodeThere, Makes, NodesState, host_of}
 use Rattle.rx_script.specs.declared.outcome.PlanWhy.{PlanWhy}
 use Rattle.rx_script.specs.declared.outcome.PlanWhy.TheVariants as causes
 use Rattle.rx_wire.specs.Turns.{noted}
@@ -15,8 +15,8 @@ use Rattle.rx_stage.specs.LinesPlayed.{Found}
 use Rattle.rx_plan.specs.Finds.{found_or}
 use Rattle.rx_jobs.specs.Handlers.{Handlers}
 use Rattle.rx_script.specs.declared.plan.PlanLine.{PlanLine}
-use Rattle.rx_plan.specs.Lines.{IsWell, connects, line_part}
-use Rattle.rx_plan.specs.Parts.{Came, To, Refused, Cut, One, Part, by_test, each, ends}
+use Rattle.rx_plan.specs.Lines.{connects, line_part}
+use Rattle.rx_plan.specs.Parts.{Came, Refused, Cut, One, Part, by_test, each, ends}
 use Rattle.rx_stage.specs.Ran.{Ran, fits_wants}
 use Rattle.rx_plan.specs.Parts.{not_made}
 use Rattle.rx_stage.specs.Ran.{stop_of}
@@ -26,7 +26,7 @@ use Rattle.rx_plan.specs.Stages.{service_of}
 use Rattle.rx_plan.specs.Stages.{with_event}
 use Rattle.rx_stage.specs.Tells.{IsTold, Told, wants_more}
 use Rattle.rx_stage.proofs.Finding.{host_shown}
-use Rattle.rx_stage.proofs.Running.{ran_none, ran_one, ran_refused, ran_stops, ran_then, ran_to, ran_wants}
+use Rattle.rx_stage.proofs.Running.{ran_none, ran_one, ran_refused, ran_stops, ran_then, ran_wants}
 use Rattle.rx_stage.proofs.Stepping.{event_plays, made_here, shown_behind}
 
 -- ---- an event, and what a run comes to by it
@@ -235,11 +235,6 @@ event_lacks_as node is came w new r t was =
 pub server_there : (n : NodesState) → IsNodeThere n 0
 server_there n = omega arith
 
--- what is kept of a part that ends here is what it comes to
-pub comes_kept : (w new : WorldState) (u : Stage) (b : Told) → Shows w u → new ≡ w
-    → Ran (ends (To u)) (Shows new) None b b
-comes_kept w new u b shown same = ran_to (Shows new) u b (subst (λ v. Shows v u) (sym same) shown)
-
 -- memory is wanted before what a line names is looked for
 pub named_cut : {X : Type 0} (why : PlanWhy) (next : X → Stage → Part Stage) (sought : Stage → Option X)
     → ((x : X) (s : Stage) → next x s [] Cut) → (s : Stage) → found_or why next (sought s) s [] Cut
@@ -262,10 +257,6 @@ pub line_is : (g : Handlers) (place : ℕ) (l m : PlanLine) (w new : WorldState)
     → Plays (line_part g place m) w new stop a b → Plays (line_part g place l) w new stop a b
 line_is g place l m w new stop a b same plays =
     subst (λ k. Plays (line_part g place k) w new stop a b) (sym same) plays
-
--- its numbers are in range
-pub well_is : (g : Handlers) (l m : PlanLine) → l ≡ m → IsWell g l → IsWell g m
-well_is g l m same well = subst (IsWell g) same well
 
 -- a line that makes a node is late
 pub late_line : (w : WorldState) (t : Told) → Plays (λ s. ends (Refused causes.Late)) w w (Some (stops.Refused

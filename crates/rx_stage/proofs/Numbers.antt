@@ -7,9 +7,9 @@ use Rattle.std.proofs.lemmas.List.{drop-append-le, length-append, length-map}
 use Rattle.rx_history.specs.Sides.{Node}
 use Rattle.rx_law.specs.Worlds.{Datagram}
 use Rattle.rx_model.specs.declared.names.Host.{Host}
-use Rattle.rx_node.proofs.TableSteps.{decided}
-use Rattle.rx_nodes.specs.Nodes.{IsNodeThere, NodesState, client_node, host_of, nodes_of}
-use Rattle.rx_nodes.specs.declared.nodes.ClientAt.{ClientAt}
+use Rattle.rx_node.proofs.Steps.TableSteps.{decided}
+use Rattle.rx_joint.specs.Nodes.{IsNodeThere, NodesState, client_node, host_of, nodes_of}
+use Rattle.rx_joint.specs.declared.nodes.ClientAt.{ClientAt}
 use Rattle.rx_plan.specs.Network.{below}
 use Rattle.rx_plan.specs.Parts.{Part}
 use Rattle.rx_plan.specs.Rounds.{Polled, clients_first}

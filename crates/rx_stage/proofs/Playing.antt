@@ -32,7 +32,8 @@ plays_stops first next w m new stop a b f s shown =
 -- ---- one for each of a list
 
 -- none yet
-pub each_none : {X : Type 0} (part : X → Stage → Part Stage) (w : WorldState) (t : Told) → Plays (each part []) w w None t t
+pub each_none : {X : Type 0} (part : X → Stage → Part Stage) (w : WorldState) (t : Told)
+    → Plays (each part []) w w None t t
 each_none part w t s shown = ran_to (Shows w) s t shown
 
 -- one more

@@ -6,7 +6,7 @@ use Rattle.rx_model.specs.declared.event.Event.{Event}
 use Rattle.rx_model.specs.declared.names.Host.{Host}
 use Rattle.rx_law.specs.Worlds.{Datagram}
 use Rattle.rx_events.specs.Events.{IsPolled}
-use Rattle.rx_nodes.specs.Nodes.{IsNodeThere, Makes, NodesState, host_of}
+use Rattle.rx_joint.specs.Nodes.{IsNodeThere, Makes, NodesState, host_of}
 use Rattle.rx_wire.specs.Turns.{noted}
 use Rattle.rx_stage.specs.declared.stop.Stop.{Stop}
 use Rattle.rx_stage.specs.declared.stop.Stop.TheVariants as stops
@@ -75,7 +75,8 @@ pub polls_end : (from : Host) (node made : ℕ) (given mid more : List Datagram)
     → PlaysTurn (polling from) node (more_from given) (record { again = false; given = more }) old new None a c
 polls_end from node made given mid more old m new again a b c g one off there =
     turn_whole (polling from) node (made + 1) (more_from given) (record { again = false; given = more }) old new a c
-    (going_told (polling from) node made (more_from given) (more_from mid) (record { again = false; given = more }) old m new
+    (going_told (polling from) node made (more_from given) (more_from mid) (record { again = false; given = more }) old
+    m new
     a b c g
     (subst (λ x. CallsTold (polling from) node (more_from mid) (record { again = x; given = more }) m new b c) off one)
     there) refl

@@ -12,11 +12,11 @@ use Rattle.rx_history.specs.Sides.{moment}
 use Rattle.rx_law.specs.Worlds.{Datagram}
 use Rattle.rx_jobs.specs.Handlers.{Handlers}
 use Rattle.rx_events.specs.Events.{IsClocked}
-use Rattle.rx_nodes.specs.Nodes.{IsNodeThere, KeepsOthers, NodesState, Standing, moment_of, nodes_of}
+use Rattle.rx_joint.specs.Nodes.{IsNodeThere, KeepsOthers, NodesState, Standing, moment_of, nodes_of}
 use Rattle.rx_events.specs.Waits.{any_lives, latest, least_wait, over_nodes}
-use Rattle.rx_nodes.specs.Nodes.{moments_of}
-use Rattle.rx_nodes.specs.declared.nodes.ClientAt.{ClientAt}
-use Rattle.rx_nodes.proofs.Times.{moment_is, moments_are}
+use Rattle.rx_joint.specs.Nodes.{moments_of}
+use Rattle.rx_joint.specs.declared.nodes.ClientAt.{ClientAt}
+use Rattle.rx_joint.proofs.Times.{moment_is, moments_are}
 use Rattle.rx_stage.specs.declared.stop.Stop.{Stop}
 use Rattle.rx_plan.specs.Network.{below, delivers}
 use Rattle.rx_plan.specs.Parts.{Part, Then, To, each, ends}
@@ -203,12 +203,6 @@ early_left old new node time some keeps early k (inr high) =
 abbrev pub Onward : (Stage → Part Stage) → (Stage → Part Stage) → WorldState → WorldState → Told → Told → Type 0
 Onward whole rest w m a b =
     (new : WorldState) (stop : Option Stop) (c : Told) → Plays rest m new stop b c → Plays whole w new stop a c
-
--- no round was made yet
-pub onward_none : (g : Handlers) (count : ℕ) (w : WorldState) (t : Told)
-    → Onward (rounds g count) (rounds g (count - 0)) w w t t
-onward_none g count w t new stop c rest =
-    subst (λ n. Plays (rounds g n) w new stop t c) (let all : count - 0 ≡ count = omega arith in all) rest
 
 -- whether clocks may move, as the code finds it
 pub may_found : (w old : WorldState) (time latest_one : ℕ) (s : Stage) → w ≡ old

@@ -4,8 +4,8 @@ use Rattle.rx_script.specs.declared.outcome.Outcome.{Outcome}
 use Rattle.rx_script.specs.declared.plan.Numbered.{Numbered}
 use Rattle.rx_jobs.specs.Handlers.{Handlers}
 use Rattle.rx_plan.specs.Lines.{IsWell}
-use Rattle.rx_plan.proofs.Promised.{plan_promises}
-use Rattle.rx_plan.proofs.SoundPlan.{lines_in_range}
+use Rattle.rx_plan.proofs.Givings.Promised.{plan_promises}
+use Rattle.rx_plan.proofs.Soundness.SoundPlan.{lines_in_range}
 use Rattle.rx_stage.specs.Runs.{KeepsPromises}
 use Rattle.rx_stage.specs.Tells.{Told}
 use Rattle.rx_stage.proofs.ToldEvents.{plan_told}

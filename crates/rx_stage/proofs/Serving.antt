@@ -10,13 +10,13 @@ use Rattle.rx_dispatch.specs.Rounds.{RoundState, turning_of}
 use Rattle.rx_jobs.specs.Dispatching.{Turning, dispatching, over}
 use Rattle.rx_jobs.specs.Handlers.{Handlers}
 use Rattle.rx_jobs.specs.Jobs.{JobState}
-use Rattle.rx_dispatch.specs.Making.{Kept, MakesCall, NextCall}
+use Rattle.rx_dispatch.specs.Making.{MakesCall, NextCall}
 use Rattle.rx_model.specs.declared.event.Event.{Event}
 use Rattle.rx_node.specs.Node.{NodeState, setup_of}
-use Rattle.rx_node.proofs.TableSteps.{changed-length}
-use Rattle.rx_nodes.specs.declared.nodes.ClientAt.{ClientAt}
-use Rattle.rx_nodes.specs.Nodes.{IsClientThere, NodesState, client_of, with_client, with_server}
-use Rattle.rx_nodes.proofs.Standing.{client_makes, server_makes}
+use Rattle.rx_node.proofs.Steps.TableSteps.{changed-length}
+use Rattle.rx_joint.specs.declared.nodes.ClientAt.{ClientAt}
+use Rattle.rx_joint.specs.Nodes.{IsClientThere, NodesState, client_of, with_client, with_server}
+use Rattle.rx_joint.proofs.Standing.{client_makes, server_makes}
 use Rattle.rx_script.specs.Saying.{Answering}
 use Rattle.rx_table.specs.Records.{changed_at}
 use Rattle.rx_server.specs.Server.{Answered, ServerState}
@@ -76,21 +76,6 @@ serves_some g old new jobs n was now o e r a b same setup is made told on =
     (let call : MakesCall chosen g old new was now e = subst (λ x. NextCall chosen g old new jobs was now x) is made in
     goes_called (dispatching g) 0 (λ v. IsOverWith v jobs) old new n (with_server n now) r e a b
     (served_next g old new n was now e same call setup) call.told told on)
-
--- there was none
-pub serves_none : (g : Handlers) (old new : Turning) (jobs : List JobState) (n : NodesState) (was now : ServerState)
-    (o : Option Event) (t : Told) → was ≡ n.server → o ≡ None → NextCall chosen g old new jobs was now o
-    → GoesOn (dispatching g) 0 (λ v. IsOverWith v jobs) old new n (with_server n now) (Ok false) t t
-serves_none g old new jobs n was now o t same is made =
-    (let none : (old ≡ over jobs) × Kept old new was now = subst (λ x. NextCall chosen g old new jobs was now x) is
-    made in
-    record {
-      over = subst (λ v. (dispatching g).asks v ≡ None) (sym none.0) refl;
-      same = none.1.0;
-      rest = none.1.0 ∙ none.0;
-      nodes = ap (with_server n) (none.1.1 ∙ same);
-      told = refl;
-    })
 
 -- ---- a caller
 

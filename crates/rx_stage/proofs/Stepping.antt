@@ -4,7 +4,7 @@ use Rattle.std.proofs.Common.{arith}
 use Rattle.std.proofs.lemmas.List.{length-map}
 use Rattle.rx_model.specs.declared.event.Event.{Event}
 use Rattle.rx_events.specs.Joint.{IsAllowedAt}
-use Rattle.rx_nodes.specs.Nodes.{IsNodeThere, Makes, NodesState, client_node, nodes_of}
+use Rattle.rx_joint.specs.Nodes.{IsNodeThere, Makes, NodesState, client_node, nodes_of}
 use Rattle.rx_script.specs.declared.outcome.PlanWhy.{PlanWhy}
 use Rattle.rx_wire.specs.Turns.{noted}
 use Rattle.rx_stage.specs.declared.stop.Stop.{Stop}
@@ -15,7 +15,7 @@ use Rattle.rx_stage.specs.Ran.{Ran}
 use Rattle.rx_plan.specs.Stages.{IsAllowedNext, Stage, event, with_event}
 use Rattle.rx_stage.specs.Shown.{Plays, Shows, WorldState, stage_of}
 use Rattle.rx_stage.specs.Tells.{IsTold, Told}
-use Rattle.rx_stage.proofs.Running.{ran_none, ran_one, ran_refused, ran_stops, ran_then, ran_to}
+use Rattle.rx_stage.proofs.Running.{ran_one, ran_refused, ran_stops, ran_then, ran_to}
 
 -- ---- what is shown
 
@@ -27,7 +27,8 @@ nodes_shown w s shown = ap (λ (t : Stage). t.nodes) shown.is
 pub there_shown : (w : WorldState) (s : Stage) (node : ℕ) → Shows w s → IsNodeThere w.nodes node → node < length s.nodes
 there_shown w s node shown there =
     subst (λ ns. node < length ns) (sym (nodes_shown w s shown))
-    (let long : length (map client_node w.nodes.clients) ≡ length w.nodes.clients = length-map w.nodes.clients client_node in
+    (let long : length (map client_node w.nodes.clients) ≡ length w.nodes.clients = length-map w.nodes.clients
+    client_node in
     subst (λ n. node < suc n) (sym long) (omega (arith, there)))
 
 -- the stage behind an event of the nodes
@@ -69,21 +70,7 @@ event_plays w new node is e (Some stop) a b made there asked told s shown =
     (Shows (record w { nodes = new })) stop a b
     (ran_one node (IsAllowedNext s node is) e (Some stop) a b (made_here w s new node is e shown made asked) told)
 
--- memory was wanted before the call
-pub event_wants : (w new : WorldState) (node : ℕ) (is : Event → Type 0) (t : Told)
-    → Plays (event node is) w new (Some stops.OutOfMemory) t t
-event_wants w new node is t s shown =
-    ran_stops (One node (IsAllowedNext s node is)) (λ x. ends (To (with_event node x s))) (λ x. ⊥)
-    (Shows new) stops.OutOfMemory t t (ran_none node (IsAllowedNext s node is) (λ x. ⊥) t)
-
 -- ---- what a line names
-
--- it is there
-pub found_plays : {X : Type 0} (why : PlanWhy) (next : X → Stage → Part Stage) (sought : Stage → Option X) (x : X)
-    (w new : WorldState) (stop : Option Stop) (a b : Told) → ((s : Stage) → Shows w s → sought s ≡ Some x)
-    → Plays (next x) w new stop a b → Plays (λ s. found_or why next (sought s) s) w new stop a b
-found_plays why next sought x w new stop a b found plays s shown =
-    subst (λ o. Ran (found_or why next o s) (Shows new) stop a b) (sym (found s shown)) (plays s shown)
 
 -- it isn't
 pub refused_plays : {X : Type 0} (why : PlanWhy) (next : X → Stage → Part Stage) (sought : Stage → Option X)

@@ -1,5 +1,6 @@
 -- Each event of a run is one that its line tells.
-use Rattle.std.proofs.Common.{◌≡◌, ◌∙◌, ◌==◌, if◌then◌else◌, not, ℕ, zero, suc, Bool, true, false, List, [], ◌∷◌, Option}
+use Rattle.std.proofs.Common.{◌≡◌, ◌∙◌, ◌==◌, if◌then◌else◌, not, ℕ, zero, suc, Bool, true, false, List, [], ◌∷◌}
+use Rattle.std.proofs.Common.{Option}
 use Rattle.std.proofs.Common.{Some, None, refl, sym, subst, arith, slice_get, All, IfSome, IsSomeAnd, inl, inr}
 use Rattle.std.proofs.lemmas.Bool.Decides.{nat_tests}
 use Rattle.std.proofs.lemmas.List.Elements.{All-cons, All-head, All-nil, All-tail}
@@ -22,7 +23,7 @@ use Rattle.rx_stage.specs.Tells.{Fails, FitsNoted, Gains, Told, Wants}
 use Rattle.rx_stage.specs.Tells.{fails_last, fails_one, gains_none, gains_one, wants_last, wants_more, wants_one}
 use Rattle.rx_plan.proofs.Allowed.{AreAllowed, legal_side}
 use Rattle.rx_plan.proofs.Bags.{behind}
-use Rattle.rx_plan.proofs.SoundPlan.{Kept, plan_kept}
+use Rattle.rx_plan.proofs.Soundness.SoundPlan.{Kept, plan_kept}
 
 -- ---- what was told fits
 

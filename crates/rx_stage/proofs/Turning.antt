@@ -148,14 +148,16 @@ began_stops {View} {Ask} p node count v s shows after stop a b c e r next told =
           events = r.events ++ noted node e ∷ [];
           came = Cut;
           made = made;
-          fits = fits_wants a c (r.events ++ noted node e ∷ []) (wants_behind r.told (wants_last b c (noted node e) wants));
+          fits = fits_wants a c (r.events ++ noted node e ∷ [])
+              (wants_behind r.told (wants_last b c (noted node e) wants));
         }
     of stops.SinkFault fails =
         record {
           events = r.events ++ noted node e ∷ [];
           came = Cut;
           made = made;
-          fits = fits_fails a c (r.events ++ noted node e ∷ []) (fails_behind r.told (fails_last b c (noted node e) fails));
+          fits = fits_fails a c (r.events ++ noted node e ∷ [])
+              (fails_behind r.told (fails_last b c (noted node e) fails));
         }
     of (stops.Refused why) none = elim none [ ]
     of stops.Endless none = elim none [ ]

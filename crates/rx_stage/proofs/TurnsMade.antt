@@ -13,8 +13,8 @@ use Rattle.rx_jobs.specs.Handlers.{Handlers}
 use Rattle.rx_jobs.specs.Jobs.{JobState}
 use Rattle.rx_dispatch.specs.States.{state_of}
 use Rattle.rx_dispatch.specs.declared.dispatcher.Dispatcher.{Dispatcher}
-use Rattle.rx_nodes.specs.Nodes.{IsClientThere, NodesState}
-use Rattle.rx_nodes.proofs.Lent.{read_some}
+use Rattle.rx_joint.specs.Nodes.{IsClientThere, NodesState}
+use Rattle.rx_joint.proofs.Lent.{read_some}
 use Rattle.rx_script.specs.Saying.{Answering}
 use Rattle.rx_stage.specs.declared.stop.Stop.{Stop}
 use Rattle.rx_stage.specs.Ran.{Ran, stop_of}

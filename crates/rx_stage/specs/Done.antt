@@ -2,7 +2,7 @@
 use Rattle.std.specs.Prelude.{◌≡◌, ℕ, Bool, true, false, List, [], ◌∷◌, Option, Some, None, slice_get}
 use Rattle.rx_asks.specs.Asks.{is_done}
 use Rattle.rx_asks.specs.View.{CallerState}
-use Rattle.rx_nodes.specs.Nodes.{NodesState}
+use Rattle.rx_joint.specs.Nodes.{NodesState}
 use Rattle.rx_stage.specs.declared.stop.Stop.{Stop}
 use Rattle.rx_plan.specs.Parts.{Part}
 use Rattle.rx_plan.specs.Stages.{InvokedState, Stage}

@@ -2,7 +2,7 @@
 use Rattle.std.specs.Prelude.{◌≡◌, ℕ, Bool, false, true, List, Option, Result, Ok, Err}
 use Rattle.rx_model.specs.declared.names.Host.{Host}
 use Rattle.rx_law.specs.Worlds.{Datagram}
-use Rattle.rx_nodes.specs.Nodes.{NodesState}
+use Rattle.rx_joint.specs.Nodes.{NodesState}
 use Rattle.rx_plan.specs.Parts.{Part}
 use Rattle.rand_pcg.specs.Lcg.{Lcg}
 use Rattle.rx_plan.specs.Rounds.{Polling, polling, Polled}
@@ -53,7 +53,8 @@ PlaysLossy part old words held new drawn kept stop before after =
     (l : Lossy) → ShowsLossy old words held l → Ran (part l) (ShowsLossy new drawn kept) stop before after
 
 -- the same of what a lossy round does behind its polls
-abbrev pub PlaysCarried : (Stage → Part Lossy) → WorldState → WorldState → Lcg → List Datagram → Option Stop → Told → Told
+abbrev pub PlaysCarried : (Stage → Part Lossy) → WorldState → WorldState → Lcg → List Datagram → Option Stop → Told
+    → Told
     → Type 0
 PlaysCarried part old new drawn kept stop before after =
     (s : Stage) → Shows old s → Ran (part s) (ShowsLossy new drawn kept) stop before after

@@ -6,7 +6,7 @@ use Rattle.rx_model.specs.declared.names.Limits.{Limits}
 use Rattle.rx_jobs.specs.Handlers.{Handlers}
 use Rattle.rx_dispatch.specs.declared.dispatcher.Dispatcher.{Dispatcher}
 use Rattle.rx_history.specs.Sides.{Node}
-use Rattle.rx_nodes.specs.Nodes.{NodesState, nodes_of}
+use Rattle.rx_joint.specs.Nodes.{NodesState, nodes_of}
 use Rattle.rx_script.specs.declared.outcome.Outcome.{Outcome}
 use Rattle.rx_script.specs.declared.outcome.Outcome.TheVariants as outcomes
 use Rattle.rx_script.specs.declared.plan.Numbered.{Numbered}

@@ -6,7 +6,7 @@ use Rattle.rx_jobs.specs.Jobs.{JobState}
 use Rattle.rx_dispatch.specs.States.{state_of}
 use Rattle.rx_dispatch.specs.declared.dispatcher.Dispatcher.{Dispatcher}
 use Rattle.rx_law.specs.Worlds.{AreOf, Datagram}
-use Rattle.rx_nodes.specs.Nodes.{NodesState, Standing, nodes_of}
+use Rattle.rx_joint.specs.Nodes.{NodesState, Standing, nodes_of}
 use Rattle.rx_script.specs.Saying.{Answering}
 use Rattle.rx_plan.specs.declared.call.ClientCall.{ClientCall}
 use Rattle.rx_plan.specs.Parts.{Part}

@@ -1,7 +1,7 @@
 -- Turns that were made on the nodes of a run, and told. Public clauses cite this module.
 use Rattle.std.specs.Prelude.{◌≡◌, ℕ, Bool, true, false, List, Option, Some, None, Result, Ok, Err}
 use Rattle.rx_model.specs.declared.event.Event.{Event}
-use Rattle.rx_nodes.specs.Nodes.{Makes, NodesState}
+use Rattle.rx_joint.specs.Nodes.{Makes, NodesState}
 use Rattle.rx_wire.specs.Turns.{Program, noted}
 use Rattle.rx_plan.specs.Stages.{Stage}
 use Rattle.rx_asks.specs.View.{CallerState}

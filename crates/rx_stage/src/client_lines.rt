@@ -11,7 +11,7 @@ ghost use Rattle.rx_stage.specs.Tells.{told};
 use crate::stop::Stop;
 use crate::world::World;
 use rx_base::Sink;
-use rx_nodes::SERVER;
+use rx_joint::SERVER;
 use rx_script::Spelled;
 use rx_wire::Journal;
 

@@ -1,8 +1,8 @@
 //! The lines that set clocks.
 ghost use Rattle.std.specs.Prelude.{◌≡◌, ◌<◌, ◌≤◌, ◌^◌, false};
-ghost use Rattle.rx_nodes.specs.Nodes.{IsNodeThere, KeepsOthers, moment_of, nodes_of};
+ghost use Rattle.rx_joint.specs.Nodes.{IsNodeThere, KeepsOthers, moment_of, nodes_of};
 ghost use Rattle.rx_events.specs.Waits.{is_later};
-ghost use Rattle.rx_nodes.specs.Nodes.{moments_of};
+ghost use Rattle.rx_joint.specs.Nodes.{moments_of};
 ghost use Rattle.rx_events.specs.Events.{IsClocked};
 ghost use Rattle.rx_plan.specs.Finds.{at_node};
 ghost use Rattle.rx_plan.specs.Lines.{clocks, clocks_all, sets_clocks};
@@ -14,7 +14,7 @@ ghost use Rattle.rx_stage.specs.Tells.{told};
 use crate::stop::Stop;
 use crate::world::{World, node_count};
 use rx_base::Sink;
-use rx_nodes::SERVER;
+use rx_joint::SERVER;
 use rx_script::PlanWhy;
 use rx_wire::Journal;
 

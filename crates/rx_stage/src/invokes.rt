@@ -1,10 +1,10 @@
-//! The callers of `invoke` lines, and their turns. A caller that is done gets none, since nothing would come of it: so a
-//! round costs no more than the callers that are still at work.
+//! The callers of `invoke` lines, and their turns. A caller that is done gets none, since nothing would come of it: so
+//! a round costs no more than the callers that are still at work.
 ghost use Rattle.std.specs.Prelude.{◌≡◌, ◌∷◌, ◌++◌, ◌≤◌, ◌<◌, [], OnOk, length, true};
 ghost use Rattle.std.specs.List.{All};
 ghost use Rattle.rx_asks.specs.Asks.{begun as caller_begun, calling};
 ghost use Rattle.rx_asks.specs.declared.ask.TheConstants.{REPLY_BYTES};
-ghost use Rattle.rx_nodes.specs.Nodes.{IsClientThere};
+ghost use Rattle.rx_joint.specs.Nodes.{IsClientThere};
 ghost use Rattle.rx_stage.specs.Done.{KeepsDone, PlaysCallers, StaysDone, is_done_at};
 ghost use Rattle.rx_plan.specs.Parts.{each};
 ghost use Rattle.rx_stage.specs.Ran.{stop_of};
@@ -17,13 +17,13 @@ use crate::stop::Stop;
 use crate::trace::{Trace, tell_call};
 use rx_base::Sink;
 use rx_caller::Caller;
-use rx_nodes::{Nodes, SERVER};
+use rx_joint::{Nodes, SERVER};
 use rx_wire::Journal;
 use std::alloc::{AllocError, Global};
 use std::marker::Model;
 
 /// The caller of an `invoke` line.
-#[derive(Drop)]
+#[derive(Debug, Drop)]
 pub struct Invoked {
     /// The K of its call.
     pub call: usize,
@@ -43,7 +43,7 @@ impl Model for Invoked {
 }
 
 /// The callers, by call number.
-#[derive(Drop)]
+#[derive(Debug, Drop)]
 pub struct Callers {
     all: Vec<Invoked>,
     /// The places of those that may not be done yet, in order.

@@ -11,7 +11,7 @@ use crate::call_lines::invoked_bytes;
 use crate::stop::Stop;
 use crate::world::World;
 use rx_base::Sink;
-use rx_nodes::SERVER;
+use rx_joint::SERVER;
 use rx_script::{PlanLine, PlanWhy};
 use rx_wire::Journal;
 use xdr_value::Interface;

@@ -2,7 +2,7 @@
 ghost use Rattle.std.specs.Prelude.{◌≡◌, ◌∷◌, ◌%◌, ◌&&◌, ◌==◌, ◌++◌, [], OnOk, length};
 ghost use Rattle.rx_jobs.specs.Handlers.{handlers_of};
 ghost use Rattle.rx_stage.specs.RoundsPlayed.{PlaysCarried, PlaysLossy};
-ghost use Rattle.rx_load.specs.Tallies.{tallied};
+ghost use Rattle.rx_plan.specs.Tallies.{tallied};
 ghost use Rattle.rx_plan.specs.Lossy.{carries, comes, drawn, fate_of, fated, gathered, lossy, lossy_round, stays};
 ghost use Rattle.rx_plan.specs.Network.{delivers};
 ghost use Rattle.rx_plan.specs.Parts.{each};
@@ -16,8 +16,7 @@ use crate::world::{Datagram, World};
 use rand_core::utils::NextWord;
 use rand_pcg::Pcg32;
 use rx_base::Sink;
-use rx_load::Tally;
-use rx_plan::Fate;
+use rx_plan::{Fate, Tally};
 use rx_wire::Journal;
 use xdr_value::Interface;
 
@@ -88,8 +87,9 @@ impl World {
         self.carry_round(iface, words, given, held, &mut tally, out, book)
     }
 
-    /// What a lossy round does with the datagrams that its polls gave: each meets its fate, and is tallied by that; what
-    /// was held comes behind them; and then each handler and caller has a turn, and the clocks move where nothing came.
+    /// What a lossy round does with the datagrams that its polls gave: each meets its fate, and is tallied by that;
+    /// what was held comes behind them; and then each handler and caller has a turn, and the clocks move where nothing
+    /// came.
     pub fn carry_round<O: Sink, J: Journal>(
         &mut self,
         iface: &Interface,

@@ -1,6 +1,6 @@
 //! Fair rounds: each node gives what is due, all of it arrives, and each handler and caller has a turn.
 ghost use Rattle.std.specs.Prelude.{◌≡◌, ℕ, ◌+◌, ◌<◌, ◌^◌, ◌&&◌, ◌==◌, [], length, not, true, Some, IfErr, IfOk};
-ghost use Rattle.rx_nodes.specs.Nodes.{IsNodeThere, KeepsOthers, moment_of};
+ghost use Rattle.rx_joint.specs.Nodes.{IsNodeThere, KeepsOthers, moment_of};
 ghost use Rattle.rx_jobs.specs.Handlers.{handlers_of};
 ghost use Rattle.rx_plan.specs.Network.{delivers};
 ghost use Rattle.rx_plan.specs.Parts.{each};
@@ -19,8 +19,8 @@ use crate::network_lines::deliver_all;
 use crate::stop::{Stop, keep};
 use crate::world::{Datagram, World, node_count};
 use rx_base::Sink;
+use rx_joint::SERVER;
 use rx_model::{Bytes, Event, Host};
-use rx_nodes::SERVER;
 use rx_wire::Journal;
 use xdr_value::Interface;
 

@@ -8,8 +8,8 @@ ghost use Rattle.rx_stage.specs.Tells.{IsTold, event_line, told};
 
 use crate::stop::Stop;
 use rx_base::Sink;
+use rx_joint::SERVER;
 use rx_model::Event;
-use rx_nodes::SERVER;
 use rx_wire::Journal;
 use std::alloc::{AllocError, Global};
 use std::fmt::Write;

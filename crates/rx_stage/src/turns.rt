@@ -17,7 +17,7 @@ use crate::trace::{Trace, tell_call};
 use crate::world::World;
 use rx_base::Sink;
 use rx_dispatch::Dispatcher;
-use rx_nodes::{Nodes, SERVER};
+use rx_joint::{Nodes, SERVER};
 use rx_wire::Journal;
 use xdr_value::Interface;
 

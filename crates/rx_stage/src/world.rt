@@ -1,6 +1,6 @@
 //! What a run keeps: its nodes, the names that it answered, the datagrams that it gave, and who makes its calls.
 ghost use Rattle.std.specs.Prelude.{◌≡◌, ◌≤◌, ◌<◌, ◌+◌, ◌^◌, IfOk, length, option_map};
-ghost use Rattle.rx_nodes.specs.Nodes.{IsClientThere, IsNodeThere};
+ghost use Rattle.rx_joint.specs.Nodes.{IsClientThere, IsNodeThere};
 ghost use Rattle.rx_wire.specs.Turns.{noted};
 ghost use Rattle.rx_stage.specs.LinesPlayed.{Found};
 ghost use Rattle.rx_plan.specs.Finds.{call_at, client_at, node_at, numbered, where_there};
@@ -14,8 +14,8 @@ use crate::stop::Stop;
 use crate::trace::Trace;
 use rx_base::Sink;
 use rx_dispatch::Dispatcher;
+use rx_joint::{Nodes, SERVER};
 use rx_model::{Bytes, CallName, Event, Host};
-use rx_nodes::{Nodes, SERVER};
 use rx_plan::ClientCall;
 use rx_script::PlanWhy;
 use rx_wire::Journal;
@@ -39,7 +39,7 @@ impl Model for Datagram {
 }
 
 /// What a run keeps.
-#[derive(Drop)]
+#[derive(Debug, Drop)]
 pub struct World {
     pub alloc: Global,
     pub nodes: Nodes,

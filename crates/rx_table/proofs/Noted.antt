@@ -4,7 +4,6 @@ use Rattle.std.proofs.Common.{Option, Some, None, refl, ap, arith}
 use Rattle.std.proofs.lemmas.List.Sums.{sum_by-cons}
 use Rattle.std.specs.Prelude.{count_by, is_some, slice_index_or, slice_set}
 use Rattle.rx_due.specs.Book.{entries_of, moment_of}
-use Rattle.rx_due.specs.Cost.{AtMostForEntries}
 
 -- ---- one key
 
@@ -79,7 +78,3 @@ one_fewer (x ∷ rest) (suc key) moment is =
     ≡ cond (is_some x) 1 0 + count_by is_some (slice_set rest key None) =
     sum_by-cons (λ x. cond (is_some x) 1 0) x (slice_set rest key None) in
     omega (arith, less, before, after))
-
--- a bound over fewer entries is one over more
-pub for_more : (a n old new : ℕ) → a ≤ n → AtMostForEntries a old new → AtMostForEntries n old new
-for_more a n old new low most = λ d power. most d (omega (arith, low, power))

@@ -1,5 +1,6 @@
 -- What is out of a book while it is gone through, and comes back.
-use Rattle.std.proofs.Common.{◌≡◌, ◌+◌, ◌-◌, ◌*◌, ◌<◌, ◌≤◌, ◌&&◌, ◌^◌, ◌++◌, ℕ, zero, suc, Bool, true, false, cond, nat_le}
+use Rattle.std.proofs.Common.{◌≡◌, ◌+◌, ◌-◌, ◌*◌, ◌<◌, ◌≤◌, ◌&&◌, ◌^◌, ◌++◌, ℕ, zero, suc, Bool, true, false, cond}
+use Rattle.std.proofs.Common.{nat_le}
 use Rattle.std.proofs.Common.{List, [], ◌∷◌, length, take, drop, set, Option, Some, None, refl, ap, sym, ◌∙◌}
 use Rattle.std.proofs.Common.{arith, inl, inr, ◌⊎◌, subst}
 use Rattle.std.specs.Prelude.{is_some, slice_set}
@@ -7,13 +8,13 @@ use Rattle.std.specs.List.{list_any}
 use Rattle.std.proofs.lemmas.Bool.{cases_eq, false≢true}
 use Rattle.std.proofs.lemmas.Bool.Decides.{nat_tests}
 use Rattle.std.proofs.lemmas.List.{drop-drop, length-append, set-get_or, set-set}
-use Rattle.std.proofs.lemmas.Nat.{mul-le}
 use Rattle.std.proofs.lemmas.Option.{none-some}
 use Rattle.rx_due.specs.Book.{IsLeast, entries_of, moment_of}
 use Rattle.rx_due.specs.Cost.{AtMost, AtMostForEntries}
 use Rattle.rx_model.specs.declared.wire.TheConstants.{IDLE_MS}
 use Rattle.rx_table.specs.declared.seat.Seat.{Seat}
-use Rattle.rx_table.specs.Uses.{AreTaken, AreWithin, IsFirstFree, IsFreeAt, NoneIsFree, has_call, held_among, is_held_at}
+use Rattle.rx_table.specs.Uses.{AreTaken, AreWithin, IsFirstFree, IsFreeAt, NoneIsFree, has_call, held_among}
+use Rattle.rx_table.specs.Uses.{is_held_at}
 use Rattle.rx_table.specs.Uses.{with_aside}
 use Rattle.rx_table.proofs.Noted.{few_entries, none_there, one_fewer, set_aside, set_here, set_length}
 
@@ -66,27 +67,6 @@ pub record GoneThrough (now : ℕ) (ss : List Seat) (old book : List (Option ℕ
   pub free : (q u : ℕ) → moment_of old q ≡ Some u → IsFreeAt ss now q u → moment_of book q ≡ Some u
   pub entries : length aside + entries_of book ≤ length old
 
--- nothing yet
-pub gone-none : (now : ℕ) (ss : List Seat) (old : List (Option ℕ)) (aside : List (ℕ × ℕ)) → aside ≡ []
-    → entries_of old ≤ length old → GoneThrough now ss old old aside
-gone-none now ss old aside none few =
-    let long = ap (λ (xs : List (ℕ × ℕ)). length xs) none in
-    record {
-      taken = record {
-        again = ap (with_aside old) none;
-        places = refl;
-        within = within aside none;
-        held = omega (arith, long);
-      };
-      was = λ q u there. there;
-      free = λ q u there its. there;
-      entries = omega (arith, long, few);
-    }
-  where
-    within : (xs : List (ℕ × ℕ)) → xs ≡ [] → AreWithin (length old) xs
-    within [] is = tt
-    within (x ∷ xs) is = absurd (cc (is))
-
 module _ (now : ℕ) (ss : List Seat) (old book : List (Option ℕ)) (aside : List (ℕ × ℕ))
     (gone : GoneThrough now ss old book aside) where
   -- a place at whose seats a call lives goes aside
@@ -102,7 +82,8 @@ module _ (now : ℕ) (ss : List Seat) (old book : List (Option ℕ)) (aside : Li
       record {
         taken = record {
           again = with-last (slice_set book place None) aside (since, place)
-              ∙ ap (λ (b : List (Option ℕ)). with_aside b aside) (taken_again book place since there) ∙ gone.taken.again;
+              ∙ ap (λ (b : List (Option ℕ)). with_aside b aside) (taken_again book place since there)
+              ∙ gone.taken.again;
           places = set_length book place None ∙ gone.taken.places;
           within = within-push (length old) aside (since, place) gone.taken.within
               (let all = gone.taken.places in omega (arith, within, all));
@@ -155,16 +136,6 @@ module _ (now : ℕ) (ss : List Seat) (old book : List (Option ℕ)) (aside : Li
 abbrev pub Comes : ℕ → ℕ → ℕ → ℕ → ℕ → Type 0
 Comes n all left old new =
     (d : ℕ) → 2 * n + 1 < 2 ^ (d + 1) → (old ≤ new) × (new + left * (8 * d + 8) ≤ old + all * (8 * d + 8))
-
--- k places go aside and come back, of at most h
-pub through_cost : (k h d a b c : ℕ) → k ≤ h → AtMost (k * (8 * d + 9) + 1) a b → AtMost (k * (8 * d + 8)) b c
-    → AtMost ((h + 1) * (16 * d + 17)) a c
-through_cost k h d a b c few there back =
-    let most : k * (16 * d + 17) ≤ h * (16 * d + 17) = mul-le k (16 * d + 17) h (16 * d + 17) few (omega arith) in
-    record {
-      grows = (let x = there.grows in let y = back.grows in omega (arith, x, y));
-      most = (let x = there.most in let y = back.most in omega (arith, x, y, most));
-    }
 
 -- a book has at most one entry for each place
 pub all_entries : (book : List (Option ℕ)) → entries_of book ≤ length book

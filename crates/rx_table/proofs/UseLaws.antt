@@ -1,6 +1,7 @@
 -- The uses of a table's connections, as connections come, change and are looked through.
-use Rattle.std.proofs.Common.{◌≡◌, ◌+◌, ◌-◌, ◌*◌, ◌<◌, ◌≤◌, ◌&&◌, ◌++◌, ℕ, zero, suc, Bool, true, false, cond, not, nat_le}
-use Rattle.std.proofs.Common.{List, [], ◌∷◌, length, take, drop, set, get_or, replicate, Option, Some, None, refl}
+use Rattle.std.proofs.Common.{◌≡◌, ◌+◌, ◌-◌, ◌*◌, ◌<◌, ◌≤◌, ◌&&◌, ◌++◌, ℕ, zero, suc, Bool, true, false, cond, not}
+use Rattle.std.proofs.Common.{nat_le}
+use Rattle.std.proofs.Common.{List, [], ◌∷◌, length, take, drop, set, get_or, Option, Some, None, refl}
 use Rattle.std.proofs.Common.{ap, sym, ◌∙◌, arith, subst, slice_get, option_and_then, inl, inr, ◌⊎◌}
 use Rattle.std.specs.Prelude.{count_by, is_some, slice_set}
 use Rattle.std.specs.List.{list_any}
@@ -18,17 +19,9 @@ use Rattle.rx_table.specs.Records.{ConnRecord, IsLongestIdle, Records, held_coun
 use Rattle.rx_table.specs.Uses.{AreSeated, AreUses, IsFirstFree, IsFreeAt, NoneIsFree, has_call, held_among, is_held_at}
 use Rattle.rx_table.specs.Uses.{use_at}
 use Rattle.rx_table.proofs.JoinedLaws.{seats_of, slice_get-joined}
-use Rattle.rx_table.proofs.Noted.{few_entries, none_made, set_length}
+use Rattle.rx_table.proofs.Noted.{few_entries, set_length}
 
 -- ---- changes
-
--- no connection is there yet
-pub uses_made : (room : ℕ) → AreUses (replicate room None) [] room
-uses_made room = record { places = long room; each = λ place. none_made room place }
-  where
-    long : (n : ℕ) → length (replicate n (let o : Option ℕ = None in o)) ≡ n
-    long zero = refl
-    long (suc n) = ap (λ (k : ℕ). suc k) (long n)
 
 each-set : (book : List (Option ℕ)) (cs : List Conn) (i : ℕ) (c : Conn) → i < length cs
     → ((p : ℕ) → moment_of book p ≡ use_at cs p)
@@ -61,7 +54,8 @@ each-push (m ∷ ms) (b ∷ cs) c within each (suc p) =
     each-push ms cs c (omega (arith, within)) (λ q. each (suc q)) p
 
 -- a connection comes to the next place
-pub uses_push : (book : List (Option ℕ)) (cs : List Conn) (room : ℕ) (c : Conn) → length cs < room → AreUses book cs room
+pub uses_push : (book : List (Option ℕ)) (cs : List Conn) (room : ℕ) (c : Conn) → length cs < room
+    → AreUses book cs room
     → AreUses (slice_set book (length cs) (Some c.last_use)) (cs ++ c ∷ []) room
 uses_push book cs room c within uses =
     record {
@@ -81,7 +75,11 @@ use_is book cs room i c uses within read =
 pub uses_kept : (book : List (Option ℕ)) (cs : List Conn) (room i : ℕ) (c new : Conn) → i < length cs
     → c ≡ get_or cs i c → new.last_use ≡ c.last_use → AreUses book cs room → AreUses book (set cs i new) room
 uses_kept book cs room i c new within read same uses =
-    record { places = uses.places; each = λ p. each book cs i within (use_is book cs room i c uses within read) uses.each p }
+    record {
+      places = uses.places;
+      each = λ p. each book cs i within (use_is book cs room i c uses within read)
+          uses.each p;
+    }
   where
     each : (bs : List (Option ℕ)) (ds : List Conn) (k : ℕ) → k < length ds → moment_of bs k ≡ Some c.last_use
         → ((p : ℕ) → moment_of bs p ≡ use_at ds p) → (p : ℕ) → moment_of bs p ≡ use_at (set ds k new) p
@@ -113,7 +111,8 @@ uses_seated book cs room ss seen uses seated all =
 -- as many entries as connections
 pub uses_entries : (book : List (Option ℕ)) (cs : List Conn) (room : ℕ) → AreUses book cs room
     → count_by is_some book ≤ length cs
-uses_entries book cs room uses = few_entries book (length cs) (λ place high. past place high (moment_of book place) refl)
+uses_entries book cs room uses = few_entries book (length cs)
+    (λ place high. past place high (moment_of book place) refl)
   where
     past : (place : ℕ) → length cs ≤ place → (o : Option ℕ) → moment_of book place ≡ o → moment_of book place ≡ None
     past place high None none = none
@@ -247,7 +246,8 @@ uses_entered book new cs new_cs room place now c within uses at new_is cs_is las
 
 -- a connection was used, or another came to its place
 pub uses_changed : (book new : List (Option ℕ)) (cs : List Conn) (room place now : ℕ) (c : Conn) → place < length cs
-    → AreUses book cs room → new ≡ slice_set book place (Some now) → c.last_use ≡ now → AreUses new (set cs place c) room
+    → AreUses book cs room → new ≡ slice_set book place (Some now) → c.last_use ≡ now
+    → AreUses new (set cs place c) room
 uses_changed book new cs room place now c within uses new_is last =
     subst (λ (b : List (Option ℕ)). AreUses b (set cs place c) room)
     (ap (λ (u : ℕ). slice_set book place (Some u)) last ∙ sym new_is) (uses_set book cs room place c within uses)

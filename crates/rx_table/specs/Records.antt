@@ -1,6 +1,7 @@
 -- What a contract sees of a table: the record of each connection by its place. Public clauses cite this module.
 use Rattle.std.specs.Prelude.{◌≡◌, ◌≤◌, ◌<◌, ◌+◌, ◌-◌, ◌/◌, ◌%◌, ◌^◌, ◌&&◌, not, if◌then◌else◌, nat_le, is_some}
-use Rattle.std.specs.Prelude.{ℕ, zero, suc, Bool, count_by, false, List, [], ◌∷◌, map, set, replicate, position, slice_get}
+use Rattle.std.specs.Prelude.{ℕ, zero, suc, Bool, count_by, false, List, [], ◌∷◌, map, set, replicate, position}
+use Rattle.std.specs.Prelude.{slice_get}
 use Rattle.std.specs.Prelude.{Option, Some, None, option_and_then}
 use Rattle.std.specs.List.{list_any}
 use Rattle.rx_model.specs.declared.wire.TheConstants.{IDLE_MS}

@@ -72,7 +72,8 @@ impl Uses {
         self.book.set(place, now, &mut steps);
     }
 
-    /// The place that was used the longest ago, and not for 600,000 milliseconds, of those at whose seats no call lives.
+    /// The place that was used the longest ago, and not for 600,000 milliseconds, of those at whose seats no call
+    /// lives.
     pub fn first_free<L: Ledger>(
         &mut self,
         seats: &[Seat],

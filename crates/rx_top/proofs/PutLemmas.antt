@@ -4,7 +4,7 @@ use Rattle.std.specs.Prelude.{IsErr}
 use Rattle.rx_base.specs.Sink.{Gained, GainedSome, HasRisen}
 use Rattle.rx_base.specs.declared.sink.Failed.{Failed}
 use Rattle.rx_base.proofs.SinkLemmas.{gained_more, gained_none, gained_some_front, gained_some_more}
-use Rattle.rx_passes.specs.Tells.{SinkTells}
+use Rattle.rx_wire_loop.specs.Tells.{SinkTells}
 use Rattle.rx_top.specs.Puts.{PutsText}
 
 -- how one put of a sink ends

@@ -13,14 +13,14 @@ use Rattle.rx_model.specs.declared.event.Event.TheVariants as events
 use Rattle.rx_model.specs.declared.names.CallName.{CallName}
 use Rattle.rx_model.specs.declared.names.Host.{Host}
 use Rattle.rx_model.specs.declared.wire.TheConstants.{SILENCE_MS}
-use Rattle.rx_passes.specs.declared.calling.CallEnd.{CallEnd}
-use Rattle.rx_passes.specs.declared.calling.CallEnd.TheVariants as call_ends
-use Rattle.rx_passes.specs.declared.calling.Calling.{Calling}
-use Rattle.rx_passes.specs.declared.stop.Stop.{Stop}
-use Rattle.rx_passes.specs.declared.stop.Stop.TheVariants as stops
-use Rattle.rx_passes.specs.Calls.{CallIs, client_setup}
-use Rattle.rx_passes.specs.Tells.{SinkTells, Told}
-use Rattle.rx_passes.specs.ToldCalls.{CallTold, CallsTell}
+use Rattle.rx_wire_loop.specs.declared.calling.CallEnd.{CallEnd}
+use Rattle.rx_wire_loop.specs.declared.calling.CallEnd.TheVariants as call_ends
+use Rattle.rx_wire_loop.specs.declared.calling.Calling.{Calling}
+use Rattle.rx_wire_loop.specs.declared.stop.Stop.{Stop}
+use Rattle.rx_wire_loop.specs.declared.stop.Stop.TheVariants as stops
+use Rattle.rx_wire_loop.specs.Calls.{CallIs, client_setup}
+use Rattle.rx_wire_loop.specs.Tells.{SinkTells, Told}
+use Rattle.rx_wire_loop.specs.ToldCalls.{CallTold, CallsTell}
 use Rattle.rx_reply.specs.Replies.{Returned, reply_says}
 use Rattle.rx_rules.specs.After.{looks}
 use Rattle.rx_rules.specs.Classes.{Class}
@@ -68,7 +68,8 @@ ended_told w request secret result before after law can made v is =
     (subst (λ (r : Result CallEnd Stop). CallIs w request (chosen secret) r before after) is made)
 
 -- where each call that ended is told by the law, its caller is finished
-pub told_finished : (w : Calling) (request : List ℕ) (class : Class) (result : Result CallEnd Stop) (before after : Told)
+pub told_finished : (w : Calling) (request : List ℕ) (class : Class) (result : Result CallEnd Stop)
+    (before after : Told)
     → ((v : CallerState) → result ≡ Ok (call_ends.Ended v) → CallTold w request class v before after)
     → IfOk result IsFinished
 told_finished w request class (Ok (call_ends.Ended v)) before after told = (told v refl).finished

@@ -97,7 +97,8 @@ script_codes no_zero contents m None s is =
 script_codes no_zero contents m (Some name) s is = no_zero m.types m.procs is.0 s is.2
 
 -- and by it no request waits longer than a script may say
-pub script_waits : (short : (g : Handlers) (text : List ℕ) → script_of g.types g.procs text ≡ Ok g.script → WaitsShort g)
+pub script_waits : (short : (g : Handlers) (text : List ℕ) → script_of g.types g.procs text ≡ Ok g.script
+    → WaitsShort g)
     (contents : Option (List (List ℕ × List ℕ))) (m : Meant) (name : Option (List ℕ)) (s : List Answering)
     → IsScript contents m name s → WaitsShort (handlers_with m s)
 script_waits short contents m None s is =

@@ -10,14 +10,14 @@ use Rattle.rx_model.specs.declared.answers.End.{End}
 use Rattle.rx_model.specs.declared.answers.End.TheVariants as ends
 use Rattle.rx_model.specs.declared.names.Limits.{Limits}
 use Rattle.rx_model.specs.declared.wire.TheConstants.{MAX_WINDOW, SILENCE_MS}
-use Rattle.rx_passes.specs.declared.calling.CallEnd.{CallEnd}
-use Rattle.rx_passes.specs.declared.calling.CallEnd.TheVariants as call_ends
-use Rattle.rx_passes.specs.declared.calling.Calling.{Calling}
-use Rattle.rx_passes.specs.declared.stop.Stop.{Stop}
-use Rattle.rx_passes.specs.declared.stop.Stop.TheVariants as stops
-use Rattle.rx_passes.specs.Calls.{CallIs}
-use Rattle.rx_passes.specs.Tells.{SinkTells, Told}
-use Rattle.rx_passes.specs.ToldCalls.{CallTold}
+use Rattle.rx_wire_loop.specs.declared.calling.CallEnd.{CallEnd}
+use Rattle.rx_wire_loop.specs.declared.calling.CallEnd.TheVariants as call_ends
+use Rattle.rx_wire_loop.specs.declared.calling.Calling.{Calling}
+use Rattle.rx_wire_loop.specs.declared.stop.Stop.{Stop}
+use Rattle.rx_wire_loop.specs.declared.stop.Stop.TheVariants as stops
+use Rattle.rx_wire_loop.specs.Calls.{CallIs}
+use Rattle.rx_wire_loop.specs.Tells.{SinkTells, Told}
+use Rattle.rx_wire_loop.specs.ToldCalls.{CallTold}
 use Rattle.rx_reply.specs.declared.counted.TheConstants.{MAX_COUNTED_BYTES}
 use Rattle.rx_reply.specs.Replies.{Returned, reply_line, reply_says}
 use Rattle.rx_reply.specs.Sent.{sent_spelling}
@@ -175,8 +175,8 @@ IsFinished call_ends.TurnsSpent = ⊤
 abbrev pub EndsByCaller : CallAsked → CallerState → WireOutcome → SinkTells → SinkTells → Type 0
 EndsByCaller a v = EndsByEnd a v.reply v.end
 
--- how it ends by how a call with so many takes at most ended, and what was put: out of memory too where a polling has no
--- end
+-- how it ends by how a call with so many takes at most ended, and what was put: out of memory too where a polling has
+-- no end
 abbrev pub EndsByCall : CallAsked → ℕ → Result CallEnd Stop → WireOutcome → SinkTells → SinkTells → Type 0
 EndsByCall a turns (Ok (call_ends.Ended v)) outcome before after = EndsByCaller a v outcome before after
 EndsByCall a turns (Ok call_ends.TurnsSpent) outcome before after =
@@ -251,8 +251,8 @@ abbrev pub CallsByFiles : WireOutcome → CallWords → Calling → Reads → To
 CallsByFiles outcome words w r before after =
     ((outcome ≡ outcomes.OutOfMemory) × ReadNone r × (after ≡ before)) ⊎ CallsAtXg words w outcome r before after
 
--- what the program leaves of it: the status of how it ended, and the line of that said; and only a journal that may want
--- memory refused a note
+-- what the program leaves of it: the status of how it ended, and the line of that said; and only a journal that may
+-- want memory refused a note
 abbrev pub CallLeaves : Status → CallWords → Calling → Reads → Told → Told → Bool → (List ℕ → Type 0) → Type 0
 CallLeaves status words w r before after may_want IsSaid =
     (outcome : WireOutcome) × (status ≡ wire_status outcome) × CallsByFiles outcome words w r before after

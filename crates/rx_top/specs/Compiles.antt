@@ -104,5 +104,6 @@ ReadsOnce outcome seen =
 -- what the program leaves of it: the status of how it ended, and the line of that said
 abbrev pub CompileLeaves : Status → List ℕ → Seen → (List ℕ → Type 0) → Type 0
 CompileLeaves status name seen IsSaid =
-    (outcome : CompileOutcome) × (status ≡ compile_status outcome) × CompileIs outcome name seen × ReadsOnce outcome seen
+    (outcome : CompileOutcome) × (status ≡ compile_status outcome) × CompileIs outcome name seen
+    × ReadsOnce outcome seen
     × IsSaid (compile_said outcome name)

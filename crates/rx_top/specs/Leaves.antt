@@ -1,8 +1,8 @@
 -- What a node is set up with by the words of a command, and what the program leaves of a command.
 use Rattle.std.specs.Prelude.{◌≡◌, ◌≤◌, Bool, List, ℕ}
-use Rattle.rx_passes.specs.Tells.{Told as WireTold}
-use Rattle.rx_passes.specs.declared.calling.Calling.{Calling}
-use Rattle.rx_passes.specs.declared.serving.Serving.{Serving}
+use Rattle.rx_wire_loop.specs.Tells.{Told as WireTold}
+use Rattle.rx_wire_loop.specs.declared.calling.Calling.{Calling}
+use Rattle.rx_wire_loop.specs.declared.serving.Serving.{Serving}
 use Rattle.rx_words.specs.declared.command.Command.{Command}
 use Rattle.rx_words.specs.declared.command.Command.TheVariants as commands
 use Rattle.rx_words.specs.declared.options.CallOptions.{CallOptions}
@@ -51,8 +51,8 @@ CanDo (commands.Compile xg) = Unit {0}
 CanDo (commands.Load number calls) = (1 ≤ calls) × (calls ≤ 10000)
 CanDo (commands.Peers xg script plan) = Unit {0}
 
--- what is told around a command: by the files, by the files and `out`, by the journal and `out`, and by these and the wire;
--- and whether the journal may want memory
+-- what is told around a command: by the files, by the files and `out`, by the journal and `out`, and by these and the
+-- wire; and whether the journal may want memory
 pub record Outside : Type 0 where
   pub reads : Reads
   pub seen : Seen

@@ -3,13 +3,13 @@ use Rattle.std.specs.Prelude.{◌≡◌, ◌⊎◌, ◌≤◌, ◌^◌, ℕ, Boo
 use Rattle.rx_jumbo.specs.declared.sizes.TheConstants.{JUMBO_PARTS}
 use Rattle.rx_rules.specs.Classes.{Class}
 use Rattle.rx_rules.specs.Setup.{FitsLimits}
-use Rattle.rx_passes.specs.declared.serving.ServeEnd.{ServeEnd}
-use Rattle.rx_passes.specs.declared.serving.ServeEnd.TheVariants as serve_ends
-use Rattle.rx_passes.specs.declared.serving.Serving.{Serving}
-use Rattle.rx_passes.specs.declared.stop.Stop.{Stop}
-use Rattle.rx_passes.specs.declared.stop.Stop.TheVariants as stops
-use Rattle.rx_passes.specs.Serving.{ServeIs, server_setup, terms_of}
-use Rattle.rx_passes.specs.Tells.{Told}
+use Rattle.rx_wire_loop.specs.declared.serving.ServeEnd.{ServeEnd}
+use Rattle.rx_wire_loop.specs.declared.serving.ServeEnd.TheVariants as serve_ends
+use Rattle.rx_wire_loop.specs.declared.serving.Serving.{Serving}
+use Rattle.rx_wire_loop.specs.declared.stop.Stop.{Stop}
+use Rattle.rx_wire_loop.specs.declared.stop.Stop.TheVariants as stops
+use Rattle.rx_wire_loop.specs.Serving.{ServeIs, server_setup, terms_of}
+use Rattle.rx_wire_loop.specs.Tells.{Told}
 use Rattle.rx_script.specs.Saying.{Answering}
 use Rattle.xg_check.specs.Meaning.{Meant}
 use Rattle.xg_compile.specs.Means.{Means}
@@ -74,8 +74,8 @@ abbrev pub ServesByFiles : WireOutcome → ServeFiles → Serving → Reads → 
 ServesByFiles outcome names w r before after =
     ((outcome ≡ outcomes.OutOfMemory) × ReadNone r × (after ≡ before)) ⊎ ServesAtXg names w outcome r before after
 
--- what the program leaves of it: the status of how it ended, and the line of that said; and only a journal that may want
--- memory refused a note
+-- what the program leaves of it: the status of how it ended, and the line of that said; and only a journal that may
+-- want memory refused a note
 abbrev pub ServeLeaves : Status → ServeFiles → Serving → Reads → Told → Told → Bool → (List ℕ → Type 0) → Type 0
 ServeLeaves status names w r before after may_want IsSaid =
     (outcome : WireOutcome) × (status ≡ wire_status outcome) × ServesByFiles outcome names w r before after

@@ -3,7 +3,7 @@
 ghost use Rattle.std.specs.Prelude.{◌≡◌, ◌≢◌, List, ℕ, true};
 ghost use Rattle.std.specs.List.{Contains};
 ghost use Rattle.rx_base.specs.Sink.{HasRisen};
-ghost use Rattle.rx_passes.specs.Tells.{sink_tells, told, wire_tells};
+ghost use Rattle.rx_wire_loop.specs.Tells.{sink_tells, told, wire_tells};
 ghost use Rattle.xdr_value.specs.View.{proc_of, procs_of};
 ghost use Rattle.xg_check.specs.Meaning.{interface_of};
 ghost use Rattle.rx_top.specs.Calls.{CallsAtKey, CallsAtProc, CallsAtStreams, CallsAtUpload, CallsAtValues, CallsAtXg};
@@ -18,10 +18,9 @@ use crate::request::{said_by, sent_with};
 use crate::status::Status;
 use crate::wire_outcome::{ArgsFault, WireOutcome};
 use rx_base::{Files, Sink};
-use rx_passes::Calling;
 use rx_reply::proc_named;
-use rx_udp::Wire;
-use rx_wire::Journal;
+use rx_wire::{Journal, Wire};
+use rx_wire_loop::Calling;
 use rx_words::CallWords;
 use std::alloc::Global;
 use xdr_value::{Interface, Proc};
@@ -38,7 +37,8 @@ pub fn call_files<'a, F: Files, O: Sink, W: Wire, J: Journal>(
     book: &mut J,
 ) -> WireOutcome<'a>
     requires { CanCall calling.now }
-    ensures call { CallsAtXg asked.now calling.now result (reads_by F.contents F.failed_last F.reads files.old files.new)
+    ensures call { CallsAtXg asked.now calling.now result
+        (reads_by F.contents F.failed_last F.reads files.old files.new)
         (told (J.told book.old) (sink_tells (O.told out.old) (O.faults out.old))
         (wire_tells (W.told wire.old) (W.faults wire.old) (W.moment wire.old)))
         (told (J.told book.new) (sink_tells (O.told out.new) (O.faults out.new))

@@ -46,7 +46,8 @@ fn class_file<'a, F: Files>(
     files: &mut F,
 ) -> Result<Chosen, WireOutcome<'a>>
     ensures ok { IfOk result (λ class. IsClass (F.contents files.old) (Some name.now) (chosen (secret_of class))) }
-    ensures err { IfErr result (λ o. EndsAtKey o name.now (reads_by F.contents F.failed_last F.reads files.old files.new)) }
+    ensures err { IfErr result
+        (λ o. EndsAtKey o name.now (reads_by F.contents F.failed_last F.reads files.old files.new)) }
     ensures file_fault { wire_status_in result ≡ Status.FileFault → HasRisen (F.faults files.old) (F.faults files.new) }
     ensures no_file_fault { wire_status_in result ≢ Status.FileFault → F.faults files.new ≡ F.faults files.old }
     ensures no_sink_fault { wire_status_in result ≢ Status.SinkFault }

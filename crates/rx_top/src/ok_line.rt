@@ -3,7 +3,7 @@
 ghost use Rattle.std.specs.Prelude.{◌≤◌, ◌*◌, ◌++◌, codes, length, option_copied};
 ghost use Rattle.hex.specs.Hex.{encode_lower};
 ghost use Rattle.rx_model.specs.Text.{hex_text};
-ghost use Rattle.rx_passes.specs.Tells.{sink_tells};
+ghost use Rattle.rx_wire_loop.specs.Tells.{sink_tells};
 ghost use Rattle.rx_reply.specs.Replies.{down_text, printed_line, printed_of};
 ghost use Rattle.rx_top.specs.Puts.{PutsText};
 

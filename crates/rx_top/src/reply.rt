@@ -3,7 +3,7 @@
 ghost use Rattle.std.specs.Prelude.{◌≡◌, ◌≢◌, ◌++◌, codes, is_some, true, Err, IfOk};
 ghost use Rattle.std.specs.List.{Contains};
 ghost use Rattle.rx_base.specs.Sink.{HasRisen};
-ghost use Rattle.rx_passes.specs.Tells.{sink_tells, told, wire_tells};
+ghost use Rattle.rx_wire_loop.specs.Tells.{sink_tells, told, wire_tells};
 ghost use Rattle.rx_reply.specs.Replies.{printed_line, printed_of};
 ghost use Rattle.rx_token.specs.Chosen.{chosen, secret_of};
 ghost use Rattle.xdr_value.specs.View.{proc_of, procs_of};
@@ -18,11 +18,10 @@ use crate::wire_outcome::WireOutcome;
 use rx_base::{Failed, Sink};
 use rx_caller::Caller;
 use rx_model::End;
-use rx_passes::{CallEnd, Calling, Stop, call, calls_tell};
 use rx_reply::{ReplyParts, reply_parts};
 use rx_token::Chosen;
-use rx_udp::Wire;
-use rx_wire::Journal;
+use rx_wire::{Journal, Wire};
+use rx_wire_loop::{CallEnd, Calling, Stop, call, calls_tell};
 use std::alloc::{AllocError, Global};
 use xdr_value::{Interface, Proc};
 

@@ -123,7 +123,8 @@ fn upload_file<'a, F: Files>(
 ) -> Result<Vec<u8>, WireOutcome<'a>>
     ensures ok { IfOk result (λ bytes. Gives (F.contents files.old) name.now
         (λ upload. HasUpload request.items upload bytes.items)) }
-    ensures err { IfErr result (λ o. EndsAtUpload o name.now (reads_by F.contents F.failed_last F.reads files.old files.new)) }
+    ensures err { IfErr result
+        (λ o. EndsAtUpload o name.now (reads_by F.contents F.failed_last F.reads files.old files.new)) }
     ensures file_fault { wire_status_in result ≡ Status.FileFault → HasRisen (F.faults files.old) (F.faults files.new) }
     ensures no_file_fault { wire_status_in result ≢ Status.FileFault → F.faults files.new ≡ F.faults files.old }
     ensures no_sink_fault { wire_status_in result ≢ Status.SinkFault }

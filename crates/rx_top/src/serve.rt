@@ -2,7 +2,7 @@
 
 ghost use Rattle.std.specs.Prelude.{◌≡◌, ◌≢◌, true, Err};
 ghost use Rattle.rx_base.specs.Sink.{HasRisen};
-ghost use Rattle.rx_passes.specs.Tells.{sink_tells, told, wire_tells};
+ghost use Rattle.rx_wire_loop.specs.Tells.{sink_tells, told, wire_tells};
 ghost use Rattle.rx_script.specs.Saying.{blocks_of};
 ghost use Rattle.rx_token.specs.Chosen.{chosen, secret_of};
 ghost use Rattle.xg_check.specs.Meaning.{interface_of};
@@ -15,11 +15,10 @@ use crate::keys::named_class;
 use crate::status::Status;
 use crate::wire_outcome::WireOutcome;
 use rx_base::{Files, Sink};
-use rx_passes::{ServeEnd, Serving, Stop, serve};
 use rx_script::Script;
 use rx_token::Chosen;
-use rx_udp::Wire;
-use rx_wire::Journal;
+use rx_wire::{Journal, Wire};
+use rx_wire_loop::{ServeEnd, Serving, Stop, serve};
 use rx_words::ServeFiles;
 use std::alloc::Global;
 use xdr_value::Interface;
@@ -35,7 +34,8 @@ pub fn serve_files<'a, F: Files, O: Sink, W: Wire, J: Journal>(
     book: &mut J,
 ) -> WireOutcome<'a>
     requires { CanServe serving.now }
-    ensures serve { ServesAtXg names.now serving.now result (reads_by F.contents F.failed_last F.reads files.old files.new)
+    ensures serve { ServesAtXg names.now serving.now result
+        (reads_by F.contents F.failed_last F.reads files.old files.new)
         (told (J.told book.old) (sink_tells (O.told out.old) (O.faults out.old))
         (wire_tells (W.told wire.old) (W.faults wire.old) (W.moment wire.old)))
         (told (J.told book.new) (sink_tells (O.told out.new) (O.faults out.new))

@@ -6,7 +6,7 @@ ghost use Rattle.rx_top.specs.Leaves.{calling_of, serving_of};
 
 use rx_model::Limits;
 use rx_model::wire::MAX_WINDOW;
-use rx_passes::{Calling, Serving};
+use rx_wire_loop::{Calling, Serving};
 use rx_words::{CallOptions, ServeOptions};
 
 /// What a node is served with.

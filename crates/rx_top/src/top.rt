@@ -10,7 +10,7 @@ ghost use Rattle.rx_words.specs.declared.command.ServeFiles.{ServeFiles};
 ghost use Rattle.rx_words.specs.declared.command.SimFiles.{SimFiles};
 ghost use Rattle.rx_words.specs.declared.options.CallOptions.{CallOptions};
 ghost use Rattle.rx_words.specs.declared.options.ServeOptions.{ServeOptions};
-ghost use Rattle.rx_passes.specs.Tells.{sink_tells, told as told_over, wire_tells};
+ghost use Rattle.rx_wire_loop.specs.Tells.{sink_tells, told as told_over, wire_tells};
 ghost use Rattle.rx_stage.specs.Tells.{told};
 ghost use Rattle.rx_top.specs.Calls.{CallLeaves, CanCall};
 ghost use Rattle.rx_top.specs.Commands.{has_command, has_events, has_files, has_wire, is_command, is_over_wire};
@@ -34,9 +34,8 @@ use crate::sim::sim;
 use crate::status::Status;
 use crate::wire_outcome::say_ended;
 use rx_base::{Files, Sink};
-use rx_passes::{Calling, Serving};
-use rx_udp::Wire;
-use rx_wire::Journal;
+use rx_wire::{Journal, Wire};
+use rx_wire_loop::{Calling, Serving};
 use rx_words::{CallWords, Command, ServeFiles, SimFiles, WordsFault, read_words};
 use std::alloc::Global;
 use std::io;
@@ -248,7 +247,8 @@ fn do_serve<F: Files, O: Sink, E: Sink, W: Wire, J: Journal>(
     book: &mut J,
 ) -> Status
     requires { CanServe serving.now }
-    ensures serve { ServeLeaves result names.now serving.now (reads_by F.contents F.failed_last F.reads files.old files.new)
+    ensures serve { ServeLeaves result names.now serving.now
+        (reads_by F.contents F.failed_last F.reads files.old files.new)
         (told_over (J.told book.old) (sink_tells (O.told out.old) (O.faults out.old))
         (wire_tells (W.told wire.old) (W.faults wire.old) (W.moment wire.old)))
         (told_over (J.told book.new) (sink_tells (O.told out.new) (O.faults out.new))
@@ -284,7 +284,8 @@ fn do_call<F: Files, O: Sink, E: Sink, W: Wire, J: Journal>(
     book: &mut J,
 ) -> Status
     requires { CanCall calling.now }
-    ensures call { CallLeaves result asked.now calling.now (reads_by F.contents F.failed_last F.reads files.old files.new)
+    ensures call { CallLeaves result asked.now calling.now
+        (reads_by F.contents F.failed_last F.reads files.old files.new)
         (told_over (J.told book.old) (sink_tells (O.told out.old) (O.faults out.old))
         (wire_tells (W.told wire.old) (W.faults wire.old) (W.moment wire.old)))
         (told_over (J.told book.new) (sink_tells (O.told out.new) (O.faults out.new))

@@ -4,7 +4,7 @@ use Rattle.rx_model.specs.declared.event.Event.{Event}
 use Rattle.rx_model.specs.declared.event.Noted.{Noted}
 use Rattle.rx_wire.specs.Journal.{HasNoted}
 use Rattle.rx_wire.specs.Turns.{after_all, noted, Program, Runs, stays, goes}
-use Rattle.rx_wire.specs.Advances.{Advances, Turned, Refused, IsWithin}
+use Rattle.rx_wire.specs.Advances.{Advances, Turned, Refused}
 use Rattle.rx_wire.proofs.TurnLaws.{after_all-append, Runs-append, HasNotedAll-none, HasNotedAll-one}
 use Rattle.rx_wire.proofs.TurnLaws.{HasNotedAll-append, HasNotedButLast-append, HasNotedButLast-one}
 
@@ -76,28 +76,6 @@ pub Turned-of : {View Ask : Type 0} (p : Program View Ask) (node : ℕ) (v w : V
 Turned-of p node v w stood stands before after x over = record {
   events = x.events;
   turns = record { runs = x.runs; over = over };
-  standing = x.standing;
-  noting = x.noting;
-}
-
--- ---- a program within another
-
--- its events are events of the other
-pub Runs-within : {View Wide Ask : Type 0} (p : Program View Ask) (q : Program Wide Ask) (f : View → Wide)
-    → IsWithin p q f → (v w : View) (es : List Event) → Runs p v es w → Runs q (f v) es (f w)
-Runs-within p q f within v w es (stays at) = stays (f at)
-Runs-within p q f within v w es (goes at a e rest to asked is more) =
-    goes (f at) a e rest (f to) (within.asks at a asked) (within.is a e is)
-    (subst (λ u. Runs q u rest (f to)) (sym (within.heard at a e asked))
-    (Runs-within p q f within (p.heard at e) to rest more))
-
--- and so are those of a part of a turn
-pub Advances-within : {View Wide Ask : Type 0} (p : Program View Ask) (q : Program Wide Ask) (f : View → Wide)
-    → IsWithin p q f → (node : ℕ) (v w : View) (stood stands : List Event → Type 0) (before after : Option (List Noted))
-    → Advances p node v w stood stands before after → Advances q node (f v) (f w) stood stands before after
-Advances-within p q f within node v w stood stands before after x = record {
-  events = x.events;
-  runs = Runs-within p q f within v w x.events x.runs;
   standing = x.standing;
   noting = x.noting;
 }

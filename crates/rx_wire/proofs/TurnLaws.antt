@@ -24,11 +24,6 @@ pub Runs-one : {View Ask : Type 0} (p : Program View Ask) (v : View) (a : Ask) (
     → p.asks v ≡ Some a → p.is a e → Runs p v (e ∷ []) (p.heard v e)
 Runs-one p v a e asked is = goes v a e [] (p.heard v e) asked is (stays (p.heard v e))
 
--- one event and then more
-pub Runs-after : {View Ask : Type 0} (p : Program View Ask) (v w : View) (a : Ask) (e : Event) (es : List Event)
-    → p.asks v ≡ Some a → p.is a e → Runs p (p.heard v e) es w → Runs p v (e ∷ es) w
-Runs-after p v w a e es asked is then = goes v a e es w asked is then
-
 -- ---- journals
 
 -- nothing was noted

@@ -17,10 +17,10 @@ use xdr_value::Interface;
 
 /// Makes the events of a plan's lines on one server and its clients. Each event is noted, and then its line put. Behind
 /// the trace stands an answer line for each invoke that was given a call. The run is out of memory where memory was
-/// wanted, or where one polling or turn went on for 2^64 - 1 events. A request that the plan writes by hand before rounds
-/// arrives, or its handler refuses it; an invoke before so many rounds comes to its end, with what is served for it; and
-/// behind whatever a driven plan lost, so many rounds end the one call that lives, and all that live, where there is room
-/// for all.
+/// wanted, or where one polling or turn went on for 2^64 - 1 events. A request that the plan writes by hand before
+/// rounds arrives, or its handler refuses it; an invoke before so many rounds comes to its end, with what is served for
+/// it; and behind whatever a driven plan lost, so many rounds end the one call that lives, and all that live, where
+/// there is room for all.
 pub fn run<O: Sink, J: Journal>(
     alloc: Global,
     iface: &Interface,

@@ -180,7 +180,8 @@ fn inside<'a>(
     bytes: &'a [u8],
 ) -> Result<(Value, &'a [u8]), Stop>
     ensures { Gives (λ x. (value_of x.0, x.1.now)) result
-        (head_at (types_of iface.now.types.items) (Some (value_at levels (types_of iface.now.types.items))) (head_view head.entry) bytes.now) }
+        (head_at (types_of iface.now.types.items) (Some (value_at levels (types_of iface.now.types.items)))
+        (head_view head.entry) bytes.now) }
 {
     match head {
         Head::Basic(kind) => basic(alloc, kind, bytes),
@@ -236,7 +237,8 @@ fn chosen_arm<'a>(
     bytes: &'a [u8],
 ) -> Result<(Value, &'a [u8]), Stop>
     ensures { Gives (λ x. (value_of x.0, x.1.now)) result
-        (chosen_at (value_at levels (types_of iface.now.types.items)) (map choice_of arms.now.items) (value_of chosen, bytes.now)) }
+        (chosen_at (value_at levels (types_of iface.now.types.items)) (map choice_of arms.now.items)
+        (value_of chosen, bytes.now)) }
 {
     match arm_of(arms, tag_number(&chosen)) {
         // No tag that is read lacks its arm.

@@ -141,10 +141,12 @@ fn put_items(
 ) -> Result<(), AllocError>
     requires { ItemsFit (types_of iface.now.types.items) (head_view head)
         (λ ps. PartsFit (types_of iface.now.types.items) ps (values_of items.now.items))
-        (λ k. AllFit (types_of iface.now.types.items) k (values_of items.now.items)) (count (values_of items.now.items)) }
+        (λ k. AllFit (types_of iface.now.types.items) k (values_of items.now.items))
+        (count (values_of items.now.items)) }
     ensures { OnOk result (out.new.items ≡ out.old.items ++ items_spelling (head_view head.entry)
         (λ ps. parts_spelling (types_of iface.now.types.items) ps (values_of items.now.items))
-        (λ k. all_spelling (types_of iface.now.types.items) k (values_of items.now.items)) (count (values_of items.now.items))) }
+        (λ k. all_spelling (types_of iface.now.types.items) k (values_of items.now.items))
+        (count (values_of items.now.items))) }
 {
     match head {
         Head::Struct(fields) => put_parts(out, items, iface, fields),

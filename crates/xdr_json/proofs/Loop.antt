@@ -7,11 +7,9 @@ use Rattle.xdr_value.specs.View.{kind_of, part_of}
 use Rattle.xdr_value.specs.declared.def.Field.{Field}
 use Rattle.xdr_value.proofs.Lists.{append, append_end, append_more}
 use Rattle.std.specs.String.{string_bytes}
-use Rattle.xdr_json.specs.declared.fault.Stop.{Stop}
 use Rattle.xdr_json.specs.declared.fault.Stop.TheVariants as stops
 use Rattle.xdr_json.specs.Judged.{Judged, ◌>>=◌, below, field_step, index_step}
 use Rattle.xdr_json.specs.Judging.{Judge, asked, judged, parts_judged, elements_judged}
-use Rattle.xdr_json.specs.Answers.{Fails}
 
 -- what was judged before, and what is still judged
 abbrev pub with_front : Data → Judged Data → Judged Data
@@ -36,14 +34,6 @@ elements_go_on t k front i j left js d total is h so_far =
     rw (is, h) (regroup front d (elements_judged t (items_view js) k (i + 1))) in
     sym one ∙ so_far
 
-pub elements_stop : (t : Types) (k : Kind) (e : Stop) (front : Data) (i : ℕ) (j : JsonValue) (left js : List JsonValue)
-    (total : Judged Data)
-    → left ≡ j ∷ js
-    → Fails e (below (index_step i) (judged t (view j) k))
-    → with_front front (elements_judged t (items_view left) k i) ≡ total → Fails e total
-elements_stop t k stops.Memory front i j left js total is h so_far = tt
-elements_stop t k (stops.Misfit m) front i j left js total is h so_far = sym so_far ∙ rw (is, h) refl
-
 pub elements_done : (t : Types) (k : Kind) (front : Data) (i : ℕ) (left : List JsonValue) (total : Judged Data)
     → left ≡ []
     → with_front front (elements_judged t (items_view left) k i) ≡ total → total ≡ Ok front
@@ -62,14 +52,6 @@ parts_go_on found front f left fs d total is h so_far =
     (parts_judged (map part_of fs) found) =
     rw (is, h) (regroup front d (parts_judged (map part_of fs) found)) in
     sym one ∙ so_far
-
-pub parts_stop : (found : List ℕ → Option Judge) (e : Stop) (front : Data) (f : Field) (left fs : List Field)
-    (total : Judged Data)
-    → left ≡ f ∷ fs
-    → Fails e (below (field_step (string_bytes f.name)) (asked (found (string_bytes f.name)) (kind_of f.ty)))
-    → with_front front (parts_judged (map part_of left) found) ≡ total → Fails e total
-parts_stop found stops.Memory front f left fs total is h so_far = tt
-parts_stop found (stops.Misfit m) front f left fs total is h so_far = sym so_far ∙ rw (is, h) refl
 
 pub parts_done : (found : List ℕ → Option Judge) (front : Data) (left : List Field) (total : Judged Data) → left ≡ []
     → with_front front (parts_judged (map part_of left) found) ≡ total → total ≡ Ok front

@@ -115,7 +115,8 @@ fn whole_values(
 ) -> Result<Vec<Value>, Stop>
     requires { nesting (view json.now) ≤ 127 }
     ensures { Gives (λ v. values_of v.items) result
-        (below (codes "$") (array_of_args (types_of iface.now.types.items) (in_kinds (map param_of args.now)) (view json.now))) }
+        (below (codes "$")
+        (array_of_args (types_of iface.now.types.items) (in_kinds (map param_of args.now)) (view json.now))) }
 {
     match array_values(alloc, iface, args, json) {
         Ok(values) => Ok(values),

@@ -95,7 +95,8 @@ fn judge_array(
     head: Head<'_>,
 ) -> Result<Value, Stop>
     requires { items_depth (items_view items.now.items) ≤ levels }
-    ensures { Gives value_of result (array_judged (types_of iface.now.types.items) (kind_of ty.now) (head_view head.entry)
+    ensures { Gives value_of result
+        (array_judged (types_of iface.now.types.items) (kind_of ty.now) (head_view head.entry)
         (items_len (items_view items.now.items))
         (λ k. elements_judged (types_of iface.now.types.items) (items_view items.now.items) k 0)
         (λ k. first_judged (types_of iface.now.types.items) (items_view items.now.items) k)) }
@@ -192,7 +193,8 @@ fn judge_object(
     head: Head<'_>,
 ) -> Result<Value, Stop>
     requires { members_depth (members_view members.now.entries) ≤ levels }
-    ensures { Gives value_of result (object_judged (types_of iface.now.types.items) (kind_of ty.now) (head_view head.entry)
+    ensures { Gives value_of result
+        (object_judged (types_of iface.now.types.items) (kind_of ty.now) (head_view head.entry)
         (members_view members.now.entries)
         (member_judge (types_of iface.now.types.items) (members_view members.now.entries))) }
 {
@@ -248,7 +250,8 @@ fn judge_member(
 ) -> Result<Value, Stop>
     requires { members_depth (members_view members.now.entries) ≤ levels }
     ensures { Gives value_of result (below (field_step name.now)
-        (asked (member_judge (types_of iface.now.types.items) (members_view members.now.entries) name.now) (kind_of ty.now))) }
+        (asked (member_judge (types_of iface.now.types.items) (members_view members.now.entries) name.now)
+        (kind_of ty.now))) }
 {
     match member(members, name) {
         None => above_field(alloc, name, Err(unfit(alloc, ty))),
@@ -307,7 +310,8 @@ fn judge_union(
     arms: &Vec<Arm>,
 ) -> Result<Value, Stop>
     requires { members_depth (members_view members.now.entries) ≤ levels }
-    ensures { Gives value_of result (chosen_judged (types_of iface.now.types.items) (kind_of ty.now) (map choice_of arms.now.items)
+    ensures { Gives value_of result
+        (chosen_judged (types_of iface.now.types.items) (kind_of ty.now) (map choice_of arms.now.items)
         (tag_found (tag_view tag.entry) (get_member (codes "case") (members_view members.now.entries)))
         (member_judge (types_of iface.now.types.items) (members_view members.now.entries) (codes "value"))) }
 {
@@ -346,7 +350,8 @@ fn judge_arm(
 
 fn judge_whole(alloc: Global, iface: &Interface, json: &Json, ty: &Ty) -> Result<Value, Stop>
     requires { nesting (view json.now) ≤ 127 }
-    ensures { Gives value_of result (below (codes "$") (judged (types_of iface.now.types.items) (view json.now) (kind_of ty.now))) }
+    ensures { Gives value_of result
+        (below (codes "$") (judged (types_of iface.now.types.items) (view json.now) (kind_of ty.now))) }
 {
     match judge(alloc, iface, MAX_NESTING, json, ty) {
         Ok(value) => Ok(value),

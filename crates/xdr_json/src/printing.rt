@@ -136,7 +136,8 @@ fn union_object(alloc: Global, tag: Json, arm: Json) -> Result<Json, AllocError>
 #[cycle(json)]
 fn value_json(v: &Value, alloc: Global, iface: &Interface, ty: &Ty) -> Result<Json, AllocError>
     requires { Fits (types_of iface.now.types.items) (kind_of ty.now) (value_of v.now) }
-    ensures json { IfOk result (λ j. view j ≡ json_of (types_of iface.now.types.items) (kind_of ty.now) (value_of v.now)) }
+    ensures json { IfOk result
+        (λ j. view j ≡ json_of (types_of iface.now.types.items) (kind_of ty.now) (value_of v.now)) }
     ensures held { OnOk result (OctetsAreBytes (value_of v.now)) }
 {
     match v {
@@ -232,7 +233,8 @@ fn members_json(
 ) -> Result<Map<String, Json>, AllocError>
     requires { PartsFit (types_of iface.now.types.items) (map part_of fields.now.items) (values_of items.now.items) }
     ensures json { IfOk result (λ m. members_view m.entries
-        ≡ members_json (types_of iface.now.types.items) (map part_of fields.now.items) (values_of items.now.items) no_members) }
+        ≡ members_json (types_of iface.now.types.items) (map part_of fields.now.items) (values_of items.now.items)
+        no_members) }
     ensures held { OnOk result (AllAreBytes (values_of items.now.items)) }
 {
     let mut members = Map::new(alloc);

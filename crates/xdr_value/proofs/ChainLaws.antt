@@ -5,7 +5,8 @@ use Rattle.std.specs.Str.{bytes_eq}
 use Rattle.std.proofs.lemmas.Bool.{and_parts, and_from, false≢true}
 use Rattle.std.proofs.lemmas.Slice.Eq.{bytes_eq-Decides}
 use Rattle.std.proofs.Math.Seq.{map-set_same}
-use Rattle.xdr_value.specs.Data.{Kind, basic, array, array_up_to, maybe, named, Form, alias, enum, struct, choice, Types}
+use Rattle.xdr_value.specs.Data.{Kind, basic, array, array_up_to, maybe, named, Form, alias, enum, struct, choice}
+use Rattle.xdr_value.specs.Data.{Types}
 use Rattle.xdr_value.specs.Data.{nothing}
 use Rattle.xdr_value.specs.Heads.{is_unknown, form_named, head_of_form, head_within}
 use Rattle.xdr_value.specs.Hollow.{form_hollow, name_hollow}
@@ -282,7 +283,8 @@ pub link_right : (ds : List Def) (i : ℕ) (d : Def) → all_linked (types_of ds
 link_right ds i d h lt s e =
     let name : Some (string_bytes (get_or ds i d).name) ≡ Some s = sym (named_there ds i d lt) ∙ e in
     let same : string_bytes (get_or ds i d).name ≡ s = cc in
-    subst (λ (x : List ℕ). link_is (types_of ds) x (get_or ds i d).link ≡ true) same (linked_at (types_of ds) ds i d h lt)
+    subst (λ (x : List ℕ). link_is (types_of ds) x (get_or ds i d).link ≡ true) same
+    (linked_at (types_of ds) ds i d h lt)
 
 pub link_within : (ds : List Def) (i : ℕ) (d : Def) → all_linked (types_of ds) ds ≡ true → i < length ds
     → (get_or ds i d).link.end < length ds

@@ -18,9 +18,6 @@ use Rattle.xdr_value.proofs.Rings.{none_endless, all_will_end}
 differ_is : {K : Type 0} (e : K → K → Bool) (xs : List K) → (differ e xs ≡ true) ↔ IsDistinct e xs
 differ_is e xs = (distinct e xs, differs e xs)
 
-part_names : List Part → List (List ℕ)
-part_names ps = map (λ (p : Part). p.name) ps
-
 enum_is : (t : Types) (ms : List (List ℕ × ℤ)) → (form_sound t (enum ms) ≡ true) ↔ FormIsSound t (enum ms)
 enum_is t ms =
     let named = differ_is bytes_eq (names_of ms) in

@@ -1,6 +1,6 @@
 -- A value and a type, level by level.
-use Rattle.std.proofs.Common.{◌≡◌, ℕ, String, string_bytes, Some, None, Box, Global, Vec, rules}
-use Rattle.xdr_value.specs.Data.{items, none, some}
+use Rattle.std.proofs.Common.{◌≡◌, ℕ, String, string_bytes, Some, Box, Global, Vec, rules}
+use Rattle.xdr_value.specs.Data.{items, some}
 use Rattle.xdr_value.specs.Data.{named}
 use Rattle.xdr_value.specs.View.{kind_of, value_of, values_of}
 use Rattle.xdr_value.specs.declared.value.Value.{Value, the_lemmas}
@@ -10,9 +10,6 @@ use Rattle.xdr_value.specs.declared.ty.Ty.TheBlock as types
 
 pub value-some : (b : Box Value Global) → value_of (views.Maybe (Some b)) ≡ some (value_of b.value)
 value-some b = search (rules, the_lemmas)
-
-pub value-none : value_of (views.Maybe None) ≡ none
-value-none = search (rules, the_lemmas)
 
 pub value-items : (v : Vec Value Global) → value_of (views.List v) ≡ items (values_of v.items)
 value-items v = search (rules, the_lemmas)

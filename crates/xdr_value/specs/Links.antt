@@ -2,7 +2,8 @@
 use Rattle.std.specs.Prelude.{◌≡◌, ℕ, zero, suc, List, [], ◌∷◌, Option, Some, None, Bool, true, false, ◌&&◌}
 use Rattle.std.specs.Prelude.{option_map, slice_get, string_bytes}
 use Rattle.std.specs.Str.{bytes_eq}
-use Rattle.xdr_value.specs.Data.{Kind, basic, array, array_up_to, maybe, named, Form, alias, enum, struct, choice, Types}
+use Rattle.xdr_value.specs.Data.{Kind, basic, array, array_up_to, maybe, named, Form, alias, enum, struct, choice}
+use Rattle.xdr_value.specs.Data.{Types}
 use Rattle.xdr_value.specs.Heads.{form_named}
 use Rattle.xdr_value.specs.declared.def.Def.{Def}
 use Rattle.xdr_value.specs.declared.def.Link.{Link}

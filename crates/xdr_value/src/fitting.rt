@@ -188,7 +188,8 @@ fn arm_fits(inner: &Value, iface: &Interface, arm: &Arm) -> bool
 
 #[cycle(fits)]
 fn fields_fit(items: &Vec<Value>, iface: &Interface, fields: &Vec<Field>) -> bool
-    ensures { result ≡ parts_fit (types_of iface.now.types.items) (map part_of fields.now.items) (values_of items.now.items) }
+    ensures { result ≡ parts_fit (types_of iface.now.types.items) (map part_of fields.now.items)
+        (values_of items.now.items) }
 {
     if fields.len() != items.len() {
         return false;

@@ -95,7 +95,8 @@ fn tag_value(tag: Tag<'_>, n: i64) -> Value
 
 #[cycle(zero)]
 fn core_zero(alloc: Global, iface: &Interface, ty: &Ty, hops: usize) -> Result<Value, AllocError>
-    ensures { IfOk result (λ v. value_of v ≡ core_zero (name_zero hops (types_of iface.now.types.items)) (kind_of ty.now)) }
+    ensures { IfOk result
+        (λ v. value_of v ≡ core_zero (name_zero hops (types_of iface.now.types.items)) (kind_of ty.now)) }
 {
     match ty {
         Ty::Named(name, place) => name_zero(alloc, iface, name.as_str(), *place, hops),
@@ -112,7 +113,8 @@ fn core_zero(alloc: Global, iface: &Interface, ty: &Ty, hops: usize) -> Result<V
 
 #[cycle(zero)]
 fn ty_zero(alloc: Global, iface: &Interface, ty: &Ty, hops: usize) -> Result<Value, AllocError>
-    ensures { IfOk result (λ v. value_of v ≡ kind_zero (name_zero hops (types_of iface.now.types.items)) (kind_of ty.now)) }
+    ensures { IfOk result
+        (λ v. value_of v ≡ kind_zero (name_zero hops (types_of iface.now.types.items)) (kind_of ty.now)) }
 {
     let inner = core_zero(alloc, iface, core_of(ty), hops)?;
     Ok(wrapped(alloc, ty, inner)?)
@@ -163,7 +165,8 @@ fn union_zero(
     hops: usize,
 ) -> Result<Value, AllocError>
     ensures { IfOk result (λ v. value_of v ≡
-        union_zero (name_zero hops (types_of iface.now.types.items)) (tag_view tag.entry) (map choice_of arms.now.items)) }
+        union_zero (name_zero hops (types_of iface.now.types.items)) (tag_view tag.entry)
+        (map choice_of arms.now.items)) }
 {
     let case = first_case(tag, arms);
     let inner = arm_zero(alloc, iface, arm_of(arms, case as i128), hops)?;

@@ -1,5 +1,5 @@
 -- Ways the other way round, one by one.
-use Rattle.std.proofs.Common.{◌≡◌, ℕ, zero, suc, ◌+◌, ◌<◌, ◌≤◌, List, [], ◌∷◌, ◌++◌, length, set, replicate, slice_get}
+use Rattle.std.proofs.Common.{◌≡◌, ℕ, zero, suc, ◌+◌, ◌<◌, ◌≤◌, List, [], ◌∷◌, ◌++◌, length, set, slice_get}
 use Rattle.std.proofs.Common.{Option, Some, refl, sym, ap, subst, ◌∙◌, arith, ◌⊎◌, inl, inr}
 use Rattle.std.proofs.lemmas.List.{length-set}
 use Rattle.std.proofs.lemmas.Option.{slice_get_within}
@@ -128,11 +128,6 @@ all_turned g back seen t le = record {
   turned = λ i j s. t.turned i j (omega (arith, slice_get_within g i s.next s.from, le)) s;
   turned_back = t.turned_back;
 }
-
-of_replicate : {A : Type 0} (n : ℕ) (x y : A) (i : ℕ) → slice_get (replicate n x) i ≡ Some y → x ≡ y
-of_replicate zero x y i e = absurd cc
-of_replicate (suc n) x y zero e = cc
-of_replicate (suc n) x y (suc i) e = of_replicate n x y i e
 
 all_by : {A : Type 0} (P : A → Type 0) (xs : List A) → ((j : ℕ) (x : A) → slice_get xs j ≡ Some x → P x)
     → AllByRecursion P xs

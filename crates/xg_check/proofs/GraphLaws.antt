@@ -17,11 +17,6 @@ pub then_leads : (g : List (List ℕ)) (i j k : ℕ) → Leads g i j → Leads g
 then_leads g i j k (at_once i' j' s) more = through i j k s more
 then_leads g i j k (through i' m j' s rest) more = through i m k s (then_leads g m j k rest more)
 
--- where a node ends, so do those that it leads to
-pub leads_end : (g : List (List ℕ)) (i j : ℕ) → Ends g i → Leads g i j → Ends g j
-leads_end g i j (ends i' h) (at_once a b s) = h j s
-leads_end g i j (ends i' h) (through a m b s rest) = leads_end g m j (h m s) rest
-
 back : (g : List (List ℕ)) (i j k : ℕ) → Step g i k → j ≡ i → Step g j k
 back g i j k s e = subst (λ (n : ℕ). Step g n k) (sym e) s
 

@@ -17,11 +17,6 @@ use Rattle.xg_check.proofs.OrderLaws.{the_same, item_at}
 use Rattle.xg_check.proofs.EndlessLaws.{Among}
 use Rattle.xg_check.proofs.HeldLaws.{step_of, part_hollow_same, part_bytes_same, hollow_step, bytes_step}
 
-of_replicate : {A : Type 0} (n i : ℕ) (x y : A) → slice_get (replicate n x) i ≡ Some y → x ≡ y
-of_replicate zero i x y e = absurd cc
-of_replicate (suc n) zero x y e = cc
-of_replicate (suc n) (suc i) x y e = of_replicate n i x y e
-
 -- what is known of a count, where the table has one
 pub known_of : Option ℕ → Option ℕ → Option ℕ
 known_of None o = None

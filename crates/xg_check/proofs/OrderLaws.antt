@@ -19,8 +19,6 @@ below n [] h p i e = absurd cc
 below n (x ∷ xs) h zero i e = let same : x ≡ i = cc in subst (λ (k : ℕ). k < n) same h.0
 below n (x ∷ xs) h (suc p) i e = below n xs h.1 p i e
 
--- ---- the first that hasn't ended
-
 -- ---- a look at a node
 
 module _ (g : List (List ℕ)) (node : ℕ) (e : List Bool) (n : List ℕ) (w : List (List ℕ)) (l : List ℕ) (next : List ℕ)

@@ -156,7 +156,8 @@ fn add_enum<'a>(
     members: &'a [MembItem],
 ) -> Result<(), AllocError>
     ensures { OnOk result (marks_of marks.new.items ≡ marks_of marks.old.items
-        ++ ((declares Space.Type name.now ∷ enum_type name.now members.now ∷ []) ++ flat_map member_marks members.now)) }
+        ++ ((declares Space.Type name.now ∷ enum_type name.now members.now ∷ [])
+        ++ flat_map member_marks members.now)) }
 {
     marks.push(Mark::Name {
         space: Space::Type,

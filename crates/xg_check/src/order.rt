@@ -59,7 +59,8 @@ impl Search {
             (map (λ v. v.items) self.old.waiting.items) self.old.looked.items }
         ensures { OnOk result (IsLooked graph.now node
             self.old.ended.items self.old.nodes.items (map (λ v. v.items) self.old.waiting.items)
-            self.new.ended.items self.new.nodes.items (map (λ v. v.items) self.new.waiting.items) self.new.looked.items) }
+            self.new.ended.items self.new.nodes.items (map (λ v. v.items) self.new.waiting.items)
+            self.new.looked.items) }
     {
         if self.ended[node] {
             return Ok(());

@@ -21,8 +21,8 @@ fn add_marks(marks: &mut Vec<bool>, others: &[bool])
     }
 }
 
-/// Marks nodes that don't lead to themselves: those from which all ways end, and those to which all ways begin. The time
-/// grows with the nodes and the ways between them.
+/// Marks nodes that don't lead to themselves: those from which all ways end, and those to which all ways begin. The
+/// time grows with the nodes and the ways between them.
 pub fn ringless(alloc: Global, graph: &Graph, order: &Order) -> Result<Vec<bool>, AllocError>
     requires { AreOrdered graph.now order.now.nodes.items order.now.ended.items }
     ensures { IfOk result (λ marks. AreRingless graph.now marks.items) }

@@ -30,9 +30,6 @@ pub record At (text rest : List ℕ) (items : List Token) (feeds : ℕ) (starts 
   pub feeds_are : feeds ≡ line_feeds (flat_map spelling parts)
   pub starts_is : starts ≡ starts_after true parts
 
-pub at_start : (text : List ℕ) → At text text [] 0 true
-at_start text = record { parts = []; reads = refl; tokens = refl; feeds_are = refl; starts_is = refl }
-
 reads_more : (starts : Bool) (text : List ℕ) (ps : List Lexeme) (rest : List ℕ) (p : Lexeme) (more : List ℕ) →
     Reads starts text ps rest → rest ≡ spelling p ++ more → CanStand (starts_after starts ps) p more → Reads starts
     text (ps ++ p ∷ []) more

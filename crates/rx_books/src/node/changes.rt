@@ -1,14 +1,16 @@
 //! What changes a node: each method notes the channels that it changes.
 
-ghost use Rattle.std.specs.Prelude.{◌≡◌, ◌≤◌, ◌<◌, ◌+◌, ◌/◌, ◌^◌, ◌++◌, ◌∷◌, [], ℕ, Some, None, length, slice_get, Option, take, drop, min, true, option_map, IfSome, IsNone};
+ghost use Rattle.std.specs.Prelude.{◌≡◌, ◌≤◌, ◌<◌, ◌+◌, ◌/◌, ◌^◌, ◌++◌, ◌∷◌, [], ℕ, Some, None, length, slice_get};
+ghost use Rattle.std.specs.Prelude.{Option, take, drop, min, true, option_map, IfSome, IsNone};
 ghost use Rattle.rx_model.specs.Names.{connection_of, Channel};
 ghost use Rattle.rx_model.specs.Strays.{last_of, stray_of as rules_stray_of};
 ghost use Rattle.rx_packet.specs.Seen.{message_with_head, body_of, message_of};
-ghost use Rattle.rx_rules.specs.Looks.{Looks, CallRecord, ConnLooks, call_named, latest, latest_name, on_channel, on_life, on_looks};
+ghost use Rattle.rx_rules.specs.Looks.{Looks, CallRecord, ConnLooks, call_named, latest, latest_name, on_channel};
+ghost use Rattle.rx_rules.specs.Looks.{on_life, on_looks};
 ghost use Rattle.rx_rules.specs.Records.{fresh_conn, placed, used, started};
 ghost use Rattle.rx_rules.specs.Life.{after_code, is_active};
 ghost use Rattle.rx_rules.specs.Setup.{nonce_of, is_client};
-ghost use Rattle.rx_history.proofs.Orderly.{Orderly};
+ghost use Rattle.rx_history.proofs.Order.Orderly.{Orderly};
 ghost use Rattle.rx_table.specs.Records.{IsLongestIdle, idle_since, place_of, seat_at};
 ghost use Rattle.rx_node.specs.Mirrors.{IsChannel, IsKey, Mirrors, StepsNode, IsActiveAt, StepsAt};
 ghost use Rattle.rx_node.specs.Node.{KeepsNode, KeepsSetup, setup_of, is_active_life, life_at};
@@ -16,9 +18,9 @@ ghost use Rattle.rx_rules.specs.After.{read_done, stopped_all, owing_abort, owin
 ghost use Rattle.rx_rules.specs.CallLooks.{after_shut, after_write};
 ghost use Rattle.rx_rules.specs.Received.{read_of};
 ghost use Rattle.rx_rules.specs.Slots.{room};
-ghost use Rattle.rx_history.proofs.RoomStarts.{RoomyAt};
+ghost use Rattle.rx_history.proofs.Room.RoomStarts.{RoomyAt};
 ghost use Rattle.rx_recvwin.specs.Window.{given_count, tells_end};
-ghost use Rattle.rx_ends.specs.Ends.{HasShutSlot, IsUnshut};
+ghost use Rattle.rx_call_ends.specs.Ends.{HasShutSlot, IsUnshut};
 ghost use Rattle.rx_node.specs.Lives.{after_turn, is_of, life_of};
 ghost use Rattle.rx_rules.specs.Judging.{live_row};
 ghost use Rattle.rx_call.specs.Standing.{FitsSlot};
@@ -254,8 +256,8 @@ impl<C: Class> Node<C> {
         self.books.refresh_now(&self.core, key);
     }
 
-    /// A message for the call of a channel, which is active: what becomes of it. A RESPONSE that is right changes what every channel
-    /// of the connection owes.
+    /// A message for the call of a channel, which is active: what becomes of it. A RESPONSE that is right changes what
+    /// every channel of the connection owes.
     pub fn take(&mut self, key: u32, end: usize, c: &CallName, head: &Head, body: &Body<'_>) -> Took
         requires active { IsActiveAt self.old key end }
         requires size { FitsSlot (body_of body.now) }

@@ -1,6 +1,7 @@
 //! What a node answers of what it keeps.
 
-ghost use Rattle.std.specs.Prelude.{◌≡◌, ◌≤◌, ◌<◌, ◌/◌, ℕ, Some, None, length, slice_get, IfSome, IsSomeAnd, false, Option, true, is_some, option_map};
+ghost use Rattle.std.specs.Prelude.{◌≡◌, ◌≤◌, ◌<◌, ◌/◌, ℕ, Some, None, length, slice_get, IfSome, IsSomeAnd, false};
+ghost use Rattle.std.specs.Prelude.{Option, true, is_some, option_map};
 ghost use Rattle.rx_model.specs.Names.{channel_of, connection_of, Channel};
 ghost use Rattle.rx_packet.specs.Seen.{message_of};
 ghost use Rattle.rx_rules.specs.Looks.{Looks, CallRecord, is_call, latest, latest_name};
@@ -12,7 +13,7 @@ ghost use Rattle.rx_table.specs.Records.{place_of, record_at, seat_at};
 ghost use Rattle.rx_node.specs.Kinds.{kind_of};
 ghost use Rattle.rx_node.specs.Mirrors.{IsChannel, IsKey, Mirrors, IsActiveAt};
 ghost use Rattle.rx_node.specs.Node.{setup_of, life_at};
-ghost use Rattle.rx_ends.specs.Ends.{IsUnshut};
+ghost use Rattle.rx_call_ends.specs.Ends.{IsUnshut};
 ghost use Rattle.rx_node.specs.Lives.{is_of, life_of};
 ghost use Rattle.rx_rules.specs.Judging.{facts_of};
 ghost use Rattle.rx_node.specs.Steps.{IsFound, facts_seen};

@@ -3,8 +3,8 @@ use Rattle.std.proofs.Common.{◌≡◌, true, List, Option, Some, None, refl, a
 use Rattle.rx_model.specs.declared.names.CallName.{CallName}
 use Rattle.rx_rules.specs.Life.{is_live}
 use Rattle.rx_rules.specs.Looks.{CallRecord, Looks, call_at, is_call}
-use Rattle.rx_history.proofs.Dims.{Dims}
-use Rattle.rx_history.proofs.DimsLeave.{live_stays}
+use Rattle.rx_history.proofs.Dimensions.Dims.{Dims}
+use Rattle.rx_history.proofs.Dimensions.DimsLeave.{live_stays}
 use Rattle.rx_closing.proofs.Frame.{AreAmong}
 use Rattle.rx_closing.proofs.Polls.LiveGivings.{LivesIn}
 

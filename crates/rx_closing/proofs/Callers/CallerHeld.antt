@@ -22,7 +22,7 @@ use Rattle.rx_rules.specs.Looks.{CallRecord, Looks, call_at, is_call, on_life, o
 use Rattle.rx_rules.specs.Received.{read_of}
 use Rattle.rx_rules.specs.Rules.{AllowedClient, Legal, can_say, client_read, client_read_by, client_read_got}
 use Rattle.rx_rules.specs.Rules.{done_where, own_call}
-use Rattle.rx_rules.specs.Setup.{Setup, Client, FitsSetup}
+use Rattle.rx_rules.specs.Setup.{Client, FitsSetup, Setup, pace_of}
 use Rattle.rx_history.specs.Starts.{StartsNew}
 use Rattle.rx_history.proofs.ClientHistory.{client-calls}
 use Rattle.rx_history.proofs.Server.{spared-starts}
@@ -37,7 +37,7 @@ use Rattle.rx_asks.proofs.Kept.{Kept, Spoken}
 use Rattle.rx_asks.proofs.KeptEvents.{kept_after}
 use Rattle.rx_plan.proofs.Callers.{heard_call}
 use Rattle.rx_plan.proofs.ClientEnds.{by_client}
-use Rattle.rx_closing.proofs.Callers.CallerEvents.{own_change, own_is, own_read}
+use Rattle.rx_asks.proofs.CallerEvents.{own_change, own_is, own_read}
 
 -- ---- of a caller and its call
 
@@ -206,7 +206,7 @@ module _ (s : Setup) (host : Host) (epoch : ℕ) (kind : s.kind ≡ Client host 
   holds_driven request v h legal (starts node cid c h') =
       let l : Looks = looks s h' in
       let new : CallRecord =
-      record { name = c; life = lives.Calling; looks = fresh_call s.limits.window s.prompt l.now } in
+      record { name = c; life = lives.Calling; looks = fresh_call (pace_of s) l.now } in
       let found : call_at (after s (events.Called cid (Ok c)) l) c ≡ Some new =
       call_at-any c new l refl (call_at l c) refl in
       subst (HoldsBy (caller_for node c request)) (sym found) (λ living. (refl, refl))

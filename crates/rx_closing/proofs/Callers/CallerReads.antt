@@ -30,7 +30,7 @@ use Rattle.rx_asks.specs.Asks.{Cancels, Reads, calling}
 use Rattle.rx_asks.specs.View.{CallerState}
 use Rattle.rx_plan.specs.Stages.{Stage, with_event}
 use Rattle.rx_rounds.proofs.Making.{turn_over}
-use Rattle.rx_closing.proofs.Callers.CallerEvents.{cancel_is, own_change, own_is, own_read, read_is}
+use Rattle.rx_asks.proofs.CallerEvents.{cancel_is, own_change, own_is, own_read, read_is}
 use Rattle.rx_closing.proofs.Callers.CallerTurn.{At, CallerLeft, Goes, SaidOut, caller_on, calls, ended, ended_now}
 use Rattle.rx_closing.proofs.Callers.CallerTurn.{event_at, next_is, reads_on}
 use Rattle.rx_closing.proofs.Ends.TurnLaws.{turn_trans}

@@ -12,7 +12,7 @@ use Rattle.rx_rules.specs.Setup.{Client, FitsSetup, is_client}
 use Rattle.rx_rules.specs.Slots.{room}
 use Rattle.rx_history.specs.Sides.{Node, side}
 use Rattle.rx_history.proofs.Suffice.{roomy_history}
-use Rattle.rx_history.proofs.UsedLaws.{used_within}
+use Rattle.rx_history.proofs.Laws.UsedLaws.{used_within}
 use Rattle.rx_closing.proofs.Callers.CallerTurn.{Filled, SaidOut, all_said, calls, fills_up, looks_at}
 use Rattle.rx_closing.proofs.Ends.ReplyLate.{IsLate, reply_late}
 use Rattle.rx_closing.proofs.Ends.RoomLaws.{room_free, room_spent}

@@ -22,7 +22,7 @@ use Rattle.rx_asks.specs.View.{CallerState}
 use Rattle.rx_plan.specs.Parts.{To}
 use Rattle.rx_plan.specs.Programs.{Turn}
 use Rattle.rx_plan.specs.Stages.{Stage, with_event}
-use Rattle.rx_closing.proofs.Callers.CallerEvents.{offer_is, own_change, own_is, shut_is, taken_of}
+use Rattle.rx_asks.proofs.CallerEvents.{offer_is, own_change, own_is, shut_is, taken_of}
 use Rattle.rx_closing.proofs.Callers.CallerReads.{begins, gives_up, goes_on, reads_out}
 use Rattle.rx_closing.proofs.Callers.CallerTurn.{At, CallerLeft, Goes, Next, all_said, caller_on, calls, event_at}
 use Rattle.rx_closing.proofs.Callers.CallerTurn.{fills_up, looks_behind, next_is}

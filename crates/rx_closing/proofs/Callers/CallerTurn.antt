@@ -30,7 +30,7 @@ use Rattle.rx_plan.proofs.Callers.{side_own}
 use Rattle.rx_plan.proofs.ClientEnds.{by_client}
 use Rattle.rx_rounds.proofs.Making.{turn_goes}
 use Rattle.rx_closing.proofs.Callers.AmongCallers.{among_stays}
-use Rattle.rx_closing.proofs.Callers.CallerEvents.{asked_dims, asked_now}
+use Rattle.rx_asks.proofs.CallerEvents.{asked_dims, asked_now}
 use Rattle.rx_closing.proofs.Frame.{AreAmong}
 use Rattle.rx_closing.proofs.Steps.{TurnsOn}
 

@@ -33,7 +33,7 @@ use Rattle.rx_plan.proofs.Callers.{heard_call, one_is, set_other, side_other}
 use Rattle.rx_plan.proofs.Driven.{set_own}
 use Rattle.rx_rounds.proofs.Making.{ends_to, then_to, to_is}
 use Rattle.rx_rounds.proofs.Rounded.{Made}
-use Rattle.rx_closing.proofs.Callers.CallerEvents.{asked_stays}
+use Rattle.rx_asks.proofs.CallerEvents.{asked_stays}
 use Rattle.rx_closing.proofs.Callers.CallerSays.{turns_own}
 use Rattle.rx_closing.proofs.Callers.CallerTurn.{At, CallerLeft, Goes, caller_on, calls, ended_now, event_at, looks_at}
 use Rattle.rx_closing.proofs.Callers.CallerTurn.{reads_on}

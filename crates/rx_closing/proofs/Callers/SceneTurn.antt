@@ -22,11 +22,12 @@ use Rattle.rx_plan.specs.Answering.{Invoked, invoked_at, request_for}
 use Rattle.rx_plan.specs.Stages.{Stage}
 use Rattle.rx_plan.specs.Turned.{turns_all}
 use Rattle.rx_plan.proofs.Driven.{seen}
+use Rattle.rx_plan.proofs.Followed.{IsFollowed}
 use Rattle.rx_rounds.proofs.Rounded.{Made}
 use Rattle.rx_closing.specs.Living.{looks_of}
 use Rattle.rx_closing.proofs.Callers.CallerRest.{counts_on, rests_shut}
 use Rattle.rx_closing.proofs.Callers.CallerTurn.{At, CallerLeft, calls, ended, ended_now, reads_on}
-use Rattle.rx_closing.proofs.Callers.CallersHold.{CallerOf, IsHeld, caller_of}
+use Rattle.rx_closing.proofs.Callers.CallersHold.{CallerOf, caller_of}
 use Rattle.rx_closing.proofs.Callers.CallersTurn.{callers_turn, client_there}
 use Rattle.rx_closing.proofs.Ends.LastOnly.{one_last, unread_drained}
 use Rattle.rx_closing.proofs.Frame.{AreAmong, Crowd, IsSpacious, OneOf, asked_in}
@@ -84,15 +85,15 @@ module _ (c : CallName) (k : ℕ) (client server : Node) where
     pub left : AskedLeft (request_for g invoke) now a t
 
   pub asked_turn : (cs : List CallName) (g : Handlers) (ls : List Numbered) (s t : Stage) (r : CallRecord)
-      → OneOf c k client server s → Crowd cs s → IsHeld g ls (seen s) → asked_in c k client s ≡ Some r
+      → OneOf c k client server s → Crowd cs s → IsFollowed g ls (seen s) → asked_in c k client s ≡ Some r
       → r.life ≡ lives.Calling → r.looks.sent.acked ≤ pieces_of r.looks.sent → Made turns_all s t
       → AskedTurn g ls (moment_of s) r.looks t
   asked_turn cs g ls s t r one crowd h there living known made =
       record {
         line = o.caller.line;
-        invoke = o.is.invoke;
-        at = o.is.at;
-        can = o.is.can;
+        invoke = o.is.origin.invoke;
+        at = o.is.origin.at;
+        can = o.is.origin.can;
         left =
             of (callers_turn (suc k) client c.host c.epoch one.client_is c cs now request o.place o.caller
             r.name r.looks s
@@ -107,10 +108,10 @@ module _ (c : CallName) (k : ℕ) (client server : Node) where
           one.client_there there living
 
       request : List ℕ
-      request = request_for g o.is.invoke
+      request = request_for g o.is.origin.invoke
 
       few : opened (length request) < 4294967294
-      few = request_few g.types o.is.invoke.proc o.is.invoke.args o.is.invoke.up o.is.can
+      few = request_few g.types o.is.origin.invoke.proc o.is.origin.invoke.args o.is.origin.invoke.up o.is.origin.can
 
       fits : FitsSetup client.setup
       fits =

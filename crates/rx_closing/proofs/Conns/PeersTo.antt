@@ -23,7 +23,7 @@ use Rattle.rx_rules.specs.Setup.{Client, IsServer, Kind, Server, Setup, named}
 use Rattle.rx_rules.proofs.EveryLaws.{Every}
 use Rattle.rx_history.proofs.Differ.{every_found}
 use Rattle.rx_plan.proofs.ConnsHold.{Bears, Lasts, MayLink, MayTake, MayTakeFrom, MayTell, bears_any, hold_after}
-use Rattle.rx_plan.proofs.ServicesStay.{LinksTo}
+use Rattle.rx_plan.proofs.Keys.ServicesStay.{LinksTo}
 use Rattle.rx_closing.proofs.Polls.OnePoll.{ConnIs}
 
 -- it is so of a connection that is made

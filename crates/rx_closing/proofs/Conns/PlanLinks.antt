@@ -18,7 +18,7 @@ use Rattle.rx_plan.specs.Lines.{line_part}
 use Rattle.rx_plan.specs.Parts.{Came, To, Refused, Cut, Then, ends}
 use Rattle.rx_plan.specs.Stages.{Stage}
 use Rattle.rx_plan.proofs.Leading.{Leads, ends_lead, then_lead}
-use Rattle.rx_plan.proofs.SoundPlan.{IfWhole}
+use Rattle.rx_plan.proofs.Soundness.SoundPlan.{IfWhole}
 use Rattle.rx_rounds.proofs.Rounded.{RoundMade}
 use Rattle.rx_closing.proofs.Conns.PeersTo.{LinksAt}
 use Rattle.rx_closing.proofs.Conns.PlanPeers.{AreLinked, Linked, LinksHost, line_links, settles_link, tame_step}

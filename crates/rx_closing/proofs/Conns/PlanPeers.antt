@@ -31,7 +31,7 @@ use Rattle.rx_plan.specs.Parts.{Came, To, Refused, One, Part, each, ends}
 use Rattle.rx_plan.specs.Rounds.{clients_first, may_move, moves_by, moves_on, polls, round, rounds, settles, turns}
 use Rattle.rx_plan.specs.Stages.{IsAllowedNext, Stage, event, event_with, host_at, name_called, with_event}
 use Rattle.rx_plan.proofs.Leading.{Leads, each_lead, ends_lead, one_lead, test_lead, then_lead}
-use Rattle.rx_plan.proofs.Sound.{IfTo}
+use Rattle.rx_plan.proofs.Soundness.Sound.{IfTo}
 use Rattle.rx_closing.proofs.Conns.PeersTo.{LinksAt}
 use Rattle.rx_closing.proofs.Rounds.TameParts.{IsTame, deliver_lead, deliveries_lead, polls_lead, turn_line_lead}
 use Rattle.rx_closing.proofs.Rounds.TameParts.{turns_lead}

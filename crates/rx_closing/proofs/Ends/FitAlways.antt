@@ -8,11 +8,12 @@ use Rattle.rx_rules.specs.After.{after, looks}
 use Rattle.rx_rules.specs.CallLooks.{CallLooks, fresh_call}
 use Rattle.rx_rules.specs.Looks.{CallRecord, Looks, call_at}
 use Rattle.rx_rules.specs.Rules.{AllowedAt, Legal}
-use Rattle.rx_rules.specs.Setup.{Kind, Server, Client, Setup, FitsSetup, sending_window}
+use Rattle.rx_rules.specs.Setup.{Client, FitsSetup, Kind, Server, Setup, pace_of}
 use Rattle.rx_history.proofs.Moments.{now-after}
 use Rattle.rx_history.specs.Sides.{with_clock}
-use Rattle.rx_between.proofs.EachEvent.{each_step}
-use Rattle.rx_between.proofs.EachStep.{CallStep, EndStep, Starts, finishes, gives, reads, shuts, stays, takes, writes}
+use Rattle.rx_between.proofs.Each.EachEvent.{each_step}
+use Rattle.rx_between.proofs.Each.EachStep.{CallStep, EndStep, Starts, finishes, gives, reads, shuts, stays, takes}
+use Rattle.rx_between.proofs.Each.EachStep.{writes}
 use Rattle.rx_closing.proofs.Ends.BothEnds.{IsFit}
 use Rattle.rx_closing.proofs.Ends.EndFacts.{fit_later, fit_read, fit_shut, fit_taken, fit_write}
 use Rattle.rx_closing.proofs.Ends.FitGives.{fit_sending}
@@ -22,7 +23,7 @@ use Rattle.rx_closing.proofs.Ends.NextGiven.{next_is}
 
 -- one that starts
 pub fresh_fit : (s : Setup) (now : ℕ) → FitsSetup s → s.prompt ≡ false
-    → IsFit now (fresh_call (sending_window s) s.prompt now)
+    → IsFit now (fresh_call (pace_of s) now)
 fresh_fit s now fits steady =
     let wide = fits.limits.wide in
     record {
@@ -62,7 +63,7 @@ end-fit s l e c a b (finishes code event zero_ is) fit = subst (IsFit l.now) (sy
 starts-fit : (s : Setup) (l : Looks) (e : Event) (c : CallName) (b : CallRecord) → FitsSetup s → s.prompt ≡ false
     → Starts s l e c b → IsFit l.now b.looks
 starts-fit s l e c b fits steady (name, inl opens) =
-    end-fit s l e c (fresh_call (sending_window s) s.prompt l.now) b.looks (takes opens.takes)
+    end-fit s l e c (fresh_call (pace_of s) l.now) b.looks (takes opens.takes)
     (fresh_fit s l.now fits steady)
 starts-fit s l e c b fits steady (name, inr made) =
     subst (IsFit l.now) (sym made.looks) (fresh_fit s l.now fits steady)

@@ -10,7 +10,7 @@ use Rattle.rx_rules.specs.Received.{Packet, Received, front_of, greatest, is_don
 use Rattle.rx_rules.specs.Received as packets
 use Rattle.rx_rules.specs.Sent.{Giving, Sent, counting_by, counting_of, given_of, greatest_given, pieces_by, pieces_of}
 use Rattle.rx_rules.specs.Setup.{Setup, is_client}
-use Rattle.rx_history.proofs.UsedLaws.{used_reads}
+use Rattle.rx_history.proofs.Laws.UsedLaws.{used_reads}
 use Rattle.rx_between.specs.Agreed.{AreGiven}
 use Rattle.rx_between.proofs.Counting.{reach_le}
 use Rattle.rx_closing.proofs.Ends.BothEnds.{Ends, Round, Stood}

@@ -28,11 +28,12 @@ use Rattle.rx_rules.proofs.PacketLaws.{bytes_split, end_is, front_all, kept_with
 use Rattle.rx_history.proofs.Differ.{every_found}
 use Rattle.rx_history.proofs.Reaches.{reach_least}
 use Rattle.rx_history.proofs.Suffice.{roomy_history}
-use Rattle.rx_history.proofs.Tight.{TightOf}
-use Rattle.rx_history.proofs.UsedLaws.{used_within}
-use Rattle.rx_history.proofs.WholeLaws.{none_left}
-use Rattle.rx_between.proofs.EachEvent.{each_step}
-use Rattle.rx_between.proofs.EachStep.{CallStep, EndStep, Starts, finishes, gives, reads, shuts, stays, takes, writes}
+use Rattle.rx_history.proofs.Room.Tight.{TightOf}
+use Rattle.rx_history.proofs.Laws.UsedLaws.{used_within}
+use Rattle.rx_history.proofs.Laws.WholeLaws.{none_left}
+use Rattle.rx_between.proofs.Each.EachEvent.{each_step}
+use Rattle.rx_between.proofs.Each.EachStep.{CallStep, EndStep, Starts, finishes, gives, reads, shuts, stays, takes}
+use Rattle.rx_between.proofs.Each.EachStep.{writes}
 use Rattle.std.proofs.lemmas.List.{length-append}
 
 -- ---- one last packet

@@ -13,7 +13,7 @@ use Rattle.rx_rules.specs.Owing.{Owed}
 use Rattle.rx_rules.specs.Rates.{Cwnd}
 use Rattle.rx_rules.specs.Sent.{LastGiving, Sent, given_of, last_giving, lowest_of}
 use Rattle.rx_rules.specs.Setup.{Setup, is_client, receiving_window}
-use Rattle.rx_between.proofs.EachItem.{In, in_behind, in_filter, in_front, least_in, least_none}
+use Rattle.rx_between.proofs.Each.EachItem.{In, in_behind, in_filter, in_front, least_in, least_none}
 use Rattle.rx_closing.proofs.Steps.{IsViewAt}
 
 -- ---- a node's view

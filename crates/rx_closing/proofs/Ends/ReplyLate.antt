@@ -20,9 +20,10 @@ use Rattle.rx_rules.specs.Rules.{Legal}
 use Rattle.rx_rules.specs.Sent.{given_of, is_all_given, pieces_of}
 use Rattle.rx_rules.specs.Sent as streams
 use Rattle.rx_rules.specs.Setup.{FitsSetup, Setup, is_client}
-use Rattle.rx_between.proofs.EachEvent.{each_step}
-use Rattle.rx_between.proofs.EachStep.{CallStep, EndStep, Starts, finishes, gives, is_own, reads, shuts, stays, takes}
-use Rattle.rx_between.proofs.EachStep.{writes}
+use Rattle.rx_between.proofs.Each.EachEvent.{each_step}
+use Rattle.rx_between.proofs.Each.EachStep.{CallStep, EndStep, Starts, finishes, gives, is_own, reads, shuts, stays}
+use Rattle.rx_between.proofs.Each.EachStep.{takes}
+use Rattle.rx_between.proofs.Each.EachStep.{writes}
 
 -- nothing of the reply is kept, or the request is shut
 abbrev pub IsLate : CallLooks → Type 0

@@ -22,7 +22,7 @@ use Rattle.rx_rules.proofs.PacketLaws.{front_all}
 use Rattle.rx_history.proofs.Differ.{Differ, by_name, every_found}
 use Rattle.rx_history.proofs.OneCall.{common_one}
 use Rattle.rx_history.proofs.Reaches.{count_passes}
-use Rattle.rx_history.proofs.RoomStarts.{RoomyAt}
+use Rattle.rx_history.proofs.Room.RoomStarts.{RoomyAt}
 use Rattle.rx_closing.proofs.Ends.Least.{min_first, min_is, min_second, min_third}
 
 -- ---- in numbers

@@ -5,7 +5,7 @@ use Rattle.rx_rules.specs.CallLooks.{CallLooks, after_read, after_shut, after_wr
 use Rattle.rx_rules.specs.Looks.{CallRecord}
 use Rattle.rx_rules.specs.Received.{front_of, used_of}
 use Rattle.rx_rules.specs.Sent.{counting_by, counting_of, given_of, greatest_given, pieces_by, pieces_of}
-use Rattle.rx_history.proofs.UsedLaws.{used_reads}
+use Rattle.rx_history.proofs.Laws.UsedLaws.{used_reads}
 use Rattle.rx_closing.proofs.Frame.{far, flag, rank_of}
 use Rattle.rx_closing.proofs.Steps.{TurnsOn, turns_none, turns_read, turns_shut, turns_write}
 

@@ -12,20 +12,13 @@ use Rattle.rx_jobs.specs.Handlers.{Handlers}
 use Rattle.rx_plan.specs.Answering.{Invoked, invoked_at, request_for}
 use Rattle.rx_plan.specs.Stages.{InvokedState, Stage}
 use Rattle.rx_plan.proofs.Callers.{heard_call, one_is, set_other}
+use Rattle.rx_plan.proofs.HasCaller.{get_front}
 use Rattle.rx_plan.proofs.Driven.{Carries, Seen, invoked, seen, set_own, with_view}
 use Rattle.rx_plan.proofs.Followed.{Asks, IsFollowed, IsPlayed}
 use Rattle.rx_rounds.proofs.Rounded.{RoundMade}
 use Rattle.rx_closing.proofs.Far.FarWork.{IsCaused, caused}
 use Rattle.rx_closing.proofs.Frame.{OneOf}
 use Rattle.rx_closing.proofs.Rounds.RoundCarries.{RoundCarried, round_carries}
-
--- ---- the caller at a place
-
-pub get_front : {X : Type 0} (xs ys : List X) (i : ℕ) (y : X) → slice_get xs i ≡ Some y
-    → slice_get (xs ++ ys) i ≡ Some y
-get_front [] ys i y is = absurd cc
-get_front (x ∷ xs) ys zero y is = is
-get_front (x ∷ xs) ys (suc i) y is = get_front xs ys i y is
 
 -- ---- the caller at a place
 
@@ -108,7 +101,7 @@ module _ (g : Handlers) (ls : List Numbered) (c : CallName) (node place line : �
 pub record CausedBy (g : Handlers) (ls : List Numbered) (c : CallName) (k : ℕ) (client : Node) (request : List ℕ)
     (s : Stage) : Type 0 where
   pub cause : IsCaused g ls c k client s
-  pub asks : request_for g cause.caller.invoke ≡ request
+  pub asks : request_for g cause.caller.origin.invoke ≡ request
 
 module _ (g : Handlers) (ls : List Numbered) (c : CallName) (k : ℕ) (client server : Node) where
   -- where its caller is
@@ -118,15 +111,15 @@ module _ (g : Handlers) (ls : List Numbered) (c : CallName) (k : ℕ) (client se
   -- at another stage the caller at that place is the cause there, and asks the same
   pub cause_at : (s t : Stage) → (i : IsCaused g ls c k client s) → OneOf c k client server t
       → IsFollowed g ls (seen t) → IsAt c (suc k) i.place i.invoked.line t.callers
-      → CausedBy g ls c k client (request_for g i.caller.invoke) t
+      → CausedBy g ls c k client (request_for g i.caller.origin.invoke) t
   cause_at s t i scene follows at =
       (let j = caused g ls c k client server t scene follows i.place at.it at.there at.call in
       let played : IsPlayed g ls (seen t) = follows.played scene.world.sides.nodes_are in
       let same : j.invoked ≡ at.it = one j.place j.invoked j.at j.node j.call played in
       let line : j.invoked.line ≡ i.invoked.line = ap (λ (x : InvokedState). x.line) same ∙ at.line_is in
-      let invoke : j.caller.invoke ≡ i.caller.invoke =
-      invoke_is j.caller.invoke i.caller.invoke
-      (sym j.caller.at ∙ ap (invoked_at g ls) line ∙ i.caller.at) in
+      let invoke : j.caller.origin.invoke ≡ i.caller.origin.invoke =
+      invoke_is j.caller.origin.invoke i.caller.origin.invoke
+      (sym j.caller.origin.at ∙ ap (invoked_at g ls) line ∙ i.caller.origin.at) in
       record { cause = j; asks = ap (request_for g) invoke })
     where
       invoke_is : (a b : Invoked) → Some a ≡ Some b → a ≡ b

@@ -17,7 +17,7 @@ use Rattle.rx_history.proofs.ClientHistory.{client-calls}
 use Rattle.rx_history.proofs.Ends.{ends_of}
 use Rattle.rx_history.proofs.ServerStands.{server-stands}
 use Rattle.rx_history.proofs.Turns.{SendsOf, counting}
-use Rattle.rx_history.proofs.UsedLaws.{used_within}
+use Rattle.rx_history.proofs.Laws.UsedLaws.{used_within}
 use Rattle.rx_law.specs.Promises.{ServerForgotNone, ends_in}
 use Rattle.rx_law.specs.Times.{Timely}
 use Rattle.rx_law.specs.Worlds.{World}

@@ -14,14 +14,15 @@ use Rattle.rx_rules.specs.Looks.{CallRecord, Looks, call_at}
 use Rattle.rx_rules.specs.Received.{Piece, Received}
 use Rattle.rx_rules.specs.Rules.{Legal}
 use Rattle.rx_rules.specs.Sent.{given_of}
-use Rattle.rx_rules.specs.Setup.{Setup, FitsSetup, sending_window}
+use Rattle.rx_rules.specs.Setup.{FitsSetup, Setup, pace_of}
 use Rattle.rx_history.proofs.ClientHistory.{client-calls}
 use Rattle.rx_between.specs.Acknowledged.{sent_by}
 use Rattle.rx_between.specs.Told.{Grows, StartsNoneAnew}
-use Rattle.rx_between.proofs.EachEvent.{each_step}
-use Rattle.rx_between.proofs.EachStep.{CallStep, Goes, LifeStep, Starts, accepted, cancelled, finished, gone, is_acked}
-use Rattle.rx_between.proofs.EachStep.{is_busy, is_followed, is_silent, is_stopped, lives_on, read_out}
-use Rattle.rx_between.proofs.EachStep as steps
+use Rattle.rx_between.proofs.Each.EachEvent.{each_step}
+use Rattle.rx_between.proofs.Each.EachStep.{CallStep, Goes, LifeStep, Starts, accepted, cancelled, finished, gone}
+use Rattle.rx_between.proofs.Each.EachStep.{is_acked}
+use Rattle.rx_between.proofs.Each.EachStep.{is_busy, is_followed, is_silent, is_stopped, lives_on, read_out}
+use Rattle.rx_between.proofs.Each.EachStep as steps
 use Rattle.rx_between.proofs.Grows.{grows_on, grows_same, step_grows}
 use Rattle.rx_between.proofs.Onward.{NoneAnew, client_anew, server_anew}
 use Rattle.rx_closing.proofs.Far.FarParts.{Advances, StayKept, step_acks, step_advances, step_stays}
@@ -200,7 +201,7 @@ goes_further s l e c a b goes low =
 fresh_acked : (s : Setup) (l : Looks) (e : Event) (c : CallName) (b : CallRecord) → Starts s l e c b
     → IsAckedGiven (Some b)
 fresh_acked s l e c b (name, inl opens) =
-    (step_acks s l e c (fresh_call (sending_window s) s.prompt l.now) b.looks (steps.takes opens.takes)
+    (step_acks s l e c (fresh_call (pace_of s) l.now) b.looks (steps.takes opens.takes)
     (omega arith)).within
 fresh_acked s l e c b (name, inr made) =
     subst (λ (k : CallLooks). k.sent.acked ≤ given_of k.sent) (sym made.looks) (omega arith)

@@ -24,7 +24,7 @@ use Rattle.rx_rules.proofs.PacketLaws.{kept_within}
 use Rattle.rx_history.proofs.Calls.{body-ends, found-ends}
 use Rattle.rx_history.proofs.Ends.{Ends, ends_in}
 use Rattle.rx_between.proofs.Counting.{reach_least, reach_passes}
-use Rattle.rx_between.proofs.EachStep.{EndStep, finishes, gives, reads, shuts, stays, takes, writes}
+use Rattle.rx_between.proofs.Each.EachStep.{EndStep, finishes, gives, reads, shuts, stays, takes, writes}
 use Rattle.rx_between.proofs.GivenSeqs.{step_given}
 use Rattle.rx_between.proofs.Grows.{row_new, step_grows}
 use Rattle.rx_between.proofs.Marks.{packet-more}

@@ -11,7 +11,7 @@ use Rattle.rx_rules.specs.Rules.{Legal}
 use Rattle.rx_rules.specs.Setup.{Setup, IsServer}
 use Rattle.rx_history.specs.Counts.{Once}
 use Rattle.rx_history.specs.Starts.{StartsOnce}
-use Rattle.rx_history.proofs.OnceLaw.{served}
+use Rattle.rx_history.proofs.Laws.OnceLaw.{served}
 use Rattle.rx_between.specs.Acknowledged.{received_by, sent_by}
 use Rattle.rx_script.specs.Served.{bytes}
 use Rattle.rx_jobs.specs.declared.job.Want.{Want}

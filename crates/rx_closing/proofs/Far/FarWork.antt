@@ -19,7 +19,7 @@ use Rattle.rx_jobs.specs.Handlers.{Handlers, wait_of}
 use Rattle.rx_rounds.specs.Bounds.{both_pieces}
 use Rattle.rx_plan.specs.Answering.{Invoked, invoked_at, request_for}
 use Rattle.rx_plan.specs.Stages.{InvokedState, Stage}
-use Rattle.rx_plan.proofs.Answered.{Connected, connected}
+use Rattle.rx_plan.proofs.Givings.Answered.{Connected, connected}
 use Rattle.rx_plan.proofs.Callers.{one_is}
 use Rattle.rx_plan.proofs.Driven.{seen}
 use Rattle.rx_plan.proofs.Followed.{IsCaller, IsFollowed, IsPlayed}
@@ -94,8 +94,8 @@ pub record IsCaused (g : Handlers) (ls : List Numbered) (c : CallName) (k : ℕ)
     pub caller : IsCaller g ls s.nodes s.history invoked
     pub call : invoked.caller.call ≡ c
     pub node : invoked.node ≡ suc k
-    pub tells : Tells (request_for g caller.invoke) invoked.caller (looks_of s (suc k) client)
-    pub work_is : work_of g ls s c ≡ work g (request_for g caller.invoke)
+    pub tells : Tells (request_for g caller.origin.invoke) invoked.caller (looks_of s (suc k) client)
+    pub work_is : work_of g ls s c ≡ work g (request_for g caller.origin.invoke)
 
 module _ (g : Handlers) (ls : List Numbered) (c : CallName) (k : ℕ) (client server : Node) (s : Stage)
     (scene : OneOf c k client server s) (follows : IsFollowed g ls (seen s)) where
@@ -136,19 +136,20 @@ module _ (g : Handlers) (ls : List Numbered) (c : CallName) (k : ℕ) (client se
             call = call;
             node = node;
             tells =
-                subst (λ (m : Node). Tells (request_for g caller.invoke) j.caller (looks_of s (suc k) m)) same
-                (subst (λ (q : ℕ). Tells (request_for g caller.invoke) j.caller (looks_of s q caller.node.client))
+                subst (λ (m : Node). Tells (request_for g caller.origin.invoke) j.caller (looks_of s (suc k) m)) same
+                (subst (λ (q : ℕ). Tells (request_for g caller.origin.invoke) j.caller
+                (looks_of s q caller.node.client))
                 node n.tells);
             work_is =
                 ap (λ (o : Option InvokedState). unwrap_or (option_map (λ (v : Invoked). work g (request_for g v))
                 (option_and_then (λ (m : InvokedState). invoked_at g ls m.line) o)) 0) f.is
                 ∙ ap (λ (o : Option Invoked). unwrap_or (option_map (λ (v : Invoked). work g (request_for g v)) o) 0)
-                caller.at;
+                caller.origin.at;
           })
 
   module _ (i : IsCaused g ls c k client s) where
     abbrev request : List ℕ
-    request = request_for g i.caller.invoke
+    request = request_for g i.caller.origin.invoke
 
     -- at both ends together a call is so far at most
     pub far_most : far_of (asked_in c k client s) + far_of (served_in c server s) ≤ 5 * both_pieces g request + 21

@@ -32,15 +32,16 @@ use Rattle.rx_rules.specs.Setup.{Kind, Server, Client, FitsSetup, IsServer, Setu
 use Rattle.rx_rules.specs.Slots.{node_view, room}
 use Rattle.rx_history.proofs.Differ.{every_found}
 use Rattle.rx_history.proofs.LifeFalls.{is_begun}
-use Rattle.rx_history.proofs.OnceLaw.{served}
+use Rattle.rx_history.proofs.Laws.OnceLaw.{served}
 use Rattle.rx_history.proofs.ServerStands.{server-stands}
 use Rattle.rx_history.proofs.Suffice.{roomy_history}
-use Rattle.rx_history.proofs.Tight.{TightOf}
+use Rattle.rx_history.proofs.Room.Tight.{TightOf}
 use Rattle.rx_history.specs.Starts.{StartsOnce}
 use Rattle.rx_between.specs.Acknowledged.{sent_by}
-use Rattle.rx_between.proofs.EachEvent.{each_step}
-use Rattle.rx_between.proofs.EachStep.{CallStep, EndStep, Judges, Starts, Takes, finishes, gives, reads, shuts, stays}
-use Rattle.rx_between.proofs.EachStep.{takes, writes}
+use Rattle.rx_between.proofs.Each.EachEvent.{each_step}
+use Rattle.rx_between.proofs.Each.EachStep.{CallStep, EndStep, Judges, Starts, Takes, finishes, gives, reads, shuts}
+use Rattle.rx_between.proofs.Each.EachStep.{stays}
+use Rattle.rx_between.proofs.Each.EachStep.{takes, writes}
 use Rattle.rx_plan.proofs.Passed.{prepared-calls}
 use Rattle.rx_plan.proofs.Passing.{own_changed}
 use Rattle.rx_closing.proofs.Far.FarBounds.{counts_of}

@@ -14,10 +14,10 @@ use Rattle.rx_rules.specs.Life as lives
 use Rattle.rx_rules.specs.Looks.{CallRecord, Looks, call_at}
 use Rattle.rx_rules.specs.Rules.{AllowedServer, Legal, served_by, served_finish}
 use Rattle.rx_rules.specs.Setup.{FitsSetup, IsServer, Setup}
-use Rattle.rx_history.proofs.OnceLaw.{served}
-use Rattle.rx_between.proofs.EachEvent.{each_step}
-use Rattle.rx_between.proofs.EachStep.{CallStep, LifeStep, Starts, accepted, cancelled, finished, gone, is_acked}
-use Rattle.rx_between.proofs.EachStep.{is_busy, is_followed, is_silent, is_stopped, lives_on, read_out}
+use Rattle.rx_history.proofs.Laws.OnceLaw.{served}
+use Rattle.rx_between.proofs.Each.EachEvent.{each_step}
+use Rattle.rx_between.proofs.Each.EachStep.{CallStep, LifeStep, Starts, accepted, cancelled, finished, gone, is_acked}
+use Rattle.rx_between.proofs.Each.EachStep.{is_busy, is_followed, is_silent, is_stopped, lives_on, read_out}
 use Rattle.rx_between.proofs.Grows.{step_grows}
 
 -- ---- a life

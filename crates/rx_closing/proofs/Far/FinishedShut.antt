@@ -14,13 +14,13 @@ use Rattle.rx_rules.specs.Life as lives
 use Rattle.rx_rules.specs.Looks.{CallRecord, Looks, call_at, on_channel, on_looks}
 use Rattle.rx_rules.specs.Rules.{AllowedServer, Legal}
 use Rattle.rx_rules.specs.Setup.{FitsSetup, IsServer, Setup}
-use Rattle.rx_history.proofs.OnceLaw.{served}
+use Rattle.rx_history.proofs.Laws.OnceLaw.{served}
 use Rattle.rx_history.specs.Starts.{StartsOnce}
 use Rattle.rx_between.specs.Acknowledged.{sent_by}
 use Rattle.rx_rules.specs.Sent.{given_of}
-use Rattle.rx_between.proofs.EachEvent.{each_step}
-use Rattle.rx_between.proofs.EachStep.{CallStep, LifeStep, Starts, accepted, cancelled, finished, gone, is_acked}
-use Rattle.rx_between.proofs.EachStep.{is_busy, is_followed, is_silent, is_stopped, lives_on, read_out}
+use Rattle.rx_between.proofs.Each.EachEvent.{each_step}
+use Rattle.rx_between.proofs.Each.EachStep.{CallStep, LifeStep, Starts, accepted, cancelled, finished, gone, is_acked}
+use Rattle.rx_between.proofs.Each.EachStep.{is_busy, is_followed, is_silent, is_stopped, lives_on, read_out}
 use Rattle.rx_plan.proofs.Passing.{own_changed}
 use Rattle.rx_closing.proofs.Far.FarGrows.{acked_given}
 use Rattle.rx_closing.proofs.Far.FarParts.{step_advances}

@@ -189,14 +189,15 @@ way_of most c k client server s = both_far c k client server s + waited most c (
 -- five times its work is more
 pub way_low : (g : Handlers) (ls : List Numbered) (c : CallName) (k : ℕ) (client server : Node) (s : Stage)
     (scene : OneOf c k client server s) (follows : IsFollowed g ls (seen s)) (i : IsCaused g ls c k client s)
-    → IsJobLow (wait_of g (request_for g i.caller.invoke)) (job_of c s.jobs)
-    → way_of (wait_of g (request_for g i.caller.invoke)) c k client server s + 18 ≤ 5 * work_of g ls s c
+    → IsJobLow (wait_of g (request_for g i.caller.origin.invoke)) (job_of c s.jobs)
+    → way_of (wait_of g (request_for g i.caller.origin.invoke)) c k client server s + 18 ≤ 5 * work_of g ls s c
 way_low g ls c k client server s scene follows i low =
-    by (both_far c k client server s) (waited (wait_of g (request_for g i.caller.invoke)) c (served_in c server s)
+    by (both_far c k client server s)
+    (waited (wait_of g (request_for g i.caller.origin.invoke)) c (served_in c server s)
     s.jobs)
-    (wait_of g (request_for g i.caller.invoke)) (work_of g ls s c)
+    (wait_of g (request_for g i.caller.origin.invoke)) (work_of g ls s c)
     (far_work g ls c k client server s scene follows i)
-    (waited_low (wait_of g (request_for g i.caller.invoke)) c (served_in c server s) s.jobs low)
+    (waited_low (wait_of g (request_for g i.caller.origin.invoke)) c (served_in c server s) s.jobs low)
   where
     by : (m n t w : ℕ) → m + 5 * t + 19 ≤ 5 * w → n ≤ suc t → m + n + 18 ≤ 5 * w
     by m n t w all few = omega (arith, all, few)

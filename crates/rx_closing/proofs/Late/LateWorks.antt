@@ -11,7 +11,7 @@ use Rattle.rx_script.specs.declared.plan.Numbered.{Numbered}
 use Rattle.rx_jobs.specs.Handlers.{Handlers}
 use Rattle.rx_plan.specs.Answering.{AreServable}
 use Rattle.rx_plan.specs.Stages.{Stage}
-use Rattle.rx_rounds.proofs.EachItem.{In}
+use Rattle.rx_between.proofs.Each.EachItem.{In}
 use Rattle.rx_rounds.proofs.Rounded.{RoundMade}
 use Rattle.rx_closing.proofs.Ends.AtRest.{Rest}
 use Rattle.rx_closing.proofs.Ends.BothEnds.{RestsOn, Stood}
@@ -187,6 +187,6 @@ module _ (g : Handlers) (ls : List Numbered) (servable : AreServable g) (server 
     pub never_rested : ⊥
     never_rested =
         never_rests g ls servable c k client server m.request r.delivered r.served before behind
-        all.delivered.held.follows all.served.held.follows stages.delivered.caused stages.served.caused.cause
+        all.delivered.held all.served.held stages.delivered.caused stages.served.caused.cause
         r.serves_are (names_of ms) all.delivered.crowd asked.0 served.0 asked.1 served.1 asks answers shut still
         (ap is_active served.2.life ∙ b.works)

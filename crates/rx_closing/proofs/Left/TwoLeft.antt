@@ -28,10 +28,13 @@ use Rattle.rx_plan.specs.Stages.{InvokedState, Stage}
 use Rattle.rx_rounds.specs.Bounds.{default_limits}
 use Rattle.rx_closing.specs.Closing.{RepliesFit}
 use Rattle.rx_closing.specs.Ended.{AreFair}
-use Rattle.rx_closing.proofs.Left.LeftScene.{accepted, ack_of, are_low, are_open, asked, at_c, at_client, at_s, at_server}
-use Rattle.rx_closing.proofs.Left.LeftScene.{call, called, client, clocks_to, data_of, datagram, distinct, finished, four}
+use Rattle.rx_closing.proofs.Left.LeftScene.{accepted, ack_of, are_low, are_open, asked, at_c, at_client, at_s}
+use Rattle.rx_closing.proofs.Left.LeftScene.{at_server}
+use Rattle.rx_closing.proofs.Left.LeftScene.{call, called, client, clocks_to, data_of, datagram, distinct, finished}
+use Rattle.rx_closing.proofs.Left.LeftScene.{four}
 use Rattle.rx_closing.proofs.Left.LeftScene.{g, gives_c, gives_s, invoke, late, low_moment, nodes, none_c, none_s}
-use Rattle.rx_closing.proofs.Left.LeftScene.{none_waits, reads_c, server, takes_c, takes_s, touch, touch_serves, touch_work}
+use Rattle.rx_closing.proofs.Left.LeftScene.{none_waits, reads_c, server, takes_c, takes_s, touch, touch_serves}
+use Rattle.rx_closing.proofs.Left.LeftScene.{touch_work}
 use Rattle.rx_closing.specs.EndedAll.{ClosesAllFrom, SilentAllFrom}
 use Rattle.rx_closing.specs.Several.{enough_for}
 use Rattle.rx_closing.proofs.Left.NoneLeft.{none_of_all_dies_heard, none_of_all_lives_on}

@@ -7,8 +7,8 @@ use Rattle.rx_rules.specs.Life.{is_live}
 use Rattle.rx_rules.specs.Looks.{CallRecord, call_at}
 use Rattle.rx_rules.specs.Rules.{Legal}
 use Rattle.rx_rules.specs.Setup.{Setup, FitsSetup}
-use Rattle.rx_between.proofs.EachStep.{Starts}
-use Rattle.rx_rounds.proofs.EachItem.{In}
+use Rattle.rx_between.proofs.Each.EachStep.{Starts}
+use Rattle.rx_between.proofs.Each.EachItem.{In}
 use Rattle.rx_closing.proofs.Frame.{AreAmong}
 use Rattle.rx_closing.proofs.Rounds.LivesBack.{lived_or_starts}
 

@@ -14,7 +14,7 @@ use Rattle.rx_law.proofs.World.{if-some}
 use Rattle.rx_law.specs.Worlds.{Datagram}
 use Rattle.rx_jobs.specs.Handlers.{Handlers}
 use Rattle.rx_plan.specs.Stages.{Stage}
-use Rattle.rx_rounds.proofs.EachItem.{In}
+use Rattle.rx_between.proofs.Each.EachItem.{In}
 use Rattle.rx_rounds.proofs.Rounded.{RoundMade}
 use Rattle.rx_closing.proofs.Frame.{AreAmong, Crowd, IsSpacious, OneOf, asked_in, served_in}
 use Rattle.rx_closing.proofs.Living.CrowdWithin.{crowd_within}

@@ -25,10 +25,10 @@ use Rattle.rx_law.proofs.World.{Giver, and-some, gave-mine, if-some}
 use Rattle.rx_law.proofs.WorldTimed.{found-and}
 use Rattle.rx_law.specs.Worlds.{Datagram, IsFrom, World, bag}
 use Rattle.rx_between.proofs.CameAll.{gave_own}
-use Rattle.rx_between.proofs.EachEvent.{each_step}
-use Rattle.rx_between.proofs.EachStep.{CallStep, Starts}
+use Rattle.rx_between.proofs.Each.EachEvent.{each_step}
+use Rattle.rx_between.proofs.Each.EachStep.{CallStep, Starts}
 use Rattle.rx_between.proofs.LawsAgree.{agree_in_world}
-use Rattle.rx_plan.proofs.AbortComes.{contains_in, giver_of}
+use Rattle.rx_plan.proofs.Aborts.AbortComes.{contains_in, giver_of}
 use Rattle.rx_plan.specs.Stages.{Stage}
 use Rattle.rx_closing.proofs.Frame.{Crowd, OneOf, asked_in, served_in}
 use Rattle.rx_closing.proofs.Living.Before.{world_before}

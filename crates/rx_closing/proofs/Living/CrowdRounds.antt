@@ -35,14 +35,14 @@ use Rattle.rx_wire.specs.Turns.{noted}
 use Rattle.rx_plan.proofs.Allowed.{AreAllowed, sides_of}
 use Rattle.rx_plan.proofs.Bags.{in_given, in_more}
 use Rattle.rx_plan.proofs.Callers.{side_other, side_own}
-use Rattle.rx_plan.proofs.Sound.{IsCalm}
-use Rattle.rx_plan.proofs.SoundRounds.{clocked_calm}
-use Rattle.rx_plan.proofs.SoundTurns.{caller_calm, handler_calm}
+use Rattle.rx_plan.proofs.Soundness.Sound.{IsCalm}
+use Rattle.rx_plan.proofs.Soundness.SoundRounds.{clocked_calm}
+use Rattle.rx_plan.proofs.Soundness.SoundTurns.{caller_calm, handler_calm}
 use Rattle.rx_rounds.proofs.Growing.{AnswersNone, job_quiet}
-use Rattle.rx_between.proofs.EachStep.{Starts, is_start}
+use Rattle.rx_between.proofs.Each.EachStep.{Starts, is_start}
 use Rattle.rx_between.proofs.Onward.{no-opening}
 use Rattle.rx_between.proofs.PollSays.{IsStream}
-use Rattle.rx_rounds.proofs.EachItem.{In}
+use Rattle.rx_between.proofs.Each.EachItem.{In}
 use Rattle.rx_closing.proofs.Frame.{AreAmong}
 use Rattle.rx_closing.proofs.Living.AmongSteps.{among_on}
 use Rattle.rx_closing.proofs.Living.ClientOf.{flagged}

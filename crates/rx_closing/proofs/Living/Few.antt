@@ -12,7 +12,7 @@ use Rattle.rx_rules.specs.Slots.{count_live, live}
 use Rattle.rx_rules.proofs.EveryLaws.{Every}
 use Rattle.rx_rules.proofs.FindLaws.{find_passes}
 use Rattle.rx_history.proofs.Differ.{Differ, by_name, every_found}
-use Rattle.rx_rounds.proofs.EachItem.{In}
+use Rattle.rx_between.proofs.Each.EachItem.{In}
 use Rattle.rx_closing.proofs.Frame.{AreAmong}
 
 -- ---- a list without a name

@@ -8,7 +8,7 @@ use Rattle.rx_model.proofs.NameLaws.{name_itself, name_sym}
 use Rattle.rx_rules.specs.Looks.{CallRecord}
 use Rattle.rx_rules.proofs.EveryLaws.{Every}
 use Rattle.rx_history.proofs.Differ.{Differ, by_name}
-use Rattle.rx_rounds.proofs.EachItem.{In}
+use Rattle.rx_between.proofs.Each.EachItem.{In}
 use Rattle.rx_closing.specs.Living.{joined_names}
 
 -- what holds of each holds of one

@@ -19,9 +19,9 @@ use Rattle.rx_rules.specs.Setup.{FitsSetup, Setup}
 use Rattle.rx_history.specs.Sides.{Node, side}
 use Rattle.rx_law.specs.Worlds.{Datagram}
 use Rattle.rx_between.specs.Told.{StartsNoneAnew}
-use Rattle.rx_between.proofs.EachEvent.{each_step}
-use Rattle.rx_between.proofs.EachStep.{CallStep, LifeStep, accepted, cancelled, finished, gone, is_acked, is_busy}
-use Rattle.rx_between.proofs.EachStep.{is_followed, is_silent, is_stopped, lives_on, read_out}
+use Rattle.rx_between.proofs.Each.EachEvent.{each_step}
+use Rattle.rx_between.proofs.Each.EachStep.{CallStep, LifeStep, accepted, cancelled, finished, gone, is_acked, is_busy}
+use Rattle.rx_between.proofs.Each.EachStep.{is_followed, is_silent, is_stopped, lives_on, read_out}
 use Rattle.rx_between.proofs.Onward.{NoneAnew}
 use Rattle.rx_plan.specs.Network.{delivers}
 use Rattle.rx_plan.specs.Parts.{each}

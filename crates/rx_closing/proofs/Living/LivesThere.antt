@@ -11,8 +11,8 @@ use Rattle.rx_events.specs.Waits.{over_nodes}
 use Rattle.rx_law.proofs.World.{if-some}
 use Rattle.rx_law.specs.Worlds.{World}
 use Rattle.rx_plan.specs.Stages.{Stage}
-use Rattle.rx_rounds.proofs.EachItem.{In}
-use Rattle.rx_rounds.proofs.GivesOrMoves.{over_of}
+use Rattle.rx_between.proofs.Each.EachItem.{In}
+use Rattle.rx_rounds.proofs.Clocks.GivesOrMoves.{over_of}
 use Rattle.rx_closing.specs.Living.{all_live, is_served, live_names, looks_of, new_names}
 use Rattle.rx_closing.proofs.Living.InLists.{found_named, in_filter_back, in_joined_back, in_map_back}
 

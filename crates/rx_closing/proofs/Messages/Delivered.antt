@@ -24,11 +24,11 @@ use Rattle.rx_plan.proofs.Callers.{side_other, side_own}
 use Rattle.rx_plan.specs.Network.{all_nodes, below, comes_to, delivers, is_for}
 use Rattle.rx_plan.specs.Parts.{To, by_test, each, ends}
 use Rattle.rx_plan.specs.Stages.{Stage, event, with_event}
-use Rattle.rx_plan.proofs.AbortCauses.{taken_is as answer_is}
-use Rattle.rx_rounds.proofs.ClocksMove.{AreApart, IsNone, apart_from}
-use Rattle.rx_rounds.proofs.EachItem.{In, in_behind, in_front}
+use Rattle.rx_plan.proofs.Aborts.AbortCauses.{taken_is as answer_is}
+use Rattle.rx_rounds.proofs.Clocks.ClocksMove.{AreApart, IsNone, apart_from}
+use Rattle.rx_between.proofs.Each.EachItem.{In, in_behind, in_front}
 use Rattle.rx_rounds.proofs.Making.{ends_to, event_to, then_to}
-use Rattle.rx_rounds.proofs.NodeClock.{in_parts}
+use Rattle.rx_rounds.proofs.Clocks.NodeClock.{in_parts}
 use Rattle.rx_rounds.proofs.Rounded.{Made}
 use Rattle.rx_closing.proofs.Polls.InParts.{nth_low, nth_there}
 

@@ -18,9 +18,9 @@ use Rattle.rx_history.proofs.Moments.{now-after}
 use Rattle.rx_history.specs.Sides.{Node, side}
 use Rattle.rx_law.specs.Worlds.{Datagram}
 use Rattle.rx_between.specs.Told.{StartsNoneAnew}
-use Rattle.rx_between.proofs.EachEvent.{each_step}
-use Rattle.rx_between.proofs.EachStep.{CallStep, EndStep}
-use Rattle.rx_between.proofs.EachStep as steps
+use Rattle.rx_between.proofs.Each.EachEvent.{each_step}
+use Rattle.rx_between.proofs.Each.EachStep.{CallStep, EndStep}
+use Rattle.rx_between.proofs.Each.EachStep as steps
 use Rattle.rx_between.proofs.Onward.{NoneAnew}
 use Rattle.rx_plan.specs.Network.{delivers}
 use Rattle.rx_plan.specs.Parts.{each}

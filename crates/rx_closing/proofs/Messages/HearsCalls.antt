@@ -31,9 +31,9 @@ use Rattle.rx_rules.specs.Slots.{node_view}
 use Rattle.rx_history.proofs.Calls.{call-changed}
 use Rattle.rx_history.proofs.Events.{call-by, calls-prepared}
 use Rattle.rx_history.proofs.Moments.{now-prepared}
-use Rattle.rx_history.proofs.RoomTaken.{challenged-calls}
-use Rattle.rx_between.proofs.EachChange.{taken_alike}
-use Rattle.rx_between.proofs.EachStep.{is_own}
+use Rattle.rx_history.proofs.Room.RoomTaken.{challenged-calls}
+use Rattle.rx_between.proofs.Each.EachChange.{taken_alike}
+use Rattle.rx_between.proofs.Each.EachStep.{is_own}
 use Rattle.rx_between.proofs.OwnRows.{OwnRows, RowOf, own_rows}
 use Rattle.rx_between.proofs.Prepared.{prepared_number}
 use Rattle.rx_closing.specs.Silence.{is_hearing}

@@ -12,8 +12,8 @@ use Rattle.rx_rules.specs.Rules.{Legal}
 use Rattle.rx_rules.specs.Setup.{Setup}
 use Rattle.rx_rules.proofs.ConnsLaws.{channel_number, number_of}
 use Rattle.rx_history.proofs.Moments.{now-side}
-use Rattle.rx_history.proofs.OnceLaw.{sound-history}
-use Rattle.rx_history.proofs.SoundLaws.{Below}
+use Rattle.rx_history.proofs.Laws.OnceLaw.{sound-history}
+use Rattle.rx_history.proofs.Laws.SoundLaws.{Below}
 use Rattle.rx_history.specs.Alone.{ForgotNone}
 use Rattle.rx_history.specs.Sides.{Node, moment, side}
 use Rattle.rx_law.proofs.Hears.{heard_by}

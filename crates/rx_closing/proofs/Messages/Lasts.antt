@@ -11,9 +11,9 @@ use Rattle.rx_rules.specs.Rules.{Legal}
 use Rattle.rx_rules.specs.Setup.{FitsSetup, Setup}
 use Rattle.rx_rules.proofs.ConnsLaws.{channel_number}
 use Rattle.rx_rules.proofs.FindLaws.{find_passes}
-use Rattle.rx_history.proofs.FitCall.{CallFits}
-use Rattle.rx_history.proofs.FitHistory.{fit_history}
-use Rattle.rx_history.proofs.OrderlyHistory.{orderly_history}
+use Rattle.rx_history.proofs.Fit.FitCall.{CallFits}
+use Rattle.rx_history.proofs.Fit.FitHistory.{fit_history}
+use Rattle.rx_history.proofs.Order.OrderlyHistory.{orderly_history}
 use Rattle.rx_closing.proofs.Messages.Rows.{IsLast}
 
 -- each call that has a record has a number

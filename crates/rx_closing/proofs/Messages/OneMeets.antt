@@ -11,7 +11,7 @@ use Rattle.rx_history.specs.Sides.{IsClientAt, Node, side}
 use Rattle.rx_law.proofs.World.{if-some}
 use Rattle.rx_between.proofs.LawsTrue.{came_in}
 use Rattle.rx_plan.specs.Stages.{Stage}
-use Rattle.rx_plan.proofs.PlanKeys.{served_side, service_at}
+use Rattle.rx_plan.proofs.Keys.PlanKeys.{served_side, service_at}
 use Rattle.rx_plan.proofs.QuietEvents.{AreServed}
 use Rattle.rx_closing.specs.Living.{looks_of}
 use Rattle.rx_closing.proofs.Conns.PeersTo.{IsSo, IsTo, conns_hold, peers_stay}

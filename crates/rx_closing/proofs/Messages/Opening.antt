@@ -2,6 +2,7 @@
 use Rattle.std.proofs.Common.{◌≡◌, ◌≤◌, ◌&&◌, ◌||◌, ◌+◌, ◌==◌, if◌then◌else◌, nat_le, nat_lt, ℕ, suc, zero, Bool, true}
 use Rattle.std.proofs.Common.{false, List, refl, sym, subst, arith}
 use Rattle.std.proofs.lemmas.Bool.Decides.{nat_tests}
+use Rattle.rx_model.specs.declared.pace.Pace.{Pace}
 use Rattle.rx_model.specs.declared.answers.Took.{Took}
 use Rattle.rx_model.specs.declared.answers.Took.TheVariants as tooks
 use Rattle.rx_model.specs.declared.names.CallName.{CallName}
@@ -11,14 +12,14 @@ use Rattle.rx_model.specs.Message.{Message, has_flag}
 use Rattle.rx_rules.specs.CallLooks.{NodeView, call_row, fresh_call}
 use Rattle.rx_rules.specs.Life as lives
 use Rattle.rx_rules.specs.Looks.{CallRecord}
-use Rattle.rx_rules.specs.Setup.{Setup, sending_window}
+use Rattle.rx_rules.specs.Setup.{Setup, pace_of}
 use Rattle.rx_between.specs.Agreed.{MakesSense}
-use Rattle.rx_between.proofs.EachStep.{is_start}
+use Rattle.rx_between.proofs.Each.EachStep.{is_start}
 
 -- the call as it starts at a server
 abbrev pub begun_record : Setup → CallName → ℕ → CallRecord
 begun_record s c now =
-    record { name = c; life = lives.Waiting; looks = fresh_call (sending_window s) s.prompt now }
+    record { name = c; life = lives.Waiting; looks = fresh_call (pace_of s) now }
 
 -- ---- a first piece that makes sense is kept, or has no slot
 
@@ -48,17 +49,17 @@ or_first : (a b : Bool) → (a || b) ≡ false → a ≡ false
 or_first true b is = absurd cc
 or_first false b is = refl
 
-pub can_begin : (v : NodeView) (m : Message) (payload : List ℕ) (window now : ℕ) (prompt : Bool) → v.client ≡ false
-    → MakesSense (call_row v m (bodies.Chunk payload) (fresh_call window prompt now))
-    → CanBegin v m (call_row v m (bodies.Chunk payload) (fresh_call window prompt now))
-can_begin v m payload window now prompt client sense =
+pub can_begin : (v : NodeView) (m : Message) (payload : List ℕ) (pace : Pace) (now : ℕ) → v.client ≡ false
+    → MakesSense (call_row v m (bodies.Chunk payload) (fresh_call pace now))
+    → CanBegin v m (call_row v m (bodies.Chunk payload) (fresh_call pace now))
+can_begin v m payload pace now client sense =
     subst (λ (b : Bool). CanBegin v m (call_row (record v { client = b }) m (bodies.Chunk payload)
-    (fresh_call window prompt now))) (sym client)
+    (fresh_call pace now))) (sym client)
     (of (subst (λ (b : Bool). MakesSense (call_row (record v { client = b }) m (bodies.Chunk payload)
-    (fresh_call window prompt now))) client sense))
+    (fresh_call pace now))) client sense))
   where
-    of : MakesSense (call_row (record v { client = false }) m (bodies.Chunk payload) (fresh_call window prompt now))
-        → CanBegin v m (call_row (record v { client = false }) m (bodies.Chunk payload) (fresh_call window prompt now))
+    of : MakesSense (call_row (record v { client = false }) m (bodies.Chunk payload) (fresh_call pace now))
+        → CanBegin v m (call_row (record v { client = false }) m (bodies.Chunk payload) (fresh_call pace now))
     of sense =
         let a = sense_start (((m.seq == 0) || nat_lt 4294967294 m.seq) || false) (nat_le m.seq 0 || false)
         (nat_lt (0 + v.window) m.seq) (false || (has_flag LAST_PACKET m.flags && nat_lt m.seq 0)) _ sense

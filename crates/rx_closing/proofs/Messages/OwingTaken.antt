@@ -23,7 +23,7 @@ use Rattle.rx_rules.specs.Looks.{CallRecord, ChannelLooks, ConnLooks, Looks, cal
 use Rattle.rx_rules.specs.Looks.{latest_name, on_call, on_channel, on_life}
 use Rattle.rx_rules.specs.Setup.{Setup, is_client, named}
 use Rattle.rx_history.specs.Starts.{StartsBy, StartsNew}
-use Rattle.rx_between.proofs.EachStep.{is_start}
+use Rattle.rx_between.proofs.Each.EachStep.{is_start}
 use Rattle.rx_closing.proofs.Messages.OwingStays.{HoldsOwed, StaysOwed, again_number, again_stays, holds_channel}
 use Rattle.rx_closing.proofs.Messages.OwingStays.{holds_opened, holds_prepared, holds_same, holds_then, holds_told}
 use Rattle.rx_closing.proofs.Telling.AbortOwed.{conn_channel}

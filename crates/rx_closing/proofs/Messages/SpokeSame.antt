@@ -17,8 +17,8 @@ use Rattle.rx_rules.specs.Setup.{FitsSetup, Setup}
 use Rattle.rx_history.specs.Sides.{Node, side}
 use Rattle.rx_law.specs.Worlds.{Datagram}
 use Rattle.rx_between.specs.Told.{StartsNoneAnew}
-use Rattle.rx_between.proofs.EachEvent.{each_step}
-use Rattle.rx_between.proofs.EachStep.{CallStep, EndStep, finishes, gives, reads, shuts, stays, takes, writes}
+use Rattle.rx_between.proofs.Each.EachEvent.{each_step}
+use Rattle.rx_between.proofs.Each.EachStep.{CallStep, EndStep, finishes, gives, reads, shuts, stays, takes, writes}
 use Rattle.rx_between.proofs.Onward.{NoneAnew}
 use Rattle.rx_plan.specs.Network.{delivers}
 use Rattle.rx_plan.specs.Parts.{each}

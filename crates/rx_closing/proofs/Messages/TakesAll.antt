@@ -29,9 +29,9 @@ use Rattle.rx_law.specs.Worlds.{Datagram}
 use Rattle.rx_wire.specs.Turns.{noted}
 use Rattle.rx_between.specs.Agreed.{SenseAt}
 use Rattle.rx_between.specs.Told.{StartsNoneAnew}
-use Rattle.rx_between.proofs.EachEvent.{each_step}
-use Rattle.rx_between.proofs.EachStep.{CallStep, EndStep, Judges}
-use Rattle.rx_between.proofs.EachStep as steps
+use Rattle.rx_between.proofs.Each.EachEvent.{each_step}
+use Rattle.rx_between.proofs.Each.EachStep.{CallStep, EndStep, Judges}
+use Rattle.rx_between.proofs.Each.EachStep as steps
 use Rattle.rx_between.proofs.Onward.{NoneAnew}
 use Rattle.rx_between.proofs.PollSays.{IsStream}
 use Rattle.rx_plan.specs.Network.{delivers}

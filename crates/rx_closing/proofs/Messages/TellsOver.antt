@@ -25,9 +25,9 @@ use Rattle.rx_history.specs.Starts.{StartsOnce}
 use Rattle.rx_law.proofs.Joint.{Fed}
 use Rattle.rx_law.specs.Promises.{ends_in}
 use Rattle.rx_law.specs.Worlds.{Datagram}
-use Rattle.rx_between.proofs.EachEvent.{each_step}
-use Rattle.rx_between.proofs.EachStep.{CallStep, LifeStep}
-use Rattle.rx_between.proofs.EachStep as steps
+use Rattle.rx_between.proofs.Each.EachEvent.{each_step}
+use Rattle.rx_between.proofs.Each.EachStep.{CallStep, LifeStep}
+use Rattle.rx_between.proofs.Each.EachStep as steps
 use Rattle.rx_between.proofs.Onward.{NoneAnew}
 use Rattle.rx_plan.specs.Network.{delivers}
 use Rattle.rx_plan.specs.Parts.{each}
@@ -35,7 +35,7 @@ use Rattle.rx_plan.specs.Stages.{Stage}
 use Rattle.rx_plan.proofs.Cuts.{side_split}
 use Rattle.rx_plan.proofs.JointMoments.{legal_parts}
 use Rattle.rx_jobs.specs.Handlers.{Handlers}
-use Rattle.rx_rounds.proofs.EachItem.{In}
+use Rattle.rx_between.proofs.Each.EachItem.{In}
 use Rattle.rx_rounds.proofs.RoundParts.{delivers_split}
 use Rattle.rx_rounds.proofs.Rounded.{Made, RoundMade}
 use Rattle.rx_rounds.proofs.Two.{sent}

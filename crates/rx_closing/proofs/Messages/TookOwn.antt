@@ -29,7 +29,7 @@ use Rattle.rx_history.proofs.Calls.{call-changed}
 use Rattle.rx_history.proofs.Events.{call-by, calls-prepared}
 use Rattle.rx_history.proofs.Moments.{now-prepared}
 use Rattle.rx_between.specs.Agreed.{MakesSense}
-use Rattle.rx_between.proofs.EachChange.{taken_alike}
+use Rattle.rx_between.proofs.Each.EachChange.{taken_alike}
 use Rattle.rx_between.proofs.PollSays.{IsStream}
 use Rattle.rx_between.proofs.Prepared.{prepared_number}
 use Rattle.rx_closing.proofs.Messages.Rows.{IsLast, known_by, opens_none}

@@ -16,7 +16,7 @@ use Rattle.rx_law.proofs.World.{if-some}
 use Rattle.rx_wire.specs.Turns.{noted}
 use Rattle.rx_plan.proofs.Callers.{side_own}
 use Rattle.rx_plan.specs.Stages.{Stage}
-use Rattle.rx_rounds.proofs.EachItem.{In}
+use Rattle.rx_between.proofs.Each.EachItem.{In}
 use Rattle.rx_closing.proofs.Ends.RoomLaws.{active_lives}
 use Rattle.rx_closing.proofs.Far.FarStands.{StandsOf, both_far, far_between, scene_stands}
 use Rattle.rx_closing.proofs.Frame.{Crowd, OneOf, asked_in, served_in}

@@ -25,14 +25,14 @@ use Rattle.rx_rules.specs.Rules.{served_by, served_read_by}
 use Rattle.rx_rules.specs.Setup.{Setup, Client, FitsSetup, IsServer}
 use Rattle.rx_history.proofs.Calls.{call-changed}
 use Rattle.rx_history.proofs.Events.{call-by}
-use Rattle.rx_history.proofs.OnceLaw.{served}
+use Rattle.rx_history.proofs.Laws.OnceLaw.{served}
 use Rattle.rx_events.specs.Events.{IsClocked}
 use Rattle.rx_asks.specs.Asks.{Asking, Cancels, IsAsked, Offers, Reads, Shuts}
 use Rattle.rx_asks.specs.History.{IsCalled}
 use Rattle.rx_jobs.specs.declared.job.TheConstants.{OFFER_BYTES}
 use Rattle.rx_jobs.specs.Jobs.{Ask, IsCall, accept, finish, read, write}
 use Rattle.rx_plan.proofs.ClientEnds.{IsCalledOr, calls_called}
-use Rattle.rx_between.proofs.EachChange.{changed_twice}
+use Rattle.rx_between.proofs.Each.EachChange.{changed_twice}
 use Rattle.rx_between.proofs.Onward.{clients}
 use Rattle.rx_closing.proofs.Messages.CrowdedRows.{both_true}
 use Rattle.rx_closing.proofs.Owing.ChannelsStay.{IsMute}

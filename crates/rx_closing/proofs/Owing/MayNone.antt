@@ -10,9 +10,9 @@ use Rattle.rx_rules.specs.Looks.{ChannelLooks, ConnLooks, Looks, call_named, cha
 use Rattle.rx_rules.specs.Rules.{Legal}
 use Rattle.rx_rules.specs.Setup.{Setup}
 use Rattle.rx_rules.proofs.EveryLaws.{Every}
-use Rattle.rx_history.proofs.OrderlyHistory.{orderly_history}
+use Rattle.rx_history.proofs.Order.OrderlyHistory.{orderly_history}
 use Rattle.rx_plan.proofs.ChannelsHold.{Channels}
-use Rattle.rx_rounds.proofs.EachItem.{In}
+use Rattle.rx_between.proofs.Each.EachItem.{In}
 use Rattle.rx_closing.proofs.Owing.MayOwe.{EachMay, MayOwe, Sits}
 use Rattle.rx_closing.proofs.Owing.OutOwesNone.{conn_found, every_in, every_nth}
 use Rattle.rx_closing.proofs.Owing.OwesNone.{IsQuiet, OwesNone}

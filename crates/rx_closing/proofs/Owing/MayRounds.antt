@@ -19,7 +19,7 @@ use Rattle.rx_rules.specs.Looks.{CallRecord, call_at}
 use Rattle.rx_rules.specs.Rules.{AllowedAt, Legal}
 use Rattle.rx_rules.specs.Setup.{Client, FitsSetup, IsServer, Kind, Server, is_client, named}
 use Rattle.rx_history.specs.Sides.{Node, side}
-use Rattle.rx_history.proofs.OnceLaw.{served}
+use Rattle.rx_history.proofs.Laws.OnceLaw.{served}
 use Rattle.rx_law.specs.Worlds.{AreNodes, Datagram}
 use Rattle.rx_law.proofs.World.{and-some, gave-mine, if-some}
 use Rattle.rx_asks.specs.Asks.{Asking, IsAsked as IsAskedBy}
@@ -32,7 +32,7 @@ use Rattle.rx_plan.proofs.Callers.{side_other, side_own}
 use Rattle.rx_plan.proofs.ClientEnds.{IsCalledOr, calls_called}
 use Rattle.rx_plan.specs.Stages.{Stage}
 use Rattle.rx_between.proofs.PollSays.{IsStream}
-use Rattle.rx_rounds.proofs.EachItem.{In}
+use Rattle.rx_between.proofs.Each.EachItem.{In}
 use Rattle.rx_rounds.proofs.Rounded.{RoundMade}
 use Rattle.rx_closing.proofs.Far.FinishedOpen.{server_view}
 use Rattle.rx_closing.proofs.Frame.{served_in}

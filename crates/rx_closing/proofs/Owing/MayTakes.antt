@@ -25,10 +25,10 @@ use Rattle.rx_rules.specs.Rules.{Legal}
 use Rattle.rx_rules.specs.Setup.{Client, FitsSetup, IsServer, Kind, Server, is_client, named}
 use Rattle.rx_history.specs.Sides.{IsClientAt, Node, side}
 use Rattle.rx_history.proofs.Events.{call-by, calls-prepared}
-use Rattle.rx_history.proofs.FitConnTaken.{may_abort}
+use Rattle.rx_history.proofs.Fit.FitConnTaken.{may_abort}
 use Rattle.rx_law.specs.Worlds.{AreNodes, Datagram}
 use Rattle.rx_law.proofs.World.{and-some, if-some}
-use Rattle.rx_plan.proofs.AbortCauses.{ready_latest}
+use Rattle.rx_plan.proofs.Aborts.AbortCauses.{ready_latest}
 use Rattle.rx_plan.specs.Stages.{Stage}
 use Rattle.rx_wire.specs.Turns.{noted}
 use Rattle.rx_between.proofs.PollSays.{IsStream}

@@ -31,10 +31,10 @@ use Rattle.rx_rules.specs.Rules.{Legal}
 use Rattle.rx_rules.specs.Setup.{Setup, named}
 use Rattle.rx_rules.proofs.EveryLaws.{Every}
 use Rattle.rx_history.proofs.Differ.{Differ, by_connection}
-use Rattle.rx_history.proofs.Orderly.{HasFour, OrderlyConns}
-use Rattle.rx_history.proofs.OrderlyHistory.{orderly_history}
-use Rattle.rx_rounds.proofs.EachItem.{In, in_behind, in_filter, in_front, in_items, is_due, least_none}
-use Rattle.rx_rounds.proofs.PolledOut.{IsPolledOut}
+use Rattle.rx_history.proofs.Order.Orderly.{HasFour, OrderlyConns}
+use Rattle.rx_history.proofs.Order.OrderlyHistory.{orderly_history}
+use Rattle.rx_between.proofs.Each.EachItem.{In, in_behind, in_filter, in_front, in_items, is_due, least_none}
+use Rattle.rx_rounds.proofs.Polls.PolledOut.{IsPolledOut}
 use Rattle.rx_closing.proofs.Owing.ChannelsStay.{GoesSo, Hold, IsMute, Lasts, Leaves, ReadsSo, StopsSo, TakesSo}
 use Rattle.rx_closing.proofs.Owing.ChannelsStay.{hold_after}
 use Rattle.rx_closing.proofs.Owing.OwesNone.{IsQuiet, OwesNone}

@@ -28,7 +28,7 @@ use Rattle.rx_rules.specs.Records.{silenced}
 use Rattle.rx_rules.specs.Setup.{Client, Kind, Server, Setup, named}
 use Rattle.rx_rules.proofs.EveryLaws.{Every}
 use Rattle.rx_history.proofs.Differ.{every_found}
-use Rattle.rx_history.proofs.ForgotLaws.{with-strays}
+use Rattle.rx_history.proofs.Laws.ForgotLaws.{with-strays}
 use Rattle.rx_history.proofs.OwnChannels.{channel_has}
 use Rattle.rx_history.proofs.StraysStay.{strays-prepared}
 use Rattle.rx_closing.proofs.Owing.ChannelsStay.{GoesSo, Hold, IsMute, Lasts, ReadsSo, StopsSo, TakesSo, hold_after}

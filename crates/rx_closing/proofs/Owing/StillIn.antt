@@ -9,7 +9,7 @@ use Rattle.rx_script.specs.declared.plan.Numbered.{Numbered}
 use Rattle.rx_jobs.specs.Handlers.{Handlers}
 use Rattle.rx_plan.specs.Answering.{AreServable}
 use Rattle.rx_plan.specs.Stages.{Stage}
-use Rattle.rx_rounds.proofs.EachItem.{In}
+use Rattle.rx_between.proofs.Each.EachItem.{In}
 use Rattle.rx_rounds.proofs.Rounded.{RoundMade}
 use Rattle.rx_closing.specs.Living.{looks_of}
 use Rattle.rx_closing.proofs.Far.FarStands.{StandsOf, scene_stands}
@@ -114,7 +114,7 @@ module _ (g : Handlers) (ls : List Numbered) (servable : AreServable g) (server 
           of : (q : CallRecord) × (served_in m.call server r.delivered ≡ Some q) × (q.life ≡ y.life) → ⊥
           of q =
               no_broken g ls servable m.call m.index m.client server m.request r.delivered r.served each.delivered.one
-              each.served.one all.delivered.held.follows each.delivered.caused r.serves_are adds.served
+              each.served.one all.delivered.held each.delivered.caused r.serves_are adds.served
               (same_low (member_way g server r.delivered m) (member_way g server r.served m) same) q.0 q.1 code
               (q.2 ∙ broken)
 

@@ -15,7 +15,7 @@ use Rattle.rx_rules.specs.Setup.{is_client}
 use Rattle.rx_history.specs.Sides.{Node, side}
 use Rattle.rx_law.specs.Worlds.{AreNodes, Datagram}
 use Rattle.rx_plan.specs.Stages.{Stage}
-use Rattle.rx_rounds.proofs.EachItem.{In}
+use Rattle.rx_between.proofs.Each.EachItem.{In}
 use Rattle.rx_between.proofs.PollSays.{IsStream}
 use Rattle.rx_closing.proofs.Frame.{asked_in, served_in}
 use Rattle.rx_closing.proofs.Living.CrowdRounds.{IsSome, SaidFor}

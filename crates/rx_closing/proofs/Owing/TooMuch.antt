@@ -30,18 +30,18 @@ use Rattle.rx_history.specs.Sides.{Node, side}
 use Rattle.rx_history.proofs.Calls.{call-changed}
 use Rattle.rx_history.proofs.Events.{call-by, calls-prepared}
 use Rattle.rx_history.proofs.Openings.{channel_prepared}
-use Rattle.rx_history.proofs.OrderlyHistory.{orderly_history}
+use Rattle.rx_history.proofs.Order.OrderlyHistory.{orderly_history}
 use Rattle.rx_history.proofs.Suffice.{roomy_history}
 use Rattle.rx_law.specs.Worlds.{AreNodes, Datagram}
 use Rattle.rx_law.proofs.World.{and-some, if-some}
 use Rattle.rx_asks.specs.History.{IsCalled}
 use Rattle.rx_plan.proofs.ClientEnds.{IsCalledOr, calls_called}
-use Rattle.rx_plan.proofs.RowsOver.{passed}
+use Rattle.rx_history.proofs.Rows.RowsAborting.{passed}
 use Rattle.rx_plan.specs.Stages.{Stage}
 use Rattle.rx_wire.specs.Turns.{noted}
 use Rattle.rx_between.proofs.Onward.{row_named}
 use Rattle.rx_between.proofs.PollSays.{IsStream}
-use Rattle.rx_rounds.proofs.EachItem.{In}
+use Rattle.rx_between.proofs.Each.EachItem.{In}
 use Rattle.rx_closing.proofs.Frame.{IsSpacious, served_in}
 use Rattle.rx_closing.proofs.Living.CrowdRounds.{IsCrowd, SaidFor, among_at, fits_at, legal_at, named_for}
 use Rattle.rx_closing.proofs.Living.Few.{fewer_live}

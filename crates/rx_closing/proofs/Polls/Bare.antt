@@ -13,8 +13,8 @@ use Rattle.rx_rules.specs.Looks.{CallRecord, ChannelLooks, Looks, call_named, ch
 use Rattle.rx_rules.specs.Records.{is_silent}
 use Rattle.rx_rules.specs.Setup.{Setup, is_client, receiving_window}
 use Rattle.rx_between.proofs.PollSays.{IsStream}
-use Rattle.rx_rounds.proofs.EachItem.{In, is_due, least_in}
-use Rattle.rx_rounds.proofs.NodeClock.{in_mapped, in_parts}
+use Rattle.rx_between.proofs.Each.EachItem.{In, is_due, least_in}
+use Rattle.rx_rounds.proofs.Clocks.NodeClock.{in_mapped, in_parts}
 use Rattle.rx_closing.proofs.Polls.OnePoll.{sending_stream}
 
 -- a channel that owes nothing

@@ -16,11 +16,12 @@ use Rattle.rx_rules.specs.Rules.{Legal}
 use Rattle.rx_rules.specs.Setup.{FitsSetup, is_client}
 use Rattle.rx_history.specs.Sides.{Node, moment, side}
 use Rattle.rx_history.proofs.Moments.{now-side}
-use Rattle.rx_history.proofs.OrderlyEnter.{latest_is}
+use Rattle.rx_history.proofs.Order.OrderlyEnter.{latest_is}
 use Rattle.rx_events.specs.Waits.{least_wait, wait_at}
 use Rattle.rx_plan.specs.Stages.{Stage}
-use Rattle.rx_rounds.proofs.EachItem.{In, in_behind, in_channel, in_front, in_items, in_map, least_low, least_none}
-use Rattle.rx_rounds.proofs.GivesOrMoves.{wait_within}
+use Rattle.rx_between.proofs.Each.EachItem.{In, in_behind, in_channel, in_front, in_items, in_map, least_low}
+use Rattle.rx_between.proofs.Each.EachItem.{least_none}
+use Rattle.rx_rounds.proofs.Clocks.GivesOrMoves.{wait_within}
 use Rattle.rx_closing.specs.Living.{looks_of}
 use Rattle.rx_closing.proofs.Polls.NodePolls.{live_seen}
 use Rattle.rx_closing.proofs.Polls.OnePoll.{active_lives}

@@ -29,8 +29,8 @@ use Rattle.rx_history.proofs.Moments.{now-side}
 use Rattle.rx_law.specs.Worlds.{Datagram}
 use Rattle.rx_between.proofs.PollSays.{IsStream}
 use Rattle.rx_plan.specs.Rounds.{Polled, Polling, polls_out}
-use Rattle.rx_rounds.proofs.EachItem.{none_of}
-use Rattle.rx_rounds.proofs.PolledOut.{polled_out}
+use Rattle.rx_between.proofs.Each.EachItem.{none_of}
+use Rattle.rx_rounds.proofs.Polls.PolledOut.{polled_out}
 use Rattle.rx_rounds.proofs.Rounded.{Made}
 use Rattle.rx_rounds.proofs.Two.{Polls, out_to, sent}
 use Rattle.rx_closing.specs.Living.{looks_of}

@@ -15,7 +15,7 @@ use Rattle.rx_rules.specs.Looks.{CallRecord, ChannelLooks, ConnLooks, Looks, cal
 use Rattle.rx_rules.specs.Looks.{fresh_channel, on_channel, on_conn, on_looks}
 use Rattle.rx_rules.specs.Setup.{Setup}
 use Rattle.rx_rules.proofs.ConnsLaws.{conn_at-on_conn, conn_if}
-use Rattle.rx_rounds.proofs.EachItem.{IsOther}
+use Rattle.rx_between.proofs.Each.EachItem.{IsOther}
 use Rattle.rx_closing.proofs.Polls.Polled.{QuietBut}
 
 -- ---- what a giving leaves of calls, clock, strays and channels

@@ -4,8 +4,8 @@ use Rattle.std.proofs.Common.{inr, Some, append_assoc, length, arith}
 use Rattle.std.specs.Prelude.{slice_get}
 use Rattle.rx_law.specs.Worlds.{Datagram}
 use Rattle.rx_plan.specs.Stages.{Stage}
-use Rattle.rx_rounds.proofs.ClocksMove.{AreApart, IsNone, from_on}
-use Rattle.rx_rounds.proofs.EachItem.{In}
+use Rattle.rx_rounds.proofs.Clocks.ClocksMove.{AreApart, IsNone, from_on}
+use Rattle.rx_between.proofs.Each.EachItem.{In}
 
 -- ---- numbers of nodes
 

@@ -15,8 +15,8 @@ use Rattle.rx_rules.specs.Looks.{CallRecord, ChannelLooks, Looks, call_named, ch
 use Rattle.rx_rules.specs.Records.{is_silent}
 use Rattle.rx_rules.specs.Setup.{Setup, is_client}
 use Rattle.rx_history.proofs.Differ.{every_found}
-use Rattle.rx_rounds.proofs.Clocked.{later}
-use Rattle.rx_rounds.proofs.NodeClock.{AreAwake}
+use Rattle.rx_rounds.proofs.Clocks.Clocked.{later}
+use Rattle.rx_rounds.proofs.Clocks.NodeClock.{AreAwake}
 
 -- a call that isn't silent wasn't before
 awake_before : (now time : ℕ) (k : CallRecord) → is_silent (now + time) k ≡ false → is_silent now k ≡ false

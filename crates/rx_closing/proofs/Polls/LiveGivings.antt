@@ -19,11 +19,11 @@ use Rattle.rx_rules.specs.Setup.{Setup, FitsSetup, named}
 use Rattle.rx_rules.proofs.CallsLaws.{call_at-on_calls}
 use Rattle.rx_history.specs.Givings.{GivesItem, GivesPlain, GivesStray}
 use Rattle.rx_history.proofs.Data.{same_message}
-use Rattle.rx_history.proofs.GivingItems.{item_name}
-use Rattle.rx_history.proofs.Givings.{poll_gives}
-use Rattle.rx_history.proofs.GivenLaws.{silent-name as silent_name}
-use Rattle.rx_between.proofs.EachItem.{IsOther, Sends}
-use Rattle.rx_between.proofs.EachItem as each
+use Rattle.rx_history.proofs.Given.GivingItems.{item_name}
+use Rattle.rx_history.proofs.Given.Givings.{poll_gives}
+use Rattle.rx_history.proofs.Given.GivenLaws.{silent-name as silent_name}
+use Rattle.rx_between.proofs.Each.EachItem.{IsOther, Sends}
+use Rattle.rx_between.proofs.Each.EachItem as each
 use Rattle.rx_between.proofs.GivenAcks.{sends_there}
 use Rattle.rx_between.proofs.PollSays.{IsStream}
 use Rattle.rx_closing.proofs.Ends.RoomLaws.{active_lives}

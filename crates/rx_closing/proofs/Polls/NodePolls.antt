@@ -17,11 +17,11 @@ use Rattle.rx_rules.specs.Setup.{FitsSetup, IsServer, Kind, Server, Client, Setu
 use Rattle.rx_rules.proofs.ConnsLaws.{number_of}
 use Rattle.rx_rules.proofs.FindLaws.{find_passes}
 use Rattle.rx_history.proofs.Conns.{OfKind, found-good}
-use Rattle.rx_history.proofs.FitCall.{CallFits, FitsCall}
-use Rattle.rx_history.proofs.FitHistory.{fit_history, node_stands}
-use Rattle.rx_history.proofs.Orderly.{IsLatest}
-use Rattle.rx_history.proofs.OrderlyHistory.{orderly_history}
-use Rattle.rx_rounds.proofs.EachItem.{In, in_behind, in_front}
+use Rattle.rx_history.proofs.Fit.FitCall.{CallFits, FitsCall}
+use Rattle.rx_history.proofs.Fit.FitHistory.{fit_history, node_stands}
+use Rattle.rx_history.proofs.Order.Orderly.{IsLatest}
+use Rattle.rx_history.proofs.Order.OrderlyHistory.{orderly_history}
+use Rattle.rx_between.proofs.Each.EachItem.{In, in_behind, in_front}
 use Rattle.rx_closing.proofs.Polls.OnePoll.{ConnIs}
 use Rattle.rx_closing.proofs.Telling.AbortOwed.{in_four}
 

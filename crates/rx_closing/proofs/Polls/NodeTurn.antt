@@ -24,7 +24,7 @@ use Rattle.rx_plan.specs.Programs.{Turn, cut_there, goes, is_endless, is_over}
 use Rattle.rx_plan.specs.Rounds.{Polling, polling}
 use Rattle.rx_plan.specs.Stages.{Stage, with_event}
 use Rattle.rx_rounds.proofs.Making.{turn_over}
-use Rattle.rx_rounds.proofs.PolledOut.{IsPolledOut, polled_out}
+use Rattle.rx_rounds.proofs.Polls.PolledOut.{IsPolledOut, polled_out}
 use Rattle.rx_rounds.proofs.Two.{polled_is, sent}
 
 -- ---- a node that was polled out

@@ -25,11 +25,11 @@ use Rattle.rx_rules.specs.Slots.{node_view}
 use Rattle.rx_rules.proofs.FindLaws.{find_passes}
 use Rattle.rx_history.specs.Givings.{GivesItem, GivesPlain, GivesStray}
 use Rattle.rx_history.proofs.Calls.{call-changed}
-use Rattle.rx_history.proofs.GivingItems.{item_leaves, item_name, stray_leaves}
-use Rattle.rx_history.proofs.Givings.{poll_gives}
+use Rattle.rx_history.proofs.Given.GivingItems.{item_leaves, item_name, stray_leaves}
+use Rattle.rx_history.proofs.Given.Givings.{poll_gives}
 use Rattle.rx_law.proofs.World.{gave-mine}
 use Rattle.rx_between.proofs.PollSays.{IsStream}
-use Rattle.rx_rounds.proofs.EachItem.{IsOther, Sends, gives}
+use Rattle.rx_between.proofs.Each.EachItem.{IsOther, Sends, gives}
 use Rattle.rx_closing.proofs.Messages.Sifted.{IsOwn}
 use Rattle.rx_closing.proofs.Polls.GivenLeft.{at_calls, call_left, given_now, given_quiet, given_strays, others_left}
 use Rattle.rx_closing.proofs.Polls.OnePoll.{ConnIs, active_before, conn_given, next_same, sending_asks, sending_heard}

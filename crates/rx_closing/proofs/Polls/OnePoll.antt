@@ -21,7 +21,7 @@ use Rattle.rx_rules.specs.Setup.{Kind, Server, Client, is_client, side_flag}
 use Rattle.rx_rules.proofs.CallsLaws.{call_at-on_calls}
 use Rattle.rx_rules.proofs.ConnsLaws.{KeepsConns, conn_at-on_conn, conn_if}
 use Rattle.rx_between.proofs.PollSays.{IsStream}
-use Rattle.rx_between.proofs.EachChange.{some_is as some_call}
+use Rattle.rx_between.proofs.Each.EachChange.{some_is as some_call}
 
 -- ---- silence
 

@@ -22,16 +22,16 @@ use Rattle.rx_rules.proofs.EveryLaws.{Every, every-append}
 use Rattle.rx_history.specs.Givings.{GivesItem, GivesPlain, GivesStray}
 use Rattle.rx_history.specs.Sides.{Node, moment, side}
 use Rattle.rx_history.proofs.Data.{OwnName}
-use Rattle.rx_history.proofs.GivingItems.{item_name}
-use Rattle.rx_history.proofs.Givings.{next_is, poll_gives}
+use Rattle.rx_history.proofs.Given.GivingItems.{item_name}
+use Rattle.rx_history.proofs.Given.Givings.{next_is, poll_gives}
 use Rattle.rx_law.proofs.World.{gave-mine}
 use Rattle.rx_law.specs.Worlds.{AreApart, Datagram}
-use Rattle.rx_plan.proofs.StraysCame.{CameStray, strays_came}
+use Rattle.rx_plan.proofs.Keys.StraysCame.{CameStray, strays_came}
 use Rattle.rx_plan.specs.Parts.{each}
 use Rattle.rx_plan.specs.Rounds.{Polled, polls_out}
 use Rattle.rx_plan.specs.Stages.{Stage}
-use Rattle.rx_rounds.proofs.ClocksMove.{AreApart as AreDistinct, IsNone}
-use Rattle.rx_rounds.proofs.EachItem.{In}
+use Rattle.rx_rounds.proofs.Clocks.ClocksMove.{AreApart as AreDistinct, IsNone}
+use Rattle.rx_between.proofs.Each.EachItem.{In}
 use Rattle.rx_rounds.proofs.Making.{then_to}
 use Rattle.rx_rounds.proofs.Rounded.{Made}
 use Rattle.rx_rounds.proofs.Two.{out_to, sent}

@@ -11,8 +11,8 @@ use Rattle.rx_rules.specs.Life.{is_live}
 use Rattle.rx_rules.specs.Looks.{ChannelLooks, Looks, call_named, channel_at, is_call, latest}
 use Rattle.rx_rules.specs.Setup.{Setup}
 use Rattle.rx_between.proofs.PollSays.{IsStream}
-use Rattle.rx_rounds.proofs.EachItem.{In, IsOther, is_due, least_in}
-use Rattle.rx_rounds.proofs.NodeClock.{in_parts}
+use Rattle.rx_between.proofs.Each.EachItem.{In, IsOther, is_due, least_in}
+use Rattle.rx_rounds.proofs.Clocks.NodeClock.{in_parts}
 use Rattle.rx_closing.proofs.Polls.Bare.{in_filtered, own_stream}
 use Rattle.rx_closing.proofs.Polls.Polled.{QuietBut}
 

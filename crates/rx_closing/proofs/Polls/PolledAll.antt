@@ -19,10 +19,10 @@ use Rattle.rx_plan.specs.Rounds.{Polled, Polling, heard_poll, polling, polls, po
 use Rattle.rx_plan.specs.Stages.{Stage, host_at, with_event}
 use Rattle.rx_plan.proofs.Callers.{side_other, side_own}
 use Rattle.rx_plan.proofs.Leading.{Leads, ends_lead, then_lead, turn_lead}
-use Rattle.rx_rounds.proofs.ClocksMove.{AreApart, IsNone, from_on, in_order, order_apart, order_is}
-use Rattle.rx_rounds.proofs.EachItem.{In}
+use Rattle.rx_rounds.proofs.Clocks.ClocksMove.{AreApart, IsNone, from_on, in_order, order_apart, order_is}
+use Rattle.rx_between.proofs.Each.EachItem.{In}
 use Rattle.rx_rounds.proofs.Making.{ends_to, then_to}
-use Rattle.rx_rounds.proofs.PolledOut.{IsPolledOut, polled_out}
+use Rattle.rx_rounds.proofs.Polls.PolledOut.{IsPolledOut, polled_out}
 use Rattle.rx_rounds.proofs.Rounded.{Made}
 use Rattle.rx_closing.specs.Living.{looks_of}
 

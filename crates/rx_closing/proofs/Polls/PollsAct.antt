@@ -14,8 +14,8 @@ use Rattle.rx_plan.specs.Parts.{Came, To, each}
 use Rattle.rx_plan.specs.Programs.{Turn, cut_there, goes, is_endless, is_over}
 use Rattle.rx_plan.specs.Rounds.{Polled, Polling, clients_first, polling, polls, polls_at, polls_out}
 use Rattle.rx_plan.specs.Stages.{Stage, host_at, with_event}
-use Rattle.rx_rounds.proofs.ClocksMove.{in_order, order_is}
-use Rattle.rx_rounds.proofs.EachItem.{In}
+use Rattle.rx_rounds.proofs.Clocks.ClocksMove.{in_order, order_is}
+use Rattle.rx_between.proofs.Each.EachItem.{In}
 use Rattle.rx_rounds.proofs.Making.{ends_to, then_to, to_is, turn_goes}
 use Rattle.rx_rounds.proofs.Rounded.{Made}
 use Rattle.rx_rounds.proofs.Two.{more, out_to, polled_is}

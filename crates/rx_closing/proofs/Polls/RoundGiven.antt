@@ -18,11 +18,12 @@ use Rattle.rx_law.specs.Worlds.{AreApart, Datagram}
 use Rattle.rx_plan.specs.Parts.{To, each}
 use Rattle.rx_plan.specs.Rounds.{Polled, polls, polls_out}
 use Rattle.rx_plan.specs.Stages.{Stage}
-use Rattle.rx_rounds.proofs.ClocksMove.{AreApart as AreDistinct, IsNone, from_on, in_order, low_order, order_apart}
-use Rattle.rx_rounds.proofs.ClocksMove.{order_is}
-use Rattle.rx_rounds.proofs.EachItem.{In, in_behind, in_front}
+use Rattle.rx_rounds.proofs.Clocks.ClocksMove.{AreApart as AreDistinct, IsNone, from_on, in_order, low_order}
+use Rattle.rx_rounds.proofs.Clocks.ClocksMove.{order_apart}
+use Rattle.rx_rounds.proofs.Clocks.ClocksMove.{order_is}
+use Rattle.rx_between.proofs.Each.EachItem.{In, in_behind, in_front}
 use Rattle.rx_rounds.proofs.Making.{ends_to, then_to}
-use Rattle.rx_rounds.proofs.NodeClock.{in_parts}
+use Rattle.rx_rounds.proofs.Clocks.NodeClock.{in_parts}
 use Rattle.rx_rounds.proofs.Rounded.{Made}
 use Rattle.rx_closing.specs.Living.{looks_of}
 use Rattle.rx_closing.proofs.Frame.{IsPlain, OneOf}

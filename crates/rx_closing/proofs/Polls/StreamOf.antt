@@ -7,7 +7,7 @@ use Rattle.rx_model.specs.Reading.{reading_of}
 use Rattle.rx_history.specs.Sides.{Node}
 use Rattle.rx_law.specs.Worlds.{Datagram}
 use Rattle.rx_between.proofs.PollSays.{IsStream}
-use Rattle.rx_rounds.proofs.EachItem.{In}
+use Rattle.rx_between.proofs.Each.EachItem.{In}
 use Rattle.rx_closing.proofs.Living.CrowdRounds.{SaidFor, SaysFor, SaysSome}
 use Rattle.rx_closing.proofs.Together.Members.{Member, names_of}
 use Rattle.rx_closing.proofs.Together.MembersHere.{MemberNamed, member_named}

@@ -20,15 +20,15 @@ use Rattle.rx_rules.specs.Setup.{Client, FitsSetup, IsServer, Kind, Server, Setu
 use Rattle.rx_rules.proofs.EveryLaws.{Every, every-append}
 use Rattle.rx_history.specs.Givings.{GivesItem, GivesPlain, GivesStray}
 use Rattle.rx_history.specs.Sides.{IsClientAt, Node, side}
-use Rattle.rx_history.proofs.Givings.{poll_gives}
+use Rattle.rx_history.proofs.Given.Givings.{poll_gives}
 use Rattle.rx_law.proofs.World.{and-some, if-some}
 use Rattle.rx_law.specs.Worlds.{Datagram, World}
 use Rattle.rx_between.proofs.PollSays.{IsStream}
 use Rattle.rx_plan.specs.Parts.{To, each}
 use Rattle.rx_plan.specs.Rounds.{Polled, polls, polls_out}
 use Rattle.rx_plan.specs.Stages.{Stage}
-use Rattle.rx_rounds.proofs.ClocksMove.{AreApart as AreDistinct, from_on, low_order, order_apart, order_is}
-use Rattle.rx_rounds.proofs.EachItem.{In}
+use Rattle.rx_rounds.proofs.Clocks.ClocksMove.{AreApart as AreDistinct, from_on, low_order, order_apart, order_is}
+use Rattle.rx_between.proofs.Each.EachItem.{In}
 use Rattle.rx_rounds.proofs.Making.{ends_to, then_to}
 use Rattle.rx_rounds.proofs.Rounded.{Made}
 use Rattle.rx_rounds.proofs.Two.{out_to, sent}

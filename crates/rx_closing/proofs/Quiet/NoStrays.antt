@@ -18,14 +18,14 @@ use Rattle.rx_law.specs.Worlds.{Carried, IsFrom, World, bag}
 use Rattle.rx_law.proofs.Joint.{legal-before}
 use Rattle.rx_law.proofs.World.{Giver, Mine, and-some, gave-mine, if-some}
 use Rattle.rx_wire.specs.Turns.{noted}
-use Rattle.rx_plan.proofs.AbortComes.{contains_in, giver_of}
+use Rattle.rx_plan.proofs.Aborts.AbortComes.{contains_in, giver_of}
 use Rattle.rx_plan.proofs.JointMoments.{JointAt, carried_cut, joint_at, legal_cut, side_parts}
-use Rattle.rx_plan.proofs.PlanKeys.{served_side, service_at}
+use Rattle.rx_plan.proofs.Keys.PlanKeys.{served_side, service_at}
 use Rattle.rx_plan.proofs.QuietEvents.{AreServed}
 use Rattle.rx_plan.proofs.RowsAsked.{IsOther, unserved_other}
-use Rattle.rx_plan.proofs.ServicesStay.{IsOwnData, LinksTo, data_given}
-use Rattle.rx_plan.proofs.StraysCame.{CameStray, strays_came}
-use Rattle.rx_plan.proofs.StrayKeys.{every_front}
+use Rattle.rx_plan.proofs.Keys.ServicesStay.{IsOwnData, LinksTo, data_given}
+use Rattle.rx_plan.proofs.Keys.StraysCame.{CameStray, strays_came}
+use Rattle.rx_plan.proofs.Keys.StrayKeys.{every_front}
 use Rattle.rx_closing.proofs.Frame.{IsPlain}
 use Rattle.rx_closing.proofs.Polls.OtherPolls.{client_strayless}
 use Rattle.rx_closing.proofs.Rounds.EventParts.{kind_client}

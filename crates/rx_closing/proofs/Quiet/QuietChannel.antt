@@ -17,7 +17,7 @@ use Rattle.rx_rules.specs.Setup.{FitsSetup, Setup}
 use Rattle.rx_rules.proofs.EveryLaws.{Every}
 use Rattle.rx_history.proofs.Differ.{every_found}
 use Rattle.rx_history.proofs.OwnChannels.{channel_has}
-use Rattle.rx_between.proofs.EachStep.{Starts, is_start}
+use Rattle.rx_between.proofs.Each.EachStep.{Starts, is_start}
 use Rattle.rx_plan.proofs.ChannelsHold.{channel_here}
 use Rattle.rx_closing.proofs.Messages.Judged.{taken_by}
 use Rattle.rx_closing.proofs.Messages.Lasts.{some_number}

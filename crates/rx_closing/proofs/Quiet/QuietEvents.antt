@@ -27,7 +27,7 @@ use Rattle.rx_rules.specs.Setup.{Client, FitsSetup, Kind, Server, Setup}
 use Rattle.rx_history.proofs.Calls.{call-changed}
 use Rattle.rx_history.proofs.ServerStands.{running-at}
 use Rattle.rx_asks.specs.History.{IsCalled}
-use Rattle.rx_plan.proofs.AbortCauses.{cancelled_live, taken_is}
+use Rattle.rx_plan.proofs.Aborts.AbortCauses.{cancelled_live, taken_is}
 use Rattle.rx_plan.proofs.ClientEnds.{IsCalledOr, calls_called}
 use Rattle.rx_closing.proofs.Messages.CrowdedRows.{both_true}
 use Rattle.rx_closing.proofs.Owing.ChannelsStay.{IsMute}

@@ -25,9 +25,9 @@ use Rattle.rx_rules.specs.Rules.{Legal}
 use Rattle.rx_rules.specs.Setup.{Client, FitsSetup, Kind, Server, Setup, named}
 use Rattle.rx_history.proofs.Calls.{call-changed}
 use Rattle.rx_history.proofs.Events.{call-by, calls-prepared}
-use Rattle.rx_history.proofs.FitConnTaken.{may_abort}
-use Rattle.rx_plan.proofs.AbortCauses.{named_row}
-use Rattle.rx_plan.proofs.RowsOver.{latest_number}
+use Rattle.rx_history.proofs.Fit.FitConnTaken.{may_abort}
+use Rattle.rx_plan.proofs.Aborts.AbortCauses.{named_row}
+use Rattle.rx_plan.proofs.Aborts.RowsOver.{latest_number}
 use Rattle.rx_closing.proofs.Messages.CrowdedRows.{is_busy, row_calm, side_crowds}
 use Rattle.rx_closing.proofs.Messages.Lasts.{live_last}
 use Rattle.rx_closing.proofs.Messages.Rows.{IsLast}

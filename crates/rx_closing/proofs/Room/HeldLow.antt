@@ -5,6 +5,7 @@ use Rattle.std.proofs.Common.{true, false, List, [], ◌∷◌, length, Option, 
 use Rattle.std.proofs.Common.{inr, arith, length-append}
 use Rattle.std.proofs.lemmas.Bool.Decides.{nat_tests}
 use Rattle.std.proofs.lemmas.Bool.{cases_lt}
+use Rattle.rx_model.specs.declared.pace.Pace.{Pace}
 use Rattle.rx_model.specs.declared.answers.Took.{Took}
 use Rattle.rx_model.specs.declared.answers.Took.TheVariants as tooks
 use Rattle.rx_model.specs.declared.event.Event.{Event}
@@ -22,14 +23,15 @@ use Rattle.rx_rules.specs.Looks.{CallRecord, Looks, call_at}
 use Rattle.rx_rules.specs.Received.{Arrival, Packet, arrival_row, count_above, greatest, packet_at, used_of}
 use Rattle.rx_rules.specs.Rules.{AllowedAt, Legal}
 use Rattle.rx_rules.specs.Sent.{Sent, after_ack, held_pieces, opened, pieces_by, pieces_of, room_by}
-use Rattle.rx_rules.specs.Setup.{FitsSetup, Setup, sending_window}
+use Rattle.rx_rules.specs.Setup.{FitsSetup, Setup, pace_of, sending_window}
 use Rattle.rx_rules.specs.Slots.{beside, left_slots}
-use Rattle.rx_history.proofs.HeldNumbers.{shut-pieces}
-use Rattle.rx_history.proofs.RoomEvents.{Wrote}
+use Rattle.rx_history.proofs.Given.HeldNumbers.{shut-pieces}
+use Rattle.rx_history.proofs.Room.RoomEvents.{Wrote}
 use Rattle.rx_history.proofs.Suffice.{roomy_history}
-use Rattle.rx_history.proofs.UsedLaws.{used_keeps, used_reads}
-use Rattle.rx_between.proofs.EachEvent.{each_step}
-use Rattle.rx_between.proofs.EachStep.{CallStep, EndStep, Starts, finishes, gives, reads, shuts, stays, takes, writes}
+use Rattle.rx_history.proofs.Laws.UsedLaws.{used_keeps, used_reads}
+use Rattle.rx_between.proofs.Each.EachEvent.{each_step}
+use Rattle.rx_between.proofs.Each.EachStep.{CallStep, EndStep, Starts, finishes, gives, reads, shuts, stays, takes}
+use Rattle.rx_between.proofs.Each.EachStep.{writes}
 use Rattle.rx_closing.proofs.Ends.RoomLaws.{piece_leads}
 use Rattle.rx_closing.proofs.Room.OnceKept.{OnceEach, count_within}
 use Rattle.rx_closing.proofs.Room.WroteRoom.{wrote_by}
@@ -62,8 +64,8 @@ low_to : (window : ℕ) (a b : CallLooks) → b ≡ a → IsLow window a → IsL
 low_to window a b is low = subst (IsLow window) (sym is) low
 
 -- of a call that starts
-fresh_low : (window width : ℕ) (prompt : Bool) (now : ℕ) → IsLow window (fresh_call width prompt now)
-fresh_low window width prompt now = record { pieces = omega arith; near = omega arith; once = tt }
+fresh_low : (window : ℕ) (pace : Pace) (now : ℕ) → IsLow window (fresh_call pace now)
+fresh_low window pace now = record { pieces = omega arith; near = omega arith; once = tt }
 
 -- ---- a message comes
 
@@ -265,9 +267,9 @@ module _ (s : Setup) (fits : FitsSetup s) where
       (let t = opens.takes in
       low_to s.limits.window _ b.looks t.is
       (taken_low s.limits.window t.view t.got t.message _ t.view_is.window t.row
-      (fresh_low s.limits.window (sending_window s) s.prompt l.now)))
+      (fresh_low s.limits.window (pace_of s) l.now)))
   starts_low l e c b (named, inr made) =
-      low_to s.limits.window _ b.looks made.looks (fresh_low s.limits.window (sending_window s) s.prompt l.now)
+      low_to s.limits.window _ b.looks made.looks (fresh_low s.limits.window (pace_of s) l.now)
 
   -- of a call that is looked for
   abbrev LowOf : Option CallRecord → Type 0

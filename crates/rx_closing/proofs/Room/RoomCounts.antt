@@ -17,9 +17,9 @@ use Rattle.rx_rules.specs.Sent.{counting_of, opened}
 use Rattle.rx_rules.specs.Setup.{FitsSetup, Setup, shared_slots}
 use Rattle.rx_rules.specs.Slots.{beside, beside_all, common, count_live, live, room}
 use Rattle.rx_rules.proofs.EveryLaws.{Every}
-use Rattle.rx_history.proofs.RoomStarts.{RoomyAt}
+use Rattle.rx_history.proofs.Room.RoomStarts.{RoomyAt}
 use Rattle.rx_history.proofs.Suffice.{roomy_history}
-use Rattle.rx_rounds.proofs.EachItem.{In}
+use Rattle.rx_between.proofs.Each.EachItem.{In}
 use Rattle.rx_closing.proofs.Ends.RoomLaws.{active_lives, room_counts}
 use Rattle.rx_closing.proofs.Frame.{AreAmong, IsSpacious}
 use Rattle.rx_closing.proofs.Living.Few.{every_named, few_live}

@@ -19,9 +19,9 @@ use Rattle.rx_rules.specs.Slots.{room}
 use Rattle.rx_history.proofs.Client.{own-is}
 use Rattle.rx_history.proofs.Differ.{every_found}
 use Rattle.rx_history.proofs.LifeFalls.{is_begun}
-use Rattle.rx_history.proofs.RoomEvents.{Wrote}
-use Rattle.rx_history.proofs.RoomStarts.{RoomyAt}
-use Rattle.rx_history.proofs.Tight.{TightOf}
+use Rattle.rx_history.proofs.Room.RoomEvents.{Wrote}
+use Rattle.rx_history.proofs.Room.RoomStarts.{RoomyAt}
+use Rattle.rx_history.proofs.Room.Tight.{TightOf}
 
 -- at a server
 serve_wrote : (s : Setup) (l : Looks) (k : CallRecord) (life : Life) (ended : Bool) (offered : ℕ)

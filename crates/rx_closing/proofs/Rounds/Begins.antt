@@ -27,15 +27,15 @@ use Rattle.rx_script.specs.declared.plan.PlanLine.TheVariants as lines
 use Rattle.rx_plan.specs.Promises.{client_before, line_kind, plan_clients, plan_nodes, server_before}
 use Rattle.rx_plan.specs.Stages.{Stage}
 use Rattle.rx_plan.proofs.Allowed.{AreAllowed, sides_of}
-use Rattle.rx_plan.proofs.Answered.{nodes_are, world}
+use Rattle.rx_plan.proofs.Givings.Answered.{nodes_are, world}
 use Rattle.rx_plan.proofs.Driven.{seen}
 use Rattle.rx_plan.proofs.DrivenPlan.{plan_follows}
 use Rattle.rx_plan.proofs.Followed.{IsFollowed}
-use Rattle.rx_plan.proofs.Promised.{plans_end}
+use Rattle.rx_plan.proofs.Givings.Promised.{plans_end}
 use Rattle.rx_plan.proofs.QuietEvents.{AreServed}
-use Rattle.rx_plan.proofs.SoundPlan.{lines_in_range}
-use Rattle.rx_rounds.proofs.EachItem.{In, in_behind, in_filter, in_front, in_map}
-use Rattle.rx_rounds.proofs.GivesOrMoves.{over_in}
+use Rattle.rx_plan.proofs.Soundness.SoundPlan.{lines_in_range}
+use Rattle.rx_between.proofs.Each.EachItem.{In, in_behind, in_filter, in_front, in_map}
+use Rattle.rx_rounds.proofs.Clocks.GivesOrMoves.{over_in}
 use Rattle.rx_closing.specs.Living.{all_live, call_lives_at, is_served, joined_names, live_names, looks_of, new_names}
 use Rattle.rx_closing.specs.Closing.{RoundsBehind}
 use Rattle.rx_closing.proofs.Frame.{IsPlain}

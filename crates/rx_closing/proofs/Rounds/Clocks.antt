@@ -21,7 +21,7 @@ use Rattle.rx_jobs.specs.Handlers.{Handlers}
 use Rattle.rx_plan.specs.Stages.{Stage}
 use Rattle.rx_plan.proofs.Allowed.{AreAllowed}
 use Rattle.rx_plan.proofs.ClientEnds.{IsCalledOr, calls_called}
-use Rattle.rx_rounds.proofs.PolledOut.{IsPolledOut}
+use Rattle.rx_rounds.proofs.Polls.PolledOut.{IsPolledOut}
 use Rattle.rx_rounds.proofs.Rounded.{RoundMade}
 use Rattle.rx_closing.specs.Living.{call_lives_at, looks_of}
 use Rattle.rx_closing.proofs.Frame.{OneOf, asked_in}

@@ -9,7 +9,7 @@ use Rattle.rx_rules.specs.Rules.{Legal}
 use Rattle.rx_rules.specs.Setup.{Setup, IsServer}
 use Rattle.rx_history.specs.Alone.{ForgotNone}
 use Rattle.rx_history.specs.Sides.{Node, side}
-use Rattle.rx_history.proofs.OnceLaw.{forgot-after, served}
+use Rattle.rx_history.proofs.Laws.OnceLaw.{forgot-after, served}
 use Rattle.rx_law.specs.Promises.{ServerForgotNone}
 use Rattle.rx_law.specs.Times.{AreFresh, GoAlike, Timely}
 use Rattle.rx_law.specs.Worlds.{Sides}

@@ -12,7 +12,7 @@ use Rattle.rx_history.specs.Sides.{Node, moment}
 use Rattle.rx_jobs.specs.Handlers.{Handlers}
 use Rattle.rx_plan.specs.Rounds.{Polled, polls}
 use Rattle.rx_plan.specs.Stages.{Stage}
-use Rattle.rx_rounds.proofs.PolledOut.{IsPolledOut}
+use Rattle.rx_rounds.proofs.Polls.PolledOut.{IsPolledOut}
 use Rattle.rx_rounds.proofs.Rounded.{Made, RoundMade}
 use Rattle.rx_closing.specs.Living.{looks_of}
 use Rattle.rx_closing.proofs.Frame.{OneOf, asked_in, served_in}

@@ -18,13 +18,13 @@ use Rattle.rx_rules.specs.Rules.{Legal}
 use Rattle.rx_rules.specs.Setup.{FitsSetup, Setup, is_client}
 use Rattle.rx_history.specs.Sides.{Node, moment, side}
 use Rattle.rx_history.proofs.Moments.{now-side}
-use Rattle.rx_history.proofs.OrderlyEnter.{latest_is}
+use Rattle.rx_history.proofs.Order.OrderlyEnter.{latest_is}
 use Rattle.rx_law.proofs.World.{if-some}
 use Rattle.rx_jobs.specs.Handlers.{Handlers}
 use Rattle.rx_plan.specs.Stages.{Stage}
 use Rattle.rx_plan.proofs.JointMoments.{side_parts}
-use Rattle.rx_rounds.proofs.EachItem.{In, in_channel, in_filter, in_items, is_due, least_none}
-use Rattle.rx_rounds.proofs.PolledOut.{IsPolledOut}
+use Rattle.rx_between.proofs.Each.EachItem.{In, in_channel, in_filter, in_items, is_due, least_none}
+use Rattle.rx_rounds.proofs.Polls.PolledOut.{IsPolledOut}
 use Rattle.rx_rounds.proofs.Rounded.{RoundMade}
 use Rattle.rx_closing.specs.Living.{looks_of}
 use Rattle.rx_closing.proofs.Frame.{OneOf, asked_in}

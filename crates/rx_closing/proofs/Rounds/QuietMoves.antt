@@ -22,7 +22,7 @@ use Rattle.rx_law.specs.Worlds.{World}
 use Rattle.rx_jobs.specs.Handlers.{Handlers}
 use Rattle.rx_plan.specs.Stages.{Stage}
 use Rattle.rx_rounds.specs.Clocks.{SomeSilent, has_silent}
-use Rattle.rx_rounds.proofs.EachItem.{In}
+use Rattle.rx_between.proofs.Each.EachItem.{In}
 use Rattle.rx_rounds.proofs.Rounded.{RoundMade}
 use Rattle.rx_closing.specs.Living.{looks_of}
 use Rattle.rx_closing.proofs.Far.FarStands.{both_far, both_low}

@@ -24,7 +24,7 @@ use Rattle.rx_plan.proofs.Driven.{Carries, Seen, seen, seen_behind, set_own, wit
 use Rattle.rx_plan.proofs.Leading.{IsSteady, Leads, each_lead, ends_lead, heard_steady, one_lead, steady_over}
 use Rattle.rx_plan.proofs.Leading.{test_lead, then_lead, turn_lead}
 use Rattle.rx_plan.proofs.QuietEvents.{IsQuietOf, quiet_clocked, quiet_polled, quiet_taken}
-use Rattle.rx_plan.proofs.Sound.{IfTo}
+use Rattle.rx_plan.proofs.Soundness.Sound.{IfTo}
 use Rattle.rx_rounds.proofs.Rounded.{RoundMade}
 
 -- a place that changes twice

@@ -19,8 +19,8 @@ use Rattle.rx_plan.specs.Parts.{To}
 use Rattle.rx_plan.specs.Rounds.{may_move, settles}
 use Rattle.rx_plan.specs.Stages.{Stage}
 use Rattle.rx_rounds.specs.Clocks.{MovesOn, SomeSilent, has_silent}
-use Rattle.rx_rounds.proofs.GivesOrMoves.{all_may, due_gives, quiet_moves, wait_of_one, wait_within}
-use Rattle.rx_rounds.proofs.NodeClock.{AreAwake}
+use Rattle.rx_rounds.proofs.Clocks.GivesOrMoves.{all_may, due_gives, quiet_moves, wait_of_one, wait_within}
+use Rattle.rx_rounds.proofs.Clocks.NodeClock.{AreAwake}
 use Rattle.rx_rounds.proofs.Rounded.{Made, RoundMade, settles_not, settles_still}
 use Rattle.rx_closing.specs.Living.{looks_of}
 use Rattle.rx_closing.proofs.Frame.{asked_in, served_in}

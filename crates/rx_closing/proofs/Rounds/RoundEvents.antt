@@ -31,7 +31,7 @@ use Rattle.rx_plan.specs.Rounds.{polls, polls_at, polls_out, round, rounds, sett
 use Rattle.rx_plan.specs.Stages.{InvokedState, IsAllowedNext, Stage, event, host_at, is_client, with_event}
 use Rattle.rx_plan.specs.Turned.{dispatches, turns_all, turns_at, turns_of, turns_where}
 use Rattle.rx_plan.proofs.Leading.{Leads, each_lead, ends_lead, one_lead, test_lead, then_lead, turn_lead}
-use Rattle.rx_rounds.proofs.EachItem.{In}
+use Rattle.rx_between.proofs.Each.EachItem.{In}
 use Rattle.rx_rounds.proofs.Rounded.{RoundMade, round_to}
 
 -- ---- a node

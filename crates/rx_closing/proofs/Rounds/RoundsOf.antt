@@ -7,8 +7,9 @@ use Rattle.rx_script.specs.declared.plan.Numbered.{Numbered}
 use Rattle.rx_jobs.specs.Handlers.{Handlers}
 use Rattle.rx_plan.specs.Stages.{Stage}
 use Rattle.rx_plan.proofs.Driven.{seen}
+use Rattle.rx_plan.proofs.Followed.{IsFollowed}
 use Rattle.rx_rounds.proofs.Rounded.{RoundMade}
-use Rattle.rx_closing.proofs.Callers.CallersHold.{IsHeld, round_held}
+use Rattle.rx_closing.proofs.Callers.CallersHold.{round_followed}
 use Rattle.rx_closing.proofs.Conns.PlanLinks.{linked_round}
 use Rattle.rx_closing.proofs.Conns.PlanPeers.{AreLinked}
 use Rattle.rx_closing.proofs.Frame.{Crowd, IsKept, OneOf}
@@ -31,7 +32,7 @@ module _ (g : Handlers) (ls : List Numbered) (cs : List CallName) (c : CallName)
     pub chain : Chain g n s t
     pub over : OneOf c k client server t
     pub crowd : Crowd cs s
-    pub held : IsHeld g ls (seen s)
+    pub held : IsFollowed g ls (seen s)
     pub linked : AreLinked s
     pub living : Lives c k client server s
     pub later : Lives c k client server t
@@ -71,7 +72,7 @@ module _ (g : Handlers) (ls : List Numbered) (cs : List CallName) (c : CallName)
               over = one_u;
               crowd = o.crowd;
               held = o.held;
-              links = o.held.follows.links;
+              links = o.held.links;
               linked = o.linked;
               settles = round_settles c k client server g s u r one_u o.living living_u;
             };
@@ -80,7 +81,7 @@ module _ (g : Handlers) (ls : List Numbered) (cs : List CallName) (c : CallName)
               chain = f.rest;
               over = o.over;
               crowd = (round_crowds cs s o.crowd g u r kept_u).over;
-              held = (round_held g ls s u r o.held).behind;
+              held = (round_followed g ls s u r o.held).behind;
               linked = (linked_round g s u r o.linked).over;
               living = living_u;
               later = o.later;

@@ -14,7 +14,7 @@ use Rattle.rx_rules.specs.Rules.{Legal}
 use Rattle.rx_rules.specs.Setup.{FitsSetup, is_client}
 use Rattle.rx_history.specs.Sides.{Node, moment, side}
 use Rattle.rx_history.proofs.Moments.{now-side}
-use Rattle.rx_history.proofs.OrderlyEnter.{latest_is}
+use Rattle.rx_history.proofs.Order.OrderlyEnter.{latest_is}
 use Rattle.rx_law.proofs.World.{if-some}
 use Rattle.rx_law.specs.Worlds.{Datagram}
 use Rattle.rx_jobs.specs.Handlers.{Handlers}
@@ -23,7 +23,7 @@ use Rattle.rx_plan.specs.Parts.{Part, To, by_test, each, ends}
 use Rattle.rx_plan.specs.Rounds.{clients_first, may_move, moves_by, moves_on, settles}
 use Rattle.rx_plan.specs.Stages.{Stage}
 use Rattle.rx_rounds.specs.Clocks.{MovesOn}
-use Rattle.rx_rounds.proofs.GivesOrMoves.{client_near}
+use Rattle.rx_rounds.proofs.Clocks.GivesOrMoves.{client_near}
 use Rattle.rx_rounds.proofs.Making.{ends_to}
 use Rattle.rx_rounds.proofs.Rounded.{Made, RoundMade}
 use Rattle.rx_closing.specs.Living.{looks_of}

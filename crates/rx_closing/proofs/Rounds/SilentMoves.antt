@@ -23,9 +23,10 @@ use Rattle.rx_history.specs.Sides.{Node, side}
 use Rattle.rx_history.proofs.Differ.{every_found}
 use Rattle.rx_history.proofs.Moments.{now-after}
 use Rattle.rx_law.proofs.World.{and-some, if-some}
-use Rattle.rx_between.proofs.EachEvent.{each_step}
-use Rattle.rx_between.proofs.EachStep.{CallStep, EndStep, Goes, IsMade, Opens, Starts, finishes, gives, reads, shuts}
-use Rattle.rx_between.proofs.EachStep.{stays, takes, writes}
+use Rattle.rx_between.proofs.Each.EachEvent.{each_step}
+use Rattle.rx_between.proofs.Each.EachStep.{CallStep, EndStep, Goes, IsMade, Opens, Starts, finishes, gives, reads}
+use Rattle.rx_between.proofs.Each.EachStep.{shuts}
+use Rattle.rx_between.proofs.Each.EachStep.{stays, takes, writes}
 use Rattle.rx_events.specs.Events.{IsPolled}
 use Rattle.rx_events.specs.Joint.{IsAllowedAt}
 use Rattle.rx_wire.specs.Turns.{noted}

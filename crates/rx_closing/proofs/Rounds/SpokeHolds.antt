@@ -2,6 +2,7 @@
 use Rattle.std.proofs.Common.{◌≡◌, ◌<◌, ◌≤◌, ◌-◌, ◌++◌, ◌&&◌, ◌⊎◌, nat_le, ℕ, Bool, true, false, List, [], ◌∷◌, refl}
 use Rattle.std.proofs.Common.{ap, sym, subst, ◌∙◌, inl, inr, Option, Some, None, ⊎_elim, arith}
 use Rattle.std.proofs.lemmas.Bool.{leb-false, lt-leb}
+use Rattle.rx_model.specs.declared.pace.Pace.{Pace}
 use Rattle.rx_model.specs.declared.answers.Took.{Took}
 use Rattle.rx_model.specs.declared.answers.Took.TheVariants as tooks
 use Rattle.rx_model.specs.declared.event.Event.{Event}
@@ -18,12 +19,13 @@ use Rattle.rx_rules.specs.Life.{is_active}
 use Rattle.rx_rules.specs.Looks.{CallRecord, Looks, call_at}
 use Rattle.rx_rules.specs.Records.{is_silent}
 use Rattle.rx_rules.specs.Rules.{AllowedAt, Legal}
-use Rattle.rx_rules.specs.Setup.{Client, FitsSetup, Kind, Server, Setup, sending_window}
+use Rattle.rx_rules.specs.Setup.{Client, FitsSetup, Kind, Server, Setup, pace_of}
 use Rattle.rx_history.proofs.Moments.{now-after}
 use Rattle.rx_history.specs.Sides.{with_clock}
-use Rattle.rx_between.proofs.EachEvent.{each_step}
-use Rattle.rx_between.proofs.EachStep.{CallStep, EndStep, Goes, IsMade, Opens, Starts, finishes, gives, reads, shuts}
-use Rattle.rx_between.proofs.EachStep.{stays, takes, writes}
+use Rattle.rx_between.proofs.Each.EachEvent.{each_step}
+use Rattle.rx_between.proofs.Each.EachStep.{CallStep, EndStep, Goes, IsMade, Opens, Starts, finishes, gives, reads}
+use Rattle.rx_between.proofs.Each.EachStep.{shuts}
+use Rattle.rx_between.proofs.Each.EachStep.{stays, takes, writes}
 use Rattle.rx_closing.proofs.Polls.OnePoll.{sending_heard as given_heard}
 
 -- neither is later than this moment
@@ -135,17 +137,17 @@ step_past s l e c a b (shuts is same) past =
 step_past s l e c a b (finishes code is zero' same) past =
     subst (IsPast l.now) (sym same) (record { spoke = past.spoke; heard = past.heard })
 
-fresh_past : (window : ℕ) (prompt : Bool) (now : ℕ) → IsPast now (fresh_call window prompt now)
-fresh_past window prompt now = record { spoke = omega arith; heard = omega arith }
+fresh_past : (pace : Pace) (now : ℕ) → IsPast now (fresh_call pace now)
+fresh_past pace now = record { spoke = omega arith; heard = omega arith }
 
 start_past : (s : Setup) (l : Looks) (e : Event) (c : CallName) (b : CallRecord) → Starts s l e c b
     → IsPast l.now b.looks
 start_past s l e c b starts =
     ⊎_elim
     (λ (o : Opens s l e c b). subst (IsPast l.now) (sym o.takes.is)
-    (taken_past l.now o.takes.view o.takes.got o.takes.message (fresh_call (sending_window s) s.prompt l.now)
-    o.takes.view_is.now (fresh_past (sending_window s) s.prompt l.now)))
-    (λ (m : IsMade s l e c b). subst (IsPast l.now) (sym m.looks) (fresh_past (sending_window s) s.prompt l.now))
+    (taken_past l.now o.takes.view o.takes.got o.takes.message (fresh_call (pace_of s) l.now)
+    o.takes.view_is.now (fresh_past (pace_of s) l.now)))
+    (λ (m : IsMade s l e c b). subst (IsPast l.now) (sym m.looks) (fresh_past (pace_of s) l.now))
     starts.1
 
 -- of any legal history
@@ -216,10 +218,10 @@ start_heard s l e c b starts =
     (λ (o : Opens s l e c b). ap (λ (k : CallLooks). k.heard) o.takes.is
     ∙ ⊎_elim
     (λ (h : (after_taken o.takes.view o.takes.got o.takes.message
-    (fresh_call (sending_window s) s.prompt l.now)).heard ≡ l.now). h)
+    (fresh_call (pace_of s) l.now)).heard ≡ l.now). h)
     (λ (h : (after_taken o.takes.view o.takes.got o.takes.message
-    (fresh_call (sending_window s) s.prompt l.now)).heard ≡ o.takes.view.now). h ∙ o.takes.view_is.now)
-    (taken_heard o.takes.view o.takes.got o.takes.message (fresh_call (sending_window s) s.prompt l.now)))
+    (fresh_call (pace_of s) l.now)).heard ≡ o.takes.view.now). h ∙ o.takes.view_is.now)
+    (taken_heard o.takes.view o.takes.got o.takes.message (fresh_call (pace_of s) l.now)))
     (λ (m : IsMade s l e c b). ap (λ (k : CallLooks). k.heard) m.looks) starts.1
 
 -- the call that is found behind further events, and it was heard no earlier

@@ -11,10 +11,11 @@ use Rattle.rx_rules.specs.CallItems.{Ack, Piece, Sending, after_sending}
 use Rattle.rx_rules.specs.CallLooks.{CallLooks, NodeView, after_taken, fresh_call}
 use Rattle.rx_rules.specs.Looks.{CallRecord, Looks, call_at}
 use Rattle.rx_rules.specs.Rules.{Legal}
-use Rattle.rx_rules.specs.Setup.{FitsSetup, Setup, sending_window}
-use Rattle.rx_between.proofs.EachEvent.{each_step}
-use Rattle.rx_between.proofs.EachStep.{CallStep, EndStep, Goes, IsMade, Opens, Starts, finishes, gives, reads, shuts}
-use Rattle.rx_between.proofs.EachStep.{stays, takes, writes}
+use Rattle.rx_rules.specs.Setup.{FitsSetup, Setup, pace_of}
+use Rattle.rx_between.proofs.Each.EachEvent.{each_step}
+use Rattle.rx_between.proofs.Each.EachStep.{CallStep, EndStep, Goes, IsMade, Opens, Starts, finishes, gives, reads}
+use Rattle.rx_between.proofs.Each.EachStep.{shuts}
+use Rattle.rx_between.proofs.Each.EachStep.{stays, takes, writes}
 use Rattle.rx_closing.proofs.Rounds.SpokeHolds.{IsPast, body_spoke as body-spoke, chunk_spoke as chunk-spoke}
 use Rattle.rx_closing.proofs.Rounds.SpokeHolds.{past_holds}
 
@@ -48,7 +49,7 @@ start-spoke : (s : Setup) (l : Looks) (e : Event) (c : CallName) (b : CallRecord
 start-spoke s l e c b starts =
     ⊎_elim
     (λ (o : Opens s l e c b). ap (λ (k : CallLooks). k.spoke) o.takes.is
-    ∙ taken-spoke o.takes.view o.takes.got o.takes.message (fresh_call (sending_window s) s.prompt l.now))
+    ∙ taken-spoke o.takes.view o.takes.got o.takes.message (fresh_call (pace_of s) l.now))
     (λ (m : IsMade s l e c b). ap (λ (k : CallLooks). k.spoke) m.looks) starts.1
 
 -- the call that is found behind further events gave something no earlier

@@ -16,7 +16,7 @@ use Rattle.rx_rules.specs.Looks.{CallRecord, Looks, call_at, is_call, is_proved}
 use Rattle.rx_rules.specs.Rules.{Legal, accept_answer, can_enter}
 use Rattle.rx_rules.specs.Setup.{IsServer}
 use Rattle.rx_history.proofs.Calls.{call-changed}
-use Rattle.rx_history.proofs.OnceLaw.{is_call-some, waits}
+use Rattle.rx_history.proofs.Laws.OnceLaw.{is_call-some, waits}
 use Rattle.rx_history.specs.Sides.{Node, side}
 use Rattle.rx_jobs.specs.Handlers.{Handlers}
 use Rattle.rx_jobs.specs.Jobs.{IsCall, JobState, begun}

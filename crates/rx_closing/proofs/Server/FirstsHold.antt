@@ -37,12 +37,12 @@ use Rattle.rx_rules.specs.Received.{packet_at}
 use Rattle.rx_rules.specs.Records.{entered, fresh_conn, idle_conn, is_full, is_silent, placed, silence_of, silenced}
 use Rattle.rx_rules.specs.Records.{started, started_later, unless_silent, with_conn}
 use Rattle.rx_rules.specs.Rules.{AllowedServer, Legal}
-use Rattle.rx_rules.specs.Setup.{Kind, Server, Client, IsServer, Setup, is_client, named, sending_window}
+use Rattle.rx_rules.specs.Setup.{Client, IsServer, Kind, Server, Setup, is_client, named, pace_of}
 use Rattle.rx_rules.specs.Slots.{node_view}
 use Rattle.rx_rules.proofs.CallsLaws.{KeepsNames, call_at-on_calls, changed_if, changed_if-name}
 use Rattle.rx_rules.proofs.StartLaws.{call_at-other}
 use Rattle.rx_history.proofs.Calls.{call-changed}
-use Rattle.rx_history.proofs.OnceLaw.{served}
+use Rattle.rx_history.proofs.Laws.OnceLaw.{served}
 use Rattle.rx_history.proofs.Takes.{call_at-any}
 
 -- ---- what holds
@@ -118,7 +118,7 @@ module _ (c : CallName) where
   on_start s d l holds = by (same_name c d) refl
     where
       new : CallRecord
-      new = record { name = d; life = lives.Waiting; looks = fresh_call (sending_window s) s.prompt l.now }
+      new = record { name = d; life = lives.Waiting; looks = fresh_call (pace_of s) l.now }
 
       by : (b : Bool) → same_name c d ≡ b → Holds (started s lives.Waiting d l)
       by false other there =

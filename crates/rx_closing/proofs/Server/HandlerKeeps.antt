@@ -16,10 +16,11 @@ use Rattle.rx_rules.specs.Looks.{CallRecord, Looks, call_at, is_call}
 use Rattle.rx_rules.specs.Rules.{Legal}
 use Rattle.rx_rules.specs.Setup.{FitsSetup, IsServer, Setup}
 use Rattle.rx_history.specs.Starts.{StartsOnce}
-use Rattle.rx_between.proofs.EachEvent.{each_step}
-use Rattle.rx_between.proofs.EachStep.{CallStep, LifeStep, Starts, accepted as life_accepted, cancelled}
-use Rattle.rx_between.proofs.EachStep.{finished as life_finished, gone as life_gone, is_acked, is_busy, is_followed}
-use Rattle.rx_between.proofs.EachStep.{is_silent, is_stopped, lives_on, read_out}
+use Rattle.rx_between.proofs.Each.EachEvent.{each_step}
+use Rattle.rx_between.proofs.Each.EachStep.{CallStep, LifeStep, Starts, accepted as life_accepted, cancelled}
+use Rattle.rx_between.proofs.Each.EachStep.{finished as life_finished, gone as life_gone, is_acked, is_busy}
+use Rattle.rx_between.proofs.Each.EachStep.{is_followed}
+use Rattle.rx_between.proofs.Each.EachStep.{is_silent, is_stopped, lives_on, read_out}
 use Rattle.rx_between.proofs.Onward.{server_anew}
 
 -- ---- whether a handler has a call

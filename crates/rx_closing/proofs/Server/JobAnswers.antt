@@ -21,7 +21,7 @@ use Rattle.rx_rules.specs.Rules.{served_read_got, served_write}
 use Rattle.rx_rules.specs.Setup.{FitsSetup, IsServer, Setup}
 use Rattle.rx_rules.specs.Slots.{room}
 use Rattle.rx_history.specs.Starts.{StartsOnce}
-use Rattle.rx_history.proofs.OnceLaw.{served}
+use Rattle.rx_history.proofs.Laws.OnceLaw.{served}
 use Rattle.rx_script.specs.Served.{refusal}
 use Rattle.rx_jobs.specs.declared.job.Phase.TheVariants as phases
 use Rattle.rx_jobs.specs.declared.job.TheConstants.{OFFER_BYTES}
@@ -35,7 +35,7 @@ use Rattle.rx_plan.specs.Answering.{AreServable}
 use Rattle.rx_plan.proofs.Gone.{IsPast, gone_past}
 use Rattle.rx_plan.proofs.Passed.{Passed, passed_of}
 use Rattle.rx_plan.proofs.Passing.{AcceptsFresh, own_changed, passes_told}
-use Rattle.rx_rounds.proofs.Codes.{served_no_zero}
+use Rattle.rx_rounds.proofs.Refusals.Codes.{served_no_zero}
 use Rattle.rx_closing.proofs.Server.HandlerKeeps.{has_handler}
 use Rattle.rx_closing.proofs.Server.StayingJobs.{zero_is}
 

@@ -28,7 +28,7 @@ use Rattle.rx_plan.proofs.Finishing.{serves_drives}
 use Rattle.rx_plan.proofs.Handling.{Serves, accepts_fresh}
 use Rattle.rx_plan.proofs.Passed.{Passed, passed_of}
 use Rattle.rx_plan.proofs.Passing.{AcceptsFresh, passes_told, told_of}
-use Rattle.rx_rounds.proofs.Codes.{served_no_zero}
+use Rattle.rx_rounds.proofs.Refusals.Codes.{served_no_zero}
 use Rattle.rx_closing.proofs.Server.FirstsHold.{is_among}
 use Rattle.rx_closing.proofs.Server.HandlerKeeps.{has_handler}
 use Rattle.rx_closing.proofs.Server.JobSeen.{AreOthers}

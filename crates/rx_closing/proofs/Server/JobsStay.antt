@@ -16,7 +16,7 @@ use Rattle.rx_rules.specs.Rules.{AllowedServer, Legal, served_read, served_write
 use Rattle.rx_rules.specs.Setup.{FitsSetup, IsServer, Setup}
 use Rattle.rx_history.specs.Counts.{Once}
 use Rattle.rx_history.specs.Starts.{StartsOnce}
-use Rattle.rx_history.proofs.OnceLaw.{is_call-some, waits as answer_waits}
+use Rattle.rx_history.proofs.Laws.OnceLaw.{is_call-some, waits as answer_waits}
 use Rattle.rx_jobs.specs.declared.job.TheConstants.{OFFER_BYTES}
 use Rattle.rx_jobs.specs.declared.job.Want.{Want}
 use Rattle.rx_jobs.specs.declared.job.Want.TheVariants as wants

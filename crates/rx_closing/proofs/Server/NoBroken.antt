@@ -78,7 +78,7 @@ module _ (g : Handlers) (ls : List Numbered) (servable : AreServable g) (c : Cal
   i = caused.cause
 
   abbrev most : ℕ
-  most = wait_of g (request_for g i.caller.invoke)
+  most = wait_of g (request_for g i.caller.origin.invoke)
 
   abbrev serves : IsServer server.setup.kind
   serves = scene_serves g ls c k client server s before follows

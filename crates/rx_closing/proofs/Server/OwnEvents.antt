@@ -23,7 +23,7 @@ use Rattle.rx_rules.specs.Rules.{Allowed, AllowedServer, Legal, served_by, serve
 use Rattle.rx_rules.specs.Rules.{served_write}
 use Rattle.rx_rules.specs.Setup.{IsServer}
 use Rattle.rx_rules.specs.Slots.{room}
-use Rattle.rx_history.proofs.OnceLaw.{served as served_by_kind}
+use Rattle.rx_history.proofs.Laws.OnceLaw.{served as served_by_kind}
 use Rattle.rx_history.specs.Sides.{Node, side}
 use Rattle.rx_events.specs.Joint.{IsAllowedAt}
 use Rattle.rx_jobs.specs.declared.job.TheConstants.{OFFER_BYTES}

@@ -27,8 +27,8 @@ use Rattle.rx_jobs.specs.Jobs.{serving, settled, trimmed, waits}
 use Rattle.rx_jobs.specs.Jobs as asks
 use Rattle.rx_jobs.specs.Keeping.{kept_of}
 use Rattle.rx_plan.specs.Stages.{IsAllowedNext, Stage, with_event}
-use Rattle.rx_rounds.proofs.Codes.{early_no_zero}
-use Rattle.rx_rounds.proofs.ServeDecides.{no_zero}
+use Rattle.rx_rounds.proofs.Refusals.Codes.{early_no_zero}
+use Rattle.rx_rounds.proofs.Serving.ServeDecides.{no_zero}
 use Rattle.rx_closing.proofs.Server.JobSteps.{StepGoes, some_ask, step_rests}
 use Rattle.rx_closing.proofs.Server.OwnEvents.{At, read_at, read_got, step_induct}
 use Rattle.rx_closing.proofs.Server.OwnStep.{Fits, Reading, SettledAs, StepEnds, WaitsOr, asked_is, decided_ends}

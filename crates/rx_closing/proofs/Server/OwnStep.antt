@@ -23,7 +23,7 @@ use Rattle.rx_rules.specs.Slots.{room}
 use Rattle.rx_history.proofs.Differ.{every_found}
 use Rattle.rx_history.proofs.LifeFalls.{is_begun}
 use Rattle.rx_history.proofs.Suffice.{roomy_history}
-use Rattle.rx_history.proofs.Tight.{TightOf}
+use Rattle.rx_history.proofs.Room.Tight.{TightOf}
 use Rattle.rx_history.specs.Sides.{Node, side}
 use Rattle.rx_script.specs.Served.{Served, refusal, bytes}
 use Rattle.rx_jobs.specs.declared.job.Phase.TheVariants as phases

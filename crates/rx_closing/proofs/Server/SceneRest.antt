@@ -30,7 +30,7 @@ use Rattle.rx_plan.specs.Stages.{Stage}
 use Rattle.rx_plan.specs.Turned.{dispatches}
 use Rattle.rx_plan.proofs.Driven.{seen}
 use Rattle.rx_plan.proofs.Followed.{IsFollowed}
-use Rattle.rx_rounds.proofs.EachItem.{In}
+use Rattle.rx_between.proofs.Each.EachItem.{In}
 use Rattle.rx_rounds.proofs.Rounded.{Made}
 use Rattle.rx_rounds.proofs.Sizes.{reply_short}
 use Rattle.rx_closing.specs.Living.{looks_of}
@@ -86,18 +86,19 @@ module _ (g : Handlers) (ls : List Numbered) (c : CallName) (k : ℕ) (client se
   -- what it said are fewer pieces than there are seqs
   pub said_few : (f : CallRecord) → served_in c server t ≡ Some f → opened (length f.looks.sent.said) < 4294967294
   said_few f there =
-      of (subst (λ (o : Option CallRecord). BeginsServed g (request_for g i.caller.invoke) (sent_by o).said) there
+      of (subst (λ (o : Option CallRecord). BeginsServed g (request_for g i.caller.origin.invoke) (sent_by o).said)
+      there
       (scene_begins g ls c k client server t scene follows i))
     where
       few : (n : ℕ) → n ≤ 16842756 → opened n < 4294967294
       few n low = omega arith
 
-      of : BeginsServed g (request_for g i.caller.invoke) f.looks.sent.said
+      of : BeginsServed g (request_for g i.caller.origin.invoke) f.looks.sent.said
           → opened (length f.looks.sent.said) < 4294967294
       of (inl none) = subst (λ (xs : List ℕ). opened (length xs) < 4294967294) (sym none) (few 0 (omega arith))
       of (inr (rest, is)) =
           let short : length (f.looks.sent.said ++ rest) ≤ REPLY_BYTES =
-          reply_short g (request_for g i.caller.invoke) (f.looks.sent.said ++ rest) is in
+          reply_short g (request_for g i.caller.origin.invoke) (f.looks.sent.said ++ rest) is in
           few (length f.looks.sent.said) (omega (arith, short, length-append f.looks.sent.said rest))
 
   -- ---- behind a turn that brought it no further
@@ -133,7 +134,7 @@ module _ (g : Handlers) (ls : List Numbered) (c : CallName) (k : ℕ) (client se
       (servable : AreServable g) (caused : IsCaused g ls c k client s) (made : Made (dispatches g) s t)
       (cs : List CallName) (crowd : Crowd cs s) where
     abbrev most : ℕ
-    most = wait_of g (request_for g caused.caller.invoke)
+    most = wait_of g (request_for g caused.caller.origin.invoke)
 
     abbrev serves : IsServer server.setup.kind
     serves = scene_serves g ls c k client server s before followed

@@ -15,7 +15,7 @@ use Rattle.rx_rules.proofs.EveryLaws.{Every}
 use Rattle.rx_history.proofs.Differ.{every_found}
 use Rattle.rx_history.proofs.LifeFalls.{is_begun}
 use Rattle.rx_history.proofs.Suffice.{roomy_history}
-use Rattle.rx_history.proofs.Tight.{TightOf}
+use Rattle.rx_history.proofs.Room.Tight.{TightOf}
 use Rattle.rx_history.specs.Counts.{Once}
 use Rattle.rx_history.specs.Sides.{Node, side}
 use Rattle.rx_history.specs.Starts.{StartsOnce}
@@ -161,23 +161,23 @@ module _ (g : Handlers) (ls : List Numbered) (c : CallName) (k : ℕ) (client se
   -- behind the end what it has is of the whole request
   whole_job : (servable : AreServable g) (i : IsCaused g ls c k client s) (r : CallRecord)
       → served_in c server s ≡ Some r → (one : OneJob c s.jobs) → one.job.ended ≡ r.looks.received.ended
-      → one.job.ended ≡ true → wait_of g one.job.request ≡ wait_of g (request_for g i.caller.invoke)
+      → one.job.ended ≡ true → wait_of g one.job.request ≡ wait_of g (request_for g i.caller.origin.invoke)
   whole_job servable i r there one ended is =
       let held : IsHeld g server.setup scene_serves scene_setup servable c r one.job =
       scene_held servable r there one in
-      let read : r.looks.received.read ≡ request_for g i.caller.invoke =
+      let read : r.looks.received.read ≡ request_for g i.caller.origin.invoke =
       subst (λ (o : Option CallRecord). (received_by o).ended ≡ true
-      → (received_by o).read ≡ request_for g i.caller.invoke) there
+      → (received_by o).read ≡ request_for g i.caller.origin.invoke) there
       (scene_read g ls c k client server s scene follows i) (sym ended ∙ is) in
       ap (wait_of g) held.request ∙ kept_wait g r.looks.received.read ∙ ap (wait_of g) read
 
   -- it waited no more steps than the script has it wait for the request
   pub scene_low : AreServable g → (i : IsCaused g ls c k client s)
-      → IsJobLow (wait_of g (request_for g i.caller.invoke)) (job_of c s.jobs)
+      → IsJobLow (wait_of g (request_for g i.caller.origin.invoke)) (job_of c s.jobs)
   scene_low servable i = of (scene_fits servable)
     where
       most : ℕ
-      most = wait_of g (request_for g i.caller.invoke)
+      most = wait_of g (request_for g i.caller.origin.invoke)
 
       of : JobsFit c (served_in c server s) s.jobs → IsJobLow most (job_of c s.jobs)
       of (none_fits others idle) = subst (IsJobLow most) (sym (job_none c s.jobs others)) tt
@@ -208,14 +208,15 @@ module _ (g : Handlers) (ls : List Numbered) (c : CallName) (k : ℕ) (client se
 
     -- the call is further behind it, or it rests
     pub scene_moves : (i : IsCaused g ls c k client s)
-        → ServerMoves g server scene_serves c (wait_of g (request_for g i.caller.invoke)) s t
+        → ServerMoves g server scene_serves c (wait_of g (request_for g i.caller.origin.invoke)) s t
     scene_moves i =
-        server_moves g server scene_serves c (wait_of g (request_for g i.caller.invoke)) s t (scene_low servable i)
+        server_moves g server scene_serves c (wait_of g (request_for g i.caller.origin.invoke)) s t
+        (scene_low servable i)
         scene_turn
 
     -- the call is no less far behind it
     pub scene_grows : (i : IsCaused g ls c k client s)
-        → WayGrows g server scene_serves c (wait_of g (request_for g i.caller.invoke)) s t
+        → WayGrows g server scene_serves c (wait_of g (request_for g i.caller.origin.invoke)) s t
     scene_grows i =
-        way_grows g server scene_serves c (wait_of g (request_for g i.caller.invoke)) s t
+        way_grows g server scene_serves c (wait_of g (request_for g i.caller.origin.invoke)) s t
         (scene_low servable i) scene_turn

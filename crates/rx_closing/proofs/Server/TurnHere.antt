@@ -15,8 +15,8 @@ use Rattle.rx_rules.specs.Setup.{Client, FitsSetup, IsServer, Kind, Server, is_c
 use Rattle.rx_rules.proofs.PacketLaws.{front_all}
 use Rattle.rx_history.proofs.Differ.{every_found}
 use Rattle.rx_history.proofs.Suffice.{roomy_history}
-use Rattle.rx_history.proofs.Tight.{TightOf}
-use Rattle.rx_history.proofs.UsedLaws.{used_within}
+use Rattle.rx_history.proofs.Room.Tight.{TightOf}
+use Rattle.rx_history.proofs.Laws.UsedLaws.{used_within}
 use Rattle.rx_history.specs.Sides.{Node, side}
 use Rattle.rx_law.proofs.World.{if-some}
 use Rattle.rx_script.specs.declared.plan.Numbered.{Numbered}

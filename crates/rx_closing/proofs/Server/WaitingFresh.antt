@@ -17,10 +17,11 @@ use Rattle.rx_rules.specs.Looks.{CallRecord, Looks, call_at}
 use Rattle.rx_rules.specs.Received.{read_of}
 use Rattle.rx_rules.specs.Rules.{AllowedServer, Legal, served_read, served_read_by}
 use Rattle.rx_rules.specs.Setup.{FitsSetup, IsServer, Setup}
-use Rattle.rx_history.proofs.OnceLaw.{served}
-use Rattle.rx_between.proofs.EachEvent.{each_step}
-use Rattle.rx_between.proofs.EachStep.{CallStep, EndStep, Starts, finishes, gives, reads as end_reads, shuts, stays}
-use Rattle.rx_between.proofs.EachStep.{takes, writes}
+use Rattle.rx_history.proofs.Laws.OnceLaw.{served}
+use Rattle.rx_between.proofs.Each.EachEvent.{each_step}
+use Rattle.rx_between.proofs.Each.EachStep.{CallStep, EndStep, Starts, finishes, gives, reads as end_reads, shuts}
+use Rattle.rx_between.proofs.Each.EachStep.{stays}
+use Rattle.rx_between.proofs.Each.EachStep.{takes, writes}
 use Rattle.rx_plan.proofs.Passed.{Passed, taken-leaves}
 use Rattle.rx_closing.proofs.Far.FarGrows.{GoesOn, life_goes_on}
 use Rattle.rx_closing.proofs.Frame.{rank_of}

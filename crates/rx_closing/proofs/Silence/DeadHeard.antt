@@ -17,7 +17,7 @@ use Rattle.rx_jobs.specs.Handlers.{Handlers}
 use Rattle.rx_wire.specs.Turns.{noted}
 use Rattle.rx_plan.specs.Promises.{plan_nodes}
 use Rattle.rx_plan.specs.Stages.{Stage}
-use Rattle.rx_plan.proofs.Answered.{nodes_are}
+use Rattle.rx_plan.proofs.Givings.Answered.{nodes_are}
 use Rattle.rx_plan.proofs.Bags.{behind}
 use Rattle.rx_closing.specs.Living.{call_lives_at, looks_of}
 use Rattle.rx_closing.specs.Closing.{RoundsBehind}

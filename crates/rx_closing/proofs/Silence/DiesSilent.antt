@@ -29,10 +29,11 @@ use Rattle.rx_rules.specs.Setup.{Setup, Client, FitsSetup, named}
 use Rattle.rx_rules.proofs.CallsLaws.{call_at-on_calls}
 use Rattle.rx_history.proofs.Calls.{call-changed}
 use Rattle.rx_history.specs.Streams.{end_at, end_by, end_of_life}
-use Rattle.rx_between.proofs.EachEvent.{each_step}
-use Rattle.rx_between.proofs.EachStep.{CallStep, Goes, IsMade, LifeStep, Opens, Starts, accepted, cancelled, finished}
-use Rattle.rx_between.proofs.EachStep.{gone, is_acked, is_busy, is_followed, is_stopped, lives_on, read_out}
-use Rattle.rx_between.proofs.EachStep as steps
+use Rattle.rx_between.proofs.Each.EachEvent.{each_step}
+use Rattle.rx_between.proofs.Each.EachStep.{CallStep, Goes, IsMade, LifeStep, Opens, Starts, accepted, cancelled}
+use Rattle.rx_between.proofs.Each.EachStep.{finished}
+use Rattle.rx_between.proofs.Each.EachStep.{gone, is_acked, is_busy, is_followed, is_stopped, lives_on, read_out}
+use Rattle.rx_between.proofs.Each.EachStep as steps
 use Rattle.rx_asks.specs.History.{IsCalled}
 use Rattle.rx_plan.proofs.ClientEnds.{IsCalledOr, calls_called, end_stays}
 use Rattle.rx_closing.proofs.Rounds.SpokeHolds.{HeardOn, heard_rises, now_rises}

@@ -12,7 +12,7 @@ use Rattle.rx_script.specs.declared.plan.Numbered.{Numbered}
 use Rattle.rx_jobs.specs.Handlers.{Handlers}
 use Rattle.rx_plan.specs.Answering.{AreServable}
 use Rattle.rx_plan.specs.Stages.{Stage}
-use Rattle.rx_rounds.proofs.EachItem.{In}
+use Rattle.rx_between.proofs.Each.EachItem.{In}
 use Rattle.rx_closing.specs.Living.{all_live, call_lives_at}
 use Rattle.rx_closing.specs.Closing.{HasClosed, RoundsBehind}
 use Rattle.rx_closing.specs.Several.{enough_for, work_of_all}

@@ -8,7 +8,7 @@ use Rattle.rx_law.specs.Worlds.{Datagram}
 use Rattle.rx_script.specs.declared.plan.Numbered.{Numbered}
 use Rattle.rx_jobs.specs.Handlers.{Handlers}
 use Rattle.rx_plan.specs.Stages.{Stage}
-use Rattle.rx_rounds.proofs.EachItem.{In, in_map}
+use Rattle.rx_between.proofs.Each.EachItem.{In, in_map}
 use Rattle.rx_rounds.proofs.Rounded.{RoundMade}
 use Rattle.rx_closing.proofs.Polls.StreamOf.{StreamOf, StreamOfSome}
 use Rattle.rx_closing.proofs.Rounds.Chains.{Chain, ChainSplit, chain_both, chain_split}

@@ -21,7 +21,7 @@ use Rattle.rx_closing.proofs.Sums.LonePays.{Fallen, lone_pays, wait_left, wait_m
 
 -- what an end has of a call, where it is there
 abbrev pub looks_or : Option CallRecord → CallLooks
-looks_or None = fresh_call 0 false 0
+looks_or None = fresh_call (record { window = 0; prompt = false }) 0
 looks_or (Some r) = r.looks
 
 -- the end of a call at one node

@@ -45,12 +45,13 @@ module _ (g : Handlers) (ls : List Numbered) (n : ℕ) (s t : Stage) (b : Rounds
       i = is.caused.cause
 
       request : List ℕ
-      request = request_for g i.caller.invoke
+      request = request_for g i.caller.origin.invoke
 
       first : pieces request ≤ 11930
       first =
           few (opened (length request))
-          (request_low g.types i.caller.invoke.proc i.caller.invoke.args i.caller.invoke.up i.caller.can)
+          (request_low g.types i.caller.origin.invoke.proc i.caller.origin.invoke.args i.caller.origin.invoke.up
+          i.caller.origin.can)
         where
           few : (m : ℕ) → m ≤ 11930 → max 1 m ≤ 11930
           few m low = omega arith
@@ -58,8 +59,8 @@ module _ (g : Handlers) (ls : List Numbered) (n : ℕ) (s t : Stage) (b : Rounds
       second : served_pieces (served_for g request) ≤ 11930
       second =
           served_small (served_for g request)
-          (if-some (invoked_at g ls i.invoked.line) i.caller.invoke
-          (λ j. FitsCaller (served_for g (request_for g j))) i.caller.at
+          (if-some (invoked_at g ls i.invoked.line) i.caller.origin.invoke
+          (λ j. FitsCaller (served_for g (request_for g j))) i.caller.origin.at
           (if-some (slice_get s.callers i.place) i.invoked
           (λ (j : InvokedState). IfSome (invoked_at g ls j.line)
           (λ k. FitsCaller (served_for g (request_for g k)))) i.at (b.replies i.place)))

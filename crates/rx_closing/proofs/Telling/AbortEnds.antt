@@ -39,11 +39,11 @@ use Rattle.rx_plan.specs.Network.{delivers}
 use Rattle.rx_plan.specs.Parts.{each}
 use Rattle.rx_plan.specs.Stages.{Stage}
 use Rattle.rx_between.specs.Agreed.{HasEnded}
-use Rattle.rx_between.proofs.EachStep.{Starts}
+use Rattle.rx_between.proofs.Each.EachStep.{Starts}
 use Rattle.rx_between.proofs.Onward.{client_anew, no-opening}
 use Rattle.rx_between.proofs.ReadOut.{AreClients, clients_step, ended_stays}
 use Rattle.rx_between.proofs.Followed.{some_stays}
-use Rattle.rx_rounds.proofs.EachItem.{In}
+use Rattle.rx_between.proofs.Each.EachItem.{In}
 use Rattle.rx_rounds.proofs.Growing.{side_grew}
 use Rattle.rx_rounds.proofs.Rounded.{Made}
 use Rattle.rx_closing.proofs.Conns.PeersTo.{IsTo, peer_of, peers_after}

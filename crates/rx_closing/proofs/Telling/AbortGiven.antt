@@ -21,7 +21,7 @@ use Rattle.rx_plan.specs.Programs.{Turn, cut_there, goes, is_endless, is_over}
 use Rattle.rx_plan.specs.Network.{all_nodes}
 use Rattle.rx_plan.specs.Rounds.{Polled, Polling, clients_first, polling, polls, polls_at, polls_out}
 use Rattle.rx_plan.specs.Stages.{Stage, host_at, with_event}
-use Rattle.rx_rounds.proofs.EachItem.{In, in_behind, in_front}
+use Rattle.rx_between.proofs.Each.EachItem.{In, in_behind, in_front}
 use Rattle.rx_rounds.proofs.Keeping.{kept_turn}
 use Rattle.rx_rounds.proofs.Making.{ends_to, then_to, to_is}
 use Rattle.rx_rounds.proofs.Rounded.{Made}

@@ -31,7 +31,7 @@ use Rattle.rx_plan.specs.Stages.{Stage}
 use Rattle.rx_plan.proofs.QuietEvents.{AreServed}
 use Rattle.rx_between.specs.Agreed.{MakesSense, SenseAt, passed_at}
 use Rattle.rx_between.proofs.CameAll.{CameAll}
-use Rattle.rx_between.proofs.EachChange.{some_is}
+use Rattle.rx_between.proofs.Each.EachChange.{some_is}
 use Rattle.rx_between.proofs.Sense.{sense_at_server}
 use Rattle.rx_rounds.proofs.Rounded.{RoundMade}
 use Rattle.rx_closing.specs.Living.{looks_of}

@@ -26,7 +26,7 @@ use Rattle.rx_history.proofs.Differ.{every_found}
 use Rattle.rx_history.proofs.Events.{call-by, calls-prepared}
 use Rattle.rx_history.proofs.LifeFalls.{is_begun}
 use Rattle.rx_history.proofs.Suffice.{roomy_history}
-use Rattle.rx_history.proofs.Tight.{TightOf}
+use Rattle.rx_history.proofs.Room.Tight.{TightOf}
 use Rattle.rx_between.specs.Agreed.{MakesSense}
 use Rattle.rx_closing.proofs.Messages.Rows.{IsLast, latest_is, opens_none, passes_rows, server_past}
 use Rattle.rx_closing.proofs.Owing.TooMuch.{server_side}

@@ -37,8 +37,8 @@ use Rattle.rx_jobs.specs.Handlers.{Handlers}
 use Rattle.rx_plan.specs.Stages.{Stage}
 use Rattle.rx_plan.proofs.Cuts.{side_split}
 use Rattle.rx_plan.proofs.JointMoments.{legal_cut}
-use Rattle.rx_between.proofs.EachChange.{some_is}
-use Rattle.rx_rounds.proofs.EachItem.{In}
+use Rattle.rx_between.proofs.Each.EachChange.{some_is}
+use Rattle.rx_between.proofs.Each.EachItem.{In}
 use Rattle.rx_rounds.proofs.Rounded.{RoundMade}
 use Rattle.rx_closing.specs.Living.{looks_of}
 use Rattle.rx_closing.proofs.Conns.PeersTo.{peer_of}

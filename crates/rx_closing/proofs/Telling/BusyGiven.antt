@@ -26,16 +26,16 @@ use Rattle.rx_rules.specs.Setup.{FitsSetup, Setup, is_client, named}
 use Rattle.rx_rules.proofs.FindLaws.{find_passes}
 use Rattle.rx_history.specs.Givings.{GivesItem, GivesStray}
 use Rattle.rx_history.proofs.Differ.{every_found}
-use Rattle.rx_history.proofs.GivingItems.{item_leaves, item_name, stray_leaves}
-use Rattle.rx_history.proofs.Givings.{poll_gives}
-use Rattle.rx_history.proofs.Orderly.{HasFour}
-use Rattle.rx_history.proofs.OrderlyHistory.{orderly_history}
+use Rattle.rx_history.proofs.Given.GivingItems.{item_leaves, item_name, stray_leaves}
+use Rattle.rx_history.proofs.Given.Givings.{poll_gives}
+use Rattle.rx_history.proofs.Order.Orderly.{HasFour}
+use Rattle.rx_history.proofs.Order.OrderlyHistory.{orderly_history}
 use Rattle.rx_law.proofs.World.{gave-mine}
 use Rattle.rx_law.specs.Worlds.{Datagram}
 use Rattle.rx_between.proofs.PollSays.{IsStream}
-use Rattle.rx_rounds.proofs.EachItem.{In, in_behind, in_filter, in_front, in_items, is_due, least_in, least_none}
-use Rattle.rx_rounds.proofs.NodeClock.{in_parts}
-use Rattle.rx_rounds.proofs.PolledOut.{polled_out}
+use Rattle.rx_between.proofs.Each.EachItem.{In, in_behind, in_filter, in_front, in_items, is_due, least_in, least_none}
+use Rattle.rx_rounds.proofs.Clocks.NodeClock.{in_parts}
+use Rattle.rx_rounds.proofs.Polls.PolledOut.{polled_out}
 use Rattle.rx_rounds.proofs.Two.{sent}
 use Rattle.rx_closing.proofs.Polls.Bare.{in_filtered, own_stream}
 use Rattle.rx_closing.proofs.Telling.AbortOwed.{channel_apart, channel_keeps, conn_channel, found_in, in_all}

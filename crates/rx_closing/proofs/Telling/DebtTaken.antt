@@ -21,7 +21,7 @@ use Rattle.rx_law.specs.Worlds.{Datagram}
 use Rattle.rx_plan.specs.Network.{delivers}
 use Rattle.rx_plan.specs.Parts.{each}
 use Rattle.rx_plan.specs.Stages.{Stage}
-use Rattle.rx_rounds.proofs.EachItem.{In}
+use Rattle.rx_between.proofs.Each.EachItem.{In}
 use Rattle.rx_rounds.proofs.Rounded.{Made}
 use Rattle.rx_closing.proofs.Messages.Arrives.{Meet, server_names}
 use Rattle.rx_closing.proofs.Messages.Delivered.{FirstOf, TookAt, delivers_first, delivers_grow}

@@ -20,7 +20,7 @@ use Rattle.rx_rules.specs.Looks.{fresh_channel, is_call, on_channel, on_looks}
 use Rattle.rx_rules.specs.Setup.{Setup}
 use Rattle.rx_rules.proofs.ConnsLaws.{conn_at-on_conn, conn_if}
 use Rattle.rx_history.specs.Sides.{moment, side}
-use Rattle.rx_history.proofs.GivenLaws.{ackall-number as ackall_numbers}
+use Rattle.rx_history.proofs.Given.GivenLaws.{ackall-number as ackall_numbers}
 use Rattle.rx_asks.specs.declared.ask.TheConstants.{REPLY_BYTES}
 use Rattle.rx_asks.specs.Asks.{begun, calling}
 use Rattle.rx_jobs.specs.Dispatching.{Turning, accepts, dispatching}

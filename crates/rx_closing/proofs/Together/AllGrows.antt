@@ -6,10 +6,10 @@ use Rattle.rx_jobs.specs.Handlers.{Handlers, wait_of}
 use Rattle.rx_jobs.specs.Jobs.{JobState}
 use Rattle.rx_plan.specs.Stages.{Stage}
 use Rattle.rx_plan.proofs.Driven.{seen}
-use Rattle.rx_rounds.proofs.EachItem.{In}
+use Rattle.rx_plan.proofs.Followed.{IsFollowed}
+use Rattle.rx_between.proofs.Each.EachItem.{In}
 use Rattle.rx_rounds.proofs.Keeping.{kept_delivers, kept_polls, kept_settles}
 use Rattle.rx_rounds.proofs.Rounded.{RoundMade}
-use Rattle.rx_closing.proofs.Callers.CallersHold.{IsHeld}
 use Rattle.rx_closing.proofs.Callers.CallersLeave.{callers_leave}
 use Rattle.rx_closing.proofs.Far.FarStands.{both_far, both_low, served_further}
 use Rattle.rx_closing.proofs.Far.Waited.{IsJobLow, job_of, waited, waited_grows}
@@ -93,14 +93,14 @@ on_way g server m s t a =
 
 module _ (g : Handlers) (ls : List Numbered) (server : Node) (jobs : JobsGo g ls server) where
   -- its job waited few steps
-  low : (m : Member) (s : Stage) → IsMember g ls server s m → IsHeld g ls (seen s)
+  low : (m : Member) (s : Stage) → IsMember g ls server s m → IsFollowed g ls (seen s)
       → IsJobLow (wait_of g m.request) (job_of m.call s.jobs)
   low m s is held =
       subst (λ (bs : List ℕ). IsJobLow (wait_of g bs) (job_of m.call s.jobs)) is.caused.asks
-      (jobs.low m.call m.index m.client s is.one held.follows is.caused.cause)
+      (jobs.low m.call m.index m.client s is.one held is.caused.cause)
 
   -- between two stages with the same jobs
-  same_jobs : (m : Member) (u v : Stage) → IsMember g ls server u m → IsHeld g ls (seen u)
+  same_jobs : (m : Member) (u v : Stage) → IsMember g ls server u m → IsFollowed g ls (seen u)
       → IsMember g ls server v m → Adds u.history v.history → v.jobs ≡ u.jobs → WayOn g server m u v
   same_jobs m u v first held next a same =
       record {
@@ -158,7 +158,7 @@ module _ (g : Handlers) (ls : List Numbered) (server : Node) (jobs : JobsGo g ls
       turn =
           (let i = each.delivered.caused.cause in
           let grows =
-          jobs.grows m.call m.index m.client r.delivered r.served each.delivered.one all.delivered.held.follows i
+          jobs.grows m.call m.index m.client r.delivered r.served each.delivered.one all.delivered.held i
           r.serves_are in
           let a = adds.served in
           record {

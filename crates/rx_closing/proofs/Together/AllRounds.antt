@@ -11,10 +11,10 @@ use Rattle.rx_script.specs.declared.plan.Numbered.{Numbered}
 use Rattle.rx_jobs.specs.Handlers.{Handlers}
 use Rattle.rx_plan.specs.Stages.{Stage}
 use Rattle.rx_plan.proofs.Driven.{seen}
-use Rattle.rx_plan.proofs.Followed.{Asks}
-use Rattle.rx_rounds.proofs.EachItem.{In}
+use Rattle.rx_plan.proofs.Followed.{Asks, IsFollowed, followed}
+use Rattle.rx_between.proofs.Each.EachItem.{In}
 use Rattle.rx_rounds.proofs.Rounded.{RoundMade}
-use Rattle.rx_closing.proofs.Callers.CallersHold.{IsHeld, held, round_held}
+use Rattle.rx_closing.proofs.Callers.CallersHold.{round_followed}
 use Rattle.rx_closing.proofs.Conns.PlanLinks.{LinkedRound, linked_round}
 use Rattle.rx_closing.proofs.Far.CausedHere.{CausedBy, IsAt, at_cause, at_round, cause_at}
 use Rattle.rx_closing.proofs.Frame.{Crowd, IsKept, OneOf}
@@ -73,14 +73,14 @@ module _ (g : Handlers) (ls : List Numbered) (server : Node) where
     pub over : IsMember g ls server t m
 
   member_by : (s u : Stage) (m : Member) → (is : IsMember g ls server s m)
-      → OneOf m.call m.index m.client server u → IsHeld g ls (seen u)
+      → OneOf m.call m.index m.client server u → IsFollowed g ls (seen u)
       → IsAt m.call (suc m.index) is.caused.cause.place is.caused.cause.invoked.line u.callers
       → IsMember g ls server u m
   member_by s u m is one held_ at =
       record {
         one = one;
         caused = subst (λ (bs : List ℕ). CausedBy g ls m.call m.index m.client bs u) is.caused.asks
-            (cause_at g ls m.call m.index m.client server s u is.caused.cause one held_.follows at);
+            (cause_at g ls m.call m.index m.client server s u is.caused.cause one held_ at);
       }
 
   -- all of them are
@@ -99,7 +99,7 @@ module _ (g : Handlers) (ls : List Numbered) (server : Node) where
         polled = record {
           crowd = crowds.polled;
           held = holds.polled;
-          links = holds.polled.follows.links;
+          links = holds.polled.links;
           linked = linked.polled;
           members = every_on (IsMember g ls server s) (IsMember g ls server r.polled.stage) ms
               (λ m inside is. (each m is).polled) here.members;
@@ -107,7 +107,7 @@ module _ (g : Handlers) (ls : List Numbered) (server : Node) where
         delivered = record {
           crowd = crowds.delivered;
           held = holds.delivered;
-          links = holds.delivered.follows.links;
+          links = holds.delivered.links;
           linked = linked.delivered;
           members = every_on (IsMember g ls server s) (IsMember g ls server r.delivered) ms
               (λ m inside is. (each m is).delivered) here.members;
@@ -115,7 +115,7 @@ module _ (g : Handlers) (ls : List Numbered) (server : Node) where
         served = record {
           crowd = crowds.served;
           held = holds.served;
-          links = holds.served.follows.links;
+          links = holds.served.links;
           linked = linked.served;
           members = every_on (IsMember g ls server s) (IsMember g ls server r.served) ms
               (λ m inside is. (each m is).served) here.members;
@@ -123,7 +123,7 @@ module _ (g : Handlers) (ls : List Numbered) (server : Node) where
         called = record {
           crowd = crowds.called;
           held = holds.called;
-          links = holds.called.follows.links;
+          links = holds.called.links;
           linked = linked.called;
           members = every_on (IsMember g ls server s) (IsMember g ls server r.called) ms
               (λ m inside is. (each m is).called) here.members;
@@ -131,7 +131,7 @@ module _ (g : Handlers) (ls : List Numbered) (server : Node) where
         over = record {
           crowd = crowds.over;
           held = holds.behind;
-          links = holds.behind.follows.links;
+          links = holds.behind.links;
           linked = linked.over;
           members = every_on (IsMember g ls server s) (IsMember g ls server t) ms (λ m inside is. (each m is).over)
               here.members;
@@ -145,8 +145,8 @@ module _ (g : Handlers) (ls : List Numbered) (server : Node) where
       crowds : RoundCrowds cs s here.crowd g t r
       crowds = round_crowds cs s here.crowd g t r kept
 
-      holds : RoundCarried g (Asks g ls) (IsHeld g ls) (held g ls) s t r
-      holds = round_held g ls s t r here.held
+      holds : RoundCarried g (Asks g ls) (IsFollowed g ls) (followed g ls) s t r
+      holds = round_followed g ls s t r here.held
 
       linked : LinkedRound g s t r
       linked = linked_round g s t r here.linked

@@ -19,9 +19,9 @@ use Rattle.rx_closing.proofs.Frame.{OneOf, served_in}
 pub record JobsGo (g : Handlers) (ls : List Numbered) (server : Node) : Type 0 where
   pub low :
       (c : CallName) (k : ℕ) (client : Node) (s : Stage) → OneOf c k client server s → IsFollowed g ls (seen s)
-      → (i : IsCaused g ls c k client s) → IsJobLow (wait_of g (request_for g i.caller.invoke)) (job_of c s.jobs)
+      → (i : IsCaused g ls c k client s) → IsJobLow (wait_of g (request_for g i.caller.origin.invoke)) (job_of c s.jobs)
   pub grows :
       (c : CallName) (k : ℕ) (client : Node) (s t : Stage) → OneOf c k client server s → IsFollowed g ls (seen s)
       → (i : IsCaused g ls c k client s) → Made (dispatches g) s t
-      → waited (wait_of g (request_for g i.caller.invoke)) c (served_in c server s) s.jobs
-      ≤ waited (wait_of g (request_for g i.caller.invoke)) c (served_in c server t) t.jobs
+      → waited (wait_of g (request_for g i.caller.origin.invoke)) c (served_in c server s) s.jobs
+      ≤ waited (wait_of g (request_for g i.caller.origin.invoke)) c (served_in c server t) t.jobs

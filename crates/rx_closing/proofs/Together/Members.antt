@@ -10,9 +10,9 @@ use Rattle.rx_jobs.specs.Handlers.{Handlers, wait_of}
 use Rattle.rx_plan.specs.Stages.{Stage}
 use Rattle.rx_plan.proofs.Driven.{seen}
 use Rattle.rx_plan.proofs.QuietEvents.{AreServed}
-use Rattle.rx_rounds.proofs.EachItem.{In}
+use Rattle.rx_plan.proofs.Followed.{IsFollowed}
+use Rattle.rx_between.proofs.Each.EachItem.{In}
 use Rattle.rx_closing.specs.Living.{call_lives_at}
-use Rattle.rx_closing.proofs.Callers.CallersHold.{IsHeld}
 use Rattle.rx_closing.proofs.Conns.PlanPeers.{AreLinked}
 use Rattle.rx_closing.proofs.Far.CausedHere.{CausedBy}
 use Rattle.rx_closing.proofs.Far.Waited.{way_of}
@@ -43,7 +43,7 @@ IsAsking s m = call_lives_at s m.call (suc m.index) m.client ≡ true
 -- all of them
 pub record AllHere (g : Handlers) (ls : List Numbered) (server : Node) (ms : List Member) (s : Stage) : Type 0 where
   pub crowd : Crowd (names_of ms) s
-  pub held : IsHeld g ls (seen s)
+  pub held : IsFollowed g ls (seen s)
   pub links : AreServed s.nodes s.history
   pub linked : AreLinked s
   pub members : Every (IsMember g ls server s) ms

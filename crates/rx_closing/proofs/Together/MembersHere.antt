@@ -13,12 +13,13 @@ use Rattle.rx_jobs.specs.Handlers.{Handlers, wait_of}
 use Rattle.rx_plan.proofs.Driven.{seen}
 use Rattle.rx_plan.specs.Answering.{request_for}
 use Rattle.rx_plan.specs.Stages.{Stage}
-use Rattle.rx_rounds.proofs.EachItem.{In}
+use Rattle.rx_plan.proofs.Followed.{IsFollowed}
+use Rattle.rx_plan.proofs.DrivenPlan.{plan_follows}
+use Rattle.rx_between.proofs.Each.EachItem.{In}
 use Rattle.rx_closing.specs.Work.{work, work_of}
 use Rattle.rx_closing.specs.Living.{all_live, call_lives_at, looks_of}
 use Rattle.rx_closing.specs.Closing.{RoundsBehind}
 use Rattle.rx_closing.specs.Several.{work_of_all}
-use Rattle.rx_closing.proofs.Callers.CallersHold.{IsHeld, plan_held}
 use Rattle.rx_closing.proofs.Conns.PlanLinks.{plan_links}
 use Rattle.rx_closing.proofs.Far.FarWork.{IsCaused, caused}
 use Rattle.rx_closing.proofs.Far.Waited.{way_low, way_of}
@@ -62,22 +63,28 @@ pub record MemberFor (g : Handlers) (ls : List Numbered) (server : Node) (s : St
 
 module _ (g : Handlers) (ls : List Numbered) (server : Node) (s : Stage) where
   -- a call of a stage, that a client has a record of, has a caller there
-  pub member_from : IsHeld g ls (seen s) → (c : CallName) → HasOne c server s → MemberFor g ls server s c
+  pub member_from : IsFollowed g ls (seen s) → (c : CallName) → HasOne c server s → MemberFor g ls server s c
   member_from held c h =
       record {
-        it = record { call = c; index = h.index; client = h.client; request = request_for g cause.caller.invoke };
+        it = record {
+          call = c;
+          index = h.index;
+          client = h.client;
+          request = request_for g
+              cause.caller.origin.invoke;
+        };
         call = refl;
         is = record { one = h.one; caused = record { cause = cause; asks = refl } };
       }
     where
       cause : IsCaused g ls c h.index h.client s
       cause =
-          (let has = held.each_has h.one.world.sides.nodes_are (suc h.index) h.client c.host c.epoch h.one.client_there
-          h.one.client_is c (record { call = h.asked; there = h.asked_is }) in
-          caused g ls c h.index h.client server s h.one held.follows has.place has.caller has.there has.call)
+          (let has = (held.played h.one.world.sides.nodes_are).each_has (suc h.index) h.client c.host c.epoch
+          h.one.client_there h.one.client_is c (record { call = h.asked; there = h.asked_is }) in
+          caused g ls c h.index h.client server s h.one held has.place has.caller has.there has.call)
 
   -- a call that lives
-  pub member_of : IsHeld g ls (seen s) → Crowd (all_live s) s → slice_get s.nodes 0 ≡ Some server → (c : CallName)
+  pub member_of : IsFollowed g ls (seen s) → Crowd (all_live s) s → slice_get s.nodes 0 ≡ Some server → (c : CallName)
       → In c (all_live s) → MemberFor g ls server s c
   member_of held crowd first c inside = by at.index at.node at.there at.call at.call_is
     where
@@ -143,8 +150,8 @@ members g ls n s t b spacious server first =
     crowd : Crowd (all_live s) s
     crowd = behind_crowd g ls n s t b spacious
 
-    held : IsHeld g ls (seen s)
-    held = plan_held g ls b.es s b.well b.driven b.goes
+    held : IsFollowed g ls (seen s)
+    held = plan_follows g ls b.es s b.well b.driven b.goes
 
     all : MembersFor g ls server s (all_live s)
     all = members_for g ls server s (all_live s) (member_of g ls server s held crowd first)
@@ -228,17 +235,17 @@ all_work g ls server s (m ∷ ms) all =
 
 -- the way of each is bounded by its work
 pub member_most : (g : Handlers) (ls : List Numbered) (server : Node) (s : Stage) → JobsGo g ls server
-    → IsHeld g ls (seen s) → (m : Member) → IsMember g ls server s m
+    → IsFollowed g ls (seen s) → (m : Member) → IsMember g ls server s m
     → member_way g server s m + 18 ≤ 5 * work g m.request
 member_most g ls server s jobs held m is =
     (let i = is.caused in
-    let low = way_low g ls m.call m.index m.client server s is.one held.follows i.cause
-    (jobs.low m.call m.index m.client s is.one held.follows i.cause) in
+    let low = way_low g ls m.call m.index m.client server s is.one held i.cause
+    (jobs.low m.call m.index m.client s is.one held i.cause) in
     let own : work_of g ls s m.call ≡ work g m.request = i.cause.work_is ∙ ap (work g) i.asks in
-    let same : way_of (wait_of g (request_for g i.cause.caller.invoke)) m.call m.index m.client server s
+    let same : way_of (wait_of g (request_for g i.cause.caller.origin.invoke)) m.call m.index m.client server s
     ≡ member_way g server s m =
     ap (λ (bs : List ℕ). way_of (wait_of g bs) m.call m.index m.client server s) i.asks in
-    by (way_of (wait_of g (request_for g i.cause.caller.invoke)) m.call m.index m.client server s)
+    by (way_of (wait_of g (request_for g i.cause.caller.origin.invoke)) m.call m.index m.client server s)
     (member_way g server s m) (work_of g ls s m.call) (work g m.request) low same own)
   where
     by : (a b v w : ℕ) → a + 18 ≤ 5 * v → a ≡ b → v ≡ w → b + 18 ≤ 5 * w
@@ -246,7 +253,7 @@ member_most g ls server s jobs held m is =
 
 -- and so that of all
 pub way_most : (g : Handlers) (ls : List Numbered) (server : Node) (s : Stage) → JobsGo g ls server
-    → IsHeld g ls (seen s) → (ms : List Member) → Every (IsMember g ls server s) ms
+    → IsFollowed g ls (seen s) → (ms : List Member) → Every (IsMember g ls server s) ms
     → all_way g server ms s ≤ 5 * request_work g ms
 way_most g ls server s jobs held [] all = omega arith
 way_most g ls server s jobs held (m ∷ ms) all =
@@ -258,7 +265,7 @@ way_most g ls server s jobs held (m ∷ ms) all =
 
 -- with some to spare where there is one
 pub way_some : (g : Handlers) (ls : List Numbered) (server : Node) (s : Stage) → JobsGo g ls server
-    → IsHeld g ls (seen s) → (ms : List Member) → Every (IsMember g ls server s) ms → (m : Member) → In m ms
+    → IsFollowed g ls (seen s) → (ms : List Member) → Every (IsMember g ls server s) ms → (m : Member) → In m ms
     → all_way g server ms s + 18 ≤ 5 * request_work g ms
 way_some g ls server s jobs held [] all m inside = absurd inside
 way_some g ls server s jobs held (n ∷ ms) all m inside =

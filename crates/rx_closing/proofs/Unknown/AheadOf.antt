@@ -23,12 +23,12 @@ use Rattle.rx_history.specs.Sides.{Node, side}
 use Rattle.rx_law.proofs.Joint.{Fed}
 use Rattle.rx_law.specs.Promises.{ends_in}
 use Rattle.rx_law.specs.Worlds.{Datagram}
-use Rattle.rx_between.proofs.EachEvent.{each_step}
-use Rattle.rx_between.proofs.EachStep.{CallStep, Starts}
+use Rattle.rx_between.proofs.Each.EachEvent.{each_step}
+use Rattle.rx_between.proofs.Each.EachStep.{CallStep, Starts}
 use Rattle.rx_between.proofs.LawsAgree.{agree_in_world}
 use Rattle.rx_between.proofs.Numbered.{latest_there}
 use Rattle.rx_plan.specs.Stages.{Stage}
-use Rattle.rx_rounds.proofs.EachItem.{In}
+use Rattle.rx_between.proofs.Each.EachItem.{In}
 use Rattle.rx_closing.specs.Living.{looks_of}
 use Rattle.rx_closing.proofs.Far.FarStands.{scene_fed}
 use Rattle.rx_closing.proofs.Frame.{AreAmong, IsSpacious, OneOf, asked_in}

@@ -20,16 +20,16 @@ use Rattle.rx_rules.specs.Judging.{Facts, facts_of, is_data, live_row, opened, o
 use Rattle.rx_rules.specs.Life.{after_code, after_later}
 use Rattle.rx_rules.specs.Looks.{CallRecord, Looks, call_at, channel_at, latest_name, on_life}
 use Rattle.rx_rules.specs.Records.{started_later}
-use Rattle.rx_rules.specs.Setup.{IsServer, Setup, receiving_window, sending_window}
+use Rattle.rx_rules.specs.Setup.{IsServer, Setup, pace_of, receiving_window}
 use Rattle.rx_rules.specs.Slots.{node_view}
 use Rattle.rx_history.proofs.Calls.{call-changed}
 use Rattle.rx_history.proofs.Events.{call-by, calls-prepared}
 use Rattle.rx_history.proofs.Moments.{now-prepared}
-use Rattle.rx_history.proofs.RoomTaken.{challenged-calls}
+use Rattle.rx_history.proofs.Room.RoomTaken.{challenged-calls}
 use Rattle.rx_history.proofs.Takes.{call_at-any}
 use Rattle.rx_between.specs.Agreed.{MakesSense}
-use Rattle.rx_between.proofs.EachChange.{taken_alike}
-use Rattle.rx_between.proofs.EachStep.{is_start}
+use Rattle.rx_between.proofs.Each.EachChange.{taken_alike}
+use Rattle.rx_between.proofs.Each.EachStep.{is_start}
 use Rattle.rx_between.proofs.Prepared.{prepared_number}
 use Rattle.rx_closing.proofs.Far.FinishedOpen.{server_view}
 use Rattle.rx_closing.proofs.Messages.Opening.{CanBegin, begun_record, can_begin}
@@ -104,7 +104,7 @@ module _ (s : Setup) (l : Looks) (c : CallName) (m : Message) (serves : IsServer
 
   -- what passed at its end before
   abbrev pub ahead_looks : CallLooks
-  ahead_looks = fresh_call (sending_window s) s.prompt l.now
+  ahead_looks = fresh_call (pace_of s) l.now
 
   above_it : nat_lt (channel_at l (channel_of c)).number m.number ≡ true
   above_it = ap (λ (n : ℕ). nat_lt (channel_at l (channel_of c)).number n) own ∙ ahead
@@ -133,7 +133,7 @@ module _ (s : Setup) (l : Looks) (c : CallName) (m : Message) (serves : IsServer
       → CanBegin ahead_view m (call_row ahead_view m m.body ahead_looks)
   can_start_so payload at sense =
       subst (λ (b : Body). CanBegin ahead_view m (call_row ahead_view m b ahead_looks)) (sym at)
-      (can_begin ahead_view m payload (sending_window s) l.now s.prompt (server_view s.kind serves)
+      (can_begin ahead_view m payload (pace_of s) l.now (server_view s.kind serves)
       (subst (λ (b : Body). MakesSense (call_row ahead_view m b ahead_looks)) at sense))
 
   -- what becomes of it
@@ -203,7 +203,7 @@ module _ (s : Setup) (l : Looks) (c : CallName) (m : Message) (serves : IsServer
           { looks = after_taken (node_view s t) got m j.looks })
           (there i)) (there i))
           ∙ ap (λ (n : ℕ). Some (record (begun_record s c n) {
-            looks = after_taken (node_view s t) got m (fresh_call (sending_window s) s.prompt n);
+            looks = after_taken (node_view s t) got m (fresh_call (pace_of s) n);
           })) now
           ∙ ap (λ (k : CallLooks). Some (record (begun_record s c l.now) { looks = k }))
           (taken_alike (node_view s t) ahead_view got m ahead_looks refl now)

@@ -18,9 +18,10 @@ use Rattle.rx_script.specs.declared.plan.Numbered.{Numbered}
 use Rattle.rx_plan.specs.Answering.{AreServable}
 use Rattle.rx_plan.specs.Stages.{Stage}
 use Rattle.rx_plan.proofs.Driven.{seen}
+use Rattle.rx_plan.proofs.Followed.{IsFollowed}
 use Rattle.rx_rounds.proofs.Rounded.{RoundMade}
 use Rattle.rx_closing.specs.Living.{looks_of}
-use Rattle.rx_closing.proofs.Callers.CallersHold.{IsHeld, round_held}
+use Rattle.rx_closing.proofs.Callers.CallersHold.{round_followed}
 use Rattle.rx_closing.proofs.Callers.CallersLeave.{served_stays}
 use Rattle.rx_closing.proofs.Ends.FitAlways.{fresh_fit}
 use Rattle.rx_closing.proofs.Ends.HeardSoon.{OwesBy}
@@ -59,8 +60,8 @@ module _ (g : Handlers) (ls : List Numbered) (servable : AreServable g) (cs : Li
   stay : MomentsStay g s t r
   stay = moments_stay g s t r
 
-  abbrev follows : IsHeld g ls (seen r.delivered)
-  follows = (round_held g ls s t r i.held).delivered
+  abbrev follows : IsFollowed g ls (seen r.delivered)
+  follows = (round_followed g ls s t r i.held).delivered
 
   -- the server's record stays behind the dispatcher's turn
   served_over : served_in c server t ≡ served_in c server r.served
@@ -72,12 +73,12 @@ module _ (g : Handlers) (ls : List Numbered) (servable : AreServable g) (cs : Li
   pub none_over : served_in c server r.delivered ≡ None → served_in c server t ≡ None
   none_over none =
       served_over
-      ∙ of (scene_turn g ls c k client server r.delivered one.delivered follows.follows servable r.served r.serves_are)
+      ∙ of (scene_turn g ls c k client server r.delivered one.delivered follows servable r.served r.serves_are)
     where
       no : {A : Type 0} (x : CallRecord) → served_in c server r.delivered ≡ Some x → A
       no x some = absurd (let both : ◌≡◌ {A = Option CallRecord} None (Some x) = sym none ∙ some in cc (both))
 
-      of : ServedTurn g server (scene_serves g ls c k client server r.delivered one.delivered follows.follows) c
+      of : ServedTurn g server (scene_serves g ls c k client server r.delivered one.delivered follows) c
           r.delivered r.served → served_in c server r.served ≡ None
       of (turned.served_stays same idle first others) = same ∙ none
       of (served_works x f u rests) = no x u.was
@@ -152,7 +153,7 @@ module _ (g : Handlers) (ls : List Numbered) (servable : AreServable g) (cs : Li
         subst (λ (q : CallRecord). DueBy (moment 0 s.history + ACK_DELAY_MS) q.looks.owed_ack)
         (one_record at_served.call work.served (served_in c server t) (served_over ∙ at_served.there) work.served_is)
         ((turn_hears (looks_of r.delivered 0 server).now x.looks at_served.call.looks
-        (server_turns g ls servable c k client server r.delivered r.served one.delivered one.served follows.follows
+        (server_turns g ls servable c k client server r.delivered r.served one.delivered one.served follows
         r.serves_are x at_served.call there works at_served.there)).due (moment 0 s.history + ACK_DELAY_MS) due)
 
     -- the clocks stay

@@ -26,9 +26,9 @@ use Rattle.rx_rules.proofs.EveryLaws.{Every}
 use Rattle.rx_history.specs.Sides.{Node, side}
 use Rattle.rx_history.specs.Starts.{StartsOnce}
 use Rattle.rx_law.specs.Worlds.{Datagram}
-use Rattle.rx_between.proofs.EachEvent.{each_step}
-use Rattle.rx_between.proofs.EachStep.{CallStep, LifeStep}
-use Rattle.rx_between.proofs.EachStep as steps
+use Rattle.rx_between.proofs.Each.EachEvent.{each_step}
+use Rattle.rx_between.proofs.Each.EachStep.{CallStep, LifeStep}
+use Rattle.rx_between.proofs.Each.EachStep as steps
 use Rattle.rx_between.proofs.Onward.{NoneAnew, row_named}
 use Rattle.rx_plan.specs.Network.{delivers}
 use Rattle.rx_plan.specs.Parts.{each}

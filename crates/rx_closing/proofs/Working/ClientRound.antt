@@ -20,12 +20,12 @@ use Rattle.rx_script.specs.declared.plan.Numbered.{Numbered}
 use Rattle.rx_jobs.specs.Handlers.{Handlers}
 use Rattle.rx_plan.specs.Answering.{AreServable}
 use Rattle.rx_plan.specs.Stages.{Stage}
-use Rattle.rx_plan.proofs.Followed.{Asks}
+use Rattle.rx_plan.proofs.Followed.{Asks, IsFollowed, followed}
 use Rattle.rx_progress.specs.Moving.{IsDrained}
-use Rattle.rx_rounds.proofs.EachItem.{In}
+use Rattle.rx_between.proofs.Each.EachItem.{In}
 use Rattle.rx_rounds.proofs.Rounded.{RoundMade}
 use Rattle.rx_closing.specs.Living.{call_lives_at, looks_of}
-use Rattle.rx_closing.proofs.Callers.CallersHold.{IsHeld, held, round_held}
+use Rattle.rx_closing.proofs.Callers.CallersHold.{round_followed}
 use Rattle.rx_closing.proofs.Callers.SceneTurn.{AskedLeft, asked_turn, asks_on, has_ended}
 use Rattle.rx_closing.proofs.Ends.BothEnds.{IsFit}
 use Rattle.rx_closing.proofs.Ends.HeardSoon.{Lively}
@@ -92,8 +92,8 @@ module _ (g : Handlers) (ls : List Numbered) (servable : AreServable g) (cs : Li
   still : MomentsStay g s t r
   still = moments_stay g s t r
 
-  carried : RoundCarried g (Asks g ls) (IsHeld g ls) (held g ls) s t r
-  carried = round_held g ls s t r i.held
+  carried : RoundCarried g (Asks g ls) (IsFollowed g ls) (followed g ls) s t r
+  carried = round_followed g ls s t r i.held
 
   kept : IsKept s.nodes t
   kept = subst (λ (ns : List Node). IsKept ns t) (round_adds g s t r).nodes i.over.kept

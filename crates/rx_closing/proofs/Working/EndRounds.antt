@@ -23,12 +23,12 @@ use Rattle.rx_jobs.specs.Handlers.{Handlers}
 use Rattle.rx_plan.specs.Answering.{AreServable}
 use Rattle.rx_plan.specs.Stages.{Stage}
 use Rattle.rx_plan.proofs.Driven.{seen}
-use Rattle.rx_plan.proofs.Followed.{Asks}
+use Rattle.rx_plan.proofs.Followed.{Asks, IsFollowed, followed}
 use Rattle.rx_plan.proofs.QuietEvents.{AreServed}
 use Rattle.rx_progress.specs.Moving.{IsDrained}
 use Rattle.rx_rounds.proofs.Rounded.{RoundMade}
 use Rattle.rx_closing.specs.Living.{looks_of}
-use Rattle.rx_closing.proofs.Callers.CallersHold.{IsHeld, held, round_held}
+use Rattle.rx_closing.proofs.Callers.CallersHold.{round_followed}
 use Rattle.rx_closing.proofs.Callers.CallersLeave.{served_stays}
 use Rattle.rx_closing.proofs.Callers.SceneTurn.{AskedLeft, asked_turn, asks_on, has_ended}
 use Rattle.rx_closing.proofs.Conns.PlanLinks.{linked_round}
@@ -116,7 +116,7 @@ pub record RoundFor (g : Handlers) (ls : List Numbered) (cs : List CallName) (c 
     (client server : Node) (s t : Stage) (r : RoundMade g s t) : Type 0 where
   pub over : OneOf c k client server t
   pub crowd : Crowd cs s
-  pub held : IsHeld g ls (seen s)
+  pub held : IsFollowed g ls (seen s)
   pub links : AreServed s.nodes s.history
   pub linked : AreLinked s
   pub settles : Settles r.polled.given r.called t
@@ -139,8 +139,8 @@ module _ (g : Handlers) (ls : List Numbered) (servable : AreServable g) (cs : Li
   abbrev mid : Stage
   mid = r.polled.stage
 
-  carried : RoundCarried g (Asks g ls) (IsHeld g ls) (held g ls) s t r
-  carried = round_held g ls s t r i.held
+  carried : RoundCarried g (Asks g ls) (IsFollowed g ls) (followed g ls) s t r
+  carried = round_followed g ls s t r i.held
 
   kept : IsKept s.nodes t
   kept = subst (λ (ns : List Node). IsKept ns t) (round_adds g s t r).nodes i.over.kept
@@ -349,7 +349,7 @@ module _ (g : Handlers) (ls : List Numbered) (servable : AreServable g) (cs : Li
         (subst (λ (x : CallRecord). TurnsOn (looks_of r.delivered 0 server).now at_server.delivered.call.looks x.looks)
         served_same_s
         (server_turns g ls servable c k client server r.delivered r.served ones.delivered ones.served
-        carried.delivered.follows r.serves_are at_server.delivered.call at_server.served.call at_server.delivered.there
+        carried.delivered r.serves_are at_server.delivered.call at_server.served.call at_server.delivered.there
         at_server.delivered.works at_server.served.there))
 
     -- all of it
@@ -372,6 +372,6 @@ module _ (g : Handlers) (ls : List Numbered) (servable : AreServable g) (cs : Li
           awake = gave_s.awake;
           drained = subst (λ (x : CallRecord). IsDrained x.looks.received) served_same_s
               (server_drained g ls servable c k client server r.delivered r.served ones.delivered ones.served
-              carried.delivered.follows r.serves_are at_server.delivered.call at_server.served.call
+              carried.delivered r.serves_are at_server.delivered.call at_server.served.call
               at_server.delivered.there at_server.delivered.works at_server.served.there at_server.served.works);
         }

@@ -7,9 +7,9 @@ use Rattle.rx_rules.specs.Setup.{Client, IsServer, Kind, Server}
 use Rattle.rx_rules.proofs.EveryLaws.{Every}
 use Rattle.rx_history.specs.Sides.{Node, side}
 use Rattle.rx_plan.specs.Stages.{Stage}
-use Rattle.rx_plan.proofs.PlanKeys.{served_side, service_at}
+use Rattle.rx_plan.proofs.Keys.PlanKeys.{served_side, service_at}
 use Rattle.rx_plan.proofs.QuietEvents.{AreServed}
-use Rattle.rx_plan.proofs.ServicesStay.{LinksTo}
+use Rattle.rx_plan.proofs.Keys.ServicesStay.{LinksTo}
 use Rattle.rx_closing.specs.Living.{looks_of}
 use Rattle.rx_closing.proofs.Conns.PeersTo.{client_conn}
 use Rattle.rx_closing.proofs.Conns.PlanLinks.{links_side}

@@ -1,6 +1,7 @@
 //! What a node gives when it is polled.
 
-ghost use Rattle.std.specs.Prelude.{◌≡◌, ◌≤◌, ◌<◌, ◌+◌, ◌*◌, ◌%◌, ◌^◌, ℕ, suc, List, length, take, drop, Some, None, IfSome};
+ghost use Rattle.std.specs.Prelude.{◌≡◌, ◌≤◌, ◌<◌, ◌+◌, ◌*◌, ◌%◌, ◌^◌, ℕ, suc, List, length, take, drop, Some, None};
+ghost use Rattle.std.specs.Prelude.{IfSome};
 ghost use Rattle.std.specs.Prelude.{◌==◌, false, not, IsNone, IsSomeAnd};
 ghost use Rattle.std.specs.Prelude.{if◌then◌else◌, option_map, slice_get};
 ghost use Rattle.rx_model.specs.declared.event.Event.TheVariants as events;
@@ -11,7 +12,7 @@ ghost use Rattle.rx_model.specs.Spelling.{made};
 ghost use Rattle.rx_model.specs.Strays.{stray_message};
 ghost use Rattle.rx_packet.specs.Seen.{message_with_head};
 ghost use Rattle.rx_due.specs.Cost.{AtMost, AtMostForEntries};
-ghost use Rattle.rx_ends.specs.Ends.{IsThere, StandsEnd};
+ghost use Rattle.rx_call_ends.specs.Ends.{IsThere, StandsEnd};
 ghost use Rattle.rx_rules.specs.After.{counted};
 ghost use Rattle.rx_rules.specs.CallItems.{ack_body};
 ghost use Rattle.rx_rules.specs.CallLooks.{CallLooks};
@@ -33,9 +34,9 @@ use crate::item::{Due, Item};
 use crate::node::Node;
 use crate::strays::write_stray;
 use rx_call::Giving;
+use rx_call_ends::Ends;
 use rx_class::Class;
 use rx_due::Steps;
-use rx_ends::Ends;
 use rx_model::wire::{ACK_PING, LAST_PACKET, PAYLOAD_BYTES, REQUEST_ACK, SECURITY_BYTES};
 use rx_model::{CallName, Host};
 use rx_packet::{AckBody, Body, Head, write_msg};

@@ -54,8 +54,8 @@ impl<C: Class> Server<C> {
         self.accept_within(&mut steps)
     }
 
-    /// The same, by counted steps: how many it takes has to do with how many channels are no longer ready behind it, and
-    /// not with how many calls there are.
+    /// The same, by counted steps: how many it takes has to do with how many channels are no longer ready behind it,
+    /// and not with how many calls there are.
     pub fn accept_within<L: Ledger>(&mut self, steps: &mut Steps<L>) -> Option<CallName>
         ensures answered { Answered C.class_of self.old self.new (events.Accepted result) }
         ensures setup { setup_of C.class_of self.new.node ≡ setup_of C.class_of self.old.node }

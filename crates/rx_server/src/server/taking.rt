@@ -255,8 +255,8 @@ impl<C: Class> Server<C> {
         self.take_live(key, c, head, body)
     }
 
-    /// A message for its channel's live call. A call whose packet 1 is kept waits behind those before it; those of a client
-    /// that is proved by it may be given to a handler.
+    /// A message for its channel's live call. A call whose packet 1 is kept waits behind those before it; those of a
+    /// client that is proved by it may be given to a handler.
     fn take_live(&mut self, key: u32, c: &CallName, head: &Head, body: &Body<'_>) -> Took
         requires key { IsKey self.old.node key }
         requires size { FitsDatagram (body_of body.now) }

@@ -3,8 +3,7 @@
 
 use rx_base::{MemFiles, MemSink};
 use rx_top::rx_main;
-use rx_udp::MemWire;
-use rx_wire::Forgetting;
+use rx_wire::{Forgetting, MemWire};
 use std::test::Fail;
 
 /// Room for the two lines.

@@ -58,8 +58,8 @@ static SERVES: [Case; 11] = [
         wire_faults: &[2],
         ..CUT_EARLY
     },
-    // the reply, with the ACK that the request asks for, behind its read, which was polled before the reply went; and that
-    // ACK alone
+    // the reply, with the ACK that the request asks for, behind its read, which was polled before the reply went; and
+    // that ACK alone
     Case {
         wire_faults: &[3],
         lost: 2,

@@ -4,8 +4,7 @@ ghost use Rattle.std.specs.Prelude.{◌≡◌, ◌<◌, ◌^◌, All, IfOk};
 
 use super::row::bytes_of;
 use rx_model::{Event, Host};
-use rx_udp::{Arrival, LogEntry, MemWire};
-use rx_wire::MemJournal;
+use rx_wire::{Arrival, LogEntry, MemJournal, MemWire};
 use std::alloc::{AllocError, Global};
 use std::process::Abort;
 

@@ -57,7 +57,8 @@ silent-preserved g c =
     was.booked booked c.silence_on.new.steps c.refresh.new.steps c.refresh.ensures.steps in
     record {
       booked = booked;
-      ending = λ m mirrors. ending_next class n m z key silent.moment c.args.steps.now c.silent.steps c.refresh.new.steps dies
+      ending = λ m mirrors. ending_next class n m z key silent.moment c.args.steps.now c.silent.steps
+          c.refresh.new.steps dies
           (let now = c.moment.ensures in let low = silent.passed in omega (arith, now, low))
           c.silence_on.ensures.silenced (was.ending m mirrors)
           (λ d power. (

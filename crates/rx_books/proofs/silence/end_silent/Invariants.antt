@@ -10,7 +10,8 @@ abbrev pub invariant-silent : goal.invariant-silent
 invariant-silent g l =
     record {
       booked : IsBooked l.core l.books;
-      ending : (m : Looks) → Mirrors g.C.Class.class_of l.fn.core m → Ending g.C.Class.class_of l.core m l.fn.steps l.steps;
+      ending : (m : Looks) → Mirrors g.C.Class.class_of l.fn.core m
+          → Ending g.C.Class.class_of l.core m l.fn.steps l.steps;
       same : KeepsNode l.fn.core l.core;
     }
 

@@ -1,5 +1,5 @@
-use Rattle.rx_history.proofs.Givings.{poll_gives}
-use Rattle.rx_history.proofs.GivingItems.{item_apart, item_latest, item_name}
+use Rattle.rx_history.proofs.Given.Givings.{poll_gives}
+use Rattle.rx_history.proofs.Given.GivingItems.{item_apart, item_latest, item_name}
 use Rattle.rx_law.proofs.laws.polls_give_plain_messages.Goals as goal
 
 pub returns : goal.returns

@@ -11,5 +11,5 @@ returns-clause-load g c =
 
 pub returns-clause-promises : goal.returns-clause-promises
 returns-clause-promises g c =
-    load_keeps c.loads_keep_promises.ensures.world c.loads_keep_promises.ensures.promises c.args.number c.args.calls
-    c.loaded_of.result _ _
+    load_keeps c.loads_keep_promises.ensures.world c.loads_keep_promises.ensures.promises
+    c.loads_keep_promises.ensures.says c.args.number c.args.calls c.loaded_of.result _ _

@@ -1,4 +1,4 @@
-use Rattle.rx_plan.proofs.Answered.{plan_aborts, plan_answers, plan_causes, plan_ends}
+use Rattle.rx_plan.proofs.Givings.Answered.{plan_aborts, plan_answers, plan_causes, plan_ends}
 use Rattle.rx_plan.proofs.laws.plans_answer_as_served.Goals as goal
 
 pub returns : goal.returns

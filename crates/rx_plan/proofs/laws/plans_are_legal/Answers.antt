@@ -1,4 +1,4 @@
-use Rattle.rx_plan.proofs.Promised.{plans_legal, plans_whole}
+use Rattle.rx_plan.proofs.Givings.Promised.{plans_legal, plans_whole}
 use Rattle.rx_plan.proofs.laws.plans_are_legal.Goals as goal
 
 pub returns : goal.returns

@@ -1,4 +1,4 @@
-use Rattle.rx_plan.proofs.Promised.{plans_carry, plans_world}
+use Rattle.rx_plan.proofs.Givings.Promised.{plans_carry, plans_world}
 use Rattle.rx_plan.proofs.laws.plans_are_worlds.Goals as goal
 
 pub returns : goal.returns

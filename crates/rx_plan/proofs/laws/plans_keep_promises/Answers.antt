@@ -1,4 +1,4 @@
-use Rattle.rx_plan.proofs.Promised.{plan_promises}
+use Rattle.rx_plan.proofs.Givings.Promised.{plan_promises}
 use Rattle.rx_plan.proofs.laws.plans_keep_promises.Goals as goal
 
 pub returns : goal.returns

@@ -18,4 +18,5 @@ given-preserved c =
 pub returns-clause-order : goal.returns-clause-order
 returns-clause-order c =
     (renumbers_all c.args.counts.now c.given.counts c.given.ready c.admit_all-2.new.ready c.args.next c.given.count
-    c.given.invariant.renumbers (c.in_default.ensures.empty.0 refl) c.admit_all-2.ensures.room c.admit_all-2.ensures.each).1
+    c.given.invariant.renumbers (c.in_default.ensures.empty.0 refl) c.admit_all-2.ensures.room
+    c.admit_all-2.ensures.each).1

@@ -1,4 +1,4 @@
-use Rattle.rx_rounds.proofs.GivesOrMoves.{due_gives, polled_later, quiet_moves}
+use Rattle.rx_rounds.proofs.Clocks.GivesOrMoves.{due_gives, polled_later, quiet_moves}
 use Rattle.rx_rounds.proofs.laws.clocks_move.Goals as goal
 
 pub returns-clause-moves : goal.returns-clause-moves

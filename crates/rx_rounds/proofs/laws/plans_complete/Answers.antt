@@ -1,4 +1,4 @@
-use Rattle.rx_rounds.proofs.Complete.{complete}
+use Rattle.rx_rounds.proofs.Lines.Complete.{complete}
 use Rattle.rx_rounds.proofs.laws.plans_complete.Goals as goal
 
 pub returns : goal.returns

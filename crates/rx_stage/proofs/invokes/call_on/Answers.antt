@@ -17,7 +17,8 @@ calls-init g c =
           c.args.nodes.now c.args.nodes.now t t) (sym c.begin.ensures)
           (going_here (calling REPLY_BYTES) c.args.node (begun c.args.caller.now) c.args.nodes.now t);
       clients = refl;
-      done = λ is. subst (λ (v : CallerState). is_done v ≡ true) (sym c.begin.ensures) (done_ended c.args.caller.now is);
+      done = λ is. subst (λ (v : CallerState). is_done v ≡ true) (sym c.begin.ensures)
+          (done_ended c.args.caller.now is);
     }
 
 pub returns-in_err-call-clause-plays : goal.returns-in_err-call-clause-plays

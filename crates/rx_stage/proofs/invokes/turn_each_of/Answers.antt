@@ -12,16 +12,20 @@ loop-place-init g c = record {
 
 pub returns-in_err-turn_for-clause-plays : goal.returns-in_err-turn_for-clause-plays
 returns-in_err-turn_for-clause-plays g c =
-    callers_stop (turns_for c.args.node) c.args.places.now c.loop-place.place-index (get_or c.args.places.now c.loop-place.place-index 0) c.args.callers.now.items
+    callers_stop (turns_for c.args.node) c.args.places.now c.loop-place.place-index
+    (get_or c.args.places.now c.loop-place.place-index 0) c.args.callers.now.items
     c.loop-place.callers.items c.turn_for.new.callers.items c.args.nodes.now c.loop-place.nodes c.turn_for.new.nodes
     c.from_residual.result c.in_err-turn_for.field-0.0 _ _ _ c.from_residual.ensures c.loop-place-test.true
-    (same_there c.args.places.now c.loop-place.place-index 0 _ c.loop-place-test.true) c.loop-place.invariant.plays c.in_err-turn_for.ensures.plays
+    (same_there c.args.places.now c.loop-place.place-index 0 _ c.loop-place-test.true) c.loop-place.invariant.plays
+    c.in_err-turn_for.ensures.plays
 
 pub loop-place-preserved : goal.loop-place-preserved
 loop-place-preserved g c = record {
-  plays = callers_more (turns_for c.args.node) c.args.places.now c.loop-place.place-index (get_or c.args.places.now c.loop-place.place-index 0)
+  plays = callers_more (turns_for c.args.node) c.args.places.now c.loop-place.place-index
+      (get_or c.args.places.now c.loop-place.place-index 0)
       c.args.callers.now.items c.loop-place.callers.items c.turn_for.new.callers.items c.args.nodes.now
-      c.loop-place.nodes c.turn_for.new.nodes _ _ _ c.loop-place-test.true (same_there c.args.places.now c.loop-place.place-index 0 _ c.loop-place-test.true)
+      c.loop-place.nodes c.turn_for.new.nodes _ _ _ c.loop-place-test.true
+      (same_there c.args.places.now c.loop-place.place-index 0 _ c.loop-place-test.true)
       c.loop-place.invariant.plays c.in_ok-turn_for.ensures.plays;
   done = λ p is. c.turn_for.ensures.done p (c.loop-place.invariant.done p is);
   count = c.turn_for.ensures.count ∙ c.loop-place.invariant.count;

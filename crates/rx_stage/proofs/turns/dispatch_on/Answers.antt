@@ -18,7 +18,8 @@ calls-init g c =
     let old : DispatcherState = state_of c.args.dispatcher.now in
     let by : Handlers = handlers_of c.args.iface.now old.script in
     record {
-      going = subst (λ (s : DispatcherState). Going (dispatching by) 0 0 (accepts old.round.jobs) (turning_of by s.round)
+      going = subst (λ (s : DispatcherState). Going (dispatching by) 0 0 (accepts old.round.jobs)
+          (turning_of by s.round)
           c.args.nodes.now c.args.nodes.now t t) (sym c.begin.ensures)
           (going_here (dispatching by) 0 (accepts old.round.jobs) c.args.nodes.now t);
       remembered = subst (λ (s : DispatcherState). Remembers (handlers_of c.args.iface.now s.script) s.round)

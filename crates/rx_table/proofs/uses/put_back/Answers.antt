@@ -21,7 +21,8 @@ aside-preserved g c =
     let left = c.pop.new.self.items in
     let all = subst (λ (xs : List (ℕ × ℕ)). AreWithin (length c.args.book.now) xs) c.in-Some.ensures.items so.within in
     let places : length c.set.new.self ≡ length c.args.book.now =
-    ap (λ (b : List (Option ℕ)). length b) c.set.ensures.updates ∙ set_length c.aside.book c.in-Some.place _ ∙ so.places in
+    ap (λ (b : List (Option ℕ)). length b) c.set.ensures.updates ∙ set_length c.aside.book c.in-Some.place _
+    ∙ so.places in
     let few = all_entries c.set.new.self in
     record {
       again = ap (λ (b : List (Option ℕ)). with_aside b left) c.set.ensures.updates

@@ -9,7 +9,8 @@ abbrev pub invariant-held : goal.invariant-held
 invariant-held g l = record {
   gone : GoneThrough l.now l.seats l.fn.book l.book l.aside.items;
   capacity : vec_capacity l.aside ≡ vec_capacity l.fn.aside;
-  cost : (d : ℕ) → 2 * length l.fn.book + 1 < 2 ^ (d + 1) → AtMost (length l.aside.items * (8 * d + 9)) l.fn.steps l.steps;
+  cost : (d : ℕ) → 2 * length l.fn.book + 1 < 2 ^ (d + 1)
+      → AtMost (length l.aside.items * (8 * d + 9)) l.fn.steps l.steps;
 }
 
 abbrev pub decreases-held : goal.decreases-held

@@ -1,5 +1,5 @@
 use Rattle.std.proofs.Common.{Some, inr, subst}
-use Rattle.rx_passes.specs.Tells.{Told, sink_tells, told, wire_tells}
+use Rattle.rx_wire_loop.specs.Tells.{Told, sink_tells, told, wire_tells}
 use Rattle.xg_check.specs.Meaning.{interface_of}
 use Rattle.rx_top.specs.Calls.{CallsAtProc}
 use Rattle.rx_top.specs.Inputs.{Reads}
@@ -8,7 +8,8 @@ use Rattle.rx_top.proofs.call.call_files.Goals as goal
 
 pub returns-in-Ok-clause-call : goal.returns-in-Ok-clause-call
 returns-in-Ok-clause-call g c =
-    let same = reads_behind g.F.Files.contents g.F.Files.failed_last g.F.Files.reads (Some c.args.asked.now.xg) c.args.files.now c.read_interface.new.files
+    let same = reads_behind g.F.Files.contents g.F.Files.failed_last g.F.Files.reads (Some c.args.asked.now.xg)
+    c.args.files.now c.read_interface.new.files
     c.call_over.new.files c.in-Ok.ensures.same_contents (c.in-Ok.ensures.same_failed_last (λ e. absurd (cc)))
     c.in-Ok.ensures.reads in
     let before : Told =

@@ -1,7 +1,7 @@
 use Rattle.std.proofs.Common.{codes, sym, subst}
 use Rattle.std.specs.Prelude.{option_copied}
 use Rattle.rx_model.specs.Text.{hex_text}
-use Rattle.rx_passes.specs.Tells.{SinkTells, sink_tells}
+use Rattle.rx_wire_loop.specs.Tells.{SinkTells, sink_tells}
 use Rattle.rx_reply.specs.Replies.{down_text}
 use Rattle.rx_top.specs.Puts.{PutsText}
 use Rattle.rx_top.proofs.PutLemmas.{puts_more, puts_stopped}

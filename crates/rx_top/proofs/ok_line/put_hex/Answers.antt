@@ -3,7 +3,7 @@ use Rattle.std.proofs.lemmas.List.{nil_from_length}
 use Rattle.std.specs.Slice.Iter.{chunks_rest}
 use Rattle.hex.specs.Hex.{encode_lower, encode_with}
 use Rattle.rx_model.proofs.HexText.{encode_lower-append}
-use Rattle.rx_passes.specs.Tells.{SinkTells, sink_tells}
+use Rattle.rx_wire_loop.specs.Tells.{SinkTells, sink_tells}
 use Rattle.rx_top.specs.Puts.{PutsText}
 use Rattle.rx_top.proofs.PutLemmas.{puts_more, puts_none, puts_stopped}
 use Rattle.rx_top.proofs.ok_line.put_hex.Goals as goal
@@ -60,7 +60,8 @@ returns-in_err-put_piece g c =
     (parts_hex so_far.0 piece left (chunks_rest c.loop-piece.piece-iterator) c.args.bytes.now so_far.1
     c.in-Some.ensures.steps.1.0)
     (puts_more c.from_residual.result (encode_lower so_far.0) (encode_lower piece ++ encode_lower left) start before
-    after so_far.2 (puts_stopped c.from_residual.result (record {}) (encode_lower piece) (encode_lower left) before after
+    after so_far.2 (puts_stopped c.from_residual.result (record {}) (encode_lower piece) (encode_lower left) before
+    after
     c.from_residual.ensures.0 c.in_err-put_piece.ensures))
 
 pub returns : goal.returns

@@ -1,7 +1,7 @@
 use Rattle.std.proofs.Common.{◌≡◌, ℕ, List, ◌++◌, Ok}
 use Rattle.std.specs.Slice.Iter.{chunks_rest, chunks_size}
 use Rattle.hex.specs.Hex.{encode_lower}
-use Rattle.rx_passes.specs.Tells.{sink_tells}
+use Rattle.rx_wire_loop.specs.Tells.{sink_tells}
 use Rattle.rx_top.specs.Puts.{PutsText}
 use Rattle.rx_top.proofs.ok_line.put_hex.Given as goal
 

@@ -2,7 +2,7 @@ use Rattle.std.proofs.Common.{ℕ, List, ◌++◌, Result, Err, Ok, codes, refl}
 use Rattle.std.specs.Prelude.{IsErr, option_copied}
 use Rattle.std.specs.String.{string_bytes}
 use Rattle.rx_base.specs.declared.sink.Failed.{Failed}
-use Rattle.rx_passes.specs.Tells.{SinkTells, sink_tells}
+use Rattle.rx_wire_loop.specs.Tells.{SinkTells, sink_tells}
 use Rattle.rx_reply.specs.Replies.{down_text}
 use Rattle.rx_top.specs.Puts.{PutsText}
 use Rattle.rx_top.proofs.PutLemmas.{puts_bytes, puts_more, puts_stopped}

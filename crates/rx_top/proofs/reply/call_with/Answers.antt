@@ -1,8 +1,8 @@
 use Rattle.std.proofs.Common.{◌≡◌, Ok}
 use Rattle.rx_asks.specs.View.{CallerState}
-use Rattle.rx_passes.specs.declared.calling.CallEnd.TheVariants as call_ends
-use Rattle.rx_passes.specs.Tells.{SinkTells, Told, sink_tells, told, wire_tells}
-use Rattle.rx_passes.specs.ToldCalls.{CallTold}
+use Rattle.rx_wire_loop.specs.declared.calling.CallEnd.TheVariants as call_ends
+use Rattle.rx_wire_loop.specs.Tells.{SinkTells, Told, sink_tells, told, wire_tells}
+use Rattle.rx_wire_loop.specs.ToldCalls.{CallTold}
 use Rattle.rx_token.specs.Chosen.{chosen, secret_of}
 use Rattle.rx_top.specs.Calls.{CallAsked, asked_of}
 use Rattle.rx_top.proofs.SilenceLemmas.{call_long, ended_told, told_finished}

@@ -11,7 +11,8 @@ sim_over-requires g c = interface_opcodes _ _ _ c.in-Ok.ensures.ok
 
 pub returns-in-Ok-clause-sim : goal.returns-in-Ok-clause-sim
 returns-in-Ok-clause-sim g c =
-    let same = reads_behind g.F.Files.contents g.F.Files.failed_last g.F.Files.reads c.args.names.now.xg c.args.files.now c.named_interface.new.files
+    let same = reads_behind g.F.Files.contents g.F.Files.failed_last g.F.Files.reads c.args.names.now.xg
+    c.args.files.now c.named_interface.new.files
     c.sim_over.new.files c.in-Ok.ensures.same_contents (c.in-Ok.ensures.same_failed_last (λ e. absurd (cc)))
     c.in-Ok.ensures.reads in
     let before : Told =
@@ -22,6 +23,7 @@ returns-in-Ok-clause-sim g c =
     inr (
       interface_of c.in-Ok.iface,
       c.in-Ok.ensures.ok,
-      subst (λ (r : Reads). ScriptIs (interface_of c.in-Ok.iface) c.args.names.now c.sim_over.result r before after) same
+      subst (λ (r : Reads). ScriptIs (interface_of c.in-Ok.iface) c.args.names.now c.sim_over.result r before after)
+          same
           c.sim_over.ensures.sim,
     )

@@ -13,14 +13,16 @@ pub overflow_sub-result-in-Bad : goal.overflow_sub-result-in-Bad
 overflow_sub-result-in-Bad c =
     let e : value_at 64 (types_of c.args.iface.now.types.items) (kind_of c.args.ty.now) c.args.bytes.now ≡ Err
     c.in-Err-Fault.fault = rw c.in-Err-Fault.field-0-is at c.in-Err-Fault.ensures in
-    (refused_within (types_of c.args.iface.now.types.items) (kind_of c.args.ty.now) c.args.bytes.now c.in-Bad.left c.in-Bad.why
+    (refused_within (types_of c.args.iface.now.types.items) (kind_of c.args.ty.now) c.args.bytes.now c.in-Bad.left
+    c.in-Bad.why
     (λ i. omega (arith, c.type_inv.bytes i)) (e ∙ ap (λ f. Err f) c.in-Bad.is)).1
 
 pub returns-in-Ok-clause-exact : goal.returns-in-Ok-clause-exact
 returns-in-Ok-clause-exact c =
     let e : value_at 64 (types_of c.args.iface.now.types.items) (kind_of c.args.ty.now) c.args.bytes.now ≡ Ok
     (value_of c.in-Ok.value, c.in-Ok.rest.now) = c.in-Ok.ensures in
-    let f = read_front (types_of c.args.iface.now.types.items) (kind_of c.args.ty.now) c.args.bytes.now (value_of c.in-Ok.value)
+    let f = read_front (types_of c.args.iface.now.types.items) (kind_of c.args.ty.now) c.args.bytes.now
+    (value_of c.in-Ok.value)
     c.in-Ok.rest.now (λ i. omega (arith, c.type_inv.bytes i)) e in
     (omega arith, rw f.left e)
 
@@ -30,7 +32,8 @@ returns-in-Bad-clause-exact c =
     c.in-Err-Fault.fault = rw c.in-Err-Fault.field-0-is at c.in-Err-Fault.ensures in
     let g : value_at 64 (types_of c.args.iface.now.types.items) (kind_of c.args.ty.now) c.args.bytes.now ≡ Err
     (Bad c.in-Bad.left c.in-Bad.why) = (e ∙ ap (λ f. Err f) c.in-Bad.is) in
-    let w = refused_within (types_of c.args.iface.now.types.items) (kind_of c.args.ty.now) c.args.bytes.now c.in-Bad.left
+    let w = refused_within (types_of c.args.iface.now.types.items) (kind_of c.args.ty.now) c.args.bytes.now
+    c.in-Bad.left
     c.in-Bad.why (λ i. omega (arith, c.type_inv.bytes i)) g in
     let back : length c.args.bytes.now - (length c.args.bytes.now - c.in-Bad.left) ≡ c.in-Bad.left = omega arith in
     (omega arith, rw back g)

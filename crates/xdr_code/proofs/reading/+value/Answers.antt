@@ -13,7 +13,8 @@ use Rattle.xdr_code.proofs.Plain.{plain_at, plain_head, int_kind, uint_kind}
 use Rattle.xdr_code.proofs.reading.+value.Goals as goal
 
 pub elements_in-returns : goal.elements_in-returns
-elements_in-returns t c = elements_done (value_at c.args.levels (types_of c.args.iface.now.types.items)) (kind_of c.args.of.now)
+elements_in-returns t c = elements_done (value_at c.args.levels (types_of c.args.iface.now.types.items))
+    (kind_of c.args.of.now)
     (values_of c.loop.items.items) c.args.n c.loop.counter c.loop.rest.now
     (elements_at (value_at c.args.levels (types_of c.args.iface.now.types.items)) (kind_of c.args.of.now) c.args.n
     c.args.bytes.now) c.loop-test.false c.loop.invariant
@@ -30,26 +31,30 @@ pub part_onto-returns-in-Int : goal.part_onto-returns-in-Int
 part_onto-returns-in-Int t c =
     let is = plain_head (types_of c.args.iface.now.types.items) (kind_of c.args.ty.now) basics.Int
     (ap kind_of c.in-Int.is ∙ int_kind) in
-    rw (plain_at c.args.levels (types_of c.args.iface.now.types.items) (kind_of c.args.ty.now) basics.Int c.args.bytes.now is)
+    rw (plain_at c.args.levels (types_of c.args.iface.now.types.items) (kind_of c.args.ty.now) basics.Int
+    c.args.bytes.now is)
     c.int_onto.ensures
 
 pub part_onto-returns-in-Uint : goal.part_onto-returns-in-Uint
 part_onto-returns-in-Uint t c =
     let is = plain_head (types_of c.args.iface.now.types.items) (kind_of c.args.ty.now) basics.Uint
     (ap kind_of c.in-Uint.is ∙ uint_kind) in
-    rw (plain_at c.args.levels (types_of c.args.iface.now.types.items) (kind_of c.args.ty.now) basics.Uint c.args.bytes.now is)
+    rw (plain_at c.args.levels (types_of c.args.iface.now.types.items) (kind_of c.args.ty.now) basics.Uint
+    c.args.bytes.now is)
     c.uint_onto.ensures
 
 pub element_onto-returns-in-Basic-Int : goal.element_onto-returns-in-Basic-Int
 element_onto-returns-in-Basic-Int t c = λ k same.
     let is : c.args.head ≡ heads.Basic basics.Int = search rules in
-    rw (plain_at c.args.levels (types_of c.args.iface.now.types.items) k basics.Int c.args.bytes.now (sym same ∙ ap head_view is))
+    rw (plain_at c.args.levels (types_of c.args.iface.now.types.items) k basics.Int c.args.bytes.now
+    (sym same ∙ ap head_view is))
     c.int_onto.ensures
 
 pub element_onto-returns-in-Basic-Uint : goal.element_onto-returns-in-Basic-Uint
 element_onto-returns-in-Basic-Uint t c = λ k same.
     let is : c.args.head ≡ heads.Basic basics.Uint = search rules in
-    rw (plain_at c.args.levels (types_of c.args.iface.now.types.items) k basics.Uint c.args.bytes.now (sym same ∙ ap head_view is))
+    rw (plain_at c.args.levels (types_of c.args.iface.now.types.items) k basics.Uint c.args.bytes.now
+    (sym same ∙ ap head_view is))
     c.uint_onto.ensures
 
 pub elements_in-loop-preserved : goal.elements_in-loop-preserved

@@ -45,10 +45,12 @@ decreases-optional l = 6 * l.levels + 2
 
 abbrev pub invariant-elements_in-loop : goal.invariant-elements_in-loop
 invariant-elements_in-loop l = with_front (values_of l.items.items)
-    (elements_at (value_at l.levels (types_of l.iface.types.items)) (kind_of l.of) (l.n - l.counter) l.rest) ≡ elements_at
+    (elements_at (value_at l.levels (types_of l.iface.types.items)) (kind_of l.of) (l.n - l.counter) l.rest) ≡
+    elements_at
     (value_at l.levels (types_of l.iface.types.items)) (kind_of l.of) l.n l.bytes
 
 abbrev pub invariant-parts-loop-field : goal.invariant-parts-loop-field
 invariant-parts-loop-field l = with_front (values_of l.items.items)
-    (parts_at (value_at l.levels (types_of l.iface.types.items)) (map part_of (drop l.field-index l.field-items)) l.rest) ≡
+    (parts_at (value_at l.levels (types_of l.iface.types.items)) (map part_of (drop l.field-index l.field-items))
+    l.rest) ≡
     parts_at (value_at l.levels (types_of l.iface.types.items)) (map part_of l.fields.items) l.bytes

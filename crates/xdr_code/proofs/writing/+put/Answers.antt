@@ -21,7 +21,8 @@ put_items-returns-in_ok-put_all-in-ArrayUpTo t c =
     (count-values c.args.items.now.items) in
     rw c.in-ArrayUpTo.is (counted_spelling c.len.result (count (values_of c.args.items.now.items))
     c.args.out.now.items c.put_word.new.out.items c.put_all-in-ArrayUpTo.new.out.items
-    (all_spelling (types_of c.args.iface.now.types.items) (kind_of c.in-ArrayUpTo.of.now) (values_of c.args.items.now.items)) len
+    (all_spelling (types_of c.args.iface.now.types.items) (kind_of c.in-ArrayUpTo.of.now)
+    (values_of c.args.items.now.items)) len
     c.in_ok-put_word-in-ArrayUpTo.ensures c.in_ok-put_all-in-ArrayUpTo.ensures)
 
 pub put_value-returns-in_ok-put_value-in-Maybe-resolve : goal.put_value-returns-in_ok-put_value-in-Maybe-resolve
@@ -37,7 +38,8 @@ put_value-returns-in_ok-put_value-in-Maybe-resolve t c =
 -- ---- words
 
 pub put_value-put_one-requires : goal.put_value-put_one-requires
-put_value-put_one-requires t c = (word_is (types_of c.args.iface.now.types.items) (kind_of c.args.ty.now) (value_of c.args.v.now)
+put_value-put_one-requires t c =
+    (word_is (types_of c.args.iface.now.types.items) (kind_of c.args.ty.now) (value_of c.args.v.now)
     (sym c.is_word.ensures ∙ c.if-is_word.true) c.requires).0
 
 pub put_value-returns-then-is_word : goal.put_value-returns-then-is_word
@@ -58,7 +60,8 @@ put_parts-returns-then-are_words t c = rw (
 ) c.put_words.ensures
 
 pub put_all-put_words-requires : goal.put_all-put_words-requires
-put_all-put_words-requires t c = rw c.deref.ensures.value (all_are (types_of c.args.iface.now.types.items) (kind_of c.args.of.now)
+put_all-put_words-requires t c = rw c.deref.ensures.value
+    (all_are (types_of c.args.iface.now.types.items) (kind_of c.args.of.now)
     (values_of c.args.items.now.items) (sym c.is_word.ensures ∙ c.if-is_word.true) c.requires).0
 
 pub put_all-returns-then-is_word : goal.put_all-returns-then-is_word
@@ -69,7 +72,8 @@ put_all-returns-then-is_word t c = rw (
 ) c.put_words.ensures
 
 pub put_all-put_rows-requires : goal.put_all-put_rows-requires
-put_all-put_rows-requires t c = rw c.deref-then-are_words.ensures.value (rows_are (types_of c.args.iface.now.types.items)
+put_all-put_rows-requires t c = rw c.deref-then-are_words.ensures.value
+    (rows_are (types_of c.args.iface.now.types.items)
     (kind_of c.args.of.now) (map part_of c.in-Struct.fields.now.items) (values_of c.args.items.now.items)
     c.in-Struct.ensures (sym c.are_words.ensures ∙ c.if-are_words.true) c.requires).0
 

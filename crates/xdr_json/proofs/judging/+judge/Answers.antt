@@ -50,7 +50,8 @@ pub elements-returns : goal.elements-returns
 elements-returns t c =
     let len : c.len-i-end.result ≡ length c.args.items.now.items = c.len-i-end.ensures ∙ c.args.items.now.ok.0 in
     let test = c.loop-i-test.false in
-    elements_done (types_of c.args.iface.now.types.items) (kind_of c.args.of.now) (values_of c.loop-i.values.items) c.loop-i.i _ _
+    elements_done (types_of c.args.iface.now.types.items) (kind_of c.args.of.now) (values_of c.loop-i.values.items)
+    c.loop-i.i _ _
     (drop_all c.loop-i.i c.args.items.now.items (omega (arith, test, len))) c.loop-i.invariant.told
 
 pub parts-loop-field-preserved : goal.parts-loop-field-preserved

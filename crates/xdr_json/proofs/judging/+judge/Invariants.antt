@@ -48,4 +48,5 @@ abbrev pub invariant-parts-loop-field : goal.invariant-parts-loop-field
 invariant-parts-loop-field l =
     with_front (values_of l.values.items) (parts_judged (map part_of (drop l.field-index l.field-items))
     (member_judge (types_of l.iface.types.items) (members_view l.members.entries)))
-    ≡ parts_judged (map part_of l.fields.items) (member_judge (types_of l.iface.types.items) (members_view l.members.entries))
+    ≡ parts_judged (map part_of l.fields.items)
+    (member_judge (types_of l.iface.types.items) (members_view l.members.entries))

@@ -10,9 +10,11 @@ use Rattle.xdr_json.proofs.printing.+json.Given as goal
 
 abbrev pub invariant-members_json-loop-i : goal.invariant-members_json-loop-i
 invariant-members_json-loop-i l = record {
-  fits : PartsFit (types_of l.iface.types.items) (map part_of (drop l.i l.fields.items)) (values_of (drop l.i l.items.items));
+  fits : PartsFit (types_of l.iface.types.items) (map part_of (drop l.i l.fields.items))
+      (values_of (drop l.i l.items.items));
   held : AllAreBytes (values_of (drop l.i l.items.items)) → AllAreBytes (values_of l.items.items);
-  told : members_json (types_of l.iface.types.items) (map part_of (drop l.i l.fields.items)) (values_of (drop l.i l.items.items))
+  told : members_json (types_of l.iface.types.items) (map part_of (drop l.i l.fields.items))
+      (values_of (drop l.i l.items.items))
       (members_view l.members.entries)
       ≡ members_json (types_of l.iface.types.items) (map part_of l.fields.items) (values_of l.items.items) no_members;
 }

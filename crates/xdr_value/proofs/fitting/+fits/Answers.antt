@@ -10,7 +10,8 @@ use Rattle.xdr_value.proofs.fitting.+fits.Goals as goal
 
 pub fields_fit-returns-then-len : goal.fields_fit-returns-then-len
 fields_fit-returns-then-len t c =
-    sym (uneven (types_of c.args.iface.now.types.items) (map part_of c.args.fields.now.items) (values_of c.args.items.now.items)
+    sym (uneven (types_of c.args.iface.now.types.items) (map part_of c.args.fields.now.items)
+    (values_of c.args.items.now.items)
     (λ e. c.if-len.true (omega (
       arith,
       c.len.ensures,
@@ -50,7 +51,8 @@ value_fits-returns-then-is_length t c =
     c.in-List.items.items ∙ sym (c.len-in-ArrayUpTo.ensures ∙ c.in-List.items.ok.0) in
     let limit = c.is_length.ensures ∙ ap
     (λ (m : ℕ). leb c.len-in-ArrayUpTo.result m && ltb c.len-in-ArrayUpTo.result (2 ^ 32)) c.list_limit.ensures in
-    list_then (types_of c.args.iface.now.types.items) (kind_of c.args.ty.now) (kind_of c.in-ArrayUpTo.of.now) c.in-ArrayUpTo.n
+    list_then (types_of c.args.iface.now.types.items) (kind_of c.args.ty.now) (kind_of c.in-ArrayUpTo.of.now)
+    c.in-ArrayUpTo.n
     c.len-in-ArrayUpTo.result (value_of c.args.value.now) (values_of c.in-List.items.items)
     c.elements_fit-then-is_length.result
     is c.in-ArrayUpTo.ensures counted (sym limit ∙ c.if-is_length.true) c.elements_fit-then-is_length.ensures
@@ -63,6 +65,7 @@ value_fits-returns-else-is_length t c =
     c.in-List.items.items ∙ sym (c.len-in-ArrayUpTo.ensures ∙ c.in-List.items.ok.0) in
     let limit = c.is_length.ensures ∙ ap
     (λ (m : ℕ). leb c.len-in-ArrayUpTo.result m && ltb c.len-in-ArrayUpTo.result (2 ^ 32)) c.list_limit.ensures in
-    list_else (types_of c.args.iface.now.types.items) (kind_of c.args.ty.now) (kind_of c.in-ArrayUpTo.of.now) c.in-ArrayUpTo.n
+    list_else (types_of c.args.iface.now.types.items) (kind_of c.args.ty.now) (kind_of c.in-ArrayUpTo.of.now)
+    c.in-ArrayUpTo.n
     c.len-in-ArrayUpTo.result (value_of c.args.value.now) (values_of c.in-List.items.items) c.is_length.result
     is c.in-ArrayUpTo.ensures counted limit c.if-is_length.false

@@ -10,4 +10,5 @@ invariant-fields_fit-loop-i l = parts_fit (types_of l.iface.types.items) (map pa
 
 abbrev pub invariant-elements_fit-loop-item : goal.invariant-elements_fit-loop-item
 invariant-elements_fit-loop-item l = all_fit (types_of l.iface.types.items) (kind_of l.of)
-    (values_of (drop l.item-index l.item-items)) ≡ all_fit (types_of l.iface.types.items) (kind_of l.of) (values_of l.items.items)
+    (values_of (drop l.item-index l.item-items)) ≡ all_fit (types_of l.iface.types.items) (kind_of l.of)
+    (values_of l.items.items)

@@ -8,5 +8,6 @@ loop-at-preserved c =
     let lt : c.loop-at.at < length c.loop-at.types = omega arith in
     record {
       same = put_same c.loop-at.types c.loop-at.at d c.longer_link-link.result ∙ c.loop-at.invariant.same;
-      linked = put_linked c.loop-at.types c.loop-at.at d c.longer_link-link.result lt c.loop-at.invariant.linked c.longer_link-link.ensures;
+      linked = put_linked c.loop-at.types c.loop-at.at d c.longer_link-link.result lt c.loop-at.invariant.linked
+          c.longer_link-link.ensures;
     }

@@ -8,4 +8,5 @@ returns-then-eq c =
     let lt : c.args.place < length c.args.types.now = omega arith in
     let same : c.as_str.result.now ≡ c.args.name.now = (bytes_eq-Decides c.as_str.result.now c.args.name.now).0
     (sym c.eq.ensures ∙ c.if-eq.true) in
-    named_there c.args.types.now c.args.place c.index-types-place.result lt ∙ ap Some (sym c.as_str.ensures.value ∙ same)
+    named_there c.args.types.now c.args.place c.index-types-place.result lt
+    ∙ ap Some (sym c.as_str.ensures.value ∙ same)

@@ -8,5 +8,6 @@ loop-at-preserved c =
     record {
       same = put_same c.loop-at.types c.loop-at.at c.index-types-at.result c.first_link-link.result
           ∙ c.loop-at.invariant.same;
-      linked = put_next c.loop-at.types c.loop-at.at c.index-types-at.result c.first_link-link.result lt c.loop-at.invariant.linked c.first_link-link.ensures;
+      linked = put_next c.loop-at.types c.loop-at.at c.index-types-at.result c.first_link-link.result lt
+          c.loop-at.invariant.linked c.first_link-link.ensures;
     }

@@ -11,5 +11,6 @@ fields_zero-loop-field-preserved t c =
     (more (value_of c.in_ok-ty_zero.field-0) end) = rw c.in_ok-push.ensures.items
     (values_of-push c.loop-field.items.items c.in_ok-ty_zero.field-0) in
     rw (pushed, c.loop-field.invariant, c.in_ok-ty_zero.ensures)
-    (sym (fields_zero-push (name_zero c.args.hops (types_of c.args.iface.now.types.items)) c.deref-field-items.result.now
+    (sym (fields_zero-push (name_zero c.args.hops (types_of c.args.iface.now.types.items))
+    c.deref-field-items.result.now
     c.loop-field.field-index c.field-item.result c.loop-field-test.true c.field-item.is))

@@ -22,5 +22,6 @@ abbrev pub decreases-union_zero : goal.decreases-union_zero
 decreases-union_zero l = 5 * l.hops + 4
 
 abbrev pub invariant-fields_zero-loop-field : goal.invariant-fields_zero-loop-field
-invariant-fields_zero-loop-field l = values_of l.items.items ≡ parts_zero (name_zero l.hops (types_of l.iface.types.items))
+invariant-fields_zero-loop-field l = values_of l.items.items ≡ parts_zero
+    (name_zero l.hops (types_of l.iface.types.items))
     (map part_of (take l.field-index l.field-items))

@@ -24,7 +24,8 @@ returns-in-Some-unknown-clause-fault c =
     unknown_fault tree c.in-Some-unknown.name c.in_ok-name-3.name c.in_ok-name-3.ensures
     (after_twice tree cs ts ms c.requires.constants c.requires.found ms_is c.in_ok-name.field-0 None c.in_default.is
     c.in_ok-name.ensures)
-    (after_unknown tree cs ts ms c.requires.constants c.requires.found ms_is c.unknown.result (Some c.in-Some-unknown.name)
+    (after_unknown tree cs ts ms c.requires.constants c.requires.found ms_is c.unknown.result
+    (Some c.in-Some-unknown.name)
     c.in-Some-unknown.is c.unknown.ensures)
 
 pub returns-in-Some-2-clause-fault : goal.returns-in-Some-2-clause-fault
@@ -37,7 +38,8 @@ returns-in-Some-2-clause-fault c =
     size_fault tree c.in-Some-2.name c.in_ok-name-5.name c.in_ok-name-5.ensures
     (after_twice tree cs ts ms c.requires.constants c.requires.found ms_is c.in_ok-name.field-0 None c.in_default.is
     c.in_ok-name.ensures)
-    (after_unknown tree cs ts ms c.requires.constants c.requires.found ms_is c.unknown.result None c.in_default-unknown.is
+    (after_unknown tree cs ts ms c.requires.constants c.requires.found ms_is c.unknown.result None
+    c.in_default-unknown.is
     c.unknown.ensures)
     (after_size tree cs ts ms c.requires.constants c.requires.found ms_is c.in_ok-name-4.field-0 (Some c.in-Some-2.name)
     c.in-Some-2.is c.in_ok-name-4.ensures)
@@ -52,11 +54,13 @@ returns-in-Some-3-clause-fault c =
     endless_fault tree c.in-Some-3.name c.in_ok-name-7.name c.in_ok-name-7.ensures
     (after_twice tree cs ts ms c.requires.constants c.requires.found ms_is c.in_ok-name.field-0 None c.in_default.is
     c.in_ok-name.ensures)
-    (after_unknown tree cs ts ms c.requires.constants c.requires.found ms_is c.unknown.result None c.in_default-unknown.is
+    (after_unknown tree cs ts ms c.requires.constants c.requires.found ms_is c.unknown.result None
+    c.in_default-unknown.is
     c.unknown.ensures)
     (after_size tree cs ts ms c.requires.constants c.requires.found ms_is c.in_ok-name-4.field-0 None c.in_default-2.is
     c.in_ok-name-4.ensures)
-    (after_endless tree cs ts ms c.requires.constants c.requires.found ms_is c.in_ok-name-6.field-0 (Some c.in-Some-3.name)
+    (after_endless tree cs ts ms c.requires.constants c.requires.found ms_is c.in_ok-name-6.field-0
+    (Some c.in-Some-3.name)
     c.in-Some-3.is c.in_ok-name-6.ensures)
 
 pub returns-clause-faultless : goal.returns-clause-faultless
@@ -67,7 +71,8 @@ returns-clause-faultless c =
     let ms = marks_of c.as_slice-marks.result.now in
     let ms_is : ms ≡ marks_in tree.items = ap marks_of c.as_slice-marks.ensures.value ∙ c.in_ok-marks.ensures in
     record {
-      twice = after_twice tree cs ts ms c.requires.constants c.requires.found ms_is c.in_ok-name.field-0 None c.in_default.is
+      twice = after_twice tree cs ts ms c.requires.constants c.requires.found ms_is c.in_ok-name.field-0 None
+          c.in_default.is
           c.in_ok-name.ensures;
       unknown = after_unknown tree cs ts ms c.requires.constants c.requires.found ms_is c.unknown.result None
           c.in_default-unknown.is c.unknown.ensures;

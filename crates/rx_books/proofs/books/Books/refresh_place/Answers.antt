@@ -1,5 +1,5 @@
 use Rattle.std.proofs.Common.{◌≡◌, ◌<◌, ◌+◌, ◌*◌, ◌/◌, ◌∙◌, refl, subst, sym, arith, ℕ}
-use Rattle.rx_node.proofs.TableSteps.{decided}
+use Rattle.rx_node.proofs.Steps.TableSteps.{decided}
 use Rattle.rx_books.specs.Books.{IsNoted}
 use Rattle.rx_books.proofs.Rebooked.{noted_still}
 use Rattle.rx_books.proofs.books.Books.refresh_place.Goals as goal

@@ -14,7 +14,8 @@ returns-in-Some-clause-answered g c =
     let n = c.end_silent.new.core in
     let kept = subst (λ (o : NodeState). KeepsNode o n) c.self.view_is c.end_silent.ensures.same in
     let steps = subst (λ (o : NodeState). StepsNode class o n silenced) c.self.view_is c.end_silent.ensures.silenced in
-    λ h stands. stray_polled class old n c.give_stray.new.self c.limits-limits.ensures.fits kept steps c.give_stray.ensures.updates h stands
+    λ h stands. stray_polled class old n c.give_stray.new.self c.limits-limits.ensures.fits kept steps
+    c.give_stray.ensures.updates h stands
     c.in-Some.given.0 (take c.in-Some.given.1 c.give_stray.new.to) c.in-Some.ensures.host c.in-Some.ensures.written
 
 pub returns-in-Some-clause-dimmed : goal.returns-in-Some-clause-dimmed
@@ -24,7 +25,8 @@ returns-in-Some-clause-dimmed g c =
     let n = c.end_silent.new.core in
     let kept = subst (λ (o : NodeState). KeepsNode o n) c.self.view_is c.end_silent.ensures.same in
     let steps = subst (λ (o : NodeState). StepsNode class o n silenced) c.self.view_is c.end_silent.ensures.silenced in
-    λ l m. nothing_dimmed class old n c.give_stray.new.self c.limits-limits.ensures.fits kept steps c.give_stray.ensures.updates l m
+    λ l m. nothing_dimmed class old n c.give_stray.new.self c.limits-limits.ensures.fits kept steps
+    c.give_stray.ensures.updates l m
 
 pub returns-in_err-due-clause-answered : goal.returns-in_err-due-clause-answered
 returns-in_err-due-clause-answered g c =
@@ -34,7 +36,8 @@ returns-in_err-due-clause-answered g c =
     let kept = subst (λ (o : NodeState). KeepsNode o n) c.self.view_is c.end_silent.ensures.same in
     let steps = subst (λ (o : NodeState). StepsNode class o n silenced) c.self.view_is c.end_silent.ensures.silenced in
     rw c.from_residual.ensures
-    (λ h stands. nothing_polled class old n c.give_stray.new.self c.limits-limits.ensures.fits kept steps c.give_stray.ensures.updates h stands
+    (λ h stands. nothing_polled class old n c.give_stray.new.self c.limits-limits.ensures.fits kept steps
+    c.give_stray.ensures.updates h stands
     (c.in_default.ensures.none refl) c.in_err-due.ensures.least)
 
 pub returns-in_err-due-clause-dimmed : goal.returns-in_err-due-clause-dimmed
@@ -44,7 +47,8 @@ returns-in_err-due-clause-dimmed g c =
     let n = c.end_silent.new.core in
     let kept = subst (λ (o : NodeState). KeepsNode o n) c.self.view_is c.end_silent.ensures.same in
     let steps = subst (λ (o : NodeState). StepsNode class o n silenced) c.self.view_is c.end_silent.ensures.silenced in
-    λ l m. nothing_dimmed class old n c.give_stray.new.self c.limits-limits.ensures.fits kept steps c.give_stray.ensures.updates l m
+    λ l m. nothing_dimmed class old n c.give_stray.new.self c.limits-limits.ensures.fits kept steps
+    c.give_stray.ensures.updates l m
 
 pub returns-then-due-moment-clause-answered : goal.returns-then-due-moment-clause-answered
 returns-then-due-moment-clause-answered g c =
@@ -53,7 +57,8 @@ returns-then-due-moment-clause-answered g c =
     let n = c.end_silent.new.core in
     let kept = subst (λ (o : NodeState). KeepsNode o n) c.self.view_is c.end_silent.ensures.same in
     let steps = subst (λ (o : NodeState). StepsNode class o n silenced) c.self.view_is c.end_silent.ensures.silenced in
-    λ h stands. later_polled class old n c.give_stray.new.self c.limits-limits.ensures.fits kept steps c.give_stray.ensures.updates h stands
+    λ h stands. later_polled class old n c.give_stray.new.self c.limits-limits.ensures.fits kept steps
+    c.give_stray.ensures.updates h stands
     (c.in_default.ensures.none refl) c.in_ok-due.due c.in_ok-due.ensures.least
     (let now = c.moment.ensures in let late = c.if-due-moment.true in omega (arith, now, late))
 
@@ -64,7 +69,8 @@ returns-then-due-moment-clause-dimmed g c =
     let n = c.end_silent.new.core in
     let kept = subst (λ (o : NodeState). KeepsNode o n) c.self.view_is c.end_silent.ensures.same in
     let steps = subst (λ (o : NodeState). StepsNode class o n silenced) c.self.view_is c.end_silent.ensures.silenced in
-    λ l m. nothing_dimmed class old n c.give_stray.new.self c.limits-limits.ensures.fits kept steps c.give_stray.ensures.updates l m
+    λ l m. nothing_dimmed class old n c.give_stray.new.self c.limits-limits.ensures.fits kept steps
+    c.give_stray.ensures.updates l m
 
 pub returns-clause-answered : goal.returns-clause-answered
 returns-clause-answered g c =
@@ -73,7 +79,8 @@ returns-clause-answered g c =
     let n = c.end_silent.new.core in
     let kept = subst (λ (o : NodeState). KeepsNode o n) c.self.view_is c.end_silent.ensures.same in
     let steps = subst (λ (o : NodeState). StepsNode class o n silenced) c.self.view_is c.end_silent.ensures.silenced in
-    λ h stands. item_polled class old n c.give_stray.new.self c.limits-limits.ensures.fits kept steps c.give_stray.ensures.updates h stands
+    λ h stands. item_polled class old n c.give_stray.new.self c.limits-limits.ensures.fits kept steps
+    c.give_stray.ensures.updates h stands
     (c.in_default.ensures.none refl) c.in_ok-due.due c.in_ok-due.ensures.least
     (let now = c.moment.ensures in let low = c.if-due-moment.false in omega (arith, now, low))
     c.give-given.new.self c.give-given.ensures.same c.give-given.result.0
@@ -86,7 +93,8 @@ returns-clause-dimmed g c =
     let n = c.end_silent.new.core in
     let kept = subst (λ (o : NodeState). KeepsNode o n) c.self.view_is c.end_silent.ensures.same in
     let steps = subst (λ (o : NodeState). StepsNode class o n silenced) c.self.view_is c.end_silent.ensures.silenced in
-    λ l m. item_dimmed class old n c.give_stray.new.self c.limits-limits.ensures.fits kept steps c.give_stray.ensures.updates l m
+    λ l m. item_dimmed class old n c.give_stray.new.self c.limits-limits.ensures.fits kept steps
+    c.give_stray.ensures.updates l m
     c.in_ok-due.due c.in_ok-due.ensures.least c.give-given.new.self c.give-given.result.0
     (take c.give-given.result.1 c.give-given.new.to) c.give-given.ensures.gives
 
@@ -102,14 +110,16 @@ pub returns-in-Some-clause-steps : goal.returns-in-Some-clause-steps
 returns-in-Some-clause-steps g c =
     let class = g.C.Class.class_of in
     λ l m. poll_cost l c.args.steps.now c.end_silent.new.steps c.end_silent.new.steps
-    (λ d power. c.end_silent.ensures.steps l d (subst (λ (o : NodeState). Mirrors class o l) (sym c.self.view_is) m) power)
+    (λ d power. c.end_silent.ensures.steps l d (subst (λ (o : NodeState). Mirrors class o l) (sym c.self.view_is) m)
+    power)
     (λ d power. record { grows = omega arith; most = omega arith })
 
 pub returns-in_err-due-clause-steps : goal.returns-in_err-due-clause-steps
 returns-in_err-due-clause-steps g c =
     let class = g.C.Class.class_of in
     λ l m. poll_cost l c.args.steps.now c.end_silent.new.steps c.least_due.new.steps
-    (λ d power. c.end_silent.ensures.steps l d (subst (λ (o : NodeState). Mirrors class o l) (sym c.self.view_is) m) power)
+    (λ d power. c.end_silent.ensures.steps l d (subst (λ (o : NodeState). Mirrors class o l) (sym c.self.view_is) m)
+    power)
     (let least = c.in_err-due.ensures.steps in
     λ d power. record { grows = omega (arith, least.grows); most = omega (arith, least.most) })
 
@@ -117,7 +127,8 @@ pub returns-then-due-moment-clause-steps : goal.returns-then-due-moment-clause-s
 returns-then-due-moment-clause-steps g c =
     let class = g.C.Class.class_of in
     λ l m. poll_cost l c.args.steps.now c.end_silent.new.steps c.least_due.new.steps
-    (λ d power. c.end_silent.ensures.steps l d (subst (λ (o : NodeState). Mirrors class o l) (sym c.self.view_is) m) power)
+    (λ d power. c.end_silent.ensures.steps l d (subst (λ (o : NodeState). Mirrors class o l) (sym c.self.view_is) m)
+    power)
     (let least = c.in_ok-due.ensures.steps in
     λ d power. record { grows = omega (arith, least.grows); most = omega (arith, least.most) })
 
@@ -125,12 +136,15 @@ pub returns-clause-steps : goal.returns-clause-steps
 returns-clause-steps g c =
     let class = g.C.Class.class_of in
     λ l m. poll_cost l c.args.steps.now c.end_silent.new.steps c.refresh.new.steps
-    (λ d power. c.end_silent.ensures.steps l d (subst (λ (o : NodeState). Mirrors class o l) (sym c.self.view_is) m) power)
+    (λ d power. c.end_silent.ensures.steps l d (subst (λ (o : NodeState). Mirrors class o l) (sym c.self.view_is) m)
+    power)
     (let n = c.give_stray.new.self in
     let z = c.give-given.new.self in
     let books = c.end_silent.new.books in
-    let booked = booked_strays c.end_silent.new.core n _ books c.give_stray.ensures.updates c.end_silent.ensures.booked in
-    let conns : length n.table.conns ≡ length l.conns = ap (λ (o : NodeState). length o.table.conns) c.give_stray.ensures.updates
+    let booked = booked_strays c.end_silent.new.core n _ books c.give_stray.ensures.updates
+    c.end_silent.ensures.booked in
+    let conns : length n.table.conns ≡ length l.conns = ap (λ (o : NodeState). length o.table.conns)
+    c.give_stray.ensures.updates
     ∙ kept_conns c.self.inside.core c.end_silent.new.core c.end_silent.ensures.same
     ∙ ap (λ (o : NodeState). length o.table.conns) c.self.view_is ∙ m.conns.conns in
     let notes = noted_cost n z books c.refresh.new.self (length l.conns) conns c.give-given.ensures.same booked

@@ -22,7 +22,8 @@ refresh_place-requires-clause-silences g c =
 
 pub invariant_of-self : goal.invariant_of-self
 invariant_of-self g c =
-    rebooked_place c.self.inside.core c.reach_all.new.self c.self.inside.books c.self.invariant c.reach_all.ensures.same.limits
+    rebooked_place c.self.inside.core c.reach_all.new.self c.self.inside.books c.self.invariant
+    c.reach_all.ensures.same.limits
     c.refresh_place.new.self c.args.place c.reach_all.ensures.places c.refresh_place.ensures.noted
     c.refresh_place.ensures.keeps
 

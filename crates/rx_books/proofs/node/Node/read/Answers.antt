@@ -22,7 +22,8 @@ refresh_now-requires-clause-silences g c =
 
 pub invariant_of-self : goal.invariant_of-self
 invariant_of-self g c =
-    rebooked c.self.inside.core c.read-answer.new.self c.self.inside.books c.self.invariant c.read-answer.ensures.same.limits
+    rebooked c.self.inside.core c.read-answer.new.self c.self.inside.books c.self.invariant
+    c.read-answer.ensures.same.limits
     c.refresh_now.new.self c.args.key c.read-answer.ensures.others c.refresh_now.ensures.noted
     c.refresh_now.ensures.keeps
 

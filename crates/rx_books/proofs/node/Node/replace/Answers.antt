@@ -22,7 +22,8 @@ refresh_place-requires-clause-silences g c =
 
 pub invariant_of-self : goal.invariant_of-self
 invariant_of-self g c =
-    rebooked_place c.self.inside.core c.replace.new.self c.self.inside.books c.self.invariant c.replace.ensures.setup.limits
+    rebooked_place c.self.inside.core c.replace.new.self c.self.inside.books c.self.invariant
+    c.replace.ensures.setup.limits
     c.refresh_place.new.self c.args.place c.replace.ensures.places c.refresh_place.ensures.noted
     c.refresh_place.ensures.keeps
 

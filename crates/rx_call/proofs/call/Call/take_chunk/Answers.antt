@@ -5,7 +5,7 @@ use Rattle.rx_rules.specs.CallLooks.{CallLooks, found, packet_of, has_lead}
 use Rattle.rx_rules.specs.Received.{is_no_seq, arrival_of, has_slot}
 use Rattle.rx_rules.specs.Sent.{is_all_given}
 use Rattle.rx_call.specs.Standing.{StandsCall, data_row, view_of}
-use Rattle.rx_call.specs.declared.pace.Pace.{Pace}
+use Rattle.rx_model.specs.declared.pace.Pace.{Pace}
 use Rattle.rx_call.proofs.Rows.{or_left, chunk_row, data_taken}
 use Rattle.rx_call.proofs.call.Call.take_chunk.Goals as goal
 

@@ -8,7 +8,7 @@ pub returns : goal.returns
 returns c =
     let slots = c.in_ok-slots.slots in
     record {
-      looks = fresh_call c.in_ok-call.call.pace.window c.in_ok-call.call.pace.prompt 0;
+      looks = fresh_call c.in_ok-call.call.pace 0;
       stands = c.start.ensures.stands slots;
       holds =
           subst (λ (held : List ℕ). Holds slots held) (sym c.start.ensures.slots)

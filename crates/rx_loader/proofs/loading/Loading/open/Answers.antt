@@ -51,7 +51,8 @@ returns-clause-plays g c =
       next = c.put_at-2.ensures
           ∙ ap (λ (v : Loading). set v.next.items (c.args.client - 1) (c.next_call-number.result + 4)) c.self.view_is;
       bodies = c.put_at.ensures
-          ∙ ap (λ (v : Loading). set v.bodies.items c.next_call-number.result (c.next_word.result % 4097)) c.self.view_is;
+          ∙ ap (λ (v : Loading). set v.bodies.items c.next_call-number.result (c.next_word.result % 4097))
+          c.self.view_is;
       rounds = ap (λ (v : Loading). v.rounds) c.self.view_is;
       tally = ap (λ (v : Loading). v.tally) c.self.view_is;
     })

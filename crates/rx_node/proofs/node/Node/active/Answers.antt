@@ -2,8 +2,8 @@ use Rattle.std.proofs.Common.{◌≡◌, ◌<◌, ◌/◌, Some, length, ap, sym
 use Rattle.std.specs.Prelude.{is_some, slice_get}
 use Rattle.rx_table.specs.Records.{seat_at}
 use Rattle.rx_node.specs.Node.{NodeState}
-use Rattle.rx_node.proofs.ActiveSteps.{free_inactive, indexed, is_active_at, key_low, named_active}
-use Rattle.rx_node.proofs.MomentSteps.{end_active, end_free, end_inactive}
+use Rattle.rx_node.proofs.Steps.ActiveSteps.{free_inactive, indexed, is_active_at, key_low, named_active}
+use Rattle.rx_node.proofs.Steps.MomentSteps.{end_active, end_free, end_inactive}
 use Rattle.rx_node.proofs.node.Node.active.Goals as goal
 
 pub returns-in_err-end-clause-answered : goal.returns-in_err-end-clause-answered

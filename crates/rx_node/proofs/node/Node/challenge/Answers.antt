@@ -2,7 +2,7 @@ use Rattle.std.proofs.Common.{refl, true}
 use Rattle.rx_model.specs.Names.{channel_of}
 use Rattle.rx_node.specs.Node.{setup_of}
 use Rattle.rx_node.proofs.KeptNode.{alike_with_seat, still_node, still_seated, still_set_up}
-use Rattle.rx_node.proofs.OwingSteps.{mirrors_owing}
+use Rattle.rx_node.proofs.Steps.OwingSteps.{mirrors_owing}
 use Rattle.rx_node.proofs.KeptKeys.{by_looks}
 use Rattle.rx_node.proofs.OwedAgain.{challenged_no, challenged_yes}
 use Rattle.rx_node.proofs.SeatChanges.{challenge_owing}

@@ -1,8 +1,8 @@
 use Rattle.std.proofs.Common.{◌≡◌, Some, None, sym, ◌∙◌, arith}
 use Rattle.rx_model.specs.Names.{connection_of}
 use Rattle.rx_table.specs.Records.{place_of}
-use Rattle.rx_node.proofs.IdleSteps.{unknown_at}
-use Rattle.rx_node.proofs.KeySteps.{key_channel}
+use Rattle.rx_node.proofs.Steps.IdleSteps.{unknown_at}
+use Rattle.rx_node.proofs.Steps.KeySteps.{key_channel}
 use Rattle.rx_node.proofs.node.Node.channel.Goals as goal
 
 pub returns-in_err-place-clause-found : goal.returns-in_err-place-clause-found

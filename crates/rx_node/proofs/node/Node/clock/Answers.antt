@@ -1,4 +1,4 @@
-use Rattle.rx_node.proofs.SmallSteps.{mirrors_clock}
+use Rattle.rx_node.proofs.Steps.SmallSteps.{mirrors_clock}
 use Rattle.rx_node.proofs.node.Node.clock.Goals as goal
 
 pub returns-clause-steps : goal.returns-clause-steps

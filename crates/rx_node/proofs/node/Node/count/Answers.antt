@@ -1,9 +1,9 @@
 use Rattle.std.proofs.Common.{◌≡◌, ◌<◌, ◌∙◌, ap, sym, subst, length, arith}
 use Rattle.rx_table.specs.Records.{Records}
 use Rattle.rx_node.specs.Node.{NodeState}
-use Rattle.rx_node.proofs.CountSteps.{counted_table, mirrors_counted, more_active, more_alike, serial_drawn}
+use Rattle.rx_node.proofs.Steps.CountSteps.{counted_table, mirrors_counted, more_active, more_alike, serial_drawn}
 use Rattle.rx_node.proofs.KeptNode.{still_node, still_seated, still_set_up}
-use Rattle.rx_node.proofs.TableSteps.{changed-length}
+use Rattle.rx_node.proofs.Steps.TableSteps.{changed-length}
 use Rattle.std.proofs.Common.{refl}
 use Rattle.rx_node.proofs.SameChannels.{same_on_place}
 use Rattle.rx_node.proofs.node.Node.count.Goals as goal

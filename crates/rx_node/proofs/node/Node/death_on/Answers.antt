@@ -1,7 +1,7 @@
 use Rattle.std.proofs.Common.{ap}
 use Rattle.rx_node.specs.Node.{NodeState}
 use Rattle.rx_node.proofs.DueItems.{death_active}
-use Rattle.rx_node.proofs.MomentSteps.{silence_none, silence_some}
+use Rattle.rx_node.proofs.Steps.MomentSteps.{silence_none, silence_some}
 use Rattle.std.proofs.Common.{◌≡◌, ◌+◌, subst}
 use Rattle.std.specs.Prelude.{IsSomeAnd}
 use Rattle.rx_call.specs.Kept.{call_under}

@@ -2,11 +2,11 @@ use Rattle.std.proofs.Common.{Some, None, ◌∙◌, ap}
 use Rattle.rx_rules.specs.Setup.{is_client}
 use Rattle.rx_node.specs.Node.{NodeState}
 use Rattle.rx_node.proofs.DueItems.{due_owed, due_sending}
-use Rattle.rx_node.proofs.MomentSteps.{rank_none, rank_owed, rank_sent}
+use Rattle.rx_node.proofs.Steps.MomentSteps.{rank_none, rank_owed, rank_sent}
 use Rattle.std.proofs.Common.{subst}
 use Rattle.std.specs.Prelude.{IsSomeAnd}
 use Rattle.rx_call.specs.Kept.{call_under}
-use Rattle.rx_ends.specs.Ends.{IsDueOf}
+use Rattle.rx_call_ends.specs.Ends.{IsDueOf}
 use Rattle.rx_node.proofs.node.Node.due_on.Goals as goal
 
 pub returns-in-Some-clause-least : goal.returns-in-Some-clause-least
@@ -36,7 +36,8 @@ returns-in-Some-clause-rank g c =
 
 pub returns-in_err-end-clause-rank : goal.returns-in_err-end-clause-rank
 returns-in_err-end-clause-rank g c =
-    rw c.from_residual.ensures (rank_none c.args.self.now c.args.key c.in_default.ensures.owed c.in_err-end.ensures.call)
+    rw c.from_residual.ensures
+    (rank_none c.args.self.now c.args.key c.in_default.ensures.owed c.in_err-end.ensures.call)
 
 pub returns-in_err-rank-clause-rank : goal.returns-in_err-rank-clause-rank
 returns-in_err-rank-clause-rank g c =

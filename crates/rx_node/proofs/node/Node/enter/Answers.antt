@@ -3,8 +3,8 @@ use Rattle.rx_model.specs.Names.{connection_of}
 use Rattle.rx_table.specs.Records.{Records, fresh_record, place_of}
 use Rattle.rx_node.specs.Node.{NodeState}
 use Rattle.rx_node.proofs.EnteredSeats.{entered_named, entered_set_up, fewer_seated}
-use Rattle.rx_node.proofs.IdleSteps.{unknown_at}
-use Rattle.rx_node.proofs.PlaceSteps.{mirrors_entered}
+use Rattle.rx_node.proofs.Steps.IdleSteps.{unknown_at}
+use Rattle.rx_node.proofs.Steps.PlaceSteps.{mirrors_entered}
 use Rattle.rx_node.proofs.SameChannels.{same_entered}
 use Rattle.rx_node.proofs.node.Node.enter.Goals as goal
 use Rattle.rx_node.proofs.node.Node.enter.Goals.{in-Ok, in-Err}

@@ -4,7 +4,7 @@ use Rattle.rx_model.specs.Spelling.{made}
 use Rattle.rx_packet.specs.Seen.{message_with_head}
 use Rattle.rx_node.proofs.GivenOwing.{response_given}
 use Rattle.rx_node.proofs.KeptNode.{alike_with_seat, still_node, still_seated, still_set_up}
-use Rattle.rx_node.proofs.OwingSteps.{mirrors_owing}
+use Rattle.rx_node.proofs.Steps.OwingSteps.{mirrors_owing}
 use Rattle.rx_node.proofs.SameChannels.{same_with_seat}
 use Rattle.rx_node.proofs.node.Node.give_response.Goals as goal
 use Rattle.rx_node.proofs.node.Node.give_response.Goals.{in-Some, in-None}

@@ -6,11 +6,11 @@ use Rattle.rx_rules.specs.CallItems.{ack_body, next_sending}
 use Rattle.rx_rules.specs.Received.{Received}
 use Rattle.rx_rules.specs.Setup.{Kind, side_flag}
 use Rattle.rx_call.specs.declared.giving.Giving.{Giving}
-use Rattle.rx_ends.specs.Ends.{view_at}
+use Rattle.rx_call_ends.specs.Ends.{view_at}
 use Rattle.rx_node.specs.Kinds.{kind_of}
 use Rattle.rx_node.specs.Mirrors.{IsActiveAt}
 use Rattle.rx_node.specs.Node.{NodeState}
-use Rattle.rx_node.proofs.SeatedSteps.{end_seated, end_set_up}
+use Rattle.rx_node.proofs.Steps.SeatedSteps.{end_seated, end_set_up}
 use Rattle.rx_node.proofs.GivenSending.{given_pieces, given_received, or_flag, or_flags, piece_whole, sent_ack}
 use Rattle.rx_node.proofs.GivenSending.{sent_leaves, sent_piece, sent_some, sent_stands}
 use Rattle.rx_node.proofs.SameChannels.{same_with_ends}

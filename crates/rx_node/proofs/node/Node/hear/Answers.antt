@@ -6,9 +6,9 @@ use Rattle.rx_rules.specs.Judging.{end_row}
 use Rattle.rx_rules.specs.Looks.{CallRecord, Looks}
 use Rattle.rx_node.specs.Node.{NodeState, setup_of}
 use Rattle.rx_node.specs.Steps.{IsOwn}
-use Rattle.rx_node.proofs.SeatedSteps.{end_seated, end_set_up}
+use Rattle.rx_node.proofs.Steps.SeatedSteps.{end_seated, end_set_up}
 use Rattle.rx_node.proofs.KeptKeys.{by_looks}
-use Rattle.rx_node.proofs.TakingSteps.{end_answers, mirrors_taken}
+use Rattle.rx_node.proofs.Steps.TakingSteps.{end_answers, mirrors_taken}
 use Rattle.std.proofs.Common.{sym, subst}
 use Rattle.rx_node.specs.Mirrors.{IsActiveAt}
 use Rattle.rx_node.proofs.SameChannels.{same_with_ends}

@@ -1,5 +1,5 @@
 use Rattle.std.proofs.Common.{◌≡◌, ◌∙◌}
-use Rattle.rx_node.proofs.TakingSteps.{right_is}
+use Rattle.rx_node.proofs.Steps.TakingSteps.{right_is}
 use Rattle.rx_node.proofs.node.Node.is_right.Goals as goal
 
 pub returns : goal.returns

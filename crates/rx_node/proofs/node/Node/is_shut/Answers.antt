@@ -1,7 +1,7 @@
 use Rattle.std.proofs.Common.{sym, subst}
-use Rattle.rx_ends.specs.Ends.{StandsEnd}
+use Rattle.rx_call_ends.specs.Ends.{StandsEnd}
 use Rattle.rx_node.specs.Node.{NodeState}
-use Rattle.rx_node.proofs.ActiveSteps.{active_stands}
+use Rattle.rx_node.proofs.Steps.ActiveSteps.{active_stands}
 use Rattle.rx_node.proofs.node.Node.is_shut.Goals as goal
 
 pub returns-clause-answered : goal.returns-clause-answered

@@ -5,7 +5,7 @@ use Rattle.rx_rules.specs.Setup.{is_client}
 use Rattle.rx_table.specs.Records.{seat_at}
 use Rattle.rx_node.specs.Lives.{ended_life, life_of}
 use Rattle.rx_node.specs.Node.{NodeState}
-use Rattle.rx_node.proofs.ActiveSteps.{indexed, key_low, life_ended_at, life_latest, life_named_at}
+use Rattle.rx_node.proofs.Steps.ActiveSteps.{indexed, key_low, life_ended_at, life_latest, life_named_at}
 use Rattle.rx_node.proofs.node.Node.life.Goals as goal
 
 pub returns-in_err-seat-in-None-clause-answered : goal.returns-in_err-seat-in-None-clause-answered

@@ -4,13 +4,13 @@ use Rattle.rx_rules.specs.Looks.{CallRecord, latest, latest_name, on_life}
 use Rattle.rx_history.proofs.LifeFalls.{Falls}
 use Rattle.rx_node.specs.Lives.{after_turn, life_of}
 use Rattle.rx_node.specs.Mirrors.{Mirrors}
-use Rattle.rx_node.proofs.ActiveSteps.{no_call, reached_by}
+use Rattle.rx_node.proofs.Steps.ActiveSteps.{no_call, reached_by}
 use Rattle.rx_node.proofs.LifeLaws.{turn_ended, turn_falls, turn_of}
 use Rattle.rx_node.proofs.SameChannels.{same_itself}
 use Rattle.std.proofs.Common.{Option, option_map, ap, ◌∙◌}
 use Rattle.rx_rules.specs.Life.{is_active}
 use Rattle.rx_node.specs.Node.{is_active_life}
-use Rattle.rx_node.proofs.MomentSteps.{end_lifeless}
+use Rattle.rx_node.proofs.Steps.MomentSteps.{end_lifeless}
 use Rattle.rx_node.specs.Node.{life_at}
 use Rattle.std.proofs.Common.{None, sym}
 use Rattle.rx_node.proofs.node.Node.make_turn.Goals as goal

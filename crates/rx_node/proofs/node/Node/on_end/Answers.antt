@@ -5,10 +5,10 @@ use Rattle.rx_table.specs.declared.seat.Seat.{Seat}
 use Rattle.rx_node.specs.Lives.{life_of}
 use Rattle.rx_node.specs.Mirrors.{Mirrors}
 use Rattle.rx_node.specs.Node.{NodeState}
-use Rattle.rx_node.proofs.EndingSteps.{end_calling, end_uncalled, uncalled_none, uncalled_some}
+use Rattle.rx_node.proofs.Steps.EndingSteps.{end_calling, end_uncalled, uncalled_none, uncalled_some}
 use Rattle.rx_node.proofs.KeptNode.{alike_with_seat, still_seated, still_set_up}
-use Rattle.rx_node.proofs.OwingSteps.{Owing, mirrors_owing}
-use Rattle.rx_node.proofs.TableSteps.{changed-length, seated}
+use Rattle.rx_node.proofs.Steps.OwingSteps.{Owing, mirrors_owing}
+use Rattle.rx_node.proofs.Steps.TableSteps.{changed-length, seated}
 use Rattle.rx_node.proofs.SameChannels.{others_then, same_itself, same_with_seat}
 use Rattle.rx_node.proofs.node.Node.on_end.Goals as goal
 

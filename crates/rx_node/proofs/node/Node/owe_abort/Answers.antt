@@ -4,7 +4,7 @@ use Rattle.rx_rules.specs.After.{owing_abort}
 use Rattle.rx_node.specs.Mirrors.{Mirrors}
 use mir.Val.{SFits}
 use Rattle.rx_node.proofs.KeptNode.{alike_with_seat, still_node, still_seated, still_set_up}
-use Rattle.rx_node.proofs.OwingSteps.{mirrors_owing}
+use Rattle.rx_node.proofs.Steps.OwingSteps.{mirrors_owing}
 use Rattle.rx_node.proofs.ChannelChanges.{channel_same}
 use Rattle.rx_node.proofs.SeatChanges.{abort_owing}
 use Rattle.rx_node.proofs.SameChannels.{same_with_seat}

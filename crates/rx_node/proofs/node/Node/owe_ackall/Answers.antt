@@ -2,7 +2,7 @@ use Rattle.std.proofs.Common.{refl, true, false, ap, sym, Bool, ◌∙◌}
 use Rattle.rx_rules.specs.After.{owing_ackall}
 use Rattle.rx_rules.specs.Looks.{on_channel}
 use Rattle.rx_node.proofs.KeptNode.{alike_with_seat, still_node, still_seated, still_set_up}
-use Rattle.rx_node.proofs.OwingSteps.{mirrors_owing}
+use Rattle.rx_node.proofs.Steps.OwingSteps.{mirrors_owing}
 use Rattle.rx_node.proofs.KeptKeys.{by_looks}
 use Rattle.rx_node.proofs.ChannelChanges.{channel_same}
 use Rattle.rx_node.proofs.SeatChanges.{ackall_owing}

@@ -1,6 +1,6 @@
 use Rattle.std.proofs.Common.{refl}
 use Rattle.rx_node.proofs.KeptNode.{alike_with_seat, still_node, still_seated, still_set_up}
-use Rattle.rx_node.proofs.OwingSteps.{mirrors_owing}
+use Rattle.rx_node.proofs.Steps.OwingSteps.{mirrors_owing}
 use Rattle.rx_node.proofs.SeatChanges.{busy_owing}
 use Rattle.rx_rules.specs.After.{owing_busy}
 use Rattle.rx_node.proofs.SameChannels.{same_with_seat}

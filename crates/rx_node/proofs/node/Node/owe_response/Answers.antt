@@ -1,6 +1,6 @@
 use Rattle.std.proofs.Common.{◌≡◌, ◌++◌, ◌+◌, ◌≤◌, [], ℕ, List, length, Some, refl, ap, ◌∙◌, arith}
 use Rattle.rx_node.proofs.KeptNode.{alike_with_seat, still_node, still_seated, still_set_up}
-use Rattle.rx_node.proofs.OwingSteps.{mirrors_owing}
+use Rattle.rx_node.proofs.Steps.OwingSteps.{mirrors_owing}
 use Rattle.rx_node.proofs.SeatChanges.{ok_says, response_owing}
 use Rattle.rx_node.proofs.SameChannels.{same_with_seat}
 use Rattle.rx_node.proofs.node.Node.owe_response.Goals as goal

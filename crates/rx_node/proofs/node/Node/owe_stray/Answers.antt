@@ -1,6 +1,6 @@
 use Rattle.std.proofs.Common.{[], ◌∷◌, ◌++◌}
 use Rattle.rx_model.specs.Strays.{last_of}
-use Rattle.rx_node.proofs.SmallSteps.{mirrors_strays}
+use Rattle.rx_node.proofs.Steps.SmallSteps.{mirrors_strays}
 use Rattle.std.proofs.Common.{refl}
 use Rattle.rx_node.proofs.node.Node.owe_stray.Goals as goal
 

@@ -3,7 +3,7 @@ use Rattle.std.proofs.Common.{◌≡◌, ◌∙◌, ◌/◌, ap, sym, subst}
 use Rattle.std.specs.Prelude.{IsSomeAnd}
 use Rattle.rx_table.specs.Records.{record_at, seat_at}
 use Rattle.rx_node.specs.Node.{NodeState}
-use Rattle.rx_node.proofs.MomentSteps.{owed_is}
+use Rattle.rx_node.proofs.Steps.MomentSteps.{owed_is}
 use Rattle.rx_node.proofs.node.Node.owed_on.Goals as goal
 
 pub returns-clause-first : goal.returns-clause-first

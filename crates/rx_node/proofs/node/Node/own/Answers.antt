@@ -1,7 +1,7 @@
 use Rattle.std.proofs.Common.{◌≡◌, Some, ap, sym, ◌∙◌}
 use Rattle.rx_table.specs.Records.{seat_at}
 use Rattle.rx_node.specs.Node.{NodeState}
-use Rattle.rx_node.proofs.KeySteps.{dead_number, latest_by_number}
+use Rattle.rx_node.proofs.Steps.KeySteps.{dead_number, latest_by_number}
 use Rattle.rx_node.proofs.OwnCalls.{own_missing, own_unseated}
 use Rattle.rx_node.proofs.node.Node.own.Goals as goal
 

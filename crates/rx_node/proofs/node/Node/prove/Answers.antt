@@ -3,7 +3,7 @@ use Rattle.rx_model.specs.Names.{Channel, Connection}
 use Rattle.rx_rules.specs.Looks.{on_conn}
 use Rattle.rx_node.proofs.KeptNode.{alike_on_place, still_node, still_seated, still_set_up}
 use Rattle.rx_node.proofs.KeptKeys.{by_looks}
-use Rattle.rx_node.proofs.SmallSteps.{mirrors_proved}
+use Rattle.rx_node.proofs.Steps.SmallSteps.{mirrors_proved}
 use Rattle.rx_node.proofs.SameChannels.{same_aside}
 use Rattle.rx_node.proofs.node.Node.prove.Goals as goal
 

@@ -6,7 +6,7 @@ use Rattle.rx_node.specs.Mirrors.{Mirrors}
 use Rattle.rx_rules.specs.Life.{after_code}
 use Rattle.rx_node.specs.Node.{NodeState}
 use Rattle.rx_node.proofs.LoopEnds.{code_of_live}
-use Rattle.rx_node.proofs.LoopSteps.{among_changed, among_conn, among_first, among_more}
+use Rattle.rx_node.proofs.Steps.LoopSteps.{among_changed, among_conn, among_first, among_more}
 use Rattle.rx_node.proofs.SameChannels.{same_itself, same_then}
 use Rattle.rx_node.proofs.node.Node.reach_all.Goals as goal
 

@@ -2,13 +2,13 @@ use Rattle.std.proofs.Common.{◌≡◌, false, true, ap, sym, subst, length, re
 use Rattle.rx_rules.specs.CallLooks.{after_read}
 use Rattle.rx_rules.specs.Looks.{Looks, latest_name, on_looks}
 use Rattle.rx_recvwin.specs.Window.{given_count, tells_end}
-use Rattle.rx_ends.specs.Ends.{StandsEnd}
+use Rattle.rx_call_ends.specs.Ends.{StandsEnd}
 use Rattle.rx_node.specs.Mirrors.{IsActiveAt, Mirrors}
 use Rattle.rx_node.specs.Node.{NodeState}
-use Rattle.rx_node.proofs.ActiveSteps.{active_stands, there_low}
-use Rattle.rx_node.proofs.EndSteps.{mirrors_end}
-use Rattle.rx_node.proofs.ReadSteps.{mirrors_more, read_end, read_whole, roomy_read_of}
-use Rattle.rx_node.proofs.SeatedSteps.{end_seated, end_set_up}
+use Rattle.rx_node.proofs.Steps.ActiveSteps.{active_stands, there_low}
+use Rattle.rx_node.proofs.Steps.EndSteps.{mirrors_end}
+use Rattle.rx_node.proofs.Steps.ReadSteps.{mirrors_more, read_end, read_whole, roomy_read_of}
+use Rattle.rx_node.proofs.Steps.SeatedSteps.{end_seated, end_set_up}
 use Rattle.rx_node.proofs.SameChannels.{others_then, same_with_ends}
 use Rattle.rx_node.proofs.node.Node.read.Goals as goal
 

@@ -1,8 +1,8 @@
 use Rattle.rx_model.specs.Names.{connection_of}
 use Rattle.rx_table.specs.Records.{fresh_record}
 use Rattle.rx_node.proofs.EnteredSeats.{fewer_seated, replaced_named, replaced_set_up}
-use Rattle.rx_node.proofs.ReplaceSteps.{mirrors_replaced}
-use Rattle.rx_node.proofs.TableSteps.{changed-length}
+use Rattle.rx_node.proofs.Steps.ReplaceSteps.{mirrors_replaced}
+use Rattle.rx_node.proofs.Steps.TableSteps.{changed-length}
 use Rattle.rx_node.proofs.SameChannels.{same_aside}
 use Rattle.rx_node.proofs.node.Node.replace.Goals as goal
 

@@ -7,14 +7,14 @@ use Rattle.rx_table.specs.declared.seat.Seat.{Seat}
 use Rattle.rx_table.specs.Records.{seat_at}
 use Rattle.rx_node.specs.Lives.{is_of, life_of}
 use Rattle.rx_node.specs.Node.{NodeState}
-use Rattle.rx_node.proofs.ActiveSteps.{free_dead, indexed, key_low, named_live}
+use Rattle.rx_node.proofs.Steps.ActiveSteps.{free_dead, indexed, key_low, named_live}
 use Rattle.rx_node.proofs.LifeChanges.{cleared_seated, cleared_set_up, lived_seated, lived_set_up, mirrors_cleared}
 use Rattle.rx_node.proofs.LifeChanges.{mirrors_lived, mirrors_over}
 use Rattle.rx_node.proofs.LifeChanges.{over_kept, over_seated, over_set_up}
-use Rattle.rx_node.proofs.SeatedSteps.{one_seat}
+use Rattle.rx_node.proofs.Steps.SeatedSteps.{one_seat}
 use Rattle.rx_node.proofs.SameChannels.{same_itself}
 use Rattle.rx_node.proofs.SameChannels.{same_cleared, same_over, same_with_life}
-use Rattle.rx_node.proofs.MomentSteps.{end_free}
+use Rattle.rx_node.proofs.Steps.MomentSteps.{end_free}
 use Rattle.rx_node.proofs.SameChannels.{idle_cleared, idle_over}
 use Rattle.std.proofs.Common.{refl}
 use Rattle.rx_node.proofs.node.Node.set_life.Goals as goal
@@ -216,12 +216,14 @@ returns-in_default-clause-others g c =
 pub returns-then-is_active-clause-others : goal.returns-then-is_active-clause-others
 returns-then-is_active-clause-others g c =
     rw (← c.self.view_is)
-    (same_with_life _ c.self.invariant.1 c.args.key c.in-Some.end c.seat.result.now c.seat.ensures c.in-Some.is c.args.life)
+    (same_with_life _ c.self.invariant.1 c.args.key c.in-Some.end c.seat.result.now c.seat.ensures c.in-Some.is
+    c.args.life)
 
 pub returns-then-is_live-clause-others : goal.returns-then-is_live-clause-others
 returns-then-is_live-clause-others g c =
     rw (← c.self.view_is)
-    (same_cleared _ c.self.invariant.1 c.args.key c.in-Some.end c.seat.result.now c.seat.ensures c.in-Some.is c.args.life
+    (same_cleared _ c.self.invariant.1 c.args.key c.in-Some.end c.seat.result.now c.seat.ensures c.in-Some.is
+    c.args.life
     c.clear.new.self c.clear.ensures.keeps)
 
 pub returns-clause-others : goal.returns-clause-others

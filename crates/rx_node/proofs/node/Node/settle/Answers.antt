@@ -1,10 +1,10 @@
 use Rattle.std.proofs.Common.{subst, sym}
 use Rattle.rx_rules.specs.After.{settled}
 use Rattle.rx_rules.specs.Life.{after_acks}
-use Rattle.rx_ends.specs.Ends.{StandsEnd}
+use Rattle.rx_call_ends.specs.Ends.{StandsEnd}
 use Rattle.rx_node.specs.Node.{NodeState}
-use Rattle.rx_node.proofs.ActiveSteps.{changed_as}
-use Rattle.rx_node.proofs.EndSteps.{active_call}
+use Rattle.rx_node.proofs.Steps.ActiveSteps.{changed_as}
+use Rattle.rx_node.proofs.Steps.EndSteps.{active_call}
 use Rattle.rx_node.proofs.node.Node.settle.Goals as goal
 
 pub returns-clause-steps : goal.returns-clause-steps

@@ -2,8 +2,8 @@ use Rattle.std.proofs.Common.{sym, subst}
 use Rattle.rx_rules.specs.CallLooks.{after_shut}
 use Rattle.rx_node.specs.Mirrors.{IsActiveAt}
 use Rattle.rx_node.specs.Node.{NodeState}
-use Rattle.rx_node.proofs.EndSteps.{mirrors_end}
-use Rattle.rx_node.proofs.SeatedSteps.{end_seated, end_set_up}
+use Rattle.rx_node.proofs.Steps.EndSteps.{mirrors_end}
+use Rattle.rx_node.proofs.Steps.SeatedSteps.{end_seated, end_set_up}
 use Rattle.rx_node.proofs.SameChannels.{same_with_ends}
 use Rattle.rx_node.proofs.node.Node.shut.Goals as goal
 

@@ -1,13 +1,13 @@
 use Rattle.std.proofs.Common.{◌≡◌, ◌≤◌, ◌+◌, ◌-◌, ℕ, sym, subst, ◌∙◌, ap, arith}
 use Rattle.rx_rules.specs.Life.{after_silence}
 use Rattle.rx_rules.specs.Records.{unless_silent}
-use Rattle.rx_ends.specs.Ends.{StandsEnd}
+use Rattle.rx_call_ends.specs.Ends.{StandsEnd}
 use Rattle.rx_node.specs.Mirrors.{IsActiveAt}
 use Rattle.rx_node.specs.Node.{NodeState}
-use Rattle.rx_node.proofs.ActiveSteps.{changed_as, not_silent, same_by, silent, unless_inactive}
-use Rattle.rx_node.proofs.EndSteps.{active_call}
+use Rattle.rx_node.proofs.Steps.ActiveSteps.{changed_as, not_silent, same_by, silent, unless_inactive}
+use Rattle.rx_node.proofs.Steps.EndSteps.{active_call}
 use Rattle.rx_node.proofs.SameChannels.{same_itself}
-use Rattle.rx_node.proofs.MomentSteps.{silence_idle, silence_none, silence_some, silenced_idle}
+use Rattle.rx_node.proofs.Steps.MomentSteps.{silence_idle, silence_none, silence_some, silenced_idle}
 use Rattle.rx_node.specs.Moments.{silence_at}
 use Rattle.std.proofs.Common.{None, Some}
 use Rattle.std.specs.Prelude.{IsSomeAnd}
@@ -67,7 +67,8 @@ returns-then-dies-self-clause-others g c =
 
 pub returns-in_default-clause-ends : goal.returns-in_default-clause-ends
 returns-in_default-clause-ends g c =
-    let none : None ≡ silence_at c.args.self.now c.args.key = silence_none c.args.self.now c.args.key c.in_default.ensures.call in
+    let none : None ≡ silence_at c.args.self.now c.args.key = silence_none c.args.self.now c.args.key
+    c.in_default.ensures.call in
     λ moment is late. absurd (cc (none, is))
 
 pub returns-then-dies-self-clause-ends : goal.returns-then-dies-self-clause-ends
@@ -80,7 +81,8 @@ returns-then-dies-self-clause-ends g c =
     let over = c.if-dies-self.true in
     let now : c.self.inside.moment ≡ n.moment = ap (λ (n : NodeState). n.moment) c.self.view_is in
     λ moment is late. absurd (
-    let same : c.dies-dies.result ≡ moment = (let both = dies ∙ is in cc (both)) in omega (arith, same, over, now, late))
+    let same : c.dies-dies.result ≡ moment = (let both = dies ∙ is in cc (both)) in omega
+    (arith, same, over, now, late))
 
 pub returns-clause-ends : goal.returns-clause-ends
 returns-clause-ends g c =

@@ -3,7 +3,7 @@ use Rattle.rx_rules.specs.Setup.{is_client}
 use Rattle.rx_table.specs.Records.{seat_at}
 use Rattle.rx_node.specs.Lives.{is_of, life_of}
 use Rattle.rx_node.specs.Node.{NodeState}
-use Rattle.rx_node.proofs.ActiveSteps.{indexed, key_low}
+use Rattle.rx_node.proofs.Steps.ActiveSteps.{indexed, key_low}
 use Rattle.rx_node.proofs.StartSeats.{Opens, mirrors_opened, opened_kept, opened_seated, opened_set_up}
 use Rattle.rx_node.proofs.SameChannels.{same_opened}
 use Rattle.rx_node.proofs.node.Node.start.Goals as goal

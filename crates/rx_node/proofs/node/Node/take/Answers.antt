@@ -11,7 +11,7 @@ use Rattle.rx_rules.specs.Life.{after_code}
 use Rattle.rx_rules.specs.Looks.{latest_name, on_life}
 use Rattle.rx_node.specs.Node.{setup_of}
 use Rattle.rx_node.proofs.KeptKeys.{by_looks, seat_key}
-use Rattle.rx_node.proofs.TakingSteps.{abort_is, busy_is}
+use Rattle.rx_node.proofs.Steps.TakingSteps.{abort_is, busy_is}
 use Rattle.rx_node.proofs.SameChannels.{places_same}
 use Rattle.std.proofs.lemmas.Bool.{false≢true}
 use Rattle.rx_node.specs.Steps.{is_response}

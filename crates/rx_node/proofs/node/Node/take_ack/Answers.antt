@@ -10,7 +10,8 @@ use Rattle.rx_rules.specs.Setup.{Setup}
 use Rattle.rx_node.specs.Node.{setup_of}
 use Rattle.rx_node.specs.Steps.{is_heard}
 use Rattle.rx_node.proofs.KeptKeys.{by_looks, kept_both, kept_key, kept_setup, seat_key}
-use Rattle.rx_node.proofs.TakingSteps.{ack_row, heard_is, same_key, settled_mirrors, taken_ackall, unheard_mirrors}
+use Rattle.rx_node.proofs.Steps.TakingSteps.{ack_row, heard_is, same_key, settled_mirrors, taken_ackall}
+use Rattle.rx_node.proofs.Steps.TakingSteps.{unheard_mirrors}
 use Rattle.rx_node.proofs.SameChannels.{others_then}
 use Rattle.rx_node.proofs.node.Node.take_ack.Goals as goal
 

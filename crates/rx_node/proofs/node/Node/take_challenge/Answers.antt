@@ -8,7 +8,7 @@ use Rattle.rx_packet.specs.Seen.{message_with_head}
 use Rattle.rx_rules.specs.After.{taken_with}
 use Rattle.rx_node.specs.Node.{setup_of}
 use Rattle.rx_node.proofs.KeptKeys.{by_looks, kept_both, kept_key, seat_key}
-use Rattle.rx_node.proofs.TakingSteps.{answered_mirrors, challenge_is, responds_none, responds_some}
+use Rattle.rx_node.proofs.Steps.TakingSteps.{answered_mirrors, challenge_is, responds_none, responds_some}
 use Rattle.rx_node.proofs.SameChannels.{others_then, same_itself}
 use Rattle.rx_node.proofs.node.Node.take_challenge.Goals as goal
 

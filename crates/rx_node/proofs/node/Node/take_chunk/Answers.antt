@@ -2,7 +2,7 @@ use Rattle.std.proofs.Common.{◌∙◌, sym}
 use Rattle.rx_packet.specs.Seen.{body_of, message_of}
 use Rattle.rx_node.specs.Node.{setup_of}
 use Rattle.rx_node.proofs.KeptKeys.{kept_both, kept_key, seat_key}
-use Rattle.rx_node.proofs.TakingSteps.{data_row, judged_mirrors, unjudged_mirrors}
+use Rattle.rx_node.proofs.Steps.TakingSteps.{data_row, judged_mirrors, unjudged_mirrors}
 use Rattle.rx_node.proofs.SameChannels.{others_then}
 use Rattle.rx_node.proofs.node.Node.take_chunk.Goals as goal
 

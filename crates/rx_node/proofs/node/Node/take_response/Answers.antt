@@ -12,7 +12,7 @@ use Rattle.rx_rules.specs.Looks.{Looks, is_proved, on_life}
 use Rattle.rx_node.specs.Mirrors.{Mirrors}
 use Rattle.rx_node.specs.Node.{setup_of}
 use Rattle.rx_node.proofs.KeptKeys.{by_looks, kept_both, kept_key, seat_key}
-use Rattle.rx_node.proofs.TakingSteps.{response_is, right_mirrors, same_key}
+use Rattle.rx_node.proofs.Steps.TakingSteps.{response_is, right_mirrors, same_key}
 use Rattle.rx_node.proofs.SameChannels.{others_then, places_same, same_itself, same_then}
 use Rattle.rx_node.proofs.node.Node.take_response.Goals as goal
 

@@ -1,6 +1,6 @@
 use Rattle.std.proofs.Common.{refl}
 use Rattle.rx_node.proofs.KeptNode.{alike_on_place, still_node, still_seated, still_set_up}
-use Rattle.rx_node.proofs.SmallSteps.{mirrors_used}
+use Rattle.rx_node.proofs.Steps.SmallSteps.{mirrors_used}
 use Rattle.rx_node.proofs.SameChannels.{same_on_place}
 use Rattle.rx_node.proofs.node.Node.touch.Goals as goal
 
@@ -15,7 +15,8 @@ invariant_of-self g c =
 
 pub returns-clause-steps : goal.returns-clause-steps
 returns-clause-steps g c =
-    rw (← c.self.view_is, c.touch_now.ensures) (λ l x m there. mirrors_used g.C.Class.class_of _ l m c.args.place x there)
+    rw (← c.self.view_is, c.touch_now.ensures)
+    (λ l x m there. mirrors_used g.C.Class.class_of _ l m c.args.place x there)
 
 pub returns-clause-same : goal.returns-clause-same
 returns-clause-same g c =

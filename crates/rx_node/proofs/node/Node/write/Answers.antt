@@ -1,12 +1,12 @@
 use Rattle.std.proofs.Common.{◌∙◌, ap, sym, subst, length, min}
 use Rattle.std.specs.Prelude.{take}
 use Rattle.rx_rules.specs.CallLooks.{after_write}
-use Rattle.rx_ends.specs.Ends.{IsUnshut}
+use Rattle.rx_call_ends.specs.Ends.{IsUnshut}
 use Rattle.rx_node.specs.Mirrors.{IsActiveAt}
 use Rattle.rx_node.specs.Node.{NodeState}
-use Rattle.rx_node.proofs.ActiveSteps.{active_stands, room_is, roomy_write}
-use Rattle.rx_node.proofs.EndSteps.{mirrors_end}
-use Rattle.rx_node.proofs.SeatedSteps.{end_seated, end_set_up}
+use Rattle.rx_node.proofs.Steps.ActiveSteps.{active_stands, room_is, roomy_write}
+use Rattle.rx_node.proofs.Steps.EndSteps.{mirrors_end}
+use Rattle.rx_node.proofs.Steps.SeatedSteps.{end_seated, end_set_up}
 use Rattle.rx_node.proofs.SameChannels.{same_with_ends}
 use Rattle.rx_node.proofs.node.Node.write.Goals as goal
 

@@ -24,7 +24,8 @@ returns-clause-first g c =
     let reach : suc (m + (c.self.inside.next - suc m)) ≡ c.self.inside.next = omega (arith, low) in
     let found = first_found c.self.inside.counts.items c.self.inside.ready key m q.apart q.told least.there
     (λ p n is. (least.least p n is).moment) (c.self.inside.next - suc m) in
-    sym (subst (λ (n : ℕ). find (is_ready (record { order = order_of c.self.inside.counts.items n; ready = c.self.inside.ready }))
+    sym (subst (λ (n : ℕ). find
+    (is_ready (record { order = order_of c.self.inside.counts.items n; ready = c.self.inside.ready }))
     (order_of c.self.inside.counts.items n) ≡ Some key) reach found)
     ∙ ap (λ (s : QueueState). find (is_ready s) s.order) c.self.view_is
 

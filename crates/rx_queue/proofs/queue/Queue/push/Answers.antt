@@ -1,4 +1,5 @@
-use Rattle.std.proofs.Common.{◌≡◌, ◌+◌, ◌<◌, ◌++◌, ◌∷◌, ◌∙◌, [], ℕ, List, Option, Some, None, ap, sym, subst, length, arith, drop, is_some}
+use Rattle.std.proofs.Common.{◌≡◌, ◌+◌, ◌<◌, ◌++◌, ◌∷◌, ◌∙◌, [], ℕ, List, Option, Some, None, ap, sym, subst, length}
+use Rattle.std.proofs.Common.{arith, drop, is_some}
 use Rattle.std.specs.Prelude.{slice_set, take}
 use Rattle.rx_due.specs.Book.{moment_of}
 use Rattle.rx_queue.specs.Counts.{IsQueue, order_of}

@@ -15,7 +15,8 @@ returns c =
     record {
       answered = λ pool r s.
           (let front : c.self.inside.front ≡ front_of r.kept = (
-          upto ∙ ap (λ n. w.used + n) (sym (leading_seen pool w.places)) ∙ sym (front_is (window_of pool w) r s.near)) in
+          upto ∙ ap (λ n. w.used + n) (sym (leading_seen pool w.places))
+          ∙ sym (front_is (window_of pool w) r s.near)) in
           let greatest = most ∙ s.near.greatest in
           λ i. nat_lt (front i) (greatest i));
     }

@@ -12,7 +12,8 @@ next_waiting-requires g c = c.self.invariant.0.there
 
 pub remove-requires : goal.remove-requires
 remove-requires g c =
-    let room = key_room g.C.Class.class_of _ c.self.invariant.0 c.self.invariant.1 c.in_ok-key.key c.in_ok-key.ensures.key in
+    let room = key_room g.C.Class.class_of _ c.self.invariant.0 c.self.invariant.1 c.in_ok-key.key
+    c.in_ok-key.ensures.key in
     let same = c.in_ok-key.ensures.room in
     omega (arith, room, same)
 
@@ -42,7 +43,8 @@ returns-in_err-key-clause-steps g c =
       firsts = c.self.inside.firsts;
     } in
     rw (← c.self.view_is)
-    (none_cost old (record old { firsts = c.next_waiting.new.firsts }) (few_ready c.self.inside.node c.self.inside.firsts c.each_came.ensures c.self.invariant.0.there)
+    (none_cost old (record old { firsts = c.next_waiting.new.firsts })
+    (few_ready c.self.inside.node c.self.inside.firsts c.each_came.ensures c.self.invariant.0.there)
     c.args.steps.now c.next_waiting.new.steps c.in_err-key.ensures.steps)
 
 pub invariant_of-self-2 : goal.invariant_of-self-2
@@ -80,6 +82,8 @@ returns-clause-steps g c =
       firsts = c.self.inside.firsts;
     } in
     rw (← c.self.view_is)
-    (found_cost old (record old { node = c.accept.new.self; firsts = c.remove.new.self }) (few_ready c.self.inside.node c.self.inside.firsts c.each_came.ensures c.self.invariant.0.there)
+    (found_cost old (record old { node = c.accept.new.self; firsts = c.remove.new.self })
+    (few_ready c.self.inside.node c.self.inside.firsts c.each_came.ensures c.self.invariant.0.there)
     c.next_waiting.new.firsts.ready c.in_ok-key.key c.args.steps.now c.next_waiting.new.steps c.accept.new.steps
-    c.remove.new.steps found.steps found.ready c.remove.ensures.ready c.accept.ensures.steps_taken c.remove.ensures.steps)
+    c.remove.new.steps found.steps found.ready c.remove.ensures.ready c.accept.ensures.steps_taken
+    c.remove.ensures.steps)

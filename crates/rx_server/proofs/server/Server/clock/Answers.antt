@@ -1,7 +1,7 @@
 use Rattle.std.proofs.Common.{◌≡◌, ◌≤◌, ◌<◌, ◌^◌, ◌*◌, ℕ, List, ap, refl, sym, subst, length}
 use Rattle.rx_model.specs.declared.event.Event.TheVariants as events
 use Rattle.rx_rules.specs.Classes.{Class}
-use Rattle.rx_history.proofs.Dims.{dims_refl}
+use Rattle.rx_history.proofs.Dimensions.Dims.{dims_refl}
 use Rattle.rx_node.specs.Mirrors.{StepsNode}
 use Rattle.rx_node.specs.Node.{NodeState}
 use Rattle.rx_server.specs.Server.{ServerState}

@@ -1,7 +1,7 @@
 use Rattle.std.proofs.Common.{ℕ, Option, ap, refl, sym, subst, arith}
 use Rattle.std.specs.Prelude.{IsNone}
 use Rattle.rx_model.specs.declared.names.Limits.{Limits}
-use Rattle.rx_node.proofs.IdleSteps.{none_idle}
+use Rattle.rx_node.proofs.Steps.IdleSteps.{none_idle}
 use Rattle.rx_server.proofs.Entering.{no_place}
 use Rattle.rx_server.proofs.server.Server.enter.Goals as goal
 

@@ -2,7 +2,7 @@ use Rattle.std.proofs.Common.{◌≡◌, ◌≤◌, ◌*◌, None, length, sym, 
 use Rattle.rx_model.specs.declared.names.Limits.{Limits}
 use Rattle.rx_model.specs.Names.{connection_of}
 use Rattle.rx_table.specs.Records.{IsLongestIdle, place_of}
-use Rattle.rx_node.proofs.IdleSteps.{longest_is, unknown_at}
+use Rattle.rx_node.proofs.Steps.IdleSteps.{longest_is, unknown_at}
 use Rattle.rx_server.specs.Server.{ServerState}
 use Rattle.rx_server.proofs.Entering.{entered_instead, serving_entered}
 use Rattle.rx_server.proofs.Serving.{setup_role}
@@ -48,5 +48,6 @@ returns-clause-entered g c =
     (λ l serves. (
     let old = longest_is g.C.Class.class_of _ l serves.mirrors place idle in
     entered_instead g.C.Class.class_of _ _ l x i.server serves
-    (unknown_at g.C.Class.class_of _ l serves.mirrors x none) (setup_role _ _ kept) c.link-link.result linked place old.0 full
+    (unknown_at g.C.Class.class_of _ l serves.mirrors x none) (setup_role _ _ kept) c.link-link.result linked place
+    old.0 full
     old.1 old.2 (λ orderly. c.replace.ensures.steps l old.0 serves.mirrors old.1 serves.nonce orderly)))

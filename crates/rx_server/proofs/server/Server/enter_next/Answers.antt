@@ -2,7 +2,7 @@ use Rattle.std.proofs.Common.{◌≡◌, ◌≤◌, ◌<◌, ◌*◌, None, leng
 use Rattle.rx_model.specs.declared.names.Limits.{Limits}
 use Rattle.rx_model.specs.Names.{connection_of}
 use Rattle.rx_table.specs.Records.{place_of}
-use Rattle.rx_node.proofs.IdleSteps.{unknown_at}
+use Rattle.rx_node.proofs.Steps.IdleSteps.{unknown_at}
 use Rattle.rx_server.specs.Server.{ServerState}
 use Rattle.rx_server.proofs.Entering.{entered_next, serving_entered}
 use Rattle.rx_server.proofs.Serving.{setup_role}
@@ -20,7 +20,8 @@ invariant_of-self g c =
     c.requires.room in (
       serving_entered g.C.Class.class_of _ _ x i kept.kind kept.limits (omega (arith, c.enter.ensures.conns))
           (entered_next g.C.Class.class_of _ _ i.looks x i.server i.serves
-          (unknown_at g.C.Class.class_of _ i.looks i.serves.mirrors x none) (setup_role _ _ kept) c.link-link.result linked low
+          (unknown_at g.C.Class.class_of _ i.looks i.serves.mirrors x none) (setup_role _ _ kept) c.link-link.result
+          linked low
           (λ orderly. c.enter.ensures.steps i.looks i.serves.mirrors i.serves.nonce orderly)),
       subst (λ (k : Limits). 4 * k.conns ≤ length c.self.inside.firsts.ready) (sym kept.limits) c.self.invariant.1,
     )

@@ -1,5 +1,5 @@
 use Rattle.std.proofs.Common.{subst}
-use Rattle.rx_history.proofs.EnteredLaw.{entered_when_proved}
+use Rattle.rx_history.proofs.Laws.EnteredLaw.{entered_when_proved}
 use Rattle.rx_rules.specs.Setup.{IsServer}
 use Rattle.rx_node.specs.Node.{setup_of}
 use Rattle.rx_server.specs.Server.{ServerState}

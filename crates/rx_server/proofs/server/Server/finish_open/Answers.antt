@@ -5,7 +5,7 @@ use Rattle.rx_model.specs.Names.{Channel, channel_of}
 use Rattle.rx_rules.specs.After.{is_zero, owing_abort}
 use Rattle.rx_rules.specs.Life.{after_finish}
 use Rattle.rx_rules.specs.Looks.{Looks, latest_name, on_channel, on_life}
-use Rattle.rx_ends.specs.Ends.{EndsState, HasShutSlot, IsUnshut}
+use Rattle.rx_call_ends.specs.Ends.{EndsState, HasShutSlot, IsUnshut}
 use Rattle.rx_node.specs.Mirrors.{IsActiveAt, IsChannel, Mirrors}
 use Rattle.rx_node.specs.declared.life.Turn.TheVariants as turns
 use Rattle.rx_node.proofs.KeptKeys.{kept_both, kept_key, seat_key}

@@ -6,8 +6,8 @@ use Rattle.rx_rules.specs.Life as lives
 use Rattle.rx_rules.specs.Looks.{Looks, call_named, latest_name, on_life}
 use Rattle.rx_rules.specs.Records.{started}
 use Rattle.rx_rules.specs.Setup.{Setup}
-use Rattle.rx_history.proofs.Orderly.{Orderly}
-use Rattle.rx_history.proofs.RoomStarts.{RoomyAt}
+use Rattle.rx_history.proofs.Order.Orderly.{Orderly}
+use Rattle.rx_history.proofs.Room.RoomStarts.{RoomyAt}
 use Rattle.rx_node.specs.Mirrors.{IsChannel, Mirrors}
 use Rattle.rx_node.specs.Node.{setup_of}
 use Rattle.rx_server.specs.Server.{ServerState, Serves}
@@ -69,7 +69,8 @@ invariant_of-self g c =
     let it = subst (λ (sv : ServerState). OpensSome g.C.Class.class_of sv c.args.key c.args.number) (sym c.self.view_is)
     c.requires.opens in (
       serving_with class _ c.start.new.self _ firsts same
-          (there_without c.self.inside.node c.args.key c.self.inside.firsts.order firsts.order c.remove_now.ensures.order
+          (there_without c.self.inside.node c.args.key c.self.inside.firsts.order firsts.order
+          c.remove_now.ensures.order
           i.there)
           (serves_made class _ it.looks it.channel c.args.key c.args.number it.serves it.at it.opening
           c.start.new.self firsts (role_of _ _ same) c.remove_now.ensures.order c.remove_now.ensures.ready

@@ -44,7 +44,8 @@ module _ (g : _) (c : goal.After-touched-2 g) (l : Looks) (serves : Serves g.C.C
 
 pub touched-requires-2-clause-found : goal.touched-requires-2-clause-found
 touched-requires-2-clause-found g c =
-    subst (λ (sv : ServerState). IsFound g.C.Class.class_of sv.node c.args.c.now c.channel-channel.result) c.self-2.view_is
+    subst (λ (sv : ServerState). IsFound g.C.Class.class_of sv.node c.args.c.now c.channel-channel.result)
+    c.self-2.view_is
     (c.channel-channel.ensures.found c.requires.chan)
 
 pub returns-clause-ready : goal.returns-clause-ready

@@ -22,10 +22,12 @@ returns-in-Some-clause-takes g c =
 
 pub turn_away-requires-clause-found : goal.turn_away-requires-clause-found
 turn_away-requires-clause-found g c =
-    subst (λ (sv : ServerState). IsFound g.C.Class.class_of sv.node c.args.c.now c.channel-channel.result) c.self.view_is
+    subst (λ (sv : ServerState). IsFound g.C.Class.class_of sv.node c.args.c.now c.channel-channel.result)
+    c.self.view_is
     (c.channel-channel.ensures.found c.requires.chan)
 
 pub take_own-requires-clause-found : goal.take_own-requires-clause-found
 take_own-requires-clause-found g c =
-    subst (λ (sv : ServerState). IsFound g.C.Class.class_of sv.node c.args.c.now c.channel-channel.result) c.self.view_is
+    subst (λ (sv : ServerState). IsFound g.C.Class.class_of sv.node c.args.c.now c.channel-channel.result)
+    c.self.view_is
     (c.channel-channel.ensures.found c.requires.chan)

@@ -3,7 +3,7 @@ use Rattle.rx_model.specs.declared.names.Limits.{Limits}
 use Rattle.rx_model.specs.Names.{connection_of}
 use Rattle.rx_rules.specs.Records.{used}
 use Rattle.rx_rules.specs.Looks.{ConnLooks}
-use Rattle.rx_node.proofs.IdleSteps.{channel_conn}
+use Rattle.rx_node.proofs.Steps.IdleSteps.{channel_conn}
 use Rattle.rx_node.specs.Steps.{IsFound}
 use Rattle.rx_server.specs.Server.{ServerState}
 use Rattle.rx_server.proofs.FoundChannels.{found_channel, found_key, found_none}
@@ -13,7 +13,8 @@ use Rattle.rx_server.proofs.server.Server.touched.Goals as goal
 pub returns-in_err-key-clause-steps : goal.returns-in_err-key-clause-steps
 returns-in_err-key-clause-steps g c =
     λ l serves. serves_unused g.C.Class.class_of _ l (connection_of c.args.c.now)
-    (found_none g.C.Class.class_of _ c.args.c.now c.args.channel c.requires.found c.in_err-key.was l serves.mirrors) serves
+    (found_none g.C.Class.class_of _ c.args.c.now c.args.channel c.requires.found c.in_err-key.was l serves.mirrors)
+    serves
 
 pub returns-in_err-key-clause-none : goal.returns-in_err-key-clause-none
 returns-in_err-key-clause-none g c =
@@ -49,7 +50,8 @@ returns-clause-steps g c =
     (sym c.self.view_is) c.requires.found in
     rw (← c.self.view_is)
     (λ l serves. serves_used g.C.Class.class_of _ _ l c.in_ok-key.key c.args.c.now
-    (found_channel g.C.Class.class_of _ c.args.c.now c.args.channel found c.in_ok-key.key c.in_ok-key.was l serves.mirrors)
+    (found_channel g.C.Class.class_of _ c.args.c.now c.args.channel found c.in_ok-key.key c.in_ok-key.was l
+    serves.mirrors)
     (role_stays _ _ c.touch.ensures.same) (λ r there. c.touch.ensures.steps l r serves.mirrors there) serves)
 
 pub returns-clause-channel : goal.returns-clause-channel

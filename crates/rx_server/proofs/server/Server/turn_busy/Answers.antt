@@ -44,7 +44,8 @@ behind g c l ch serves at =
     let class = g.C.Class.class_of in
     let broken = on_life (latest_name l ch) (after_code RX_CALL_DEAD) l in
     let first = serves_life class _ c.turn.new.self l (latest_name l ch) (after_code RX_CALL_DEAD)
-    (code_falls RX_CALL_DEAD) (role_stays _ _ c.turn.ensures.same) (c.turn.ensures.steps l ch serves.mirrors at) serves in
+    (code_falls RX_CALL_DEAD) (role_stays _ _ c.turn.ensures.same) (c.turn.ensures.steps l ch serves.mirrors at)
+    serves in
     let there : IsChannel broken c.in-Some.key ch = record { conn = at.conn; there = at.there; is = at.is } in
     serves_owing class _ c.owe_busy.new.self broken ch (owing_busy c.args.c.now.number) (λ q. refl)
     (role_stays _ _ c.owe_busy.ensures.same) (c.owe_busy.ensures.steps broken ch first.mirrors there) first

@@ -22,4 +22,5 @@ returns-then-owes_stray-clause-steps g c =
     let owes = sym c.owes_stray.ensures ∙ c.if-owes_stray.true in
     rw (← c.self.view_is)
     (λ l serves. serves_turned g.C.Class.class_of _ c.owe_stray.new.self l c.args.from m c.args.row owes
-    (role_stays _ _ c.owe_stray.ensures.same) (c.owe_stray.ensures.steps (body_of c.args.body.now) l serves.mirrors) serves)
+    (role_stays _ _ c.owe_stray.ensures.same) (c.owe_stray.ensures.steps (body_of c.args.body.now) l serves.mirrors)
+    serves)

@@ -31,7 +31,8 @@ invariant_of-self g c =
     let it = has_channel i.looks c.in-Some.key
     (subst (λ (n : ℕ). c.in-Some.key / 4 < n) i.serves.mirrors.conns.conns key) in (
       serving_by g.C.Class.class_of _ _ _ same
-          (serves_again g.C.Class.class_of _ c.owe_again.new.self i.looks it.channel (body_of c.args.body.now) (role_of _ _ same)
+          (serves_again g.C.Class.class_of _ c.owe_again.new.self i.looks it.channel (body_of c.args.body.now)
+          (role_of _ _ same)
           (c.owe_again.ensures.steps i.looks it.channel i.serves.mirrors it.at) i.serves) i,
       subst (λ (k : Limits). 4 * k.conns ≤ length c.self-2.inside.firsts.ready) (sym same.limits) c.self-2.invariant.1,
     )

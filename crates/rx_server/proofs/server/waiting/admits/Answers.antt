@@ -10,7 +10,8 @@ pub returns-then-not-challenges : goal.returns-then-not-challenges
 returns-then-not-challenges g c =
     let class = g.C.Class.class_of in
     let n : NodeState = c.args.node.now in
-    let challenges = ap (λ (secret : List ℕ). (class secret).challenges) (sym c.class.ensures) ∙ sym c.challenges.ensures
+    let challenges = ap (λ (secret : List ℕ). (class secret).challenges) (sym c.class.ensures)
+    ∙ sym c.challenges.ensures
     ∙ c.if-not-challenges.true in
     λ l m. (
     let it = has_channel l c.args.key (subst (λ (k : ℕ). c.args.key / 4 < k) m.conns.conns c.requires) in
@@ -22,7 +23,8 @@ pub returns-else-not-challenges : goal.returns-else-not-challenges
 returns-else-not-challenges g c =
     let class = g.C.Class.class_of in
     let n : NodeState = c.args.node.now in
-    let challenges = ap (λ (secret : List ℕ). (class secret).challenges) (sym c.class.ensures) ∙ sym c.challenges.ensures
+    let challenges = ap (λ (secret : List ℕ). (class secret).challenges) (sym c.class.ensures)
+    ∙ sym c.challenges.ensures
     ∙ c.if-not-challenges.false in
     λ l m. (
     let it = has_channel l c.args.key (subst (λ (k : ℕ). c.args.key / 4 < k) m.conns.conns c.requires) in

@@ -13,7 +13,13 @@ use Rattle.rx_server.proofs.server.waiting.next_waiting.Goals as goal
 
 pub held-init : goal.held-init
 held-init g c =
-    record { order = refl; room = refl; stands = λ m mirrors stands. stands; paid = paid_none c.args.firsts.now.ready c.args.steps.now }
+    record {
+      order = refl;
+      room = refl;
+      stands = λ m mirrors stands. stands;
+      paid = paid_none c.args.firsts.now.ready
+          c.args.steps.now;
+    }
 
 pub can_enter-requires : goal.can_enter-requires
 can_enter-requires g c =
@@ -30,12 +36,14 @@ held-preserved g c =
     record {
       order = c.hold.ensures.order ∙ was.order;
       room = ap (λ (r : List (Option ℕ)). length r) c.hold.ensures.ready ∙ length_set ready key None ∙ was.room;
-      stands = λ m mirrors stands. ready_held (class c.args.node.now.secret).challenges c.held.firsts c.hold.new.self m key
+      stands = λ m mirrors stands. ready_held (class c.args.node.now.secret).challenges c.held.firsts c.hold.new.self m
+          key
           c.hold.ensures.order c.hold.ensures.ready
           (sym (enters_parts (setup_of class c.args.node.now) m key mirrors.orderly)
           ∙ sym (c.can_enter.ensures m mirrors) ∙ c.if-can_enter.false)
           (was.stands m mirrors stands);
-      paid = subst (λ (r : List (Option ℕ)). Paid 0 c.args.firsts.now.ready r c.args.steps.now c.hold.new.steps) (sym c.hold.ensures.ready)
+      paid = subst (λ (r : List (Option ℕ)). Paid 0 c.args.firsts.now.ready r c.args.steps.now c.hold.new.steps)
+          (sym c.hold.ensures.ready)
           (paid_held c.args.firsts.now.ready ready key c.args.steps.now c.first.new.steps c.hold.new.steps
           (paid_look c.args.firsts.now.ready ready c.args.steps.now c.held.steps c.first.new.steps was.paid
           c.in-Some.ensures.steps) c.in-Some.ensures.ready c.hold.ensures.steps);

@@ -14,7 +14,8 @@ turn_each-requires g c =
 
 pub invariant_of-self : goal.invariant_of-self
 invariant_of-self g c =
-    left_turned c.self.inside.all.items c.turn_each.new.callers.items c.self.inside.at_work.items c.turn_each.ensures.done
+    left_turned c.self.inside.all.items c.turn_each.new.callers.items c.self.inside.at_work.items
+    c.turn_each.ensures.done
     c.turn_each.ensures.count c.self.invariant
 
 pub returns : goal.returns

@@ -14,11 +14,13 @@ turn_each_of-requires g c =
 
 pub invariant_of-self : goal.invariant_of-self
 invariant_of-self g c =
-    left_turned c.self.inside.all.items c.turn_each_of.new.callers.items c.self.inside.at_work.items c.turn_each_of.ensures.done
+    left_turned c.self.inside.all.items c.turn_each_of.new.callers.items c.self.inside.at_work.items
+    c.turn_each_of.ensures.done
     c.turn_each_of.ensures.count c.self.invariant
 
 pub returns : goal.returns
 returns g c =
-    callers_all (turns_for c.args.node) (rests_for c.args.node) (keeps_for c.args.node) c.self.inside.at_work.items c.as_slice.result.now c.self.inside.all.items
+    callers_all (turns_for c.args.node) (rests_for c.args.node) (keeps_for c.args.node) c.self.inside.at_work.items
+    c.as_slice.result.now c.self.inside.all.items
     c.args.self.now c.turn_each_of.new.callers.items c.args.nodes.now c.turn_each_of.new.nodes _ _ _ c.self.invariant
     c.as_slice.ensures.value (c.self.view_is ∙ c.leave_done.ensures) c.turn_each_of.ensures.plays

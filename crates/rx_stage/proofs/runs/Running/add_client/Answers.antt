@@ -1,5 +1,5 @@
 use Rattle.std.proofs.Common.{◌∙◌, ◌++◌, ◌∷◌, ◌+◌, [], None, ap, sym, subst}
-use Rattle.rx_nodes.specs.Nodes.{nodes_of}
+use Rattle.rx_joint.specs.Nodes.{nodes_of}
 use Rattle.rx_rules.specs.Setup.{Client, unprompted}
 use Rattle.rx_plan.specs.Follows.{client_node}
 use Rattle.rx_stage.specs.Showing.{AddsNode, IsCounted, has_client_room}

@@ -1,6 +1,6 @@
 -- The call is looked for, its event is made, and then it is told.
 use Rattle.std.proofs.Common.{refl, subst}
-use Rattle.rx_nodes.specs.Nodes.{Makes}
+use Rattle.rx_joint.specs.Nodes.{Makes}
 use Rattle.rx_events.specs.Events.{IsAsked}
 use Rattle.rx_script.specs.declared.outcome.PlanWhy.TheVariants as causes
 use Rattle.rx_plan.specs.Finds.{call_at}

@@ -1,6 +1,6 @@
 use Rattle.std.proofs.Common.{◌≡◌, ◌++◌, None}
 use Rattle.rx_plan.specs.Lossy.{comes, drawn, fated, gathered, stays}
-use Rattle.rx_load.specs.Tallies.{tallied}
+use Rattle.rx_plan.specs.Tallies.{tallied}
 use Rattle.rx_plan.specs.Network.{delivers}
 use Rattle.rx_plan.specs.Parts.{each}
 use Rattle.rx_stage.specs.Shown.{Plays, script_of}

@@ -8,7 +8,8 @@ use Rattle.rx_stage.proofs.world.World.carry_round.Goals as goal
 pub returns-in_err-carry_all-clause-plays : goal.returns-in_err-carry_all-clause-plays
 returns-in_err-carry_all-clause-plays g c =
     carried_fates (handlers_of c.args.iface.now (script_of c.args.self.now)) c.args.self.now c.carry_all.new.self _
-    c.args.words.now _ c.args.held.now.items _ c.args.given.items c.from_residual.result c.in_err-carry_all.field-0.0 _ _
+    c.args.words.now _ c.args.held.now.items _ c.args.given.items c.from_residual.result c.in_err-carry_all.field-0.0 _
+    _
     c.in_err-carry_all.ensures.plays c.from_residual.ensures
 
 pub returns-in_err-deliver_given-clause-plays : goal.returns-in_err-deliver_given-clause-plays

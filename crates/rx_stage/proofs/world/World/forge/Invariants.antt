@@ -1,7 +1,7 @@
 use Rattle.std.proofs.Common.{◌≡◌, None, length, take}
 use Rattle.rx_jumbo.specs.Parts.{parts_of}
 use Rattle.rx_events.specs.Events.{IsTaken}
-use Rattle.rx_nodes.specs.Nodes.{IsNodeThere}
+use Rattle.rx_joint.specs.Nodes.{IsNodeThere}
 use Rattle.rx_plan.specs.Parts.{each}
 use Rattle.rx_stage.specs.Shown.{Plays, script_of}
 use Rattle.rx_plan.specs.Stages.{event}

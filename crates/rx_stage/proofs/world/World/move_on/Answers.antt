@@ -1,5 +1,5 @@
 use Rattle.std.proofs.Common.{◌+◌, ◌∙◌, ap}
-use Rattle.rx_nodes.specs.Nodes.{moment_of}
+use Rattle.rx_joint.specs.Nodes.{moment_of}
 use Rattle.rx_stage.specs.Shown.{WorldState}
 use Rattle.rx_stage.specs.contracts.world.World.{the_view}
 use Rattle.rx_stage.proofs.RoundsMade.{move_plays}

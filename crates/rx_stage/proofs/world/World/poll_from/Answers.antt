@@ -49,7 +49,8 @@ polls-preserved g c =
     ) in
     let on : c.in_ok-poll_once.field-0 ≡ true = search rules in
     record {
-      going = polls_more c.args.from c.args.node _ _ c.polls.given.items c.poll_once.new.given.items _ c.polls.self.nodes
+      going = polls_more c.args.from c.args.node _ _ c.polls.given.items c.poll_once.new.given.items _
+          c.polls.self.nodes
           c.poll_once.new.self.nodes c.in_ok-poll_once.field-0 _ _ _ c.polls.invariant.going
           c.in_ok-poll_once.ensures.polls on there;
       rest = c.poll_once.ensures.rest

@@ -1,5 +1,5 @@
 use Rattle.std.proofs.Common.{◌∙◌, ap}
-use Rattle.rx_nodes.specs.Nodes.{host_of}
+use Rattle.rx_joint.specs.Nodes.{host_of}
 use Rattle.rx_stage.specs.Shown.{WorldState}
 use Rattle.rx_stage.proofs.Polling.{out_plays}
 use Rattle.rx_stage.proofs.world.World.poll_out.Goals as goal

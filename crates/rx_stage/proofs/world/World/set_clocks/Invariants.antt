@@ -1,5 +1,5 @@
 use Rattle.std.proofs.Common.{◌≡◌, ◌≤◌, ℕ, None, drop, length}
-use Rattle.rx_nodes.specs.Nodes.{moment_of}
+use Rattle.rx_joint.specs.Nodes.{moment_of}
 use Rattle.rx_plan.specs.Network.{below}
 use Rattle.rx_plan.specs.Parts.{each}
 use Rattle.rx_stage.specs.Shown.{Plays, script_of}

@@ -12,7 +12,8 @@ invariant_of-self c = (
   kept-set _ _ _ _ _ _ _ _ c.index_mut-conn.ensures.value refl c.self.invariant.0,
   c.self.invariant.1,
   c.self.invariant.2,
-  uses_kept _ _ _ _ c.index_mut-conn.result.now _ (within_list _ _ _ _ _ c.self.view_is c.requires) c.index_mut-conn.ensures.value refl
+  uses_kept _ _ _ _ c.index_mut-conn.result.now _ (within_list _ _ _ _ _ c.self.view_is c.requires)
+      c.index_mut-conn.ensures.value refl
       c.self.invariant.3,
 )
 

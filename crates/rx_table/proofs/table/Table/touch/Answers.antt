@@ -12,7 +12,8 @@ pub renew-requires : goal.renew-requires
 renew-requires g c =
     let within = within_list _ _ _ _ _ c.self.view_is c.requires in
     record {
-      place = (let places = c.self.invariant.3.places in let fits = c.self.invariant.0.fits in omega (arith, within, places, fits));
+      place = (let places = c.self.invariant.3.places in let fits = c.self.invariant.0.fits in omega
+          (arith, within, places, fits));
       before = use_is _ _ _ _ _ c.self.invariant.3 within c.index_mut-conn.ensures.value;
     }
 

@@ -11,6 +11,7 @@ invariant_of-table c = (
   kept-set _ _ _ _ _ _ _ _ c.index_mut.ensures.value refl c.table.invariant.0,
   c.table.invariant.1,
   c.table.invariant.2,
-  uses_kept _ _ _ _ c.index_mut.result.now _ (within_list _ _ _ _ _ c.table.view_is c.requires) c.index_mut.ensures.value
+  uses_kept _ _ _ _ c.index_mut.result.now _ (within_list _ _ _ _ _ c.table.view_is c.requires)
+      c.index_mut.ensures.value
       refl c.table.invariant.3,
 )

@@ -1,4 +1,0 @@
-use Rattle.rx_ends.proofs.ends.Ends.shut.Given as goal
-
-abbrev pub ghosts-shut_counted : goal.ghosts-shut_counted
-ghosts-shut_counted a = record { name = a.blank.name; parts = a.blank.parts }

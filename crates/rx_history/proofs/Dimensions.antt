@@ -1,0 +1,4 @@
+pub mod Dims
+pub mod DimsEvents
+pub mod DimsLeave
+pub mod DimsTaken

@@ -1,0 +1,11 @@
+pub mod FitCall
+pub mod FitCalls
+pub mod FitChannels
+pub mod FitConnEvents
+pub mod FitConnTaken
+pub mod FitConns
+pub mod FitEvents
+pub mod FitHistory
+pub mod FitStrays
+pub mod FitTaken
+pub mod FitValues

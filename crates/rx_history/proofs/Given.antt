@@ -1,0 +1,5 @@
+pub mod GivenLaws
+pub mod GivingItems
+pub mod Givings
+pub mod HeldLaws
+pub mod HeldNumbers

@@ -1,0 +1,12 @@
+pub mod EnteredLaw
+pub mod ForgotLaws
+pub mod ForgotAfter
+pub mod OnceLaw
+pub mod ProvesLaws
+pub mod RightLaws
+pub mod ShownLaws
+pub mod ShownTaken
+pub mod SoundLaws
+pub mod TakenLaws
+pub mod UsedLaws
+pub mod WholeLaws

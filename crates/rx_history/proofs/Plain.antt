@@ -1,0 +1,5 @@
+pub mod PlainBodies
+pub mod PlainCalls
+pub mod PlainGiven
+pub mod PlainItems
+pub mod PlainTaken

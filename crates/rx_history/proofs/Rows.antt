@@ -1,0 +1,3 @@
+pub mod RowsAborting
+pub mod RowsInFront
+pub mod RowsKept

@@ -1,0 +1,18 @@
+use Rattle.std.proofs.Common.{◌≡◌, ◌∙◌, List, ℕ, subst, take, length, sym, ap, refl, arith}
+use Rattle.rx_model.specs.declared.answers.ReadGot.TheVariants as readers
+use Rattle.rx_model.specs.declared.event.Event.TheVariants as events
+use Rattle.rx_server.specs.Server.{handler_count}
+use Rattle.std.proofs.lemmas.Grind.{common_steps}
+use Rattle.rx_joint.specs.Nodes.{Makes}
+use Rattle.rx_joint.proofs.Standing.{server_made}
+use Rattle.rx_joint.proofs.nodes.Nodes.handler_read.Goals as goal
+
+pub returns-clause-made : goal.returns-clause-made
+returns-clause-made c =
+    let bytes : c.of.result ≡ take (handler_count c.read-got.result) c.read-got.new.to = grind (arith, common_steps) in
+    let room : c.args.max ≡ length c.deref_mut.result.now = grind (arith, common_steps) in
+    subst (Makes _ _ _)
+    (ap (λ (xs : List ℕ). events.HasRead c.args.call.now (length c.deref_mut.result.now)
+    (readers.Server c.read-got.result) xs) (sym bytes)
+    ∙ ap (λ (n : ℕ). events.HasRead c.args.call.now n (readers.Server c.read-got.result) c.of.result) (sym room))
+    (server_made _ _ _ _ _ refl c.server_mut.ensures.value c.read-got.ensures.answered c.read-got.ensures.setup)

@@ -1,0 +1,14 @@
+use Rattle.std.proofs.Common.{◌≡◌, subst, take, rules, length, sym, ap, refl}
+use Rattle.rx_model.specs.declared.answers.WroteGot.TheVariants as writers
+use Rattle.rx_model.specs.declared.event.Event.TheVariants as events
+use Rattle.rx_events.specs.Events.{written_count}
+use Rattle.rx_joint.specs.Nodes.{Makes}
+use Rattle.rx_joint.proofs.Standing.{server_made}
+use Rattle.rx_joint.proofs.nodes.Nodes.handler_write.Goals as goal
+
+pub returns-clause-made : goal.returns-clause-made
+returns-clause-made c =
+    let bytes : c.of.result ≡ take (written_count c.write-got.result) c.args.offer.now = search rules in
+    subst (Makes _ _ _) (ap (events.Wrote c.args.call.now (length c.args.offer.now) (writers.Server c.write-got.result))
+    (sym bytes))
+    (server_made _ _ _ _ _ refl c.server_mut.ensures.value c.write-got.ensures.answered c.write-got.ensures.setup)

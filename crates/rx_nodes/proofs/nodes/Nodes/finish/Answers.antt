@@ -1,7 +1,0 @@
-use Rattle.std.proofs.Common.{refl}
-use Rattle.rx_nodes.proofs.Standing.{server_made}
-use Rattle.rx_nodes.proofs.nodes.Nodes.finish.Goals as goal
-
-pub returns-clause-made : goal.returns-clause-made
-returns-clause-made c =
-    server_made _ _ _ _ _ refl c.server_mut.ensures.value c.finish-got.ensures.answered c.finish-got.ensures.setup

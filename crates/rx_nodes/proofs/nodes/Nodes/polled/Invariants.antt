@@ -1,4 +1,0 @@
-use Rattle.rx_nodes.proofs.nodes.Nodes.polled.Given as goal
-
-abbrev pub ghosts-polled_counted : goal.ghosts-polled_counted
-ghosts-polled_counted a = record { name = a.blank.name; parts = a.blank.parts }

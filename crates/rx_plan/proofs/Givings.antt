@@ -1,0 +1,6 @@
+pub mod Answered
+pub mod AnswersGiven
+pub mod ChallengesGiven
+pub mod Given
+pub mod ItemsTell
+pub mod Promised

@@ -1,0 +1,4 @@
+pub mod Clocked
+pub mod ClocksMove
+pub mod NodeClock
+pub mod GivesOrMoves

@@ -1,0 +1,15 @@
+pub mod OneArrives
+pub mod OneBurst
+pub mod OneCall
+pub mod OneConn
+pub mod OneFields
+pub mod OneFirst
+pub mod OneNode
+pub mod OneProgress
+pub mod OneRefused
+pub mod OneRequest
+pub mod OneSteps
+pub mod OneTaken
+pub mod OneTurn
+pub mod OneWay
+pub mod OneWrite

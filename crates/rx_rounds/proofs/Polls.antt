@@ -1,0 +1,3 @@
+pub mod PolledEnd
+pub mod PolledOut
+pub mod QuietPolls

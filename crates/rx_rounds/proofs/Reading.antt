@@ -1,0 +1,4 @@
+pub mod ReadOn
+pub mod ReadWhole
+pub mod ReadsNext
+pub mod ReadsOut

@@ -1,0 +1,13 @@
+pub mod ReplyAll
+pub mod ReplyBegins
+pub mod ReplyComes
+pub mod ReplyEnds
+pub mod ReplyHears
+pub mod ReplyMoments
+pub mod ReplyOn
+pub mod ReplyParts
+pub mod ReplyReads
+pub mod ReplyRound
+pub mod ReplyStream
+pub mod ReplyTells
+pub mod ReplyTurn

@@ -1,4 +1,0 @@
-pub mod MemWire
-pub mod UdpWire
-pub mod Wire
-pub mod WireLog

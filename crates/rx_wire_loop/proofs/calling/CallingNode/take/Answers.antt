@@ -1,0 +1,9 @@
+use Rattle.std.proofs.Common.{None}
+use Rattle.rx_wire_loop.specs.Runs.{stop_of}
+use Rattle.rx_wire_loop.proofs.Passing.{takes_known}
+use Rattle.rx_wire_loop.proofs.calling.CallingNode.take.Goals as goal
+
+pub returns-clause-plays : goal.returns-clause-plays
+returns-clause-plays g c =
+    λ sink. takes_known 1 c.args.self.now.ports.node _ _ _ _ _ c.wait_until-until.result None (stop_of c.take.result)
+    c.requires.ready.number c.wait_until-until.ensures.exact (c.take.ensures.plays sink)
