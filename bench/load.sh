@@ -1,8 +1,7 @@
 #!/bin/sh
 # Loads of 10, 100, 1,000 and 10,000 calls: rx load of each, again and again. Prints of each what it made, its time without
-# the program's start, and the most memory that it held; and then what a datagram and what a round costs: the two numbers
-# that say these times best, and by how much they miss each. Where nothing is gone through that grows with the calls, they
-# say all of them.
+# the program's start, what a datagram takes of that, and the most memory that it held; and then how far each size is from
+# what a datagram takes on the mean. Where nothing is gone through that grows with the calls, none is far from it.
 # The program is the one that ./rx --prove builds, or else the one that is named. The root of the repository is the working
 # folder: bench/load.sh [PROGRAM]
 set -eu
@@ -16,7 +15,7 @@ python3 - "$program" <<'END_OF_PYTHON'
 import os, re, subprocess, sys, time
 
 program = sys.argv[1]
-RUNS = {10: 600, 100: 300, 1000: 100, 10000: 20}
+RUNS = {10: 1500, 100: 600, 1000: 100, 10000: 20}
 null = os.open("/dev/null", os.O_WRONLY)
 
 
@@ -54,13 +53,8 @@ for calls, runs in RUNS.items():
     print(text, end="")
     print(f"{taken / 1000:.2f} ms, {taken / given:.2f} microseconds a datagram, {max(it[1] for _, it in ran)} KB")
 
-# least squares of how far each time is missed, as a share of it
-shares = [(given / taken, rounds / taken) for _, given, rounds, taken in rows]
-dd, dr, rr = (sum(x[i] * x[j] for x in shares) for i, j in ((0, 0), (0, 1), (1, 1)))
-d, r = (sum(x[i] for x in shares) for i in (0, 1))
-datagram, around = ((d * rr - r * dr) / (dd * rr - dr * dr), (r * dd - d * dr) / (dd * rr - dr * dr))
-print(f"a datagram takes {datagram:.2f} microseconds, and a round {around:.2f}; they say")
+mean = sum(taken / given for _, given, _, taken in rows) / len(rows)
+print(f"a datagram takes {mean:.2f} microseconds on the mean, and")
 for calls, given, rounds, taken in rows:
-    said = given * datagram + rounds * around
-    print(f"  {said / 1000:.2f} ms of {calls} calls, {100 * (said / taken - 1):+.1f} %")
+    print(f"  {100 * (taken / given / mean - 1):+.0f} % of {calls} calls, with {rounds / given:.2f} rounds for each")
 END_OF_PYTHON
