@@ -69,7 +69,7 @@ pub record IsCallers (ks : List InvokedState) (client : ℕ) (c : CallName) : Ty
 
 -- its numbers are those of its history: as many datagrams were given as polls gave; and the calls that its callers
 -- found to have ended in some way are those that did, where each call of each client has a caller, and no two have one
-pub record IsSaid (h : List Noted) (l : Load) : Type 0 where
+pub record CountsHistory (h : List Noted) (l : Load) : Type 0 where
   pub given : l.tally.given ≡ min (givens h) (2 ^ 64 - 1)
   pub ends : count_all l.bodies l.net.stage.callers counts_none ≡ ends_in h l.bodies l.net.stage.callers counts_none
   pub each_call :
@@ -82,7 +82,7 @@ pub record IsSaid (h : List Noted) (l : Load) : Type 0 where
 
 -- of what a load came to
 abbrev pub SaidOf : List Noted → Came Load → Type 0
-SaidOf h (To l) = IsSaid h l
+SaidOf h (To l) = CountsHistory h l
 SaidOf h (Refused why) = Unit {0}
 SaidOf h Cut = Unit {0}
 SaidOf h Endless = Unit {0}

@@ -16,3 +16,4 @@ pub mod StreamText
 pub mod EventText
 pub mod TextLaw
 mod TextExample
+pub mod Rooms

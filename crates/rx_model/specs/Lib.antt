@@ -7,3 +7,4 @@ pub mod Names
 pub mod Strays
 pub mod Text
 pub mod Telling
+pub mod Rooms

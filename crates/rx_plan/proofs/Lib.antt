@@ -4,7 +4,6 @@ pub mod Callers
 pub mod ChannelsHold
 pub mod ClientEnds
 pub mod ClientDims
-pub mod CodeFrom
 pub mod ConnsHold
 pub mod Cuts
 pub mod Shaped
@@ -31,10 +30,8 @@ pub mod QuietEvents
 pub mod Reading
 pub mod Replying
 pub mod RowsAsked
-pub mod ScriptReading
-pub mod ScriptWaits
-pub mod ToldCodes
-pub mod ToldLives
+pub mod Scripts
+pub mod Told
 pub mod Words
 pub mod Soundness
 pub mod Aborts

@@ -41,7 +41,7 @@ use Rattle.rx_plan.specs.Causes.{Silences}
 use Rattle.rx_plan.proofs.ChannelsHold.{IsOwnLatest}
 use Rattle.rx_plan.proofs.Aborts.OwedCodes.{ConnOwes, MayOwe, MayOweBy, MayOweFor, Owed, owed_after}
 use Rattle.rx_plan.proofs.Aborts.RowsOver.{busy_above, follow_data, latest_number, may_follow}
-use Rattle.rx_plan.proofs.ToldCodes.{MayGive, MayStop, MayTake, MayTakeFrom, Told, above_is, told_after, told_of}
+use Rattle.rx_plan.proofs.Told.Codes.{MayGive, MayStop, MayTake, MayTakeFrom, Told, above_is, told_after, told_of}
 
 -- ---- the events that give a call a code
 

@@ -39,7 +39,7 @@ use Rattle.rx_plan.proofs.Aborts.AbortComes.{abort_ended}
 use Rattle.rx_plan.proofs.Aborts.AbortsGiven.{IsOfCall, IsStray, aborts_given}
 use Rattle.rx_plan.proofs.Aborts.ClientAborts.{HasEnded}
 use Rattle.rx_plan.proofs.ClientEnds.{IsThere, end_stays, lived, there_stays}
-use Rattle.rx_plan.proofs.CodeFrom.{FinishedIn, ToldIn, Why, code_from, finished_over, silenced_over}
+use Rattle.rx_plan.proofs.Told.From.{FinishedIn, ToldIn, Why, code_from, finished_over, silenced_over}
 use Rattle.rx_plan.proofs.FirstEnd.{FirstEnd, first_end}
 use Rattle.rx_plan.proofs.JointMoments.{carried_cut, legal_cut, side_parts, starts_cut}
 use Rattle.rx_plan.proofs.LaterComes.{later_there, none_later}

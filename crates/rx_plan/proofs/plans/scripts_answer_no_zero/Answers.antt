@@ -1,4 +1,4 @@
-use Rattle.rx_plan.proofs.ScriptWaits.{script_codes}
+use Rattle.rx_plan.proofs.Scripts.Waits.{script_codes}
 use Rattle.rx_plan.proofs.plans.scripts_answer_no_zero.Goals as goal
 
 pub returns : goal.returns

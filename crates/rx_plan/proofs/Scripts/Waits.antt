@@ -11,7 +11,7 @@ use Rattle.rx_script.specs.Scripts.{script_of}
 use Rattle.rx_jobs.specs.Handlers.{Handlers, answer_to, block_wait, proc_wait, turns_of, wait_from}
 use Rattle.rx_plan.specs.Answering.{AnswersNoZero, WaitsShort}
 use Rattle.rx_plan.proofs.Replying.{block_in, first_given_is}
-use Rattle.rx_plan.proofs.ScriptReading.{InBounds, script_bounded}
+use Rattle.rx_plan.proofs.Scripts.Reading.{InBounds, script_bounded}
 
 -- ---- codes
 

@@ -43,8 +43,8 @@ use Rattle.rx_rules.proofs.StartLaws.{call_at-other}
 use Rattle.rx_history.proofs.Calls.{call-changed}
 use Rattle.rx_history.proofs.Takes.{call_at-any}
 use Rattle.rx_plan.proofs.Passed.{challenged-calls, prepared-calls, turned-calls}
-use Rattle.rx_plan.proofs.ToldLives.{Tells, tells_accept, tells_acks, tells_cancel, tells_code, tells_end}
-use Rattle.rx_plan.proofs.ToldLives.{tells_finish, tells_gone, tells_later, tells_silence}
+use Rattle.rx_plan.proofs.Told.Lives.{Tells, tells_accept, tells_acks, tells_cancel, tells_code, tells_end}
+use Rattle.rx_plan.proofs.Told.Lives.{tells_finish, tells_gone, tells_later, tells_silence}
 
 -- the code that a call tells, if it has one
 abbrev pub told_of : Option CallRecord → Option ℤ
