@@ -23,7 +23,7 @@ rx_call_tests rx_node         rx_between  rx_token   rx_jumbo        .          
 rx_call_bench rx_call_ends    rx_table    rx_class   rx_asks         .               .              .
 .             rx_call         rx_queue    rx_events  .               rx_script_tests rx_reply       xg_parse_tests
 rx_recvwin    rx_sendwin      rx_due      rx_law     rx_examples     xdr_tests       rx_script      xg_compile
-rx_pool       rx_rtt          .           rx_history rx_packet_bench stub_table      xdr_code_bench xg_check
+rx_pool       rx_rtt          rx_room     rx_history rx_packet_bench stub_table      xdr_code_bench xg_check
 .             .               rx_packet   rx_rules   rx_wire         xdr_code        xdr_json       xg_parse
 .             .               rx_model    .          rx_base         xdr_value       .              xg_lex
 """

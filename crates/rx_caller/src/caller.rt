@@ -7,12 +7,13 @@ ghost use Rattle.rx_asks.specs.Asks.{asking, begun, calling, is_done, next_ask, 
 ghost use Rattle.rx_caller.specs.Turn.{CallerStops, CallerWants, Does, MakesNext, Stays};
 ghost use Rattle.rx_asks.specs.View.{caller_for};
 
-use crate::calls::{append, end_after, next_block, note, phase_after, phase_offered, read, write};
+use crate::calls::{end_after, next_block, note, phase_after, phase_offered, read, write};
 use crate::fault::CallerFault;
 use rx_asks::{Ask, BLOCK_BYTES, CC_UNMARSHAL, Phase, REPLY_BYTES};
 use rx_class::Class;
 use rx_client::Client;
-use rx_model::{Bytes, CallName, End, Event, ReadGot, Room, WroteGot};
+use rx_model::{Bytes, CallName, End, Event, ReadGot, WroteGot};
+use rx_room::Room;
 use rx_wire::Journal;
 use std::alloc::{AllocError, Global};
 use std::marker::Model;
@@ -29,7 +30,6 @@ pub struct Caller {
     reply: Vec<u8>,
     end: Option<End>,
     phase: Phase,
-    room: Room,
 }
 
 impl Model for Caller {
@@ -66,7 +66,6 @@ impl Caller {
             reply: Vec::new(alloc),
             end: None,
             phase: Phase::Resting,
-            room: Room::none(alloc),
         }
     }
 
@@ -100,6 +99,7 @@ impl Caller {
     /// refused, the calls made so far are those of the turn's beginning.
     pub fn turn<C: Class, J: Journal>(
         &mut self,
+        room: &mut Room,
         client: &mut Client<C>,
         book: &mut J,
     ) -> Result<bool, CallerFault>
@@ -111,26 +111,8 @@ impl Caller {
         ensures unnoted { IfErr result (λ fault. fault ≡ CallerFault.Unnoted → J.may_want ≡ true) }
         ensures setup { setup_of C.class_of client.new ≡ setup_of C.class_of client.old }
     {
-        self.turn_within(REPLY_BYTES, client, book)
-    }
-
-    /// The same with a limit on the reply.
-    pub(crate) fn turn_within<C: Class, J: Journal>(
-        &mut self,
-        limit: usize,
-        client: &mut Client<C>,
-        book: &mut J,
-    ) -> Result<bool, CallerFault>
-        ensures turned { OnOk result (Turned (calling limit) self.old.node (begun self.old) self.new
-            (StandsNode C.class_of client.old) (StandsNode C.class_of client.new) (J.told book.old) (J.told book.new)) }
-        ensures finished { IfOk result (λ done. done ≡ is_some self.new.end) }
-        ensures stops { IfErr result (CallerStops limit self.old.node (begun self.old) self.new
-            (StandsNode C.class_of client.old) (StandsNode C.class_of client.new) (J.told book.old) (J.told book.new)) }
-        ensures unnoted { IfErr result (λ fault. fault ≡ CallerFault.Unnoted → J.may_want ≡ true) }
-        ensures setup { setup_of C.class_of client.new ≡ setup_of C.class_of client.old }
-    {
         self.begin();
-        while let Some(event) = self.step_within(limit, client)? {
+        while let Some(event) = self.step(room, client)? {
             note(book, self.node, event)?;
         }
         Ok(self.end.is_some())
@@ -146,22 +128,24 @@ impl Caller {
         }
     }
 
-    /// Gives back the room that its reply doesn't fill and that of its reads, and its request where all of it was
-    /// accepted.
+    /// Gives back the memory that its reply doesn't fill, and its request where all of it was accepted.
     fn let_go(&mut self)
         ensures { self.new ≡ self.old }
     {
         self.reply.shrink_to_fit();
-        self.room = Room::none(self.alloc);
         if self.accepted == self.request.len() {
             self.accepted = 0;
             self.request = Vec::new(self.alloc);
         }
     }
 
-    /// Makes the next call of its turn, and answers the event; none where the turn is over. Where memory is wanted, it
-    /// made no call.
-    pub fn step<C: Class>(&mut self, client: &mut Client<C>) -> Result<Option<Event>, AllocError>
+    /// Makes the next call of its turn, and answers the event; none where the turn is over. What it reads goes through
+    /// this room. Where memory is wanted, it made no call.
+    pub fn step<C: Class>(
+        &mut self,
+        room: &mut Room,
+        client: &mut Client<C>,
+    ) -> Result<Option<Event>, AllocError>
         ensures made { IfOk result (MakesNext C.class_of REPLY_BYTES
             (record { old = self.old; new = self.new; client_old = client.old; client_new = client.new })) }
         ensures wanting { OnErr result (Stays
@@ -169,39 +153,23 @@ impl Caller {
         ensures wants { OnErr result (CallerWants REPLY_BYTES self.old) }
         ensures setup { setup_of C.class_of client.new ≡ setup_of C.class_of client.old }
     {
-        self.step_within(REPLY_BYTES, client)
-    }
-
-    /// The same with a limit on the reply.
-    fn step_within<C: Class>(
-        &mut self,
-        limit: usize,
-        client: &mut Client<C>,
-    ) -> Result<Option<Event>, AllocError>
-        ensures made { IfOk result (MakesNext C.class_of limit
-            (record { old = self.old; new = self.new; client_old = client.old; client_new = client.new })) }
-        ensures wanting { OnErr result (Stays
-            (record { old = self.old; new = self.new; client_old = client.old; client_new = client.new })) }
-        ensures wants { OnErr result (CallerWants limit self.old) }
-        ensures setup { setup_of C.class_of client.new ≡ setup_of C.class_of client.old }
-    {
-        match self.next(limit) {
+        match self.next() {
             Some(Ask::Offer) => Ok(Some(self.offer(client)?)),
             Some(Ask::Shut) => Ok(Some(self.shut(client))),
-            Some(Ask::Read) => Ok(Some(self.read(client)?)),
+            Some(Ask::Read) => Ok(Some(self.read(room, client)?)),
             Some(Ask::Cancel) => Ok(Some(self.cancel(client))),
             None => Ok(None),
         }
     }
 
     /// Its next call, where its turn isn't over.
-    fn next(&self, limit: usize) -> Option<Ask>
-        ensures { result ≡ next_ask limit self.now }
+    fn next(&self) -> Option<Ask>
+        ensures { result ≡ next_ask REPLY_BYTES self.now }
     {
         if self.end.is_some() {
             return None;
         }
-        if self.reply.len() > limit {
+        if self.reply.len() > REPLY_BYTES {
             return Some(Ask::Cancel);
         }
         match self.phase {
@@ -260,16 +228,20 @@ impl Caller {
     }
 
     /// Reads the next bytes of its reply.
-    fn read<C: Class>(&mut self, client: &mut Client<C>) -> Result<Event, AllocError>
+    fn read<C: Class>(
+        &mut self,
+        room: &mut Room,
+        client: &mut Client<C>,
+    ) -> Result<Event, AllocError>
         ensures done { IfOk result (Does C.class_of (asking self.old asks.Read)
             (record { old = self.old; new = self.new; client_old = client.old; client_new = client.new })) }
         ensures wanting { OnErr result (Stays
             (record { old = self.old; new = self.new; client_old = client.old; client_new = client.new })) }
         ensures setup { setup_of C.class_of client.new ≡ setup_of C.class_of client.old }
     {
-        self.reply.reserve(BLOCK_BYTES)?;
-        let (got, bytes) = read(&mut self.room, client, &self.call)?;
-        append(&mut self.reply, bytes.as_slice());
+        room.ready(&mut self.reply, BLOCK_BYTES)?;
+        let (got, bytes) = read(room, client, &self.call)?;
+        room.put(&mut self.reply, bytes.as_slice());
         self.end = end_after(got, self.end);
         self.phase = phase_after(got, bytes.as_slice());
         Ok(Event::HasRead {

@@ -1,7 +1,6 @@
 //! The calls of a client that a caller makes, with the bytes of their events, and what it knows behind them.
 
-ghost use Rattle.std.specs.Prelude.{◌≡◌, ◌≤◌, ◌+◌, ◌++◌, true, IfErr, IfOk, OnErr, OnOk, length, take, drop};
-ghost use Rattle.std.specs.Prelude.{vec_capacity, vec_len};
+ghost use Rattle.std.specs.Prelude.{◌≡◌, ◌≤◌, true, IfErr, IfOk, OnErr, OnOk, length, take, drop};
 ghost use Rattle.rx_model.specs.declared.answers.ReadGot.TheVariants as readers;
 ghost use Rattle.rx_model.specs.declared.answers.WroteGot.TheVariants as writers;
 ghost use Rattle.rx_model.specs.declared.event.Event.TheVariants as events;
@@ -17,7 +16,8 @@ use crate::fault::CallerFault;
 use rx_asks::{BLOCK_BYTES, Phase};
 use rx_class::Class;
 use rx_client::Client;
-use rx_model::{CallName, End, Event, NotOpen, ReadAns, Room};
+use rx_model::{CallName, End, Event, NotOpen, ReadAns};
+use rx_room::Room;
 use rx_wire::Journal;
 use std::alloc::{AllocError, Global};
 
@@ -68,7 +68,8 @@ pub fn read<C: Class>(
 ) -> Result<(ReadAns, Vec<u8>), AllocError>
     ensures answered { IfOk result (λ r. AnswersNode C.class_of client.old client.new
         (events.HasRead call.now BLOCK_BYTES (readers.Client r.0) r.1.items)) }
-    ensures within { IfOk result (λ r. vec_len r.1 ≤ BLOCK_BYTES) }
+    ensures within { IfOk result (λ r. length r.1.items ≤ BLOCK_BYTES) }
+    ensures kept { room.new ≡ room.old }
     ensures wanting { OnErr result (client.new ≡ client.old) }
     ensures setup { setup_of C.class_of client.new ≡ setup_of C.class_of client.old }
 {
@@ -85,14 +86,6 @@ fn given_count(got: ReadAns) -> usize
         ReadAns::Got(count) => count,
         ReadAns::End | ReadAns::NotYet | ReadAns::Gone(_) | ReadAns::Unknown => 0,
     }
-}
-
-/// Appends bytes to a list that has room for them.
-pub fn append(to: &mut Vec<u8>, bytes: &[u8])
-    requires { vec_len to.old + length bytes.now ≤ vec_capacity to.old }
-    ensures { to.new.items ≡ to.old.items ++ bytes.now }
-{
-    let _done = to.extend_from_slice(bytes);
 }
 
 /// Notes an event of a node.

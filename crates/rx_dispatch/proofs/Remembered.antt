@@ -1,5 +1,5 @@
 -- Arguments that are remembered of a request while it is read.
-use Rattle.std.proofs.Common.{◌≡◌, ◌++◌, ◌∙◌, ℕ, false, List, length, Option, Some, None, sym, subst}
+use Rattle.std.proofs.Common.{◌++◌, ◌∙◌, ℕ, false, List, length, Option, Some, None, sym, subst}
 use Rattle.hex.specs.Hex.{IsBytes}
 use Rattle.stub_table.specs.Requests.{RequestAnswer, request_answer}
 use Rattle.rx_jobs.specs.Handlers.{Handlers, answer_to}

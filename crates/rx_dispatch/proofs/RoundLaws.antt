@@ -1,5 +1,5 @@
 -- A turn, by the job whose step it is.
-use Rattle.std.proofs.Common.{◌≡◌, ℕ, ◌+◌, ◌<◌, ◌≤◌, List, [], ◌∷◌, ◌++◌, length, take, drop, Option, Some}
+use Rattle.std.proofs.Common.{◌≡◌, ℕ, ◌+◌, ◌<◌, List, [], ◌∷◌, ◌++◌, length, take, drop, Option, Some}
 use Rattle.std.proofs.Common.{refl, sym, ap, ◌∙◌, subst, option_map}
 use Rattle.std.proofs.Math.ListN.{get_or, set}
 use Rattle.std.proofs.lemmas.List.{take-set, drop-set}
@@ -18,7 +18,7 @@ use Rattle.rx_dispatch.specs.Desks.{IsRemembered}
 use Rattle.rx_jobs.specs.Jobs.{JobState, Moving, ask_of, heard, is_staying, serving}
 use Rattle.rx_dispatch.specs.Rounds.{resolved}
 use Rattle.rx_dispatch.specs.Rounds.{RoundState, serving_at}
-use Rattle.rx_jobs.specs.Dispatching.{dispatching, kept, over, proceed, serves, settle}
+use Rattle.rx_jobs.specs.Dispatching.{dispatching, kept, proceed, serves, settle}
 use Rattle.rx_dispatch.specs.Rounds.{Passes, turning_at, turning_of}
 use Rattle.rx_dispatch.specs.Calls.{Called, Grows}
 use Rattle.rx_dispatch.specs.Making.{MakesCall, Ready, Remembers, WantsNone, first_request}

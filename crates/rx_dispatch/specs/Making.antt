@@ -1,20 +1,15 @@
 -- What the calls of a dispatcher change. Public clauses cite this module.
-use Rattle.std.specs.Prelude.{◌≡◌, ◌-◌, ◌^◌, ◌<◌, ◌≤◌, ℕ, Bool, true, false, List, [], ◌∷◌, length, drop}
+use Rattle.std.specs.Prelude.{◌≡◌, ◌<◌, ◌≤◌, ℕ, List, [], ◌∷◌, length, drop}
 use Rattle.std.specs.Prelude.{Option, Some, None}
 use Rattle.rx_model.specs.declared.event.Event.{Event}
-use Rattle.rx_model.specs.declared.event.Noted.{Noted}
 use Rattle.rx_model.specs.declared.names.CallName.{CallName}
 use Rattle.rx_rules.specs.Classes.{Class}
 use Rattle.rx_server.specs.Server.{Answered, ServerState}
-use Rattle.rx_wire.specs.Advances.{Advances, Refused}
 use Rattle.rx_jobs.specs.Handlers.{Handlers}
 use Rattle.rx_dispatch.specs.Desks.{IsRemembered}
 use Rattle.rx_jobs.specs.Jobs.{Ask, IsCall, JobState, want_in}
 use Rattle.rx_dispatch.specs.Rounds.{RoundState, turning_of}
 use Rattle.rx_jobs.specs.Dispatching.{Turning, dispatching, heard_accept, over}
-use Rattle.rx_dispatch.specs.Wanting.{WantsMemory}
-use Rattle.rx_dispatch.specs.declared.fault.TurnFault.{TurnFault}
-use Rattle.rx_dispatch.specs.declared.fault.TurnFault.TheVariants as faults
 use Rattle.rx_dispatch.specs.declared.job.Next.TheVariants as nexts
 use Rattle.rx_jobs.specs.declared.job.Phase.{Phase}
 use Rattle.rx_jobs.specs.declared.job.Want.{Want}
@@ -39,32 +34,6 @@ abbrev pub NextCall : (List ℕ → Class) → Handlers → Turning → Turning 
     → Option Event → Type 0
 NextCall class g old new jobs before after None = (old ≡ over jobs) × Kept old new before after
 NextCall class g old new jobs before after (Some e) = MakesCall class g old new before after e
-
--- so many calls were made and noted
-pub record AdvancesBy (calls : ℕ) (g : Handlers) (node : ℕ) (old new : Turning) (stood stands : List Event → Type 0)
-    (before after : Option (List Noted)) : Type 0 where
-  pub made : Advances (dispatching g) node old new stood stands before after
-  pub count : length made.events ≡ calls
-
--- whether there was a next call, which was made and noted; or the turn is over, with these jobs
-abbrev pub NotesCall : Handlers → ℕ → Turning → Turning → List JobState → (List Event → Type 0)
-    → (List Event → Type 0) → Option (List Noted) → Option (List Noted) → Bool → Type 0
-NotesCall g node old new jobs stood stands before after true =
-    AdvancesBy 1 g node old new stood stands before after
-NotesCall g node old new jobs stood stands before after false =
-    (new ≡ over jobs) × Advances (dispatching g) node old new stood stands before after
-
--- a turn that stops early made its first calls: the next one wants memory; or the note of the last was refused; or
--- there were at least 2^64 - 1 of them
-abbrev pub StopsBy : Handlers → ℕ → Turning → RoundState → (List Event → Type 0) → (List Event → Type 0)
-    → Option (List Noted) → Option (List Noted) → TurnFault → Type 0
-StopsBy g node v r stood stands before after faults.OutOfMemory =
-    Advances (dispatching g) node v (turning_of g r) stood stands before after × WantsMemory g r
-StopsBy g node v r stood stands before after faults.Unnoted =
-    Refused (dispatching g) node v (turning_of g r) stood stands before after
-StopsBy g node v r stood stands before after faults.Endless =
-    (made : Advances (dispatching g) node v (turning_of g r) stood stands before after)
-    × (2 ^ 64 - 1 ≤ length made.events)
 
 -- ---- what is remembered
 

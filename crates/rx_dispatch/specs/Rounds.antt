@@ -35,9 +35,8 @@ resting jobs = record { jobs = jobs; stage = stages.Resting; place = 0; next = n
 abbrev pub begun_turn : RoundState → RoundState
 begun_turn r = record r { stage = stages.Accepting; found = None }
 
--- a dispatcher: its node, its script, and its jobs with where its turn stands
+-- a dispatcher: its script, and its jobs with where its turn stands
 pub record DispatcherState : Type 0 where
-  pub node : ℕ
   pub script : List Answering
   pub round : RoundState
 

@@ -8,6 +8,6 @@ use Rattle.rx_dispatch.specs.declared.round.Round.{Round}
 abbrev pub round_of : Round → RoundState
 round_of r = record { jobs = r.jobs.items; stage = r.stage; place = r.place; next = r.next; found = r.found }
 
--- its node, its script, and its jobs with where its turn stands
+-- its script, and its jobs with where its turn stands
 abbrev pub state_of : Dispatcher → DispatcherState
-state_of d = record { node = d.node; script = blocks_of d.script.blocks.items; round = round_of d.round }
+state_of d = record { script = blocks_of d.script.blocks.items; round = round_of d.round }

@@ -1,5 +1,5 @@
 -- Where the next call of a turn wants memory. Public clauses cite this module.
-use Rattle.std.specs.Prelude.{◌≡◌, nat_lt, true, List, [], ◌∷◌, length, drop, ℕ, Option, Some, None}
+use Rattle.std.specs.Prelude.{◌≡◌, nat_lt, true, List, [], ◌∷◌, length, drop, Option, Some, None}
 use Rattle.rx_dispatch.specs.Rounds.{RoundState, turning_of}
 use Rattle.rx_jobs.specs.Dispatching.{Turning}
 use Rattle.rx_jobs.specs.Handlers.{Handlers}
@@ -7,7 +7,6 @@ use Rattle.rx_jobs.specs.Jobs.{JobState, waits, want_in}
 use Rattle.rx_jobs.specs.Keeping.{kept_of}
 use Rattle.rx_dispatch.specs.declared.job.Next.{Next}
 use Rattle.rx_dispatch.specs.declared.job.Next.TheVariants as nexts
-use Rattle.rx_jobs.specs.declared.job.Phase.{Phase}
 use Rattle.rx_jobs.specs.declared.job.Want.{Want}
 use Rattle.rx_jobs.specs.declared.job.Want.TheVariants as wants
 use Rattle.rx_dispatch.specs.declared.round.Stage.{Stage}

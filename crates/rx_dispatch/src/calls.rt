@@ -1,6 +1,6 @@
 //! The calls of a server that a job makes, with the bytes of their events, and what it does behind them.
 
-ghost use Rattle.std.specs.Prelude.{◌≡◌, ◌≤◌, ◌+◌, ◌++◌, IfOk, OnErr, length, take, vec_capacity, vec_len};
+ghost use Rattle.std.specs.Prelude.{◌≡◌, ◌≤◌, IfOk, OnErr, length, take};
 ghost use Rattle.hex.specs.Hex.{IsBytes};
 ghost use Rattle.rx_model.specs.declared.answers.ReadGot.TheVariants as readers;
 ghost use Rattle.rx_model.specs.declared.answers.WroteGot.TheVariants as writers;
@@ -14,7 +14,8 @@ ghost use Rattle.rx_dispatch.specs.Calls as rules;
 use crate::job::Next;
 use rx_class::Class;
 use rx_jobs::{OFFER_BYTES, Phase};
-use rx_model::{CallName, Room, ServeRead, ServeRefused};
+use rx_model::{CallName, ServeRead, ServeRefused};
+use rx_room::Room;
 use rx_server::Server;
 use std::alloc::{AllocError, Global};
 
@@ -27,14 +28,23 @@ pub fn read<C: Class>(
     ensures answered { IfOk result (λ r. Answered C.class_of server.old server.new
         (events.HasRead call.now OFFER_BYTES (readers.Server r.0) r.1.items)) }
     ensures within { IfOk result (λ r. length r.1.items ≤ OFFER_BYTES) }
+    ensures kept { room.new ≡ room.old }
     ensures none { IfOk result (λ r. length r.1.items ≤ handler_count r.0) }
+    ensures fits { IfOk result (λ r. IsBytes r.1.items) }
     ensures wanting { OnErr result (server.new ≡ server.old) }
     ensures setup { setup_of C.class_of server.new.node ≡ setup_of C.class_of server.old.node }
 {
     let mut bytes = room.lend(OFFER_BYTES)?;
     let got = server.read(call, &mut bytes);
-    Ok((got, room.filled(bytes, given_count(got))))
+    let brought = room.filled(bytes, given_count(got));
+    are_bytes(brought.as_slice());
+    Ok((got, brought))
 }
+
+/// Bytes are numbers below 256.
+fn are_bytes(bytes: &[u8])
+    ensures { IsBytes bytes.now }
+{}
 
 /// How many bytes a read gave.
 fn given_count(got: ServeRead) -> usize
@@ -96,15 +106,6 @@ fn accepted_count(got: &Result<usize, ServeRefused>) -> usize
         Ok(count) => *count,
         Err(_) => 0,
     }
-}
-
-/// Appends bytes to a list that has room for them.
-pub fn append(to: &mut Vec<u8>, bytes: &[u8])
-    requires { vec_len to.old + length bytes.now ≤ vec_capacity to.old }
-    ensures items { to.new.items ≡ to.old.items ++ bytes.now }
-    ensures fits { IsBytes bytes.now }
-{
-    let _done = to.extend_from_slice(bytes);
 }
 
 /// The first bytes, at most so many.

@@ -12,13 +12,14 @@ ghost use Rattle.rx_jobs.specs.Keeping.{kept_of};
 ghost use Rattle.rx_dispatch.specs.Wanting.{CopiesBytes, LooksInto};
 ghost use Rattle.rx_jobs.specs.declared.job.Want.TheVariants as wants;
 
-use crate::calls::{append, ended_after, front, next_after, read, write};
+use crate::calls::{ended_after, front, next_after, read, write};
 use crate::deciding::{Arguments, Found, early_code, find_arguments, serve, wait_at, whole_code};
 use crate::desk::Desk;
 use crate::keeping::kept_of;
 use rx_class::Class;
 pub use rx_jobs::{OFFER_BYTES, Phase, Want};
-use rx_model::{Bytes, CallName, Event, ReadGot, Room, ServeRefused, WroteGot};
+use rx_model::{Bytes, CallName, Event, ReadGot, ServeRefused, WroteGot};
+use rx_room::Room;
 use rx_script::Served;
 use rx_server::Server;
 use std::alloc::{AllocError, Global};
@@ -316,9 +317,9 @@ impl Job {
         ensures setup { setup_of C.class_of server.new.node ≡ setup_of C.class_of server.old.node }
     {
         let before = self.request.len();
-        self.request.reserve(OFFER_BYTES)?;
+        room.ready(&mut self.request, OFFER_BYTES)?;
         let (got, bytes) = read(room, server, &self.call)?;
-        append(&mut self.request, bytes.as_slice());
+        room.put(&mut self.request, bytes.as_slice());
         self.ended = ended_after(got, self.ended);
         let event = Event::HasRead {
             call: self.call,

@@ -8,10 +8,8 @@ mod calls;
 mod deciding;
 mod desk;
 mod dispatcher;
-mod fault;
 mod job;
 mod keeping;
 mod round;
 
 pub use dispatcher::Dispatcher;
-pub use fault::TurnFault;

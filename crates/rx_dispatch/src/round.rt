@@ -17,7 +17,8 @@ use crate::desk::Desk;
 use crate::job::{Job, Next};
 use rx_class::Class;
 use rx_jobs::{Phase, Want};
-use rx_model::{CallName, Event, Room};
+use rx_model::{CallName, Event};
+use rx_room::Room;
 use rx_server::Server;
 use std::alloc::{AllocError, Global};
 

@@ -16,4 +16,3 @@ pub mod StreamText
 pub mod EventText
 pub mod TextLaw
 mod TextExample
-pub mod Rooms

@@ -7,4 +7,3 @@ pub mod Names
 pub mod Strays
 pub mod Text
 pub mod Telling
-pub mod Rooms

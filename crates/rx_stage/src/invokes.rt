@@ -18,6 +18,7 @@ use crate::trace::{Trace, tell_call};
 use rx_base::Sink;
 use rx_caller::Caller;
 use rx_joint::{Nodes, SERVER};
+use rx_room::Room;
 use rx_wire::Journal;
 use std::alloc::{AllocError, Global};
 use std::marker::Model;
@@ -48,6 +49,8 @@ pub struct Callers {
     all: Vec<Invoked>,
     /// The places of those that may not be done yet, in order.
     at_work: Vec<usize>,
+    /// What they read replies through.
+    room: Room,
 }
 
 impl Model for Callers {
@@ -71,6 +74,7 @@ impl Callers {
         Callers {
             all: Vec::new(alloc),
             at_work: Vec::new(alloc),
+            room: Room::none(alloc),
         }
     }
 
@@ -111,6 +115,7 @@ impl Callers {
             node,
             &mut self.all,
             self.at_work.as_slice(),
+            &mut self.room,
             nodes,
             trace,
             out,
@@ -134,6 +139,7 @@ impl Callers {
         turn_each(
             &mut self.all,
             self.at_work.as_slice(),
+            &mut self.room,
             nodes,
             trace,
             out,
@@ -165,6 +171,7 @@ fn turn_each_of<O: Sink, J: Journal>(
     node: u32,
     callers: &mut Vec<Invoked>,
     places: &[usize],
+    room: &mut Room,
     nodes: &mut Nodes,
     trace: &mut Trace,
     out: &mut O,
@@ -179,7 +186,7 @@ fn turn_each_of<O: Sink, J: Journal>(
     ensures count { length callers.new.items ≡ length callers.old.items }
 {
     for place in places {
-        turn_for(node, callers, *place, nodes, trace, out, book)?;
+        turn_for(node, callers, *place, room, nodes, trace, out, book)?;
     }
     Ok(())
 }
@@ -189,6 +196,7 @@ fn turn_for<O: Sink, J: Journal>(
     node: u32,
     callers: &mut Vec<Invoked>,
     place: usize,
+    room: &mut Room,
     nodes: &mut Nodes,
     trace: &mut Trace,
     out: &mut O,
@@ -205,13 +213,14 @@ fn turn_for<O: Sink, J: Journal>(
     if callers[place].node != node {
         return Ok(());
     }
-    turn_at(callers, place, nodes, trace, out, book)
+    turn_at(callers, place, room, nodes, trace, out, book)
 }
 
 /// A turn of the caller at each of these places.
 fn turn_each<O: Sink, J: Journal>(
     callers: &mut Vec<Invoked>,
     places: &[usize],
+    room: &mut Room,
     nodes: &mut Nodes,
     trace: &mut Trace,
     out: &mut O,
@@ -226,7 +235,7 @@ fn turn_each<O: Sink, J: Journal>(
     ensures count { length callers.new.items ≡ length callers.old.items }
 {
     for place in places {
-        turn_at(callers, *place, nodes, trace, out, book)?;
+        turn_at(callers, *place, room, nodes, trace, out, book)?;
     }
     Ok(())
 }
@@ -235,6 +244,7 @@ fn turn_each<O: Sink, J: Journal>(
 fn turn_at<O: Sink, J: Journal>(
     callers: &mut Vec<Invoked>,
     place: usize,
+    room: &mut Room,
     nodes: &mut Nodes,
     trace: &mut Trace,
     out: &mut O,
@@ -253,13 +263,14 @@ fn turn_at<O: Sink, J: Journal>(
         return Ok(());
     }
     let invoked = &mut callers[place];
-    call_on(node, &mut invoked.caller, nodes, trace, out, book)
+    call_on(node, &mut invoked.caller, room, nodes, trace, out, book)
 }
 
 /// A turn of a caller on a client.
 fn call_on<O: Sink, J: Journal>(
     node: u32,
     caller: &mut Caller,
+    room: &mut Room,
     nodes: &mut Nodes,
     trace: &mut Trace,
     out: &mut O,
@@ -274,7 +285,7 @@ fn call_on<O: Sink, J: Journal>(
 {
     caller.begin();
     'calls: for made in 0..u64::MAX {
-        if !call(node, caller, nodes, trace, out, book)? {
+        if !call(node, caller, room, nodes, trace, out, book)? {
             return Ok(());
         }
     }
@@ -285,6 +296,7 @@ fn call_on<O: Sink, J: Journal>(
 fn call<O: Sink, J: Journal>(
     node: u32,
     caller: &mut Caller,
+    room: &mut Room,
     nodes: &mut Nodes,
     trace: &mut Trace,
     out: &mut O,
@@ -297,7 +309,7 @@ fn call<O: Sink, J: Journal>(
     ensures clients { length nodes.new.clients ≡ length nodes.old.clients }
     ensures done { StaysDone caller.old caller.new }
 {
-    match caller.step(nodes.client_mut(node))? {
+    match caller.step(room, nodes.client_mut(node))? {
         None => Ok(false),
         Some(event) => tell_call(node, event, trace, out, book),
     }

@@ -162,7 +162,7 @@ pub fn at_start(alloc: Global, nodes: Nodes, service: u16, script: Script) -> Wo
         accepted: Vec::new(alloc),
         packets: Vec::new(alloc),
         callers: Callers::new(alloc),
-        dispatcher: Dispatcher::make(alloc, SERVER, script),
+        dispatcher: Dispatcher::make(alloc, script),
         trace: Trace::make(alloc),
     }
 }

@@ -3,14 +3,19 @@ ghost use Rattle.std.specs.Prelude.{◌≡◌, ◌∷◌, ◌++◌, [], OnOk};
 
 use rx_script::PlanWhy;
 use std::alloc::AllocError;
+use thiserror::Error;
 
 /// Why a run ends at a line.
-#[derive(Clone, Copy, Debug, PartialEq, Eq)]
+#[derive(Clone, Copy, Debug, PartialEq, Eq, Error)]
 pub enum Stop {
+    #[error("{0}")]
     Refused(PlanWhy),
+    #[error("a put failed")]
     SinkFault,
+    #[error("out of memory")]
     OutOfMemory,
     /// One polling or one turn went on for 2^64 - 1 events.
+    #[error("a polling or a turn came to no end")]
     Endless,
 }
 

@@ -23,6 +23,7 @@ use rx_caller::Caller;
 use rx_class::Class;
 use rx_client::Client;
 use rx_model::{CallName, Event, Host, Limits};
+use rx_room::Room;
 use rx_wire::{Journal, Wire};
 use std::alloc::Global;
 
@@ -96,6 +97,7 @@ fn call_from<C: Class, W: Wire, J: Journal>(
     let node = CallingNode {
         client,
         caller: Caller::make(alloc, CLIENT, name, request),
+        room: Room::none(alloc),
         ports,
     };
     node.passes(calling.turns, wire, book)
@@ -215,6 +217,8 @@ fn start<C: Class>(to: Host, service: u16, cid: u32, client: &mut Client<C>) -> 
 pub struct CallingNode<C: Class> {
     client: Client<C>,
     caller: Caller,
+    /// What its caller reads the reply through.
+    room: Room,
     ports: Ports,
 }
 
@@ -277,7 +281,7 @@ impl<C: Class> CallingNode<C> {
     {
         self.ports.clock(&mut self.client, wire, book)?;
         self.ports.give_due(&mut self.client, wire, book)?;
-        let ended = self.caller.turn(&mut self.client, book)?;
+        let ended = self.caller.turn(&mut self.room, &mut self.client, book)?;
         self.ports.give_due(&mut self.client, wire, book)?;
         Ok(ended)
     }

@@ -148,7 +148,7 @@ impl<C: Class> ServedNode<C> {
                 class,
                 serving.nonce,
             )?,
-            dispatcher: Dispatcher::make(alloc, SERVER, script),
+            dispatcher: Dispatcher::make(alloc, script),
             ports: Ports::make(alloc, SERVER, serving.jumbo)?,
             lines: Lines::make(alloc),
         })

@@ -1,5 +1,4 @@
 use Rattle.std.proofs.Common.{◌∙◌, ◌++◌, List, ℕ, ap, drop, subst}
-use Rattle.hex.specs.Hex.{IsBytes}
 use Rattle.rx_dispatch.specs.Calls.{Called}
 use Rattle.rx_jobs.specs.Jobs.{JobState}
 use Rattle.rx_jobs.specs.declared.job.TheConstants.{OFFER_BYTES}
@@ -22,14 +21,14 @@ returns-clause-called g c =
       reply = drop i.said i.reply.items;
     } in
     subst (λ (x : JobState). Called class x wants.Read
-    (record j { request = c.append.new.to.items; ended = c.ended_after-self-inside.result }) c.next_after.result
+    (record j { request = c.put.new.stream.items; ended = c.ended_after-self-inside.result }) c.next_after.result
     c.args.server.now c.read.new.server
     (events.HasRead i.call OFFER_BYTES (readers.Server c.in_ok-got.got) c.of.result)) c.self.view_is
     (read_called class j c.args.server.now c.read.new.server c.in_ok-got.got c.in_ok-got.bytes.items c.of.result
-    c.append.new.to.items c.ended_after-self-inside.result c.len-before.result c.next_after.result
+    c.put.new.stream.items c.ended_after-self-inside.result c.len-before.result c.next_after.result
     c.in_ok-got.ensures.none
-    (subst IsBytes c.as_slice.ensures.value c.append.ensures.fits)
+    c.in_ok-got.ensures.fits
     c.in_ok-got.ensures.answered c.of.ensures
-    (c.append.ensures.items ∙ ap (λ (q : List ℕ). q ++ c.as_slice.result.now) c.in_ok-reserve.ensures.items
+    (c.put.ensures ∙ ap (λ (q : List ℕ). q ++ c.as_slice.result.now) c.in_ok-ready.ensures.same
     ∙ ap (λ (b : List ℕ). i.request.items ++ b) c.as_slice.ensures.value)
     c.ended_after-self-inside.ensures (c.len-before.ensures ∙ i.request.ok.0) c.next_after.ensures)

@@ -1,19 +1,22 @@
-ghost use Rattle.std.specs.Prelude.{◌≡◌, ◌++◌, ◌≤◌, ◌+◌, ℕ, IfOk, OnOk, length, take, vec_capacity, vec_len};
-ghost use Rattle.rx_model.specs.Rooms.{room_for};
+ghost use Rattle.std.specs.Prelude.{◌≡◌, ◌++◌, ◌≤◌, IfOk, OnOk, length, take, vec_capacity, vec_len};
+ghost use Rattle.rx_room.specs.Rooms.{room_for};
 
 use std::alloc::{AllocError, Global};
 use std::marker::Model;
 
+#[cfg(test)]
+mod tests;
+
 /// Memory for what reads of streams bring, kept for all streams that are read in turn: a read that brings nothing takes
-/// none, and a stream of which nothing was read has none. Contracts see how many bytes are kept for the beginning of a
-/// stream.
+/// none, and a short stream takes no more than its bytes. Contracts see how many bytes a stream can have in the memory
+/// that is kept for one.
 #[derive(Debug, Drop)]
 pub struct Room {
     alloc: Global,
     /// What is read into.
     lent: Vec<u8>,
-    /// Where the next stream that begins is put.
-    first: Vec<u8>,
+    /// Where a short stream goes that can't get memory of its own.
+    kept: Vec<u8>,
 }
 
 impl Model for Room {
@@ -21,9 +24,9 @@ impl Model for Room {
 
     ghost Value = { ℕ };
 
-    ghost view = { λ s. vec_capacity s.first };
+    ghost view = { λ s. vec_capacity s.kept };
 
-    ghost invariant = { λ s. s.first.items ≡ [] };
+    ghost invariant = { λ s. s.kept.items ≡ [] };
 }
 
 impl Room {
@@ -32,7 +35,7 @@ impl Room {
         Room {
             alloc,
             lent: Vec::new(alloc),
-            first: Vec::new(alloc),
+            kept: Vec::new(alloc),
         }
     }
 
@@ -61,16 +64,20 @@ impl Room {
         bytes
     }
 
-    /// Sees to it that so many bytes can be put behind those of a stream: it takes memory for a stream that has begun,
-    /// or for the next that begins.
+    /// Sees to it that so many bytes can be put behind those of a stream. For one that is shorter than that, memory is
+    /// kept here, in which it could go on.
     pub fn ready(&mut self, stream: &mut Vec<u8>, size: usize) -> Result<(), AllocError>
         ensures same { stream.new.items ≡ stream.old.items }
         ensures ready { OnOk result (size ≤ room_for self.new (vec_len stream.new) (vec_capacity stream.new)) }
     {
-        if stream.is_empty() {
-            return self.first.reserve(size);
+        let count = stream.len();
+        if count >= size {
+            return stream.reserve(size);
         }
-        stream.reserve(size)
+        match count.checked_add(size) {
+            Some(all) => self.kept.reserve(all),
+            None => Err(AllocError),
+        }
     }
 
     /// Puts bytes behind those of a stream that has room for them.
@@ -78,21 +85,20 @@ impl Room {
         requires { length bytes.now ≤ room_for self.old (vec_len stream.old) (vec_capacity stream.old) }
         ensures { stream.new.items ≡ stream.old.items ++ bytes.now }
     {
-        if bytes.is_empty() {
-            return;
+        if stream.reserve_exact(bytes.len()).is_err() {
+            self.carry_on(stream);
         }
-        self.begin(stream);
         let _put = stream.extend_from_slice(bytes);
     }
 
-    /// A stream without bytes takes the memory that is kept for one.
-    fn begin(&mut self, stream: &mut Vec<u8>)
+    /// A stream goes on in the memory that is kept, and its own is kept.
+    fn carry_on(&mut self, stream: &mut Vec<u8>)
+        requires { vec_len stream.old ≤ self.old }
         ensures same { stream.new.items ≡ stream.old.items }
-        ensures fits { (size : ℕ) → size ≤ room_for self.old (vec_len stream.old) (vec_capacity stream.old)
-            → vec_len stream.new + size ≤ vec_capacity stream.new }
+        ensures room { self.old ≤ vec_capacity stream.new }
     {
-        if stream.is_empty() {
-            std::mem::swap(stream, &mut self.first);
-        }
+        let _carried = self.kept.extend_from_slice(stream.as_slice());
+        std::mem::swap(stream, &mut self.kept);
+        self.kept.clear();
     }
 }
