@@ -2,7 +2,7 @@
 # Calls between the program and OpenAFS, on loopback: interop/openafs.sh [PROGRAM]
 # 1. A C client and a C server on OpenAFS's own Rx library, with the interface peer.xg, straight and over a bad network.
 # 2. OpenAFS's servers, called by `rx call` with the interface files of examples/afs.
-# 3. OpenAFS's programs bos, pts and vos, answered by `rx serve` with the scripts of examples/afs.
+# 3. OpenAFS's programs bos, pts, vos and cmdebug, answered by `rx serve` with the scripts of examples/afs.
 # Prints a line for each check, and how many passed and failed. Wants root, and Debian's packages libopenafs-dev,
 # openafs-client, openafs-dbserver and openafs-fileserver; where one of these is missing it says so in one line and ends
 # well. Everything runs in a network and a mount namespace of its own, so nothing but this machine is spoken to; what is
@@ -299,6 +299,7 @@ programs() {
     serve bos "$top/examples/afs/bos.xg" "$top/examples/afs/bos.script" "$CELL:7007" 1
     serve pt "$top/examples/afs/pt.xg" "$top/examples/afs/pt.script" "$CELL:7002" 73
     serve vol "$top/examples/afs/vol.xg" "$top/examples/afs/vol.script" "$CELL:7005" 4
+    serve cb "$top/examples/afs/cb.xg" "$top/examples/afs/cb.script" "$CELL:7001" 1
     check 'bos status' "Instance nightly, (type is cron) currently running normally.
     Auxiliary status is: run next at Sun Nov 29 04:00:00 2026.
     Command 1 is '/bin/true'" bos_status
@@ -315,9 +316,21 @@ bob *1002 *-204 *32766*' timeout 120 pts listentries -users -noauth
 Total: 2' timeout 120 vos listpart "$CELL" -noauth
     check 'vos partinfo' 'Free space on partition /vicepa: 5000000000 K blocks out of total 6000000000' \
         timeout 120 vos partinfo "$CELL" a -noauth
+    check 'cmdebug -addrs' 'UUID: 6553f100-1a2b-1abc-80-01-020000000001
+Host interfaces:
+127.1.0.1, netmask 255.255.255.255, MTU 1500
+Capabilities:
+Error Translation' timeout 120 cmdebug "$CELL" -addrs
+    check 'cmdebug -cache' 'Chunk files: *0
+Stat caches: *0
+*
+Cache type: *memory' timeout 120 cmdebug "$CELL" -cache
+    check 'cmdebug -cellservdb' '>test.local *#test.local
+127.1.0.1 *#db.test.local' timeout 120 cmdebug "$CELL" -cellservdb
     end bos
     end pt
     end vol
+    end cb
 }
 
 servers() {
@@ -342,7 +355,8 @@ servers() {
 # The opcodes of the interface files are those of OpenAFS's headers.
 opcodes() {
     local pair header xg
-    for pair in bos:afs/bosint pt:afs/ptint vl:afs/vldbint vol:afs/volint disk:ubik_int stats:rx/rxstat; do
+    for pair in bos:afs/bosint pt:afs/ptint vl:afs/vldbint vol:afs/volint cb:afs/afscbint disk:ubik_int \
+        stats:rx/rxstat; do
         xg=$top/examples/afs/${pair%%:*}.xg header=/usr/include/${pair#*:}.h
         "$RX" compile "$xg" | awk '$1 == "interface" { of = $2 } $1 == "proc" { print of $3, $2 }' | sort >"$work/ours"
         sed -nE 's/^#define opcode_(\w+) .*OpCodeIndex\(([0-9]+)\).*/\1 \2/p' "$header" | sort >"$work/theirs"
