@@ -1,0 +1,7 @@
+pub mod Tells
+pub mod Nodes
+pub mod Ran
+pub mod Carried
+pub mod Keeping
+pub mod Events
+pub mod Turned
