@@ -1,4 +1,1 @@
 pub mod Blocks
-pub mod Measure
-pub mod Turning
-pub mod Errors

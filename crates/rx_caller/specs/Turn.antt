@@ -1,15 +1,11 @@
 -- What the calls of a caller change. Public clauses cite this module.
 use Rattle.std.specs.Prelude.{◌≡◌, ℕ, List, Option, Some, None}
 use Rattle.rx_model.specs.declared.event.Event.{Event}
-use Rattle.rx_model.specs.declared.event.Noted.{Noted}
 use Rattle.rx_node.specs.Node.{NodeState}
 use Rattle.rx_node.specs.Steps.{AnswersNode}
 use Rattle.rx_rules.specs.Classes.{Class}
-use Rattle.rx_wire.specs.Advances.{Advances, Refused}
 use Rattle.rx_asks.specs.declared.ask.Ask.{Ask}
 use Rattle.rx_asks.specs.declared.ask.Ask.TheVariants as asks
-use Rattle.rx_caller.specs.declared.fault.CallerFault.{CallerFault}
-use Rattle.rx_caller.specs.declared.fault.CallerFault.TheVariants as faults
 use Rattle.rx_asks.specs.Asks.{Asking, IsAsked, calling, heard, next_ask}
 use Rattle.rx_asks.specs.View.{CallerState}
 
@@ -52,11 +48,3 @@ TakesBytes (Some asks.Cancel) = ⊥
 -- the next call of a caller that keeps at most so many bytes of a reply wants memory
 abbrev pub CallerWants : ℕ → CallerState → Type 0
 CallerWants limit v = TakesBytes (next_ask limit v)
-
--- a turn that stops early made its first calls: the next one wants memory, or the note of the last was refused
-abbrev pub CallerStops : ℕ → ℕ → CallerState → CallerState → (List Event → Type 0) → (List Event → Type 0)
-    → Option (List Noted) → Option (List Noted) → CallerFault → Type 0
-CallerStops limit node v w stood stands before after faults.OutOfMemory =
-    Advances (calling limit) node v w stood stands before after × CallerWants limit w
-CallerStops limit node v w stood stands before after faults.Unnoted =
-    Refused (calling limit) node v w stood stands before after

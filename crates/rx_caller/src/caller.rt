@@ -1,20 +1,16 @@
-ghost use Rattle.std.specs.Prelude.{◌≡◌, IfErr, IfOk, OnErr, OnOk, is_some, true};
+ghost use Rattle.std.specs.Prelude.{◌≡◌, ◌<◌, ◌^◌, IfOk, OnErr, length};
 ghost use Rattle.rx_node.specs.Node.{setup_of};
-ghost use Rattle.rx_node.specs.Steps.{StandsNode};
-ghost use Rattle.rx_wire.specs.Advances.{Turned};
 ghost use Rattle.rx_asks.specs.declared.ask.Ask.TheVariants as asks;
 ghost use Rattle.rx_asks.specs.Asks.{asking, begun, calling, is_done, next_ask, next_offering};
-ghost use Rattle.rx_caller.specs.Turn.{CallerStops, CallerWants, Does, MakesNext, Stays};
+ghost use Rattle.rx_caller.specs.Turn.{CallerWants, Does, MakesNext, Stays};
 ghost use Rattle.rx_asks.specs.View.{caller_for};
 
-use crate::calls::{end_after, next_block, note, phase_after, phase_offered, read, write};
-use crate::fault::CallerFault;
+use crate::calls::{end_after, next_block, phase_after, phase_offered, read, write};
 use rx_asks::{Ask, BLOCK_BYTES, CC_UNMARSHAL, Phase, REPLY_BYTES};
 use rx_class::Class;
 use rx_client::Client;
 use rx_model::{Bytes, CallName, End, Event, ReadGot, WroteGot};
 use rx_room::Room;
-use rx_wire::Journal;
 use std::alloc::{AllocError, Global};
 use std::marker::Model;
 
@@ -93,29 +89,11 @@ impl Caller {
         }
     }
 
-    /// Makes a turn, notes its events, and answers whether it is finished. It offers 4,096 bytes at a time until less
-    /// is accepted, and shuts once all is; then it reads 4,096 at a time until a read gives none, or the call's end. A
-    /// reply that grows too long is given up. One that is finished makes no call. Where memory is wanted, or a note is
-    /// refused, the calls made so far are those of the turn's beginning.
-    pub fn turn<C: Class, J: Journal>(
-        &mut self,
-        room: &mut Room,
-        client: &mut Client<C>,
-        book: &mut J,
-    ) -> Result<bool, CallerFault>
-        ensures turned { OnOk result (Turned (calling REPLY_BYTES) self.old.node (begun self.old) self.new
-            (StandsNode C.class_of client.old) (StandsNode C.class_of client.new) (J.told book.old) (J.told book.new)) }
-        ensures finished { IfOk result (λ done. done ≡ is_some self.new.end) }
-        ensures stops { IfErr result (CallerStops REPLY_BYTES self.old.node (begun self.old) self.new
-            (StandsNode C.class_of client.old) (StandsNode C.class_of client.new) (J.told book.old) (J.told book.new)) }
-        ensures unnoted { IfErr result (λ fault. fault ≡ CallerFault.Unnoted → J.may_want ≡ true) }
-        ensures setup { setup_of C.class_of client.new ≡ setup_of C.class_of client.old }
+    /// The bytes that are still to be offered are fewer than 2^63. Nothing here does anything as it runs.
+    pub fn offers_few(&self)
+        ensures { length self.now.offering < 2 ^ 63 }
     {
-        self.begin();
-        while let Some(event) = self.step(room, client)? {
-            note(book, self.node, event)?;
-        }
-        Ok(self.end.is_some())
+        let _count = self.request.len();
     }
 
     /// A turn begins. One that is finished gives back what it doesn't need any more.

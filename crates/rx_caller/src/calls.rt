@@ -8,17 +8,13 @@ ghost use Rattle.rx_node.specs.Node.{setup_of};
 ghost use Rattle.rx_node.specs.Steps.{AnswersNode};
 ghost use Rattle.rx_events.specs.Events.{written_count};
 ghost use Rattle.rx_client.specs.Client.{read_count};
-ghost use Rattle.rx_wire.specs.Journal.{HasNoted};
-ghost use Rattle.rx_wire.specs.Turns.{noted};
 ghost use Rattle.rx_asks.specs.Asks as rules;
 
-use crate::fault::CallerFault;
 use rx_asks::{BLOCK_BYTES, Phase};
 use rx_class::Class;
 use rx_client::Client;
 use rx_model::{CallName, End, Event, NotOpen, ReadAns};
 use rx_room::Room;
-use rx_wire::Journal;
 use std::alloc::{AllocError, Global};
 
 /// The next bytes to offer of a request of which so many were accepted.
@@ -85,19 +81,6 @@ fn given_count(got: ReadAns) -> usize
     match got {
         ReadAns::Got(count) => count,
         ReadAns::End | ReadAns::NotYet | ReadAns::Gone(_) | ReadAns::Unknown => 0,
-    }
-}
-
-/// Notes an event of a node.
-pub fn note<J: Journal>(book: &mut J, node: u32, event: Event) -> Result<(), CallerFault>
-    ensures ok { OnOk result (HasNoted (J.told book.old) (J.told book.new) (noted node event)) }
-    ensures err { OnErr result (J.told book.new ≡ J.told book.old) }
-    ensures refused { IfErr result (λ fault. fault ≡ CallerFault.Unnoted) }
-    ensures wants { OnErr result (J.may_want ≡ true) }
-{
-    match book.note(node, &event) {
-        Ok(()) => Ok(()),
-        Err(_) => Err(CallerFault::Unnoted),
     }
 }
 

@@ -2,21 +2,24 @@
 ghost use Rattle.std.specs.Prelude.{◌≡◌};
 
 use std::alloc::AllocError;
+use thiserror::Error;
 
 /// Why a run over nodes ends before it is done.
-#[derive(Clone, Copy, Debug, PartialEq, Eq)]
+#[derive(Clone, Copy, Debug, PartialEq, Eq, Error)]
 pub enum Stop {
-    /// A put failed.
+    #[error("a put failed")]
     SinkFault,
-    /// A call of the wire failed.
+    #[error("a call of the wire failed")]
     WireFault,
-    /// A handler, a caller or what carries datagrams wanted memory.
+    /// A handler, a caller or what carries datagrams wanted it.
+    #[error("out of memory")]
     OutOfMemory,
-    /// There was no memory for the text of a line.
+    #[error("no memory for the text of a line")]
     Unformatted,
-    /// The journal wanted memory for the note of an event.
+    #[error("no memory for a note")]
     Unnoted,
-    /// A polling or a turn came to no end within 2^64 - 1 events.
+    /// So many events are 2^64 - 1.
+    #[error("a polling or a turn came to no end")]
     Endless,
 }
 

@@ -16,8 +16,8 @@ use Rattle.rx_model.specs.declared.wire.TheConstants.{SILENCE_MS}
 use Rattle.rx_wire_loop.specs.declared.calling.CallEnd.{CallEnd}
 use Rattle.rx_wire_loop.specs.declared.calling.CallEnd.TheVariants as call_ends
 use Rattle.rx_wire_loop.specs.declared.calling.Calling.{Calling}
-use Rattle.rx_wire_loop.specs.declared.stop.Stop.{Stop}
-use Rattle.rx_wire_loop.specs.declared.stop.Stop.TheVariants as stops
+use Rattle.rx_drive.specs.declared.stop.Stop.{Stop}
+use Rattle.rx_drive.specs.declared.stop.Stop.TheVariants as stops
 use Rattle.rx_wire_loop.specs.Calls.{CallIs, client_setup}
 use Rattle.rx_wire_loop.specs.Tells.{SinkTells, Told}
 use Rattle.rx_wire_loop.specs.ToldCalls.{CallTold, CallsTell}

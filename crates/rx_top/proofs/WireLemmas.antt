@@ -7,8 +7,8 @@ use Rattle.rx_wire_loop.specs.declared.serving.ServeEnd.TheVariants as serve_end
 use Rattle.rx_wire_loop.specs.declared.calling.CallEnd.{CallEnd}
 use Rattle.rx_wire_loop.specs.declared.calling.CallEnd.TheVariants as call_ends
 use Rattle.rx_wire_loop.specs.declared.calling.Calling.{Calling}
-use Rattle.rx_wire_loop.specs.declared.stop.Stop.{Stop}
-use Rattle.rx_wire_loop.specs.declared.stop.Stop.TheVariants as stops
+use Rattle.rx_drive.specs.declared.stop.Stop.{Stop}
+use Rattle.rx_drive.specs.declared.stop.Stop.TheVariants as stops
 use Rattle.rx_wire_loop.specs.Calls.{CallCame, CallEnds, CallIs, CallsBound, IsEnded, IsSpent as IsCallSpent}
 use Rattle.rx_wire_loop.specs.Calls.{IsCut as IsCallCut}
 use Rattle.rx_wire_loop.specs.Tells.{Told}

@@ -6,8 +6,8 @@ use Rattle.rx_rules.specs.Setup.{FitsLimits}
 use Rattle.rx_wire_loop.specs.declared.serving.ServeEnd.{ServeEnd}
 use Rattle.rx_wire_loop.specs.declared.serving.ServeEnd.TheVariants as serve_ends
 use Rattle.rx_wire_loop.specs.declared.serving.Serving.{Serving}
-use Rattle.rx_wire_loop.specs.declared.stop.Stop.{Stop}
-use Rattle.rx_wire_loop.specs.declared.stop.Stop.TheVariants as stops
+use Rattle.rx_drive.specs.declared.stop.Stop.{Stop}
+use Rattle.rx_drive.specs.declared.stop.Stop.TheVariants as stops
 use Rattle.rx_wire_loop.specs.Serving.{ServeIs, server_setup, terms_of}
 use Rattle.rx_wire_loop.specs.Tells.{Told}
 use Rattle.rx_script.specs.Saying.{Answering}

@@ -8,16 +8,14 @@ use Rattle.rx_model.specs.declared.event.Event.TheVariants as events
 use Rattle.rx_model.specs.declared.event.Noted.{Noted}
 use Rattle.rx_model.specs.declared.names.CallName.{CallName}
 use Rattle.rx_rules.specs.After.{looks}
-use Rattle.rx_rules.specs.Rules.{Legal}
 use Rattle.rx_rules.specs.Setup.{Setup}
 use Rattle.rx_wire.specs.Wire.{Logged}
-use Rattle.rx_wire.specs.Turns.{after_all}
 use Rattle.rx_wire_loop.specs.declared.calling.CallEnd.{CallEnd}
 use Rattle.rx_wire_loop.specs.declared.calling.Calling.{Calling as Words}
-use Rattle.rx_wire_loop.specs.declared.stop.Stop.{Stop}
-use Rattle.rx_wire_loop.specs.declared.stop.Stop.TheVariants as stops
+use Rattle.rx_drive.specs.declared.stop.Stop.{Stop}
+use Rattle.rx_drive.specs.declared.stop.Stop.TheVariants as stops
 use Rattle.rx_wire_loop.specs.Calls.{CallMade, CallsBound, begins, call_terms}
-use Rattle.rx_wire_loop.specs.Nodes.{Answers}
+use Rattle.rx_drive.specs.Nodes.{Answers}
 use Rattle.rx_wire_loop.specs.Ports.{NotesOne, clocks}
 use Rattle.rx_wire_loop.specs.Parts.{Came, Cut, One, Place, To, behind, makes, refuses}
 use Rattle.rx_wire_loop.specs.Runs.{Fits, IsAt, Plays, Ran, change}
@@ -50,7 +48,7 @@ module _ {A : Type 0} (n : ℕ) (s : Setup) (s0 s1 : List Event → Type 0) (boo
 -- a client at the start of its life stands for the clock alone behind it
 pub clocked_alone : (n : ℕ) (s : Setup) (s0 s1 : List Event → Type 0) (a b : Told) (shows : Unit {0} → Type 0) → s0 []
     → Plays (change n s s0 s1 a b) clocks shows None → (now : ℕ) × s1 (events.Clocked now ∷ [])
-clocked_alone n s s0 s1 a b shows there plays = of r.events r.log r.came r.made r.standing r.fits
+clocked_alone n s s0 s1 a b shows there plays = of r.events r.log r.came r.made r.fits
   where
     start : Place
     start = record { history = []; now = a.wire.moment }
@@ -62,10 +60,9 @@ clocked_alone n s s0 s1 a b shows there plays = of r.events r.log r.came r.made 
     r = plays start at
 
     of : (es : List Event) (ls : List Logged) (came : Came (Unit {0})) → clocks start es ls came
-        → s1 (after_all es []) → Fits (change n s s0 s1 a b) shows start es ls came None
-        → (now : ℕ) × s1 (events.Clocked now ∷ [])
-    of es ls came (makes u) standing fits = (a.wire.moment, standing)
-    of es ls came (refuses u) standing fits = absurd fits
+        → Fits (change n s s0 s1 a b) shows start es ls came None → (now : ℕ) × s1 (events.Clocked now ∷ [])
+    of es ls came (makes u) fits = (a.wire.moment, fits.2.standing)
+    of es ls came (refuses u) fits = absurd fits
 
 -- ---- the whole call
 
@@ -88,9 +85,8 @@ module _ (w : Words) (request : List ℕ) (s : Setup) (s0 s1 : List Event → Ty
   -- it didn't begin
   pub call_unbegun : (shows : CallName → Type 0)
       → Plays (change 1 s s0 s1 (told book sink wire) (told mid sink wire)) (begins w) shows (Some stops.Unnoted)
-      → ((h : List Event) → s1 h → Legal s h)
       → CallsBound w request s (Err stops.Unnoted) (told book sink wire) (told mid sink wire)
-  call_unbegun shows plays law = of r.came r.made r.fits
+  call_unbegun shows plays = of r.came r.made r.fits
     where
       r : begun (Some stops.Unnoted) shows
       r = plays start is_there
@@ -107,7 +103,7 @@ module _ (w : Words) (request : List ℕ) (s : Setup) (s0 s1 : List Event → Ty
               r.events,
               r.log,
               subst (λ (k : Stop). begins w start r.events r.log (Cut k)) fits.0 made,
-              law (after_all r.events []) r.standing,
+              r.legal tt,
               fits.1,
             ),
           ))

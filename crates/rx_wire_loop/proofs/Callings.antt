@@ -1,43 +1,44 @@
 -- Passes of a client that makes a call.
 use Rattle.std.proofs.Common.{◌≡◌, ◌∙◌, ◌<◌, ◌≤◌, ℕ, suc, true, false, List, [], ◌∷◌, ◌++◌, Option, Some, None, Ok, Err}
 use Rattle.std.proofs.Common.{refl}
-use Rattle.std.proofs.Common.{inl, inr, sym, ap, subst, rules}
+use Rattle.std.proofs.Common.{◌-◌, ◌^◌, arith, length, inl, inr, sym, ap, subst, rules}
+use Rattle.std.proofs.lemmas.List.{append-nil}
 use Rattle.std.specs.Prelude.{is_some}
 use Rattle.rx_base.specs.Sink.{Gained, HasRisen}
 use Rattle.rx_asks.specs.Asks.{Asking, Cancels, IsAsked, Offers, Reads, Shuts, begun, calling, heard}
-use Rattle.rx_caller.specs.Turn.{CallerStops}
+use Rattle.rx_caller.specs.Turn.{CallerWants}
 use Rattle.rx_asks.specs.View.{CallerState}
-use Rattle.rx_caller.specs.declared.fault.CallerFault.{CallerFault}
-use Rattle.rx_caller.specs.declared.fault.CallerFault.TheVariants as faults
 use Rattle.rx_asks.specs.declared.ask.TheConstants.{REPLY_BYTES}
 use Rattle.rx_history.specs.Sides.{with_clock}
-use Rattle.rx_model.specs.declared.answers.ReadGot.TheVariants as readers
 use Rattle.rx_model.specs.declared.event.Event.{Event}
 use Rattle.rx_model.specs.declared.event.Event.TheVariants as events
 use Rattle.rx_model.specs.declared.event.Noted.{Noted}
 use Rattle.rx_rules.specs.Rules.{Legal}
 use Rattle.rx_rules.specs.Setup.{Setup}
 use Rattle.rx_wire.specs.Wire.{Logged}
-use Rattle.rx_wire.specs.Advances.{Turned}
-use Rattle.rx_wire.specs.Turns.{HasNotedAll, HasNotedButLast, Runs, after_all, goes, stays}
+use Rattle.rx_wire.specs.Turns.{Program, Runs, after_all, goes, stays}
 use Rattle.rx_wire.proofs.TurnLaws.{after_all-append}
+use Rattle.rx_drive.specs.Nodes.{node_stages}
+use Rattle.rx_drive.specs.Ran as driven
+use Rattle.rx_drive.specs.Turned.{turn}
 use Rattle.rx_wire_loop.specs.Calls.{CallEnds, CallMade, CallPassed, CallTerms, IsCut, IsEnded, IsSpent, call_play}
 use Rattle.rx_wire_loop.specs.Calls.{call_take}
 use Rattle.rx_wire_loop.specs.Calls.{calls, calls_cut, calls_cut_last, calls_ended, calls_spent}
 use Rattle.rx_wire_loop.specs.declared.calling.CallEnd.TheVariants as call_ends
-use Rattle.rx_wire_loop.specs.declared.stop.Stop.{Stop}
-use Rattle.rx_wire_loop.specs.declared.stop.Stop.TheVariants as stops
+use Rattle.rx_drive.specs.declared.stop.Stop.{Stop}
+use Rattle.rx_drive.specs.declared.stop.Stop.TheVariants as stops
 use Rattle.rx_wire_loop.specs.Parts.{Came, Cut, Part, Place, To, behind}
 use Rattle.rx_wire_loop.specs.Ports.{takes}
-use Rattle.rx_wire_loop.specs.Runs.{Fits, IsAt, Plays, Ran, Stops, change, stop_for}
+use Rattle.rx_wire_loop.specs.Runs.{Change, Fits, IsAt, Plays, Ran, Stops, change}
 use Rattle.rx_wire_loop.specs.Serves.{pass, passed_more, passed_none, plays}
-use Rattle.rx_wire_loop.specs.Tells.{Gains, Refuses, SinkTells, Told, WireTells, sink_tells, told}
-use Rattle.rx_wire_loop.specs.Texts.{event_line, lines}
+use Rattle.rx_wire_loop.specs.Tells.{Gains, SinkTells, Told, WireTells, outside, sink_tells, told}
+use Rattle.rx_wire_loop.specs.Texts.{event_line, lines, noted_line}
 use Rattle.rx_wire_loop.proofs.Lineless.{pass_lineless, play_lineless}
 use Rattle.rx_wire_loop.proofs.Placing.{behind_both}
-use Rattle.rx_wire_loop.proofs.Telling.{breaks_behind, gained_none, gains_both, gains_none, lines_both, logged_none}
+use Rattle.rx_wire_loop.proofs.Telling.{breaks_behind, gained_none, gains_both, gains_none, lines_both}
 use Rattle.rx_wire_loop.proofs.Telling.{refuses_behind}
-use Rattle.rx_wire_loop.proofs.Turning.{still}
+use Rattle.rx_wire_loop.proofs.Driven.{plays_turn, turns}
+use Rattle.rx_wire_loop.proofs.Measure.{turn_few}
 
 -- ---- what the calls of a caller are
 
@@ -65,119 +66,140 @@ asked_quiet a (events.Cancelled d code got) is = (refl, λ m. refl)
 asked_quiet a (events.Taken from bytes got) is = (refl, λ m. refl)
 asked_quiet a (events.Polled got) is = (refl, λ m. refl)
 
-heard_node : (v : CallerState) (e : Event) → (heard v e).node ≡ v.node
-heard_node v (events.Linked to service first got) = refl
-heard_node v (events.Called cid got) = refl
-heard_node v (events.Wrote d offered got bytes) = refl
-heard_node v (events.Shut d got) = refl
-heard_node v (events.HasRead d max (readers.Client got) bytes) = refl
-heard_node v (events.HasRead d max (readers.Server got) bytes) = refl
-heard_node v (events.Ended d got) = refl
-heard_node v (events.Cancelled d code got) = refl
-heard_node v (events.Accepted got) = refl
-heard_node v (events.Finished d code got) = refl
-heard_node v (events.Taken from bytes got) = refl
-heard_node v (events.Polled got) = refl
-heard_node v (events.Clocked now) = refl
-
 pub lines_quiet : (limit : ℕ) (v w : CallerState) (es : List Event) → Runs (calling limit) v es w → lines es ≡ []
 lines_quiet limit v w es (stays at) = refl
 lines_quiet limit v w es (goes at a e rest to asked is more) =
     ap (λ (xs : List ℕ). xs ++ lines rest) (asked_quiet a e is).0 ∙ lines_quiet limit (heard at e) to rest more
 
-pub node_kept : (limit : ℕ) (v w : CallerState) (es : List Event) → Runs (calling limit) v es w → w.node ≡ v.node
-node_kept limit v w es (stays at) = refl
-node_kept limit v w es (goes at a e rest to asked is more) =
-    node_kept limit (heard at e) to rest more ∙ heard_node at e
-
 front_none : (xs ys : List ℕ) → xs ++ ys ≡ [] → xs ≡ []
 front_none [] ys none = refl
 front_none (x ∷ xs) ys none = absurd (cc (none))
 
--- a turn that ends passes for a refused note stopped for one
-pub unnoted_for : (fault : CallerFault) → stop_for fault ≡ stops.Unnoted → fault ≡ faults.Unnoted
-unnoted_for faults.OutOfMemory is = absurd (cc (is))
-unnoted_for faults.Unnoted is = refl
+back_none : (xs ys : List ℕ) → xs ++ ys ≡ [] → ys ≡ []
+back_none [] ys none = none
+back_none (x ∷ xs) ys none = absurd (cc (none))
+
+-- no sink failed that is the same behind
+no_rise : HasRisen 0 0 → ⊥
+no_rise (inl low) = search rules
+no_rise (inr most) = search rules
 
 -- ---- its turns
 
-module _ (n : ℕ) (s : Setup) (v w : CallerState) (s0 s1 : List Event → Type 0) (before after : Option (List Noted))
-    (sink : SinkTells) (wire : WireTells) where
-  -- a turn that is over
-  pub call_turned : Turned (calling REPLY_BYTES) n (begun v) w s0 s1 before after
-      → Plays (change n s s0 s1 (told before sink wire) (told after sink wire)) (calls v) (λ u. u ≡ w) None
-  call_turned x p at =
-      record {
-        events = x.events;
-        log = [];
-        came = To w;
-        made = (refl, x.turns);
-        standing = x.standing p.history at.standing;
-        fits = (
-          refl,
-          record {
-            noted = x.noting;
-            put = subst (λ (xs : List ℕ). Gained sink.put sink.put xs)
-                (sym (lines_quiet REPLY_BYTES (begun v) w x.events x.turns.runs)) (gained_none sink.put);
-            log = logged_none wire.traffic;
-            puts = refl;
-            calls = refl;
-          },
-          record {
-            standing = x.standing p.history at.standing;
-            now = at.now;
-            later = subst (λ (t : ℕ). t ≤ p.now)
-                (sym (still (calling REPLY_BYTES) s p.history (begun v) w x.events (λ a e is. (asked_quiet a e is).1)
-                x.turns.runs)) at.later;
-          },
-        );
-      }
+module _ (s : Setup) (v w : CallerState) (s0 s1 : List Event → Type 0) (before after : Option (List Noted))
+    (wire : WireTells) (sink : SinkTells) where
+  abbrev no_sink : SinkTells
+  no_sink = sink_tells None 0
+
+  abbrev first : Program CallerState Asking
+  first = calling REPLY_BYTES
+
+  abbrev moved : SinkTells → Change
+  moved k = change 1 s s0 s1 (told before k wire) (told after k wire)
+
+  abbrev Passed : Option Stop → Place → Type 0
+  Passed stop p = Ran (moved sink) (calls v) (λ u. u ≡ w) stop p
 
   quietly : (es : List Event) → lines es ≡ [] → Gained sink.put sink.put (lines es)
   quietly es quiet = subst (λ (xs : List ℕ). Gained sink.put sink.put xs) (sym quiet) (gained_none sink.put)
 
-  -- all its events were noted, and no line put
-  quiet_gains : (es : List Event) → HasNotedAll before after n es → lines es ≡ []
-      → Gains n (told before sink wire) (told after sink wire) es []
-  quiet_gains es all quiet =
-      record { noted = all; put = quietly es quiet; log = logged_none wire.traffic; puts = refl; calls = refl }
+  -- what was noted, whatever a sink has
+  gains_any : (es : List Event) (ls : List Logged) → lines es ≡ []
+      → Gains 1 (told before no_sink wire) (told after no_sink wire) es ls
+      → Gains 1 (told before sink wire) (told after sink wire) es ls
+  gains_any es ls quiet g =
+      record { noted = g.noted; put = quietly es quiet; log = g.log; puts = refl; calls = g.calls }
 
-  -- or all but the last, whose note was refused
-  quiet_refuses : (es : List Event) → HasNotedButLast before after n es → lines es ≡ []
-      → Refuses n (told before sink wire) (told after sink wire) es []
-  quiet_refuses es most quiet =
-      record {
-        early = most.front;
-        last = most.last;
-        are = most.are;
-        gains = quiet_gains most.front most.noted_front
-            (front_none (lines most.front) (lines (most.last ∷ []))
-            (sym (lines_both most.front (most.last ∷ [])) ∙ sym (ap lines most.are) ∙ quiet));
-      }
+  -- the lines of all events but the last, and of the last
+  lines_last : (es early : List Event) (last : Event) → es ≡ early ++ last ∷ [] → lines es ≡ []
+      → lines early ++ lines (last ∷ []) ≡ []
+  lines_last es early last are quiet = sym (lines_both early (last ∷ [])) ∙ sym (ap lines are) ∙ quiet
 
-  -- it stops early
-  pub call_stopped_at : (shows : CallerState → Type 0) (fault : CallerFault)
-      → CallerStops REPLY_BYTES n (begun v) w s0 s1 before after fault
-      → Plays (change n s s0 s1 (told before sink wire) (told after sink wire)) (calls v) shows
-      (Some (stop_for fault))
-  call_stopped_at shows faults.OutOfMemory (x, wants) p at =
+  -- passes end in a turn
+  call_cut : (few : length v.offering < 2 ^ 63) (p : Place) (es : List Event) (ls : List Logged) (stop : Stop)
+      → turns first (CallerWants REPLY_BYTES) (begun v) p es ls (Cut stop) → Stops (moved no_sink) es ls stop
+      → (Legal s p.history → Legal s (behind es ls p).history) → Passed (Some stop) p
+  call_cut few p es ls stops.OutOfMemory (none, (u, runs, want)) told legal =
       record {
-        events = x.events;
-        log = [];
+        events = es;
+        log = ls;
         came = Cut stops.OutOfMemory;
-        made = (refl, (w, x.runs, wants));
-        standing = x.standing p.history at.standing;
-        fits = (refl, quiet_gains x.events x.noting (lines_quiet REPLY_BYTES (begun v) w x.events x.runs));
+        made = (none, (u, runs, want));
+        legal = legal;
+        fits = (refl, gains_any es ls (lines_quiet REPLY_BYTES (begun v) u es runs) told);
       }
-  call_stopped_at shows faults.Unnoted x p at =
+  call_cut few p es ls stops.Unnoted (none, (u, runs, any)) told legal =
       record {
-        events = x.events;
-        log = [];
+        events = es;
+        log = ls;
         came = Cut stops.Unnoted;
-        made = (refl, (w, x.runs, tt));
-        standing = x.standing p.history at.standing;
-        fits = (refl, quiet_refuses x.events x.noting (lines_quiet REPLY_BYTES (begun v) w x.events x.runs));
+        made = (none, (u, runs, tt));
+        legal = legal;
+        fits = (
+          refl,
+          record {
+            early = told.early;
+            last = told.last;
+            are = told.are;
+            gains = gains_any told.early ls
+                (front_none (lines told.early) (lines (told.last ∷ []))
+                (lines_last es told.early told.last told.are (lines_quiet REPLY_BYTES (begun v) u es runs)))
+                told.gains;
+          },
+        );
       }
+  call_cut few p es ls stops.SinkFault made told legal = absurd (no_rise told.puts)
+  call_cut few p es ls stops.Unformatted (none, (u, runs, any)) told legal =
+      absurd (told.lined (sym (append-nil (event_line told.last))
+      ∙ back_none (lines told.early) (lines (told.last ∷ []))
+      (lines_last es told.early told.last told.are (lines_quiet REPLY_BYTES (begun v) u es runs))))
+  call_cut few p es ls stops.Endless (none, (u, runs, long)) told legal =
+      absurd (let low : length es < 2 ^ 64 - 1 = turn_few v u es few runs in omega (arith, low, long))
+  call_cut few p es ls stops.WireFault (none, (u, runs, never)) told legal = absurd never
+
+  -- a turn of a caller that was made and told, whatever a sink has
+  call_any : (stop : Option Stop) → length v.offering < 2 ^ 63
+      → Plays (moved no_sink) (turns first (CallerWants REPLY_BYTES) (begun v)) (λ u. u ≡ w) stop
+      → Plays (moved sink) (calls v) (λ u. u ≡ w) stop
+  call_any stop few plays p at = of r.events r.log r.came stop r.made r.fits r.legal
+    where
+      r : Ran (moved no_sink) (turns first (CallerWants REPLY_BYTES) (begun v)) (λ u. u ≡ w) stop p
+      r = plays p (record { standing = at.standing; now = at.now; later = at.later })
+
+      of : (es : List Event) (ls : List Logged) (came : Came CallerState) (why : Option Stop)
+          → turns first (CallerWants REPLY_BYTES) (begun v) p es ls came
+          → Fits (moved no_sink) (λ u. u ≡ w) p es ls came why
+          → (Legal s p.history → Legal s (behind es ls p).history) → Passed why p
+      of es ls (To u) None made (is, told, there) legal =
+          record {
+            events = es;
+            log = ls;
+            came = To u;
+            made = made;
+            legal = legal;
+            fits = (
+              is,
+              gains_any es ls (lines_quiet REPLY_BYTES (begun v) u es made.1.runs) told,
+              record { standing = there.standing; now = there.now; later = there.later },
+            );
+          }
+      of es ls (To u) (Some why) made fits legal = absurd fits
+      of es ls (Cut why) None made fits legal = absurd fits
+      of es ls (Cut why) (Some end) made fits legal =
+          subst (λ (k : Stop). Passed (Some k) p) fits.0
+          (call_cut few p es ls why made
+          (subst (λ (k : Stop). Stops (moved no_sink) es ls k) (sym fits.0) fits.1) legal)
+
+  -- what was driven of a turn of a caller
+  pub call_driven : (stop : Option Stop) → length v.offering < 2 ^ 63
+      → ((h : List Event) → s0 h
+      → driven.Ran noted_line (turn (node_stages s) first (CallerWants REPLY_BYTES) 1 (begun v) h)
+      (λ r. (r.0 ≡ w) × s1 r.1) stop (outside before no_sink) (outside after no_sink))
+      → Plays (moved sink) (calls v) (λ u. u ≡ w) stop
+  call_driven stop few ran =
+      call_any stop few
+      (plays_turn first 1 s (CallerWants REPLY_BYTES) (begun v) w s0 s1 (outside before no_sink)
+      (outside after no_sink) wire (λ a e is. (asked_quiet a e is).1) stop ran)
 
 -- ---- its passes, so far
 
@@ -195,11 +217,6 @@ pub call_so_none : (t : CallTerms) (v : CallerState) (p : Place) (stands : List 
 call_so_none t v p stands before at =
     record { events = []; log = []; passed = passed_none; told = gains_none 1 before; at = at }
 
--- no sink failed that is the same behind
-no_rise : HasRisen 0 0 → ⊥
-no_rise (inl low) = search rules
-no_rise (inr most) = search rules
-
 module _ (t : CallTerms) (v : CallerState) (p : Place) (n : ℕ) (w : CallerState) (s1 s2 : List Event → Type 0)
     (n0 nb na : Option (List Noted)) (w0 wb wa : WireTells)
     (x : (sink : SinkTells) → CallSoFar t v p n w s1 (told n0 sink w0) (told nb sink wb)) where
@@ -209,7 +226,7 @@ module _ (t : CallTerms) (v : CallerState) (p : Place) (n : ℕ) (w : CallerStat
   abbrev here : SinkTells → Place
   here sink = behind (x sink).events (x sink).log p
 
-  abbrev moves : SinkTells → Rattle.rx_wire_loop.specs.Runs.Change
+  abbrev moves : SinkTells → Change
   moves sink = change 1 t.setup s1 s2 (told nb sink wb) (told na sink wa)
 
   -- one pass more
@@ -239,12 +256,12 @@ module _ (t : CallTerms) (v : CallerState) (p : Place) (n : ℕ) (w : CallerStat
       of (Cut why) made fits = absurd fits
 
   -- a history with more events is legal
-  legal_behind : (sink : SinkTells) (es : List Event) → ((h : List Event) → s2 h → Legal t.setup h)
-      → s2 (after_all es (after_all (x sink).events p.history))
+  legal_behind : (sink : SinkTells) (es : List Event) → ((h : List Event) → s1 h → Legal t.setup h)
+      → (Legal t.setup (here sink).history → Legal t.setup (after_all es (here sink).history))
       → Legal t.setup (after_all ((x sink).events ++ es) p.history)
-  legal_behind sink es law stands =
+  legal_behind sink es law with_them =
       subst (λ (h : List Event). Legal t.setup h) (sym (after_all-append (x sink).events es p.history))
-      (law (after_all es (after_all (x sink).events p.history)) stands)
+      (with_them (law (here sink).history (x sink).at.standing))
 
   -- what was told where passes ended behind those so far
   stopped_ends : (sink : SinkTells) (es : List Event) (ls : List Logged) (stop : Stop)
@@ -290,7 +307,7 @@ module _ (t : CallTerms) (v : CallerState) (p : Place) (n : ℕ) (w : CallerStat
   -- passes ended in one of them
   pub call_stopped : (shows : CallerState → Type 0) (stop : Stop)
       → ((sink : SinkTells) → Plays (moves sink) whole_pass shows (Some stop)) → n < t.turns
-      → ((h : List Event) → s2 h → Legal t.setup h) → (sink : SinkTells)
+      → ((h : List Event) → s1 h → Legal t.setup h) → (sink : SinkTells)
       → CallMade t v p (Err stop) (told n0 sink w0) (told na sink wa)
   call_stopped shows stop plays low law sink = of r.came r.made r.fits
     where
@@ -308,7 +325,7 @@ module _ (t : CallTerms) (v : CallerState) (p : Place) (n : ℕ) (w : CallerStat
             came = IsCut stop;
             calls = calls_cut stop n (x sink).events r.events (x sink).log r.log w low (x sink).passed
                 (subst (λ (k : Stop). whole_pass (here sink) r.events r.log (Cut k)) fits.0 made);
-            legal = legal_behind sink r.events law r.standing;
+            legal = legal_behind sink r.events law r.legal;
             ends = stopped_ends sink r.events r.log stop (sinks_hold whole_pass shows stop plays)
                 (λ is. pass_lineless t.most t.setup None w (here sink) r.events r.log
                 (subst (λ (k : Stop). whole_pass (here sink) r.events r.log (Cut k)) (fits.0 ∙ is) made)) fits.1;
@@ -317,7 +334,7 @@ module _ (t : CallTerms) (v : CallerState) (p : Place) (n : ℕ) (w : CallerStat
   -- passes ended in the last one
   pub call_stopped_last : (shows : CallerState → Type 0) (stop : Stop)
       → ((sink : SinkTells) → Plays (moves sink) (call_play t w) shows (Some stop)) → n ≡ t.turns
-      → ((h : List Event) → s2 h → Legal t.setup h) → (sink : SinkTells)
+      → ((h : List Event) → s1 h → Legal t.setup h) → (sink : SinkTells)
       → CallMade t v p (Err stop) (told n0 sink w0) (told na sink wa)
   call_stopped_last shows stop plays all law sink = of r.came r.made r.fits
     where
@@ -336,7 +353,7 @@ module _ (t : CallTerms) (v : CallerState) (p : Place) (n : ℕ) (w : CallerStat
             calls = calls_cut_last stop (x sink).events r.events (x sink).log r.log w
                 (subst (λ (k : ℕ). CallPassed t v p k (x sink).events (x sink).log w) all (x sink).passed)
                 (subst (λ (k : Stop). call_play t w (here sink) r.events r.log (Cut k)) fits.0 made);
-            legal = legal_behind sink r.events law r.standing;
+            legal = legal_behind sink r.events law r.legal;
             ends = stopped_ends sink r.events r.log stop (sinks_hold (call_play t w) shows stop plays)
                 (λ is. play_lineless t.most w (here sink) r.events r.log
                 (subst (λ (k : Stop). call_play t w (here sink) r.events r.log (Cut k)) (fits.0 ∙ is) made)) fits.1;
@@ -344,7 +361,7 @@ module _ (t : CallTerms) (v : CallerState) (p : Place) (n : ℕ) (w : CallerStat
 
   -- the call ended in a pass
   pub call_ended : (next : CallerState) (sink : SinkTells) → Plays (moves sink) (call_play t w) (λ u. u ≡ next) None
-      → n ≤ t.turns → is_some next.end ≡ true → ((h : List Event) → s2 h → Legal t.setup h)
+      → n ≤ t.turns → is_some next.end ≡ true → ((h : List Event) → s1 h → Legal t.setup h)
       → CallMade t v p (Ok (call_ends.Ended next)) (told n0 sink w0) (told na sink wa)
   call_ended next sink plays low done law = of r.came r.made r.fits
     where
@@ -361,7 +378,7 @@ module _ (t : CallTerms) (v : CallerState) (p : Place) (n : ℕ) (w : CallerStat
             came = IsEnded u;
             calls = calls_ended n (x sink).events r.events (x sink).log r.log w u low (x sink).passed made
                 (subst (λ (k : CallerState). is_some k.end ≡ true) (sym is) done);
-            legal = legal_behind sink r.events law r.standing;
+            legal = legal_behind sink r.events law r.legal;
             ends = (
               sym is,
               gains_both 1 (told n0 sink w0) (told nb sink wb) (told na sink wa) (x sink).events r.events
@@ -372,7 +389,7 @@ module _ (t : CallTerms) (v : CallerState) (p : Place) (n : ℕ) (w : CallerStat
 
   -- all takes were made: the last pass was made up to its take
   pub call_spent : (next : CallerState) (sink : SinkTells) → Plays (moves sink) (call_play t w) (λ u. u ≡ next) None
-      → n ≡ t.turns → next.end ≡ None → ((h : List Event) → s2 h → Legal t.setup h)
+      → n ≡ t.turns → next.end ≡ None → ((h : List Event) → s1 h → Legal t.setup h)
       → CallMade t v p (Ok call_ends.TurnsSpent) (told n0 sink w0) (told na sink wa)
   call_spent next sink plays all unended law = of r.came r.made r.fits
     where
@@ -390,7 +407,7 @@ module _ (t : CallTerms) (v : CallerState) (p : Place) (n : ℕ) (w : CallerStat
             calls = calls_spent (x sink).events r.events (x sink).log r.log w u
                 (subst (λ (k : ℕ). CallPassed t v p k (x sink).events (x sink).log w) all (x sink).passed) made
                 (subst (λ (k : CallerState). k.end ≡ None) (sym is) unended);
-            legal = legal_behind sink r.events law r.standing;
+            legal = legal_behind sink r.events law r.legal;
             ends = gains_both 1 (told n0 sink w0) (told nb sink wb) (told na sink wa) (x sink).events r.events
                 (x sink).log r.log (x sink).told gained;
           }

@@ -7,9 +7,9 @@ use Rattle.rx_model.specs.declared.event.Noted.{Noted}
 use Rattle.rx_rules.specs.Setup.{Setup}
 use Rattle.rx_wire.specs.Journal.{HasNoted}
 use Rattle.rx_wire.specs.Turns.{noted}
-use Rattle.rx_wire_loop.specs.declared.stop.Stop.{Stop}
-use Rattle.rx_wire_loop.specs.declared.stop.Stop.TheVariants as stops
-use Rattle.rx_wire_loop.specs.Nodes.{Answers}
+use Rattle.rx_drive.specs.declared.stop.Stop.{Stop}
+use Rattle.rx_drive.specs.declared.stop.Stop.TheVariants as stops
+use Rattle.rx_drive.specs.Nodes.{Answers}
 use Rattle.rx_wire_loop.specs.Parts.{Came, Place, To, Cut, makes, refuses}
 use Rattle.rx_wire_loop.specs.Ports.{NotesOne, clocks}
 use Rattle.rx_wire_loop.specs.Runs.{IsAt, Plays, change}

@@ -10,8 +10,8 @@ use Rattle.rx_model.specs.declared.names.Host.{Host}
 use Rattle.rx_model.specs.Names.{same_host}
 use Rattle.rx_model.proofs.NameLaws.{both, host_is}
 use Rattle.rx_wire.specs.Wire.{GaveTo, Traffic}
-use Rattle.rx_wire_loop.specs.declared.stop.Stop.{Stop}
-use Rattle.rx_wire_loop.specs.declared.stop.Stop.TheVariants as stops
+use Rattle.rx_drive.specs.declared.stop.Stop.{Stop}
+use Rattle.rx_drive.specs.declared.stop.Stop.TheVariants as stops
 use Rattle.rx_wire_loop.specs.Ports.{Empties, GivesOne, IsWithin, Keeps, Offered, Passes, all_for, as_one, gave_all}
 use Rattle.rx_wire_loop.specs.Ports.{held, parts_all, split}
 use Rattle.rx_wire_loop.specs.Tells.{HasLoggedAll, WireTells}

@@ -10,8 +10,9 @@ pub mod Giving
 pub mod Unjoinable
 pub mod Polling
 pub mod Single
-pub mod Turning
-pub mod Dispatching
+pub mod Outer
+pub mod Measure
+pub mod Driven
 pub mod Passing
 pub mod Bringing
 pub mod Driving

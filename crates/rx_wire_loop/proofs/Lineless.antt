@@ -7,7 +7,7 @@ use Rattle.rx_model.specs.declared.names.Host.{Host}
 use Rattle.rx_rules.specs.Setup.{Setup}
 use Rattle.rx_wire.specs.Wire.{Came as Arrived, Logged}
 use Rattle.rx_wire_loop.specs.Calls.{calls}
-use Rattle.rx_wire_loop.specs.declared.stop.Stop.TheVariants as stops
+use Rattle.rx_drive.specs.declared.stop.Stop.TheVariants as stops
 use Rattle.rx_wire_loop.specs.Parts.{Came, Cut, One, Part, Place, Then, To, behind, ends, goes_on, makes, refuses}
 use Rattle.rx_wire_loop.specs.Ports.{clocks, polls, takes, takes_came, takes_parts, until_of, waits}
 use Rattle.rx_wire_loop.specs.Serves.{pass, plays}

@@ -10,8 +10,8 @@ use Rattle.rx_rules.specs.Setup.{Setup}
 use Rattle.rx_wire.specs.Journal.{HasNoted}
 use Rattle.rx_wire.specs.Turns.{noted}
 use Rattle.rx_wire.proofs.TurnLaws.{HasNotedAll-one}
-use Rattle.rx_wire_loop.specs.declared.stop.Stop.TheVariants as stops
-use Rattle.rx_wire_loop.specs.Nodes.{Answers}
+use Rattle.rx_drive.specs.declared.stop.Stop.TheVariants as stops
+use Rattle.rx_drive.specs.Nodes.{Answers}
 use Rattle.rx_wire_loop.specs.Parts.{Cut, Part, Place, To}
 use Rattle.rx_wire_loop.specs.Runs.{IsAt, Plays, change}
 use Rattle.rx_wire_loop.specs.Tells.{Gains, Refuses, SinkTells, WireTells, told}
@@ -60,7 +60,7 @@ module _ (n : ℕ) (s : Setup) (s0 s1 : List Event → Type 0) (book after : Opt
         log = [];
         came = To x;
         made = m.0;
-        standing = (answers p.history at.standing).1;
+        legal = λ is. ((answers p.history at.standing).0, is);
         fits = (
           there,
           noted_gains one,
@@ -83,6 +83,6 @@ module _ (n : ℕ) (s : Setup) (s0 s1 : List Event → Type 0) (book after : Opt
         log = [];
         came = Cut stops.Unnoted;
         made = made p at;
-        standing = (answers p.history at.standing).1;
+        legal = λ is. ((answers p.history at.standing).0, is);
         fits = (refl, note_refused same);
       }

@@ -14,8 +14,8 @@ use Rattle.xdr_value.specs.declared.interface.Interface.{Interface}
 use Rattle.rx_wire.specs.Turns.{after_all}
 use Rattle.rx_wire.proofs.TurnLaws.{after_all-append}
 use Rattle.rx_wire_loop.specs.declared.serving.ServeEnd.TheVariants as serve_ends
-use Rattle.rx_wire_loop.specs.declared.stop.Stop.{Stop}
-use Rattle.rx_wire_loop.specs.declared.stop.Stop.TheVariants as stops
+use Rattle.rx_drive.specs.declared.stop.Stop.{Stop}
+use Rattle.rx_drive.specs.declared.stop.Stop.TheVariants as stops
 use Rattle.rx_wire_loop.specs.Lines.{PutsLine, PutsText}
 use Rattle.rx_wire_loop.specs.Parts.{Came, Cut, Part, Place, Then, To, behind, ends}
 use Rattle.rx_wire_loop.specs.Ports.{clocks, polls, takes, takes_until, until_of}
@@ -176,16 +176,17 @@ module _ (t : Terms) (p : Place) (n : ℕ) (jobs next : List JobState) (s1 s2 : 
   stopped_ends es ls stops.Endless told = gains_both 0 before mid after x.events es x.log ls x.told told
 
   -- a history with more events is legal
-  legal_behind : (es : List Event) → ((h : List Event) → s2 h → Legal t.setup h)
-      → s2 (after_all es (after_all x.events p.history)) → Legal t.setup (after_all (x.events ++ es) p.history)
-  legal_behind es law stands =
+  legal_behind : (es : List Event) → ((h : List Event) → s1 h → Legal t.setup h)
+      → (Legal t.setup here.history → Legal t.setup (after_all es here.history))
+      → Legal t.setup (after_all (x.events ++ es) p.history)
+  legal_behind es law with_them =
       subst (λ (h : List Event). Legal t.setup h) (sym (after_all-append x.events es p.history))
-      (law (after_all es (after_all x.events p.history)) stands)
+      (with_them (law here.history x.at.standing))
 
   -- passes ended in one of them
   pub serving_stopped : (shows : List JobState → Type 0) (stop : Stop)
       → Plays (change 0 t.setup s1 s2 mid after) whole_pass shows (Some stop) → n < t.turns
-      → ((h : List Event) → s2 h → Legal t.setup h) → Serving t p (Err stop) before after
+      → ((h : List Event) → s1 h → Legal t.setup h) → Serving t p (Err stop) before after
   serving_stopped shows stop plays low law = of r.came r.made r.fits
     where
       r : Ran (change 0 t.setup s1 s2 mid after) whole_pass shows (Some stop) here
@@ -202,13 +203,13 @@ module _ (t : Terms) (p : Place) (n : ℕ) (jobs next : List JobState) (s1 s2 : 
             came = IsCut stop;
             serves = serves_cut stop n x.events r.events x.log r.log jobs low x.passed
                 (subst (λ (k : Stop). whole_pass here r.events r.log (Cut k)) fits.0 made);
-            legal = legal_behind r.events law r.standing;
+            legal = legal_behind r.events law r.legal;
             ends = stopped_ends r.events r.log stop fits.1;
           }
 
   -- the last of them came to the end
   pub serving_up : Plays (change 0 t.setup s1 s2 mid after) whole_pass (λ js. js ≡ next) None → n < t.turns
-      → t.until ≤ after.wire.moment → ((h : List Event) → s2 h → Legal t.setup h) → (last : SinkTells)
+      → t.until ≤ after.wire.moment → ((h : List Event) → s1 h → Legal t.setup h) → (last : SinkTells)
       → PutsText after.sink last time_up_line None
       → Serving t p (Ok serve_ends.TimeUp) before (told after.noted last after.wire)
   serving_up plays low late law last puts = of r.came r.made r.fits
@@ -228,7 +229,7 @@ module _ (t : Terms) (p : Place) (n : ℕ) (jobs next : List JobState) (s1 s2 : 
             serves = serves_up n x.events r.events x.log r.log jobs js low x.passed made
                 (subst (λ (q : Place). t.until ≤ q.now) (sym (behind_both x.events r.events x.log r.log p))
                 (subst (λ (m : ℕ). t.until ≤ m) (sym there.now) late));
-            legal = legal_behind r.events law r.standing;
+            legal = legal_behind r.events law r.legal;
             ends = record {
               noted = all.noted;
               put = gained_both before.sink.put after.sink.put last.put (lines (x.events ++ r.events)) time_up_line
@@ -243,7 +244,7 @@ module _ (t : Terms) (p : Place) (n : ℕ) (jobs next : List JobState) (s1 s2 : 
 
   -- the sink failed as that was put
   pub serving_up_failed : Plays (change 0 t.setup s1 s2 mid after) whole_pass (λ js. js ≡ next) None → n < t.turns
-      → t.until ≤ after.wire.moment → ((h : List Event) → s2 h → Legal t.setup h) → (last : SinkTells) (stop : Stop)
+      → t.until ≤ after.wire.moment → ((h : List Event) → s1 h → Legal t.setup h) → (last : SinkTells) (stop : Stop)
       → PutsText after.sink last time_up_line (Some stop)
       → Serving t p (Err stop) before (told after.noted last after.wire)
   serving_up_failed plays low late law last stops.SinkFault puts = of r.came r.made r.fits
@@ -263,7 +264,7 @@ module _ (t : Terms) (p : Place) (n : ℕ) (jobs next : List JobState) (s1 s2 : 
             serves = serves_up n x.events r.events x.log r.log jobs js low x.passed made
                 (subst (λ (q : Place). t.until ≤ q.now) (sym (behind_both x.events r.events x.log r.log p))
                 (subst (λ (m : ℕ). t.until ≤ m) (sym there.now) late));
-            legal = legal_behind r.events law r.standing;
+            legal = legal_behind r.events law r.legal;
             ends = record {
               noted = all.noted;
               between = after.sink.put;
@@ -283,7 +284,7 @@ module _ (t : Terms) (p : Place) (n : ℕ) (jobs next : List JobState) (s1 s2 : 
 
   -- all takes were made: the last pass was made up to its take
   pub serving_spent : Plays (change 0 t.setup s1 s2 mid after) (serve_play t jobs) (λ js. js ≡ next) None
-      → n ≡ t.turns → ((h : List Event) → s2 h → Legal t.setup h)
+      → n ≡ t.turns → ((h : List Event) → s1 h → Legal t.setup h)
       → Serving t p (Ok serve_ends.TurnsSpent) before after
   serving_spent plays all law = of r.came r.made r.fits
     where
@@ -300,7 +301,7 @@ module _ (t : Terms) (p : Place) (n : ℕ) (jobs next : List JobState) (s1 s2 : 
             came = IsSpent;
             serves = serves_spent x.events r.events x.log r.log jobs js
                 (subst (λ (k : ℕ). ServePassed t p k x.events x.log jobs) all x.passed) made;
-            legal = legal_behind r.events law r.standing;
+            legal = legal_behind r.events law r.legal;
             ends = gains_both 0 before mid after x.events r.events x.log r.log x.told gained;
           }
       of (Cut why) made fits = absurd fits
@@ -308,7 +309,7 @@ module _ (t : Terms) (p : Place) (n : ℕ) (jobs next : List JobState) (s1 s2 : 
   -- passes ended in the last one
   pub serving_stopped_last : (shows : List JobState → Type 0) (stop : Stop)
       → Plays (change 0 t.setup s1 s2 mid after) (serve_play t jobs) shows (Some stop) → n ≡ t.turns
-      → ((h : List Event) → s2 h → Legal t.setup h) → Serving t p (Err stop) before after
+      → ((h : List Event) → s1 h → Legal t.setup h) → Serving t p (Err stop) before after
   serving_stopped_last shows stop plays all law = of r.came r.made r.fits
     where
       r : Ran (change 0 t.setup s1 s2 mid after) (serve_play t jobs) shows (Some stop) here
@@ -326,7 +327,7 @@ module _ (t : Terms) (p : Place) (n : ℕ) (jobs next : List JobState) (s1 s2 : 
             serves = serves_cut_last stop x.events r.events x.log r.log jobs
                 (subst (λ (k : ℕ). ServePassed t p k x.events x.log jobs) all x.passed)
                 (subst (λ (k : Stop). serve_play t jobs here r.events r.log (Cut k)) fits.0 made);
-            legal = legal_behind r.events law r.standing;
+            legal = legal_behind r.events law r.legal;
             ends = stopped_ends r.events r.log stop fits.1;
           }
 
@@ -354,7 +355,7 @@ takes_known n m s s0 s1 a b until end stop number exact plays =
       log = r.log;
       came = r.came;
       made = subst (λ (u : ℕ). takes_until u p r.events r.log r.came) (exact p.history at.standing) r.made;
-      standing = r.standing;
+      legal = r.legal;
       fits = r.fits;
     }))
 

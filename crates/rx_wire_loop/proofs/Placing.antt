@@ -4,7 +4,8 @@ use Rattle.rx_model.specs.declared.event.Event.{Event}
 use Rattle.rx_wire.specs.Wire.{Logged}
 use Rattle.rx_wire.specs.Turns.{after_all}
 use Rattle.rx_wire.proofs.TurnLaws.{after_all-append}
-use Rattle.rx_wire_loop.specs.Parts.{Place, behind, moment_after, moment_by}
+use Rattle.rx_drive.specs.Tells.{moment_after, moment_by}
+use Rattle.rx_wire_loop.specs.Parts.{Place, behind}
 
 -- the moment behind two lists is that behind the second, where the first is behind it already
 pub moment_both : (ls ms : List Logged) (now : ℕ) → moment_after (ls ++ ms) now ≡ moment_after ms (moment_after ls now)

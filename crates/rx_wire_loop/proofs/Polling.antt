@@ -22,15 +22,17 @@ use Rattle.rx_model.specs.declared.wire.TheConstants.{DATAGRAM_BYTES}
 use Rattle.rx_rules.specs.Rules.{Legal}
 use Rattle.rx_rules.specs.Setup.{FitsSetup}
 use Rattle.std.specs.Prelude.{IfOk, map}
-use Rattle.rx_wire_loop.specs.declared.stop.Stop.{Stop}
-use Rattle.rx_wire_loop.specs.declared.stop.Stop.TheVariants as stops
-use Rattle.rx_wire_loop.specs.Nodes.{Answers}
-use Rattle.rx_wire_loop.specs.Parts.{Came, Cut, Part, Place, To, behind, moment_after}
+use Rattle.rx_drive.specs.declared.stop.Stop.{Stop}
+use Rattle.rx_drive.specs.declared.stop.Stop.TheVariants as stops
+use Rattle.rx_drive.specs.Nodes.{Answers}
+use Rattle.rx_drive.specs.Tells.{moment_after}
+use Rattle.rx_wire_loop.specs.Parts.{Came, Cut, Part, Place, To, behind}
 use Rattle.rx_wire_loop.specs.Ports.{AreUnjoinable, AreOfFew, CutsOne, CutsPolls, Empties, EndsAPoll, Gave, IsWithin}
 use Rattle.rx_wire_loop.specs.Ports.{NotesOne, Passes, PassesOn, PollsCut, PollsOne, PollsOut, PortsState, as_one}
 use Rattle.rx_wire_loop.specs.Ports.{gave_all}
 use Rattle.rx_wire_loop.specs.Ports.{held, parts_all, polled_all, polls, polls_once, split}
-use Rattle.rx_wire_loop.specs.Runs.{Fits, IsAt, IsBehind, Plays, Ran, change, stop_of}
+use Rattle.rx_drive.specs.Ran.{stop_of}
+use Rattle.rx_wire_loop.specs.Runs.{Fits, IsAt, IsBehind, Plays, Ran, change}
 use Rattle.rx_wire_loop.specs.Tells.{SinkTells, Told, WireTells, told}
 use Rattle.rx_wire_loop.proofs.Unjoinable.{unjoinable_front, unjoinable_last, unjoinable_offered, some_offered}
 use Rattle.rx_wire_loop.proofs.Giving.{gave_all_both, joined_last, joined_more, parts_all_both, some_last}
@@ -129,7 +131,7 @@ module _ (n : ℕ) (s : Setup) (s0 s1 : List Event → Type 0) (book after : Opt
             rest = passes.rest;
             few = passes.few;
           };
-          standing = (answers p.history at.standing).1;
+          legal = λ is. ((answers p.history at.standing).0, is);
           fits = (refl, gains_given passes.given one passes.gave, at_given passes.given p passes.gave at);
         }
 
@@ -143,7 +145,7 @@ module _ (n : ℕ) (s : Setup) (s0 s1 : List Event → Type 0) (book after : Opt
           log = [];
           came = Cut stops.Unnoted;
           made = inr (inl refl, (d, refl, refl));
-          standing = (answers p.history at.standing).1;
+          legal = λ is. ((answers p.history at.standing).0, is);
           fits = (
             refl,
             subst (λ (w : WireTells). Refuses n (told book sink first) (told after sink w) (e ∷ []) []) (sym wire)
@@ -162,7 +164,7 @@ module _ (n : ℕ) (s : Setup) (s0 s1 : List Event → Type 0) (book after : Opt
           log = gave_all passes.given;
           came = Cut stops.WireFault;
           made = inr (inr refl, (d, refl, ap gave_all passes.rest));
-          standing = (answers p.history at.standing).1;
+          legal = λ is. ((answers p.history at.standing).0, is);
           fits = (refl, breaks_given passes.given one passes.gave);
         }
 
@@ -231,7 +233,7 @@ polls_none n s stands t j none p at =
         first = λ empty. refl;
         within = none_within j none;
       };
-      standing = at.standing;
+      legal = λ is. is;
       fits = (tt, Rattle.rx_wire_loop.proofs.Telling.gains_none n t, at);
     }
 
@@ -390,7 +392,7 @@ module _ (n : ℕ) (s : Setup) (stands : List Event → Type 0) (book : Option (
         log = gave_all e.given;
         came = To tt;
         made = record { given = e.given; events = refl; log = refl; whole = e.rest.0; few = e.few };
-        standing = at.standing;
+        legal = λ is. is;
         fits = (
           tt,
           record {
@@ -409,7 +411,7 @@ module _ (n : ℕ) (s : Setup) (stands : List Event → Type 0) (book : Option (
         log = gave_all e.given;
         came = Cut stops.WireFault;
         made = (refl, e.rest.1, refl, ap gave_all e.rest.0);
-        standing = at.standing;
+        legal = λ is. is;
         fits = (
           refl,
           record {
@@ -567,7 +569,7 @@ module _ (n : ℕ) (s : Setup) (s0 s1 s2 : List Event → Type 0) (a b c : Told)
             log = r.log;
             came = Cut stops.Endless;
             made = made;
-            standing = r.standing;
+            legal = r.legal;
             fits = (refl, told);
           }
       of (Cut why) made fits = absurd fits

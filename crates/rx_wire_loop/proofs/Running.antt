@@ -5,13 +5,15 @@ use Rattle.std.specs.Prelude.{IsErrAnd}
 use Rattle.std.proofs.lemmas.List.{append-nil}
 use Rattle.rx_model.specs.declared.event.Event.{Event}
 use Rattle.rx_rules.specs.After.{looks}
+use Rattle.rx_rules.specs.Rules.{Legal}
 use Rattle.rx_rules.specs.Setup.{Setup}
 use Rattle.rx_wire.specs.Wire.{Logged}
 use Rattle.rx_wire.proofs.TurnLaws.{after_all-append}
-use Rattle.rx_wire_loop.specs.declared.stop.Stop.{Stop}
-use Rattle.rx_wire_loop.specs.declared.stop.Stop.TheVariants as stops
+use Rattle.rx_drive.specs.declared.stop.Stop.{Stop}
+use Rattle.rx_drive.specs.declared.stop.Stop.TheVariants as stops
 use Rattle.rx_wire_loop.specs.Parts.{Came, To, Cut, Part, Place, Then, behind, ends}
-use Rattle.rx_wire_loop.specs.Runs.{Fits, IsAt, IsBehind, Plays, Ran, Stops, change, stop_of}
+use Rattle.rx_drive.specs.Ran.{stop_of}
+use Rattle.rx_wire_loop.specs.Runs.{Fits, IsAt, IsBehind, Plays, Ran, Stops, change}
 use Rattle.rx_wire_loop.specs.Tells.{Gains, Told}
 use Rattle.rx_wire_loop.proofs.Placing.{behind_both}
 use Rattle.rx_wire_loop.proofs.Telling.{breaks_behind, fails_behind, gains_both, gains_none, refuses_behind}
@@ -28,7 +30,7 @@ plays_to n s stands t shows a there p at =
       log = [];
       came = To a;
       made = (refl, refl, refl);
-      standing = at.standing;
+      legal = λ is. is;
       fits = (there, gains_none n t, at);
     }
 
@@ -92,7 +94,8 @@ plays_join {A} {B} {D} n s s0 s1 s2 a b c first second third f shows after last 
               log = r.log ++ m.log;
               came = came;
               made = made_both;
-              standing = subst s2 (sym (after_all-append r.events m.events p.history)) m.standing;
+              legal = λ is. subst (λ (h : List Event). Legal s h)
+                  (sym (after_all-append r.events m.events p.history)) (m.legal (r.legal is));
               fits = fits_behind n s s0 s1 s2 a b c last p r.events m.events r.log m.log came why told fits;
             }
 
@@ -173,7 +176,7 @@ plays_stops {A} {B} n s s0 s1 a b first next shows after stop plays p at = of r.
             made = made;
             goes = (refl, refl, refl);
           };
-          standing = r.standing;
+          legal = r.legal;
           fits = fits;
         }
 
@@ -191,7 +194,7 @@ stops_any {A} n s s0 s1 a b part shows after stop plays p at = of r.came r.made 
         → Ran (change n s s0 s1 a b) part after (Some stop) p
     of (To x) made fits = absurd fits
     of (Cut why) made fits =
-        record { events = r.events; log = r.log; came = Cut why; made = made; standing = r.standing; fits = fits }
+        record { events = r.events; log = r.log; came = Cut why; made = made; legal = r.legal; fits = fits }
 
 -- the first was made whole and the second ended the passes, and both are a third part that was cut off
 pub plays_cut : {A B D : Type 0} (n : ℕ) (s : Setup) (s0 s1 s2 : List Event → Type 0) (a b c : Told) (first : Part A)
@@ -225,7 +228,7 @@ plays_as {A} {B} n s s0 s1 a b part other f shows after stop whole cut shown pla
     by : (came : Came B) (why : Option Stop) → other p r.events r.log came
         → Fits (change n s s0 s1 a b) after p r.events r.log came why → Ran (change n s s0 s1 a b) other after why p
     by came why made fits =
-        record { events = r.events; log = r.log; came = came; made = made; standing = r.standing; fits = fits }
+        record { events = r.events; log = r.log; came = came; made = made; legal = r.legal; fits = fits }
 
     of : (came : Came A) → part p r.events r.log came → (why : Option Stop)
         → Fits (change n s s0 s1 a b) shows p r.events r.log came why → Ran (change n s s0 s1 a b) other after why p

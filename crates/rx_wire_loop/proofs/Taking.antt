@@ -17,15 +17,15 @@ use Rattle.rx_wire.specs.Wire.{Came as Arrived, HasLogged, TookUntil, Traffic}
 use Rattle.rx_wire.specs.Journal.{HasNoted}
 use Rattle.rx_wire.specs.Turns.{noted}
 use Rattle.rx_wire.proofs.TurnLaws.{HasNotedAll-none}
-use Rattle.rx_wire_loop.specs.declared.stop.Stop.TheVariants as stops
-use Rattle.rx_wire_loop.specs.Nodes.{Answers}
+use Rattle.rx_drive.specs.declared.stop.Stop.TheVariants as stops
+use Rattle.rx_drive.specs.Nodes.{Answers}
 use Rattle.rx_wire_loop.specs.Parts.{Cut, Part, Then, To}
 use Rattle.rx_wire_loop.specs.Ports.{NotesOne, PortsState, TakesAll, TakesSome, takes_came, takes_parts, takes_until}
 use Rattle.rx_wire_loop.specs.Ports.{waits}
 use Rattle.rx_wire_loop.specs.Runs.{Plays, change}
 use Rattle.rx_wire_loop.specs.Tells.{HasLoggedAll, SinkTells, Told, WireTells, told, wire_tells}
 use Rattle.rx_wire_loop.proofs.Noting.{one_noted, one_refused}
-use Rattle.rx_wire_loop.specs.declared.stop.Stop.{Stop}
+use Rattle.rx_drive.specs.declared.stop.Stop.{Stop}
 use Rattle.rx_wire_loop.proofs.Running.{plays_at, plays_cut, plays_join, plays_stops, plays_then}
 use Rattle.rx_wire_loop.proofs.Telling.{gained_none, gains_none, logged_none, logged_one}
 
@@ -157,7 +157,7 @@ module _ (n : ℕ) (s : Setup) (stands : List Event → Type 0) (book : Option (
             reached = reached;
           },
         );
-        standing = at.standing;
+        legal = λ is. is;
         fits = (
           refl,
           record {
@@ -182,7 +182,7 @@ module _ (n : ℕ) (s : Setup) (stands : List Event → Type 0) (book : Option (
         log = [];
         came = Cut stops.WireFault;
         made = (refl, refl, refl);
-        standing = at.standing;
+        legal = λ is. is;
         fits = (
           refl,
           record {
@@ -204,7 +204,7 @@ nothing_came n s stands t p at =
       log = [];
       came = To tt;
       made = (refl, refl);
-      standing = at.standing;
+      legal = λ is. is;
       fits = (tt, gains_none n t, at);
     }
 
@@ -217,7 +217,7 @@ parts_none n s stands t from p at =
       log = [];
       came = To tt;
       made = (refl, refl);
-      standing = at.standing;
+      legal = λ is. is;
       fits = (tt, gains_none n t, at);
     }
 

@@ -17,8 +17,8 @@ use Rattle.rx_wire.specs.Turns.{Runs, Turns, after_all}
 use Rattle.rx_wire_loop.specs.declared.calling.CallEnd.{CallEnd}
 use Rattle.rx_wire_loop.specs.declared.calling.CallEnd.TheVariants as call_ends
 use Rattle.rx_wire_loop.specs.declared.calling.Calling.{Calling as Words}
-use Rattle.rx_wire_loop.specs.declared.stop.Stop.{Stop}
-use Rattle.rx_wire_loop.specs.declared.stop.Stop.TheVariants as stops
+use Rattle.rx_drive.specs.declared.stop.Stop.{Stop}
+use Rattle.rx_drive.specs.declared.stop.Stop.TheVariants as stops
 use Rattle.rx_wire_loop.specs.Parts.{To, Cut, One, Part, Place, Then, behind}
 use Rattle.rx_wire_loop.specs.Ports.{clocks, takes}
 use Rattle.rx_wire_loop.specs.Serves.{Passed, pass, plays}

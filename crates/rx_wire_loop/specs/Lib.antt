@@ -1,4 +1,3 @@
-pub mod Nodes
 pub mod Parts
 pub mod Tells
 pub mod Runs
@@ -7,6 +6,5 @@ pub mod Texts
 pub mod Lines
 pub mod Serves
 pub mod Serving
-pub mod Turned
 pub mod Calls
 pub mod ToldCalls

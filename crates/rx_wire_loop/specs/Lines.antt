@@ -1,8 +1,8 @@
 -- What was put of a line. Public clauses cite this module.
 use Rattle.std.specs.Prelude.{◌≡◌, ◌≢◌, ℕ, List, [], Option, Some, None}
 use Rattle.rx_base.specs.Sink.{Gained, GainedSome, HasRisen}
-use Rattle.rx_wire_loop.specs.declared.stop.Stop.{Stop}
-use Rattle.rx_wire_loop.specs.declared.stop.Stop.TheVariants as stops
+use Rattle.rx_drive.specs.declared.stop.Stop.{Stop}
+use Rattle.rx_drive.specs.declared.stop.Stop.TheVariants as stops
 use Rattle.rx_wire_loop.specs.Tells.{SinkTells}
 
 -- it was put whole; or there was no memory for its text; or the sink failed and has the first of its bytes; where it

@@ -2,10 +2,11 @@
 -- one on, and what it comes to. Public clauses cite this module.
 use Rattle.std.specs.Prelude.{◌≡◌, ℕ, List, [], ◌∷◌, ◌++◌}
 use Rattle.rx_model.specs.declared.event.Event.{Event}
-use Rattle.rx_wire.specs.Wire.{Logged, TookUntil, GaveTo}
+use Rattle.rx_wire.specs.Wire.{Logged}
 use Rattle.rx_wire.specs.Turns.{after_all}
-use Rattle.rx_wire_loop.specs.declared.stop.Stop.{Stop}
-use Rattle.rx_wire_loop.specs.declared.stop.Stop.TheVariants as stops
+use Rattle.rx_drive.specs.Tells.{moment_after}
+use Rattle.rx_drive.specs.declared.stop.Stop.{Stop}
+use Rattle.rx_drive.specs.declared.stop.Stop.TheVariants as stops
 
 -- ---- places
 
@@ -13,16 +14,6 @@ use Rattle.rx_wire_loop.specs.declared.stop.Stop.TheVariants as stops
 pub record Place : Type 0 where
   pub history : List Event
   pub now : ℕ
-
--- the moment behind an entry of the log: a take alone moves it
-abbrev pub moment_by : Logged → ℕ → ℕ
-moment_by (TookUntil room until came moment) now = moment
-moment_by (GaveTo to bytes) now = now
-
--- the moment behind these entries
-abbrev pub moment_after : List Logged → ℕ → ℕ
-moment_after [] now = now
-moment_after (l ∷ ls) now = moment_after ls (moment_by l now)
 
 -- the place behind these events and entries
 abbrev pub behind : List Event → List Logged → Place → Place

@@ -15,8 +15,8 @@ use Rattle.rx_model.specs.declared.event.Noted.{Noted}
 use Rattle.rx_wire.specs.Wire.{Came as Arrived, HasLogged, Logged, TookUntil, GaveTo}
 use Rattle.rx_wire.specs.Journal.{HasNoted}
 use Rattle.rx_wire.specs.Turns.{noted}
-use Rattle.rx_wire_loop.specs.declared.stop.Stop.{Stop}
-use Rattle.rx_wire_loop.specs.declared.stop.Stop.TheVariants as stops
+use Rattle.rx_drive.specs.declared.stop.Stop.{Stop}
+use Rattle.rx_drive.specs.declared.stop.Stop.TheVariants as stops
 use Rattle.rx_wire_loop.specs.Parts.{To, Cut, Part, Place, One, Then}
 use Rattle.rx_wire_loop.specs.Tells.{HasLoggedAll, WireTells}
 

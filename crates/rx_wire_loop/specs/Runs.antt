@@ -1,25 +1,14 @@
 -- What was made of a part, from what was told before it to what is told behind it. Public clauses cite this module.
-use Rattle.std.specs.Prelude.{◌≡◌, ◌≤◌, ℕ, List, Option, Some, None, Result, Ok, Err}
-use Rattle.rx_caller.specs.declared.fault.CallerFault.{CallerFault}
-use Rattle.rx_caller.specs.declared.fault.CallerFault.TheVariants as faults
+use Rattle.std.specs.Prelude.{◌≡◌, ◌≤◌, ℕ, List, Option, Some, None}
 use Rattle.rx_model.specs.declared.event.Event.{Event}
 use Rattle.rx_rules.specs.After.{looks}
+use Rattle.rx_rules.specs.Rules.{Legal}
 use Rattle.rx_rules.specs.Setup.{Setup}
 use Rattle.rx_wire.specs.Wire.{Logged}
-use Rattle.rx_wire_loop.specs.declared.stop.Stop.{Stop}
-use Rattle.rx_wire_loop.specs.declared.stop.Stop.TheVariants as stops
+use Rattle.rx_drive.specs.declared.stop.Stop.{Stop}
+use Rattle.rx_drive.specs.declared.stop.Stop.TheVariants as stops
 use Rattle.rx_wire_loop.specs.Parts.{Came, To, Cut, Part, Place, behind}
 use Rattle.rx_wire_loop.specs.Tells.{Breaks, Fails, Gains, Refuses, Told, Wants}
-
--- why a result ends passes, if it does
-abbrev pub stop_of : {T : Type 0} → Result T Stop → Option Stop
-stop_of (Ok t) = None
-stop_of (Err stop) = Some stop
-
--- why a turn of a caller that stopped early ends passes
-abbrev pub stop_for : CallerFault → Stop
-stop_for faults.OutOfMemory = stops.OutOfMemory
-stop_for faults.Unnoted = stops.Unnoted
 
 -- a node with its number, how it is set up, and for which histories it stood before and stands behind a part; and what
 -- was told before and behind it
@@ -64,15 +53,15 @@ Fits c shows p es ls (To a) (Some stop) = ⊥
 Fits c shows p es ls (Cut why) None = ⊥
 Fits c shows p es ls (Cut why) (Some stop) = (why ≡ stop) × Stops c es ls stop
 
--- events and entries that the part may make were made and told, the node stands for its history with them, and what was
--- come to is shown; or passes end as the part says
+-- events and entries that the part may make were made and told, a legal history is legal with them, and what was come to
+-- is shown; or passes end as the part says
 pub record Ran {A : Type 0} (c : Change) (part : Part A) (shows : A → Type 0) (stop : Option Stop) (p : Place)
     : Type 0 where
   pub events : List Event
   pub log : List Logged
   pub came : Came A
   pub made : part p events log came
-  pub standing : c.stands ((behind events log p).history)
+  pub legal : Legal c.setup p.history → Legal c.setup ((behind events log p).history)
   pub fits : Fits c shows p events log came stop
 
 -- the same from each place at which the node is

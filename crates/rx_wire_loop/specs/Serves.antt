@@ -8,8 +8,8 @@ use Rattle.rx_model.specs.declared.event.Event.{Event}
 use Rattle.rx_rules.specs.Setup.{Setup}
 use Rattle.rx_wire.specs.Wire.{Logged}
 use Rattle.rx_wire.specs.Turns.{Runs, Turns}
-use Rattle.rx_wire_loop.specs.declared.stop.Stop.{Stop}
-use Rattle.rx_wire_loop.specs.declared.stop.Stop.TheVariants as stops
+use Rattle.rx_drive.specs.declared.stop.Stop.{Stop}
+use Rattle.rx_drive.specs.declared.stop.Stop.TheVariants as stops
 use Rattle.rx_wire_loop.specs.Parts.{To, Cut, Part, Place, Then, behind, ends}
 use Rattle.rx_wire_loop.specs.Ports.{clocks, polls, takes}
 
@@ -37,21 +37,22 @@ pub data Passed {V : Type 0} (play : V → Part V) (take : Part (Unit {0})) (goe
 
 -- ---- serving
 
--- why a turn of the handlers that came so far ends passes: its next call wants memory, the sink fails, there is no
--- memory for a line, a note is refused, or the turn has 2^64 - 1 calls or more
-abbrev pub CutsTurn : Handlers → Stop → List Event → Turning → Type 0
-CutsTurn g stops.OutOfMemory es t = IsWanting g t
-CutsTurn g stops.Unformatted es t = Unit {0}
-CutsTurn g stops.SinkFault es t = Unit {0}
-CutsTurn g stops.Unnoted es t = Unit {0}
-CutsTurn g stops.Endless es t = 2 ^ 64 - 1 ≤ length es
-CutsTurn g stops.WireFault es t = ⊥
+-- why a turn that came so far, whose next call may want memory where this is so of what is known, ends passes: its next
+-- call wants memory, the sink fails, there is no memory for a line, a note is refused, or the turn has 2^64 - 1 calls or
+-- more
+abbrev pub CutsTurn : {View : Type 0} → (View → Type 0) → Stop → List Event → View → Type 0
+CutsTurn wants stops.OutOfMemory es w = wants w
+CutsTurn wants stops.Unformatted es w = Unit {0}
+CutsTurn wants stops.SinkFault es w = Unit {0}
+CutsTurn wants stops.Unnoted es w = Unit {0}
+CutsTurn wants stops.Endless es w = 2 ^ 64 - 1 ≤ length es
+CutsTurn wants stops.WireFault es w = ⊥
 
 -- a turn of the handlers that have these jobs, unless passes end in it
 abbrev pub dispatches : Handlers → List JobState → Part (List JobState)
 dispatches g jobs at es ls (To after) = (ls ≡ []) × Turns (dispatching g) (accepts jobs) es (over after)
 dispatches g jobs at es ls (Cut stop) =
-    (ls ≡ []) × ((w : Turning) × Runs (dispatching g) (accepts jobs) es w × CutsTurn g stop es w)
+    (ls ≡ []) × ((w : Turning) × Runs (dispatching g) (accepts jobs) es w × CutsTurn (IsWanting g) stop es w)
 
 -- what a server serves by: its handlers, how it is set up, how many datagrams at most are given as one, how many takes
 -- are made at most, and up to which moment it serves

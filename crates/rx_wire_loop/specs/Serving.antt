@@ -12,8 +12,8 @@ use Rattle.rx_wire.specs.Turns.{HasNotedAll, after_all}
 use Rattle.rx_wire_loop.specs.declared.serving.ServeEnd.{ServeEnd}
 use Rattle.rx_wire_loop.specs.declared.serving.ServeEnd.TheVariants as serve_ends
 use Rattle.rx_wire_loop.specs.declared.serving.Serving.{Serving as Words}
-use Rattle.rx_wire_loop.specs.declared.stop.Stop.{Stop}
-use Rattle.rx_wire_loop.specs.declared.stop.Stop.TheVariants as stops
+use Rattle.rx_drive.specs.declared.stop.Stop.{Stop}
+use Rattle.rx_drive.specs.declared.stop.Stop.TheVariants as stops
 use Rattle.rx_wire_loop.specs.Parts.{Place}
 use Rattle.rx_wire_loop.specs.Serves.{IsCut, IsSpent, IsUp, ServeCame, Serves, Terms}
 use Rattle.rx_wire_loop.specs.Tells.{Breaks, Fails, Gains, HasLoggedAll, Refuses, Told, Wants}

@@ -6,6 +6,7 @@ use Rattle.rx_model.specs.declared.event.Event.{Event}
 use Rattle.rx_model.specs.declared.event.Noted.{Noted}
 use Rattle.rx_wire.specs.Wire.{Logged, Traffic}
 use Rattle.rx_wire.specs.Turns.{HasNotedAll}
+use Rattle.rx_drive.specs.Tells as drive
 use Rattle.rx_wire_loop.specs.Texts.{event_line, lines}
 
 -- the bytes put, where they are told, and how many puts failed
@@ -32,6 +33,17 @@ sink_tells put faults = record { put = put; faults = faults }
 -- what a wire tells, of its traffic, its faults and its moment
 abbrev pub wire_tells : Option Traffic → ℕ → ℕ → WireTells
 wire_tells traffic faults moment = record { traffic = traffic; faults = faults; moment = moment }
+
+-- what a journal and a sink tell, as what drives a node has it: there is no wire
+abbrev pub outside : Option (List Noted) → SinkTells → drive.Told
+outside noted sink = record {
+  noted = noted;
+  put = sink.put;
+  puts = sink.faults;
+  traffic = None;
+  calls = 0;
+  moment = 0;
+}
 
 -- what all three tell, of what each tells
 abbrev pub told : Option (List Noted) → SinkTells → WireTells → Told

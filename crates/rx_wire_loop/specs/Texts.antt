@@ -6,6 +6,7 @@ use Rattle.rx_model.specs.declared.answers.ServeRefused.{ServeRefused}
 use Rattle.rx_model.specs.declared.answers.ServeRefused.TheVariants as refusals
 use Rattle.rx_model.specs.declared.event.Event.{Event}
 use Rattle.rx_model.specs.declared.event.Event.TheVariants as events
+use Rattle.rx_model.specs.declared.event.Noted.{Noted}
 use Rattle.rx_model.specs.declared.names.CallName.{CallName}
 use Rattle.rx_model.specs.declared.names.Host.{Host}
 
@@ -46,6 +47,10 @@ event_line (events.Cancelled c code got) = []
 event_line (events.Taken from bytes got) = []
 event_line (events.Polled got) = []
 event_line (events.Clocked now) = []
+
+-- the line of an event of a node
+abbrev pub noted_line : Noted → List ℕ
+noted_line n = event_line n.event
 
 -- those of events, in order
 abbrev pub lines : List Event → List ℕ

@@ -8,20 +8,22 @@ ghost use Rattle.rx_rules.specs.Setup as setups;
 ghost use Rattle.rx_rules.specs.Setup.{FitsSetup};
 ghost use Rattle.rx_wire_loop.specs.Calls.{CallIs, CallMade, CallsBound, begins, begins_on, begins_to, calls};
 ghost use Rattle.rx_wire_loop.specs.Calls.{client_setup};
-ghost use Rattle.rx_wire_loop.specs.Nodes.{Answers};
+ghost use Rattle.rx_drive.specs.Nodes.{Answers};
 ghost use Rattle.rx_wire_loop.specs.Parts.{Place};
 ghost use Rattle.rx_wire_loop.specs.Ports.{AreReady, takes};
-ghost use Rattle.rx_wire_loop.specs.Runs.{IsAt, IsBehind, Plays, change, stop_of};
+ghost use Rattle.rx_drive.specs.Ran.{stop_of};
+ghost use Rattle.rx_wire_loop.specs.Runs.{IsAt, IsBehind, Plays, change};
 ghost use Rattle.rx_wire_loop.specs.Serves.{plays};
 ghost use Rattle.rx_wire_loop.specs.Tells.{SinkTells, WireTells, told, wire_tells};
 
 use crate::lines::CLIENT;
 use crate::notes::note;
+use crate::outside::Unlined;
 use crate::ports::{Ports, wait_until};
-use crate::stop::Stop;
 use rx_caller::Caller;
 use rx_class::Class;
 use rx_client::Client;
+use rx_drive::{Stop, call_turn};
 use rx_model::{CallName, Event, Host, Limits};
 use rx_room::Room;
 use rx_wire::{Journal, Wire};
@@ -231,7 +233,6 @@ impl<C: Class> CallingNode<C> {
         book: &mut J,
     ) -> Result<CallEnd, Stop>
         requires ready { AreReady CLIENT self.ports.joiner.most self.ports }
-        requires number { self.caller.node ≡ CLIENT }
         requires fits { FitsSetup (setup_of C.class_of self.client) }
         requires unended { self.caller.end ≡ None }
         requires behind { IsBehind (setup_of C.class_of self.client) (StandsNode C.class_of self.client)
@@ -264,7 +265,6 @@ impl<C: Class> CallingNode<C> {
     /// A pass up to its take. Whether the call ended.
     fn play<W: Wire, J: Journal>(&mut self, wire: &mut W, book: &mut J) -> Result<bool, Stop>
         requires ready { AreReady CLIENT self.old.ports.joiner.most self.old.ports }
-        requires number { self.old.caller.node ≡ CLIENT }
         requires fits { FitsSetup (setup_of C.class_of self.old.client) }
         requires behind { IsBehind (setup_of C.class_of self.old.client) (StandsNode C.class_of self.old.client)
             (W.moment wire.old) }
@@ -276,14 +276,34 @@ impl<C: Class> CallingNode<C> {
         ensures unnoted { IfErr result (λ stop. stop ≡ Stop.Unnoted → J.may_want ≡ true) }
         ensures done { IfOk result (λ done. done ≡ is_some self.new.caller.end) }
         ensures ready { IfOk result (λ done. AreReady CLIENT self.old.ports.joiner.most self.new.ports) }
-        ensures number { IfOk result (λ done. self.new.caller.node ≡ CLIENT) }
         ensures setup { setup_of C.class_of self.new.client ≡ setup_of C.class_of self.old.client }
     {
         self.ports.clock(&mut self.client, wire, book)?;
         self.ports.give_due(&mut self.client, wire, book)?;
-        let ended = self.caller.turn(&mut self.room, &mut self.client, book)?;
+        self.turn(book)?;
         self.ports.give_due(&mut self.client, wire, book)?;
-        Ok(ended)
+        Ok(self.caller.ended().is_some())
+    }
+
+    /// A turn of the caller.
+    fn turn<J: Journal>(&mut self, book: &mut J) -> Result<(), Stop>
+        ensures plays { (sink : SinkTells) (wire : WireTells) → Plays (change CLIENT
+            (setup_of C.class_of self.old.client) (StandsNode C.class_of self.old.client)
+            (StandsNode C.class_of self.new.client) (told (J.told book.old) sink wire)
+            (told (J.told book.new) sink wire)) (calls self.old.caller) (λ v. v ≡ self.new.caller) (stop_of result) }
+        ensures unnoted { IfErr result (λ stop. stop ≡ Stop.Unnoted → J.may_want ≡ true) }
+        ensures ports { self.new.ports ≡ self.old.ports }
+        ensures setup { setup_of C.class_of self.new.client ≡ setup_of C.class_of self.old.client }
+    {
+        self.caller.offers_few();
+        let mut outside = Unlined { book };
+        call_turn(
+            CLIENT,
+            &mut self.caller,
+            &mut self.room,
+            &mut self.client,
+            &mut outside,
+        )
     }
 
     /// The take of a pass.

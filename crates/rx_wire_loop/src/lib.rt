@@ -6,18 +6,16 @@
 #![tactic(auto)]
 
 mod calling;
-mod endpoint;
 mod laws;
 mod lines;
 mod notes;
+mod outside;
 mod ports;
 mod serving;
-mod stop;
 
 pub use calling::{CallEnd, Calling, call};
-pub use endpoint::Endpoint;
 pub use laws::{calls_tell, numbers};
 pub use lines::{CLIENT, SERVER};
 pub use ports::{LAST_MOMENT, LONGEST_WAIT_MS, TAKE_BYTES};
+pub use rx_drive::Stop;
 pub use serving::{ServeEnd, Serving, serve};
-pub use stop::Stop;

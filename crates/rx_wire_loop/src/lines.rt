@@ -2,12 +2,12 @@
 ghost use Rattle.std.specs.Prelude.{◌≡◌, List, ℕ, [], OnOk};
 ghost use Rattle.std.specs.String.{string_bytes};
 ghost use Rattle.rx_wire_loop.specs.Lines.{PutsLine, PutsText};
-ghost use Rattle.rx_wire_loop.specs.Runs.{stop_of};
+ghost use Rattle.rx_drive.specs.Ran.{stop_of};
 ghost use Rattle.rx_wire_loop.specs.Tells.{sink_tells};
 ghost use Rattle.rx_wire_loop.specs.Texts.{accept_line, event_line, finish_line, ready_line, time_up_line};
 
-use crate::stop::Stop;
 use rx_base::Sink;
+use rx_drive::Stop;
 use rx_model::{CallName, Event, Host, ServeRefused};
 use std::alloc::{AllocError, Global};
 use std::fmt::Write;

@@ -2,9 +2,9 @@
 ghost use Rattle.std.specs.Prelude.{◌≡◌, IfErr, OnErr, Some, true};
 ghost use Rattle.rx_model.specs.declared.event.Event.TheVariants as events;
 ghost use Rattle.rx_wire_loop.specs.Ports.{NotesOne};
-ghost use Rattle.rx_wire_loop.specs.Runs.{stop_of};
+ghost use Rattle.rx_drive.specs.Ran.{stop_of};
 
-use crate::stop::Stop;
+use rx_drive::Stop;
 use rx_model::{Event, Host, Took};
 use rx_wire::Journal;
 

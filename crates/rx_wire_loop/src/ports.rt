@@ -12,12 +12,12 @@ ghost use Rattle.rx_rules.specs.Setup.{FitsSetup};
 ghost use Rattle.rx_wire_loop.specs.Ports.{Empties, GivesOne, IsWithin, Keeps, NotesOne, Passes, PassesOn, clocks};
 ghost use Rattle.rx_wire_loop.specs.Ports.{lesser};
 ghost use Rattle.rx_wire_loop.specs.Ports.{polls, polls_once, takes_came, takes_parts, takes_until, until_of};
-ghost use Rattle.rx_wire_loop.specs.Runs.{IsBehind, Plays, change, stop_of};
+ghost use Rattle.rx_drive.specs.Ran.{stop_of};
+ghost use Rattle.rx_wire_loop.specs.Runs.{IsBehind, Plays, change};
 ghost use Rattle.rx_wire_loop.specs.Tells.{SinkTells, WireTells, told, wire_tells};
 
-use crate::endpoint::Endpoint;
 use crate::notes::{note, note_polled, note_taken};
-use crate::stop::Stop;
+use rx_drive::{Endpoint, Stop};
 use rx_jumbo::{JUMBO_BYTES, Joiner, part, parts};
 use rx_model::wire::DATAGRAM_BYTES;
 use rx_model::{Event, Host};

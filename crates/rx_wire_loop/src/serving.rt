@@ -1,7 +1,6 @@
 //! A server on a wire.
 ghost use Rattle.std.specs.Prelude.{◌≡◌, ◌≤◌, ◌^◌, ℕ, [], Some, true, IfErr, IfOk, OnOk};
 ghost use Rattle.rx_jobs.specs.Handlers.{handlers_of};
-ghost use Rattle.rx_dispatch.specs.Making.{Remembers};
 ghost use Rattle.rx_dispatch.specs.States.{state_of};
 ghost use Rattle.rx_jumbo.specs.declared.sizes.TheConstants.{JUMBO_PARTS};
 ghost use Rattle.rx_node.specs.Node.{setup_of};
@@ -10,20 +9,20 @@ ghost use Rattle.rx_rules.specs.Setup.{FitsSetup};
 ghost use Rattle.rx_script.specs.Saying.{blocks_of};
 ghost use Rattle.rx_server.specs.Server.{Stands};
 ghost use Rattle.rx_wire_loop.specs.Ports.{AreReady, takes};
-ghost use Rattle.rx_wire_loop.specs.Runs.{IsBehind, Plays, change, stop_of};
+ghost use Rattle.rx_drive.specs.Ran.{stop_of};
+ghost use Rattle.rx_wire_loop.specs.Runs.{IsBehind, Plays, change};
 ghost use Rattle.rx_wire_loop.specs.Serves.{dispatches, pass, plays};
 ghost use Rattle.rx_wire_loop.specs.Serving.{Serving as Served, ServeIs, ServesBound, server_setup, terms_of};
 ghost use Rattle.rx_wire_loop.specs.Tells.{SinkTells, WireTells, sink_tells, told, wire_tells};
-ghost use Rattle.rx_wire_loop.specs.Turned.{Handles, TellsOne};
 
 use crate::lines::{Lines, SERVER, put_time_up};
-use crate::notes::note;
+use crate::outside::Lined;
 use crate::ports::{Ports, wait_until};
-use crate::stop::Stop;
 use rx_base::Sink;
 use rx_class::Class;
 use rx_dispatch::Dispatcher;
-use rx_model::{Event, Host, Limits};
+use rx_drive::{Stop, dispatch};
+use rx_model::{Host, Limits};
 use rx_script::Script;
 use rx_server::Server;
 use rx_wire::{Journal, Wire};
@@ -301,56 +300,17 @@ impl<C: Class> ServedNode<C> {
         ensures script { (state_of self.new.dispatcher).script ≡ (state_of self.old.dispatcher).script }
         ensures setup { setup_of C.class_of self.new.server.node ≡ setup_of C.class_of self.old.server.node }
     {
-        self.dispatcher.begin();
-        'calls: for made in 0..u64::MAX {
-            if !self.handle(iface, out, book)? {
-                return Ok(());
-            }
-        }
-        Err(Stop::Endless)
+        let mut outside = Lined {
+            lines: &mut self.lines,
+            out,
+            book,
+        };
+        dispatch(
+            SERVER,
+            iface,
+            &mut self.dispatcher,
+            &mut self.server,
+            &mut outside,
+        )
     }
-
-    /// Makes the next call of the handlers' turn, notes it, and puts its line. Whether there was one.
-    fn handle<O: Sink, J: Journal>(
-        &mut self,
-        iface: &Interface,
-        out: &mut O,
-        book: &mut J,
-    ) -> Result<bool, Stop>
-        requires { Remembers (handlers_of iface.now (state_of self.old.dispatcher).script)
-            (state_of self.old.dispatcher).round }
-        ensures handled { Handles C.class_of (handlers_of iface.now (state_of self.old.dispatcher).script)
-            (state_of self.old.dispatcher).round (state_of self.new.dispatcher).round self.old.server self.new.server
-            (J.told book.old) (J.told book.new)
-            (sink_tells (O.told out.old) (O.faults out.old)) (sink_tells (O.told out.new) (O.faults out.new)) result }
-        ensures unnoted { IfErr result (λ stop. stop ≡ Stop.Unnoted → J.may_want ≡ true) }
-        ensures remembered { Remembers (handlers_of iface.now (state_of self.new.dispatcher).script)
-            (state_of self.new.dispatcher).round }
-        ensures ports { self.new.ports ≡ self.old.ports }
-        ensures script { (state_of self.new.dispatcher).script ≡ (state_of self.old.dispatcher).script }
-        ensures setup { setup_of C.class_of self.new.server.node ≡ setup_of C.class_of self.old.server.node }
-    {
-        match self.dispatcher.step(iface, &mut self.server)? {
-            Some(event) => tell(&event, &mut self.lines, out, book),
-            None => Ok(false),
-        }
-    }
-}
-
-/// Notes an event of the handlers, and puts its line.
-fn tell<O: Sink, J: Journal>(
-    event: &Event,
-    lines: &mut Lines,
-    out: &mut O,
-    book: &mut J,
-) -> Result<bool, Stop>
-    ensures told { TellsOne SERVER (J.told book.old) (J.told book.new)
-        (sink_tells (O.told out.old) (O.faults out.old)) (sink_tells (O.told out.new) (O.faults out.new)) event.now
-        (stop_of result) }
-    ensures unnoted { IfErr result (λ stop. stop ≡ Stop.Unnoted → J.may_want ≡ true) }
-    ensures again { IfOk result (λ again. again ≡ true) }
-{
-    note(SERVER, event, book)?;
-    lines.tell(event, out)?;
-    Ok(true)
 }

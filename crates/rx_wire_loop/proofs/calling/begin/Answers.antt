@@ -2,7 +2,7 @@ use Rattle.std.proofs.Common.{None, refl}
 use Rattle.rx_node.specs.Node.{setup_of}
 use Rattle.rx_wire_loop.specs.Calls.{begins_to}
 use Rattle.rx_wire_loop.specs.Ports.{clocks}
-use Rattle.rx_wire_loop.specs.Runs.{stop_of}
+use Rattle.rx_drive.specs.Ran.{stop_of}
 use Rattle.rx_wire_loop.specs.Tells.{sink_tells}
 use Rattle.rx_wire_loop.proofs.Beginning.{clocked_alone}
 use Rattle.rx_wire_loop.proofs.Clocking.{AnyTime}

@@ -4,7 +4,8 @@ use Rattle.rx_model.specs.declared.event.Event.TheVariants.{Linked}
 use Rattle.rx_node.specs.Node.{setup_of}
 use Rattle.rx_node.specs.Steps.{StandsNode}
 use Rattle.rx_wire_loop.specs.Calls.{begins_on, links}
-use Rattle.rx_wire_loop.specs.Runs.{Plays, change, stop_of}
+use Rattle.rx_drive.specs.Ran.{stop_of}
+use Rattle.rx_wire_loop.specs.Runs.{Plays, change}
 use Rattle.rx_wire_loop.specs.Tells.{told}
 use Rattle.rx_wire_loop.proofs.Beginning.{answered}
 use Rattle.rx_wire_loop.proofs.Running.{plays_at, plays_stops, plays_then, stopped}

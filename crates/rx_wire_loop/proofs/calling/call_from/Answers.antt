@@ -3,9 +3,8 @@ use Rattle.rx_model.specs.declared.names.CallName.{CallName}
 use Rattle.rx_node.specs.Node.{setup_of}
 use Rattle.rx_wire_loop.specs.Calls.{begins}
 use Rattle.rx_wire_loop.specs.Tells.{sink_tells, told}
-use Rattle.rx_wire_loop.specs.declared.stop.Stop.TheVariants.{OutOfMemory, Unnoted}
+use Rattle.rx_drive.specs.declared.stop.Stop.TheVariants.{OutOfMemory, Unnoted}
 use Rattle.rx_wire_loop.proofs.Beginning.{call_begun, call_unbegun, call_unmade}
-use Rattle.rx_wire_loop.proofs.Passing.{legal_as}
 use Rattle.rx_wire_loop.proofs.Running.{behind_made, is_stopped, plays_at}
 use Rattle.rx_wire_loop.proofs.calling.call_from.Goals as goal
 
@@ -32,8 +31,7 @@ returns-in_err-name-clause-calls g c =
     c.from_residual-in_err-name.ensures.1 ∙ ap Err c.in_err-name.ensures.refused)
     (call_unbegun c.args.calling.now c.args.request.items _ _ _ _ _ sink _ c.in_ok-client.ensures.stands _
     (plays_at 1 1 _ _ _ _ _ _ (begins c.args.calling.now) _ (Some Unnoted) refl c.in_ok-client.ensures.setup
-    (rw c.in_err-name.ensures.refused at (c.in_err-name.ensures.plays sink))) (legal_as _ _ _
-    (c.begin.ensures.setup ∙ c.in_ok-client.ensures.setup) (λ h is. is.legal)))
+    (rw c.in_err-name.ensures.refused at (c.in_err-name.ensures.plays sink))))
 
 pub returns-clause-calls : goal.returns-clause-calls
 returns-clause-calls g c =

@@ -1,4 +1,4 @@
-use Rattle.rx_wire_loop.specs.Runs.{stop_of}
+use Rattle.rx_drive.specs.Ran.{stop_of}
 use Rattle.rx_wire_loop.proofs.Clocking.{clock_told}
 use Rattle.rx_wire_loop.proofs.ports.clock.Goals as goal
 

@@ -1,6 +1,6 @@
 use Rattle.std.proofs.Common.{◌∙◌, ap, refl}
 use Rattle.rx_jumbo.specs.Parts.{parts_of}
-use Rattle.rx_wire_loop.specs.Runs.{stop_of}
+use Rattle.rx_drive.specs.Ran.{stop_of}
 use Rattle.rx_wire_loop.proofs.Giving.{empties_given, empties_none, keeps_none}
 use Rattle.rx_wire_loop.proofs.ports.give_held.Goals as goal
 

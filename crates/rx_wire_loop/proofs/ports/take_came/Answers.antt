@@ -1,7 +1,7 @@
 use Rattle.std.proofs.Common.{refl}
 use Rattle.rx_jumbo.specs.Parts.{parts_of}
 use Rattle.rx_wire_loop.specs.Ports.{clocks, takes_parts}
-use Rattle.rx_wire_loop.specs.Runs.{stop_of}
+use Rattle.rx_drive.specs.Ran.{stop_of}
 use Rattle.rx_wire_loop.proofs.Clocking.{AnyTime}
 use Rattle.rx_wire_loop.proofs.Running.{plays_at, plays_stops, plays_then, stopped}
 use Rattle.rx_wire_loop.proofs.Taking.{Anything}

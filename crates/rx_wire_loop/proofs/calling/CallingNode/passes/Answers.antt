@@ -57,7 +57,6 @@ loop-taken-init g c = record {
   ready = c.requires.ready;
   most = refl;
   setup = refl;
-  number = c.requires.number;
   unended = c.requires.unended;
 }
 
@@ -78,8 +77,8 @@ returns-in_err-play-clause-calls g c =
     None) c.loop-taken.self.caller (λ (u : CallerState). u ≡ c.play.new.self.caller)
     (StandsNode g.C.Class.class_of c.loop-taken.self.client) (StandsNode g.C.Class.class_of c.play.new.self.client) _ _
     c.in_err-play.field-0.0 (c.in_err-play.ensures.plays k)))) low (legal_as (setup_of g.C.Class.class_of
-    c.args.self.client) (setup_of g.C.Class.class_of c.play.new.self.client) _ (c.play.ensures.setup
-    ∙ c.loop-taken.invariant.setup) (λ h is. is.legal)) sink)
+    c.args.self.client) (setup_of g.C.Class.class_of c.loop-taken.self.client) _ c.loop-taken.invariant.setup
+    (λ h is. is.legal)) sink)
 
 pub returns-then-branch-clause-calls : goal.returns-then-branch-clause-calls
 returns-then-branch-clause-calls g c =
@@ -89,8 +88,7 @@ returns-then-branch-clause-calls g c =
     (λ (k : SinkTells). c.loop-taken.invariant.so k p (at_any _ _ _ _ sink k p at)) c.play.new.self.caller sink
     (call_play_at _ _ c.loop-taken.self.ports.joiner.most c.args.self.ports.joiner.most c.loop-taken.self.caller _ _ _ _
     (λ (u : CallerState). u ≡ c.play.new.self.caller) None c.loop-taken.invariant.setup c.loop-taken.invariant.most
-    (c.in_ok-play.ensures.plays sink)) low done (legal_as _ _ _ (c.play.ensures.setup ∙ c.loop-taken.invariant.setup)
-    (λ h is. is.legal))
+    (c.in_ok-play.ensures.plays sink)) low done (legal_as _ _ _ c.loop-taken.invariant.setup (λ h is. is.legal))
 
 pub returns-in_err-take-clause-calls : goal.returns-in_err-take-clause-calls
 returns-in_err-take-clause-calls g c =
@@ -113,8 +111,8 @@ returns-in_err-take-clause-calls g c =
     c.loop-taken.self.client) (setup_of g.C.Class.class_of c.play.new.self.client)
     (StandsNode g.C.Class.class_of c.play.new.self.client) (StandsNode g.C.Class.class_of c.take.new.self.client) _ _
     None (Some c.in_err-take.field-0.0) c.play.ensures.setup (c.in_err-take.ensures.plays k))))) low
-    (legal_as (setup_of g.C.Class.class_of c.args.self.client) (setup_of g.C.Class.class_of c.take.new.self.client) _
-    (c.take.ensures.setup ∙ c.play.ensures.setup ∙ c.loop-taken.invariant.setup) (λ h is. is.legal)) sink)
+    (legal_as (setup_of g.C.Class.class_of c.args.self.client) (setup_of g.C.Class.class_of c.loop-taken.self.client) _
+    c.loop-taken.invariant.setup (λ h is. is.legal)) sink)
 
 pub loop-taken-preserved : goal.loop-taken-preserved
 loop-taken-preserved g c =
@@ -155,7 +153,6 @@ loop-taken-preserved g c =
       most = ap (λ (q : Ports). q.joiner.most) c.take.ensures.ports ∙ c.in_ok-play.ensures.ready.most_is
           ∙ c.loop-taken.invariant.most;
       setup = c.take.ensures.setup ∙ c.play.ensures.setup ∙ c.loop-taken.invariant.setup;
-      number = ap (λ (u : CallerState). u.node) c.take.ensures.caller ∙ c.in_ok-play.ensures.number;
       unended = ap (λ (u : CallerState). u.end) c.take.ensures.caller ∙ left;
     }
 
@@ -169,8 +166,7 @@ returns-in_err-play-2-clause-calls g c =
     (λ (k : SinkTells). (call_play_at _ _ c.loop-taken.self.ports.joiner.most c.args.self.ports.joiner.most
     c.loop-taken.self.caller _ _ _ _ (λ (u : CallerState). u ≡ c.play-2.new.self.caller)
     (Some c.in_err-play-2.field-0.0) c.loop-taken.invariant.setup c.loop-taken.invariant.most
-    (c.in_err-play-2.ensures.plays k))) all (legal_as _ _ _ (c.play-2.ensures.setup ∙ c.loop-taken.invariant.setup)
-    (λ h is. is.legal)) sink)
+    (c.in_err-play-2.ensures.plays k))) all (legal_as _ _ _ c.loop-taken.invariant.setup (λ h is. is.legal)) sink)
 
 pub returns-then-branch-2-clause-calls : goal.returns-then-branch-2-clause-calls
 returns-then-branch-2-clause-calls g c =
@@ -180,8 +176,7 @@ returns-then-branch-2-clause-calls g c =
     (λ (k : SinkTells). c.loop-taken.invariant.so k p (at_any _ _ _ _ sink k p at)) c.play-2.new.self.caller sink
     (call_play_at _ _ c.loop-taken.self.ports.joiner.most c.args.self.ports.joiner.most c.loop-taken.self.caller _ _ _ _
     (λ (u : CallerState). u ≡ c.play-2.new.self.caller) None c.loop-taken.invariant.setup c.loop-taken.invariant.most
-    (c.in_ok-play-2.ensures.plays sink)) low done (legal_as _ _ _ (c.play-2.ensures.setup
-    ∙ c.loop-taken.invariant.setup) (λ h is. is.legal))
+    (c.in_ok-play-2.ensures.plays sink)) low done (legal_as _ _ _ c.loop-taken.invariant.setup (λ h is. is.legal))
 
 pub returns-clause-calls : goal.returns-clause-calls
 returns-clause-calls g c =
@@ -192,4 +187,4 @@ returns-clause-calls g c =
     (call_play_at _ _ c.loop-taken.self.ports.joiner.most c.args.self.ports.joiner.most c.loop-taken.self.caller _ _ _ _
     (λ (u : CallerState). u ≡ c.play-2.new.self.caller) None c.loop-taken.invariant.setup c.loop-taken.invariant.most
     (c.in_ok-play-2.ensures.plays sink)) all (none_of c.play-2.new.self.caller.end done)
-    (legal_as _ _ _ (c.play-2.ensures.setup ∙ c.loop-taken.invariant.setup) (λ h is. is.legal))
+    (legal_as _ _ _ c.loop-taken.invariant.setup (λ h is. is.legal))

@@ -23,6 +23,5 @@ invariant-loop-taken g l = record {
   ready : AreReady 1 l.self.ports.joiner.most l.self.ports;
   most : l.self.ports.joiner.most ≡ l.fn.self.ports.joiner.most;
   setup : setup_of g.C.Class.class_of l.self.client ≡ setup_of g.C.Class.class_of l.fn.self.client;
-  number : l.self.caller.node ≡ 1;
   unended : l.self.caller.end ≡ None;
 }

@@ -1,5 +1,5 @@
 use Rattle.std.proofs.Common.{None}
-use Rattle.rx_wire_loop.specs.Runs.{stop_of}
+use Rattle.rx_drive.specs.Ran.{stop_of}
 use Rattle.rx_wire_loop.proofs.Passing.{takes_known}
 use Rattle.rx_wire_loop.proofs.calling.CallingNode.take.Goals as goal
 

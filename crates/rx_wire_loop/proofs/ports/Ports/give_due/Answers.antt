@@ -3,7 +3,7 @@ use Rattle.rx_wire_loop.proofs.Polling.{Anyhow, flush_plays, polls_endless, poll
 use Rattle.rx_wire_loop.proofs.Polling.{polls_step}
 use Rattle.rx_wire_loop.proofs.Polling.{polls_unflushed, polls_whole}
 use Rattle.rx_wire_loop.proofs.Running.{behind_made, stopped}
-use Rattle.rx_wire_loop.specs.Runs.{stop_of}
+use Rattle.rx_drive.specs.Ran.{stop_of}
 use Rattle.rx_wire_loop.specs.Tells.{sink_tells}
 use Rattle.rx_wire_loop.proofs.ports.Ports.give_due.Goals as goal
 

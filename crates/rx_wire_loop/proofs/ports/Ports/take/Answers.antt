@@ -3,7 +3,8 @@ use Rattle.std.specs.Prelude.{IfNone}
 use Rattle.rx_model.specs.declared.names.Host.{Host}
 use Rattle.rx_wire.specs.Wire.{Came, HasLogged, TookUntil, came_in}
 use Rattle.rx_wire_loop.specs.Ports.{takes_came}
-use Rattle.rx_wire_loop.specs.Runs.{Plays, change, stop_of}
+use Rattle.rx_drive.specs.Ran.{stop_of}
+use Rattle.rx_wire_loop.specs.Runs.{Plays, change}
 use Rattle.rx_wire_loop.specs.Tells.{told, wire_tells}
 use Rattle.rx_wire_loop.proofs.Polling.{restored}
 use Rattle.rx_wire_loop.proofs.Taking.{Anything, nothing_came, take_whole, wait_failed, waited}

@@ -6,7 +6,8 @@ use Rattle.rx_dispatch.specs.States.{state_of}
 use Rattle.rx_node.specs.Node.{setup_of}
 use Rattle.rx_server.specs.Server.{Stands}
 use Rattle.rx_wire_loop.specs.Ports.{takes}
-use Rattle.rx_wire_loop.specs.Runs.{Plays, change, stop_of}
+use Rattle.rx_drive.specs.Ran.{stop_of}
+use Rattle.rx_wire_loop.specs.Runs.{Plays, change}
 use Rattle.rx_wire_loop.specs.Serves.{dispatches, pass, plays}
 use Rattle.rx_wire_loop.specs.Tells.{sink_tells, told, wire_tells}
 use Rattle.rx_wire_loop.proofs.Passing.{pass_early, pass_take, takes_at}

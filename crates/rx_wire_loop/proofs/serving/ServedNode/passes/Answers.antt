@@ -59,7 +59,7 @@ returns-in_err-pass-clause-serves g c =
     c.args.self.now.ports.joiner.most c.args.end (state_of c.loop-taken.self.dispatcher).round.jobs _ _ _ _
     (λ (js : List JobState). js ≡ (state_of c.pass.new.self.dispatcher).round.jobs) (Some c.in_err-pass.field-0.0)
     c.loop-taken.invariant.script c.loop-taken.invariant.setup c.loop-taken.invariant.most c.in_err-pass.ensures.plays)
-    low (legal_as _ _ _ (c.pass.ensures.setup ∙ c.loop-taken.invariant.setup) (λ h is. is.legal)))
+    low (legal_as _ _ _ c.loop-taken.invariant.setup (λ h is. is.legal)))
 
 pub returns-in_err-put_time_up-clause-serves : goal.returns-in_err-put_time_up-clause-serves
 returns-in_err-put_time_up-clause-serves g c =
@@ -76,8 +76,7 @@ returns-in_err-put_time_up-clause-serves g c =
     c.args.self.now.dispatcher).script _ _ c.loop-taken.self.ports.joiner.most c.args.self.now.ports.joiner.most
     c.args.end (state_of c.loop-taken.self.dispatcher).round.jobs _ _ _ _ (λ (js : List JobState). js ≡
     (state_of c.pass.new.self.dispatcher).round.jobs) None c.loop-taken.invariant.script c.loop-taken.invariant.setup
-    c.loop-taken.invariant.most c.in_ok-pass.ensures.plays) low late (legal_as _ _ _
-    (c.pass.ensures.setup ∙ c.loop-taken.invariant.setup) (λ h is. is.legal)) _ c.in_err-put_time_up.field-0.0
+    c.loop-taken.invariant.most c.in_ok-pass.ensures.plays) low late (legal_as _ _ _ c.loop-taken.invariant.setup (λ h is. is.legal)) _ c.in_err-put_time_up.field-0.0
     c.in_err-put_time_up.ensures)
 
 pub returns-then-end-now-clause-serves : goal.returns-then-end-now-clause-serves
@@ -91,7 +90,7 @@ returns-then-end-now-clause-serves g c =
     c.args.self.now.ports.joiner.most c.args.end (state_of c.loop-taken.self.dispatcher).round.jobs _ _ _ _
     (λ (js : List JobState). js ≡ (state_of c.pass.new.self.dispatcher).round.jobs) None c.loop-taken.invariant.script
     c.loop-taken.invariant.setup c.loop-taken.invariant.most c.in_ok-pass.ensures.plays) low late
-    (legal_as _ _ _ (c.pass.ensures.setup ∙ c.loop-taken.invariant.setup) (λ h is. is.legal)) _
+    (legal_as _ _ _ c.loop-taken.invariant.setup (λ h is. is.legal)) _
     c.in_ok-put_time_up.ensures
 
 pub loop-taken-preserved : goal.loop-taken-preserved
@@ -135,7 +134,7 @@ returns-in_err-play-clause-serves g c =
     c.args.self.now.ports.joiner.most (state_of c.loop-taken.self.dispatcher).round.jobs _ _ _ _
     (λ (js : List JobState). js ≡ (state_of c.play.new.self.dispatcher).round.jobs) (Some c.in_err-play.field-0.0)
     c.loop-taken.invariant.script c.loop-taken.invariant.setup c.loop-taken.invariant.most c.in_err-play.ensures.plays)
-    all (legal_as _ _ _ (c.play.ensures.setup ∙ c.loop-taken.invariant.setup) (λ h is. is.legal)))
+    all (legal_as _ _ _ c.loop-taken.invariant.setup (λ h is. is.legal)))
 
 pub returns-clause-serves : goal.returns-clause-serves
 returns-clause-serves g c =
@@ -147,4 +146,4 @@ returns-clause-serves g c =
     c.args.self.now.ports.joiner.most (state_of c.loop-taken.self.dispatcher).round.jobs _ _ _ _
     (λ (js : List JobState). js ≡ (state_of c.play.new.self.dispatcher).round.jobs) None c.loop-taken.invariant.script
     c.loop-taken.invariant.setup c.loop-taken.invariant.most c.in_ok-play.ensures.plays) all
-    (legal_as _ _ _ (c.play.ensures.setup ∙ c.loop-taken.invariant.setup) (λ h is. is.legal))
+    (legal_as _ _ _ c.loop-taken.invariant.setup (λ h is. is.legal))

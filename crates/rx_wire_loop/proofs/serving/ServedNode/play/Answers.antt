@@ -5,7 +5,7 @@ use Rattle.rx_dispatch.specs.States.{state_of}
 use Rattle.rx_node.specs.Node.{setup_of}
 use Rattle.rx_wire_loop.specs.declared.ports.Ports.{Ports}
 use Rattle.rx_wire_loop.specs.Ports.{clocks, polls}
-use Rattle.rx_wire_loop.specs.Runs.{stop_of}
+use Rattle.rx_drive.specs.Ran.{stop_of}
 use Rattle.rx_wire_loop.specs.Serves.{dispatches}
 use Rattle.rx_wire_loop.specs.Tells.{sink_tells, wire_tells}
 use Rattle.rx_wire_loop.proofs.Clocking.{AnyTime}

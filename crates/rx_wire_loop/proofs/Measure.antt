@@ -1,5 +1,5 @@
 -- How much a turn of a caller has left to do at most.
-use Rattle.std.proofs.Common.{◌≡◌, ◌⊎◌, inl, inr, ◌+◌, ◌-◌, ◌<◌, ◌≤◌, if◌then◌else◌, nat_lt, is_some, ℕ, suc, Bool}
+use Rattle.std.proofs.Common.{◌≡◌, ◌⊎◌, inl, inr, ◌+◌, ◌-◌, ◌^◌, ◌<◌, ◌≤◌, if◌then◌else◌, nat_lt, is_some, ℕ, suc, Bool}
 use Rattle.std.proofs.Common.{true, false}
 use Rattle.std.proofs.Common.{List, [], ◌∷◌, ◌++◌, length, take, drop, Option, Some, None, refl, sym}
 use Rattle.std.proofs.Common.{subst, arith, length-append, length-drop}
@@ -15,14 +15,15 @@ use Rattle.rx_asks.specs.declared.ask.Ask.{Ask}
 use Rattle.rx_asks.specs.declared.ask.Ask.TheVariants as asks
 use Rattle.rx_asks.specs.declared.ask.Phase.{Phase}
 use Rattle.rx_asks.specs.declared.ask.Phase.TheVariants as phases
-use Rattle.rx_asks.specs.declared.ask.TheConstants.{BLOCK_BYTES}
-use Rattle.rx_asks.specs.Asks.{Asking, IsAsked, asking, calling, end_after}
+use Rattle.rx_asks.specs.declared.ask.TheConstants.{BLOCK_BYTES, REPLY_BYTES}
+use Rattle.rx_asks.specs.Asks.{Asking, IsAsked, asking, begun, calling, end_after}
 use Rattle.rx_asks.specs.Asks.{heard, next_ask, next_at, next_offering, phase_after}
 use Rattle.rx_asks.specs.View.{CallerState}
 use Rattle.rx_asks.proofs.Asked.{asked_by, next_lasts}
+use Rattle.rx_wire.specs.Turns.{Runs, goes, stays}
 
 -- by the end, where the turn stands, whether it shut, how many bytes are to be offered, and how many were read
-abbrev pub left_by : ℕ → Option End → Phase → Bool → ℕ → ℕ → ℕ
+abbrev left_by : ℕ → Option End → Phase → Bool → ℕ → ℕ → ℕ
 left_by limit (Some end) phase shut offering reply = 0
 left_by limit None phases.Offering shut offering reply =
     offering + (if shut then 0 else 1) + (suc limit - reply) + 3
@@ -30,7 +31,7 @@ left_by limit None phases.Reading shut offering reply = (suc limit - reply) + 2
 left_by limit None phases.Resting shut offering reply = if nat_lt limit reply then 1 else 0
 
 -- of a caller
-abbrev pub left_of : ℕ → CallerState → ℕ
+abbrev left_of : ℕ → CallerState → ℕ
 left_of limit v = left_by limit v.end v.phase v.shut (length v.offering) (length v.reply)
 
 -- ---- at rest little is left
@@ -195,7 +196,7 @@ read-leaves limit v got bytes next =
     below : {a b c : ℕ} → a < b → b ≤ c → a < c
     below small large = omega arith
 
-pub smaller : (limit : ℕ) (v : CallerState) (a : Asking) (e : Event) → (calling limit).asks v ≡ Some a → IsAsked a e
+smaller : (limit : ℕ) (v : CallerState) (a : Asking) (e : Event) → (calling limit).asks v ≡ Some a → IsAsked a e
     → left_of limit (heard v e) < left_of limit v
 smaller limit v a e asked is =
     let by = asked_by limit v a asked in
@@ -217,3 +218,31 @@ smaller limit v a e asked is =
         let long = cancels-long limit v next in
         cancel-some limit v.end v.phase v.shut (length v.offering) (length v.reply) long.0 long.1
     of asks.Cancel _ next told = absurd told
+
+-- ---- so a turn has few calls
+
+-- a turn has no more calls than it has left to do at first
+few_by : (limit : ℕ) (v w : CallerState) (es : List Event) → Runs (calling limit) v es w
+    → length es + left_of limit w ≤ left_of limit v
+few_by limit v w es (stays at) = omega arith
+few_by limit v w es (goes at a e rest to asked is more) =
+    (let less : left_of limit (heard v e) < left_of limit v = smaller limit v a e asked is in
+    let later : length rest + left_of limit w ≤ left_of limit (heard v e) = few_by limit (heard v e) w rest more in
+    omega (arith, less, later))
+
+left_begun : (limit : ℕ) (end : Option End) (shut : Bool) (offering reply : ℕ)
+    → left_by limit end phases.Offering shut offering reply ≤ offering + limit + 5
+left_begun limit (Some end) shut offering reply = omega arith
+left_begun limit None true offering reply = omega arith
+left_begun limit None false offering reply = omega arith
+
+-- a turn that begins has fewer than 2^64 - 1
+pub turn_few : (v w : CallerState) (es : List Event) → length v.offering < 2 ^ 63
+    → Runs (calling REPLY_BYTES) (begun v) es w → length es < 2 ^ 64 - 1
+turn_few v w es few runs =
+    (let made : length es + left_of REPLY_BYTES w ≤ left_of REPLY_BYTES (begun v) =
+    few_by REPLY_BYTES (begun v) w es runs in
+    let most : left_of REPLY_BYTES (begun v) ≤ length v.offering + REPLY_BYTES + 5 =
+    left_begun REPLY_BYTES v.end v.shut (length v.offering) (length v.reply) in
+    let size : REPLY_BYTES ≡ 16842756 = refl in
+    omega (arith, made, most, size, few))
