@@ -2,6 +2,5 @@ pub mod Tells
 pub mod Nodes
 pub mod Ran
 pub mod Carried
-pub mod Keeping
 pub mod Events
 pub mod Turned
