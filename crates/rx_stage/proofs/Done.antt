@@ -6,16 +6,13 @@ use Rattle.std.specs.List.{All}
 use Rattle.std.specs.Prelude.{if◌then◌else◌, is_some, nat_lt, slice_get}
 use Rattle.std.proofs.lemmas.List.{length-append}
 use Rattle.std.proofs.lemmas.List.Elements.{All-nil, All-cons, All-head, All-tail, All-push, All-weaker}
-use Rattle.rx_model.specs.declared.event.Event.{Event}
 use Rattle.rx_model.specs.declared.event.Noted.{Noted}
 use Rattle.rx_asks.specs.Asks.{asking, begun as caller_begun, calling, done_at, is_done, next_at}
 use Rattle.rx_asks.specs.declared.ask.Ask.TheVariants as asks
 use Rattle.rx_asks.specs.declared.ask.Phase.{Phase}
 use Rattle.rx_asks.specs.declared.ask.Phase.TheVariants as phases
 use Rattle.rx_asks.specs.declared.ask.TheConstants.{REPLY_BYTES}
-use Rattle.rx_caller.specs.Turn.{Between, MakesNext, Stays}
 use Rattle.rx_asks.specs.View.{CallerState}
-use Rattle.rx_rules.specs.Classes.{Class}
 use Rattle.rx_wire.specs.Turns.{Program}
 use Rattle.rx_stage.specs.Done.{KeepsDone, LeavesOut, StaysDone, has_both, is_done_at, is_done_if, leaves, no_more}
 use Rattle.rx_plan.specs.Network.{below}
@@ -74,16 +71,6 @@ turn_stays node v w s t es turn done =
     (let same : w ≡ caller_begun v = turn_over (calling REPLY_BYTES) node (caller_begun v) s es (To (w, t)) turn
     (ended_asks (caller_begun v) (done_ended v done)) in
     subst (λ (u : CallerState). is_done u ≡ true) (sym same) (done_ended v done))
-
--- nothing that one of its calls changes
-pub stays_done : (b : Between) → Stays b → StaysDone b.old b.new
-stays_done b stays is = subst (λ (v : CallerState). is_done v ≡ true) (sym stays.0) is
-
-pub next_done : (class : List ℕ → Class) (b : Between) (o : Option Event) → MakesNext class REPLY_BYTES b o
-    → StaysDone b.old b.new
-next_done class b None made is = stays_done b made.1 is
-next_done class b (Some e) made is =
-    (let no : Some made.ask ≡ None = sym made.asked ∙ ended_asks b.old (done_ended b.old is) in absurd cc)
 
 -- ---- the callers
 

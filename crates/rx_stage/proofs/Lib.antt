@@ -3,14 +3,15 @@ pub mod CallersMade
 pub mod Clocking
 pub mod Delivering
 pub mod Done
+pub mod Driving
 pub mod Each
 pub mod Ending
 pub mod Fated
 pub mod Finding
 pub mod Following
-pub mod Going
 pub mod Joining
 pub mod Keeping
+pub mod Lending
 pub mod LinesGone
 pub mod Lining
 pub mod LossyMade
@@ -18,6 +19,8 @@ pub mod LossyRounds
 pub mod Making
 pub mod Numbers
 pub mod Ordering
+pub mod Outer
+pub mod Plain
 pub mod PlanExample
 pub mod Playing
 pub mod Polling
@@ -27,8 +30,6 @@ pub mod RoundsKept
 pub mod RoundsMade
 pub mod RunKeeps
 pub mod Running
-pub mod Serving
 pub mod Stepping
 pub mod ToldEvents
-pub mod Turning
 pub mod TurnsMade

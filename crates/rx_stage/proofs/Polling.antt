@@ -1,88 +1,31 @@
--- Polls of a node, one by one, and then all of them.
-use Rattle.std.proofs.Common.{◌≡◌, ◌∙◌, ◌+◌, ℕ, List, Bool, true, false, Option, Some, None, Result, Ok, Err}
+-- Polls of a node, until none is due.
+use Rattle.std.proofs.Common.{◌≡◌, ◌∙◌, ℕ, List, [], false, Option, Some, Result}
+use Rattle.std.specs.Result.{IsErr, IsErrAnd}
 use Rattle.std.proofs.Common.{refl, sym, subst, ap}
-use Rattle.std.specs.Prelude.{IfOk, IfErr, IsErr, IsErrAnd}
-use Rattle.rx_model.specs.declared.event.Event.{Event}
 use Rattle.rx_model.specs.declared.names.Host.{Host}
 use Rattle.rx_law.specs.Worlds.{Datagram}
-use Rattle.rx_events.specs.Events.{IsPolled}
-use Rattle.rx_joint.specs.Nodes.{IsNodeThere, Makes, NodesState, host_of}
-use Rattle.rx_wire.specs.Turns.{noted}
+use Rattle.rx_joint.specs.Nodes.{IsNodeThere, NodesState, host_of}
 use Rattle.rx_stage.specs.declared.stop.Stop.{Stop}
+use Rattle.rx_stage.specs.Ran.{Ran, stop_of}
 use Rattle.rx_stage.specs.declared.stop.Stop.TheVariants as stops
-use Rattle.rx_stage.specs.Ran.{Ran}
-use Rattle.rx_stage.specs.TurnsPlayed.{CallStops, CallsNext, CallsTold, Knows, PlaysTurn}
-use Rattle.rx_plan.specs.Programs.{Turn}
-use Rattle.rx_stage.specs.TurnsPlayed.{stops_told, wants_behind, wants_first}
-use Rattle.rx_stage.specs.RoundsPlayed.{PlaysGiven, PollsOn, ShowsGiven, ended_with, more_from}
-use Rattle.rx_plan.specs.Rounds.{Polling, heard_poll}
+use Rattle.rx_wire.specs.Turns.{Program}
+use Rattle.rx_stage.specs.TurnsPlayed.{Knows, PlaysTurn}
+use Rattle.rx_plan.specs.Programs.{Turn, cut_there}
+use Rattle.rx_stage.specs.RoundsPlayed.{PlaysGiven, ShowsGiven, ended_with, more_from}
+use Rattle.rx_plan.specs.Rounds.{Polling}
 use Rattle.rx_plan.specs.Rounds.{polling}
 use Rattle.rx_plan.specs.Rounds.{polls_at, polls_out}
 use Rattle.rx_plan.specs.Stages.{Stage}
+use Rattle.rx_drive.specs.Carried.{Carrying}
+use Rattle.rx_stage.specs.Giving.{Gives, GivingState, WantedAt}
 use Rattle.rx_stage.specs.Shown.{WorldState}
-use Rattle.rx_stage.specs.Tells.{GainsOne, IsTold, Told}
+use Rattle.rx_stage.specs.Tells.{Told}
 use Rattle.rx_stage.proofs.Following.{ran_as}
-use Rattle.rx_stage.proofs.Going.{Going, going_told, turn_whole}
+use Rattle.rx_stage.proofs.Making.{cut_off, stop_is}
 use Rattle.rx_stage.proofs.Numbers.{host_shown}
 
--- ---- one poll
-
--- a poll is what is asked
-polls_next : (from : Host) (node : ℕ) (given : List Datagram) (old new : NodesState) (e : Event)
-    → Makes old new node e → IsPolled e → CallsNext (polling from) node (more_from given) old new e
-polls_next from node given old new e makes is = record { ask = tt; asked = refl; is = is; makes = makes }
-
--- memory was wanted before it
-pub poll_wants : (from : Host) (node : ℕ) (given more : List Datagram) (old new : NodesState) (stop : Stop) (t : Told)
-    → stop ≡ stops.OutOfMemory → PollsOn from node given more old new (Err stop) t t
-poll_wants from node given more old new stop t wants =
-    subst (λ why. CallStops (polling from) node (more_from given) old new why t t) (sym wants) (wants_first t)
-
--- the run ended as it was told
-pub poll_stops : (from : Host) (node : ℕ) (given more : List Datagram) (old new : NodesState) (e : Event) (stop : Stop)
-    (a b : Told) → Makes old new node e → IsPolled e → IsTold (Some stop) a b (noted node e)
-    → PollsOn from node given more old new (Err stop) a b
-poll_stops from node given more old new e stop a b makes is told =
-    stops_told stop a b e (polls_next from node given old new e makes is) told
-
--- it was told, and what it gave was kept or memory was wanted for that
-pub poll_kept : (from : Host) (node : ℕ) (given more : List Datagram) (old new : NodesState) (e : Event)
-    (kept : Result Bool Stop) (a b : Told) → Makes old new node e → IsPolled e → GainsOne a b (noted node e)
-    → IfOk kept (λ again. record { again = again; given = more } ≡ heard_poll from (more_from given) e)
-    → IfErr kept (λ stop. stop ≡ stops.OutOfMemory) → PollsOn from node given more old new kept a b
-poll_kept from node given more old new e (Ok again) a b makes is told heard wants =
-    record { event = e; calls = polls_next from node given old new e makes is; heard = heard; told = told }
-poll_kept from node given more old new e (Err stop) a b makes is told heard wants =
-    subst (λ why. CallStops (polling from) node (more_from given) old new why a b) (sym wants)
-    (wants_behind a b e (polls_next from node given old new e makes is) told)
-
--- ---- the polls of a node
-
--- it gave something: it is polled again
-pub polls_more : (from : Host) (node made : ℕ) (given mid more : List Datagram) (old m new : NodesState) (again : Bool)
-    (a b c : Told) → Going (polling from) node made (more_from given) (more_from mid) old m a b
-    → PollsOn from node mid more m new (Ok again) b c → again ≡ true → IsNodeThere m node
-    → Going (polling from) node (made + 1) (more_from given) (more_from more) old new a c
-polls_more from node made given mid more old m new again a b c g one on there =
-    going_told (polling from) node made (more_from given) (more_from mid) (more_from more) old m new a b c g
-    (subst (λ x. CallsTold (polling from) node (more_from mid) (record { again = x; given = more }) m new b c) on one)
-    there
-
--- it gave nothing
-pub polls_end : (from : Host) (node made : ℕ) (given mid more : List Datagram) (old m new : NodesState) (again : Bool)
-    (a b c : Told) → Going (polling from) node made (more_from given) (more_from mid) old m a b
-    → PollsOn from node mid more m new (Ok again) b c → again ≡ false → IsNodeThere m node
-    → PlaysTurn (polling from) node (more_from given) (record { again = false; given = more }) old new None a c
-polls_end from node made given mid more old m new again a b c g one off there =
-    turn_whole (polling from) node (made + 1) (more_from given) (record { again = false; given = more }) old new a c
-    (going_told (polling from) node made (more_from given) (more_from mid) (record { again = false; given = more }) old
-    m new
-    a b c g
-    (subst (λ x. CallsTold (polling from) node (more_from mid) (record { again = x; given = more }) m new b c) off one)
-    there) refl
-
 -- all polls of a node that is there
-pub polls_play : (w : WorldState) (node : ℕ) (from : Host) (given more : List Datagram) (new : NodesState)
+polls_play : (w : WorldState) (node : ℕ) (from : Host) (given more : List Datagram) (new : NodesState)
     (stop : Option Stop) (a b : Told) → IsNodeThere w.nodes node → from ≡ host_of w.nodes node
     → PlaysTurn (polling from) node (more_from given) (record { again = false; given = more }) w.nodes new stop a b
     → PlaysGiven (polls_out node) w given (record w { nodes = new }) more stop a b
@@ -98,33 +41,6 @@ polls_play w node from given more new stop a b there host turn p shown =
     (sym shown.1) (turn w refl p.stage shown.0))
     (λ r known. (known.1, ap (λ (v : Polling). v.given) known.0)))
 
--- ---- what the code keeps
-
--- the same nodes
-pub polls_seen : (from : Host) (node : ℕ) (given more : List Datagram) (i old m new : NodesState) (r : Result Bool Stop)
-    (a b : Told) → i ≡ old → new ≡ m → PollsOn from node given more i m r a b
-    → PollsOn from node given more old new r a b
-polls_seen from node given more i old m new r a b is same polls =
-    subst (λ n. PollsOn from node given more n new r a b) is
-    (subst (λ n. PollsOn from node given more i n r a b) (sym same) polls)
-
--- memory was wanted first
-pub once_wants : (from : Host) (node : ℕ) (given more : List Datagram) (old new : NodesState) (r : Result Bool Stop)
-    (t : Told) → IsErr r × IsErrAnd r (λ why. why ≡ stops.OutOfMemory) → PollsOn from node given more old new r t t
-once_wants from node given more old new (Ok again) t err = absurd err.1
-once_wants from node given more old new (Err stop) t err = poll_wants from node given more old new stop t err.1
-
--- the run ended as a poll was told
-pub once_stops : (from : Host) (node : ℕ) (given more : List Datagram) (i old m new : NodesState) (e : Event)
-    (r : Result Bool Stop) (stop : Stop) (a b : Told) → i ≡ old → new ≡ m → Makes i m node e → IsPolled e
-    → IsTold (Some stop) a b (noted node e) → IsErr r × IsErrAnd r (λ why. why ≡ stop)
-    → PollsOn from node given more old new r a b
-once_stops from node given more i old m new e (Ok again) stop a b is same makes polled told err = absurd err.1
-once_stops from node given more i old m new e (Err why) stop a b is same makes polled told err =
-    polls_seen from node given more i old m new (Err why) a b is same
-    (poll_stops from node given more i m e why a b makes polled
-    (subst (λ x. IsTold (Some x) a b (noted node e)) (sym err.1) told))
-
 -- all polls of a node were made, of whose state the code keeps this
 pub out_plays : (old new : WorldState) (node : ℕ) (from : Host) (given more : List Datagram) (stop : Option Stop)
     (a b : Told) → IsNodeThere old.nodes node → from ≡ host_of old.nodes node
@@ -133,3 +49,26 @@ pub out_plays : (old new : WorldState) (node : ℕ) (from : Host) (given more : 
 out_plays old new node from given more stop a b there host turn same =
     subst (λ (u : WorldState). PlaysGiven (polls_out node) old given u more stop a b) (sym same)
     (polls_play old node from given more new.nodes stop a b there host turn)
+
+-- the same nodes, and the same is told, as the code has them
+pub turn_seen : {View Ask : Type 0} (p : Program View Ask) (node : ℕ) (v w : View) (i old new : NodesState)
+    (stop : Option Stop) (a b c : Told) → i ≡ old → c ≡ b → PlaysTurn p node v w i new stop a b
+    → PlaysTurn p node v w old new stop a c
+turn_seen p node v w i old new stop a b c is same turn =
+    subst (λ n. PlaysTurn p node v w n new stop a c) is
+    (subst (λ (t : Told). PlaysTurn p node v w i new stop a t) (sym same) turn)
+
+-- memory was wanted first
+pub polls_want : (from : Host) (node : ℕ) (given more : List Datagram) (old new : NodesState)
+    (r : Result (Unit {0}) Stop) (t : Told) → IsErr r × IsErrAnd r (λ stop. stop ≡ stops.OutOfMemory)
+    → PlaysTurn (polling from) node (more_from given) (ended_with more) old new (stop_of r) t t
+polls_want from node given more old new r t was m is s shown =
+    subst (λ (o : Option Stop). Ran (Turn (polling from) node (more_from given) s)
+    (λ x. Knows (ended_with more) (record m { nodes = new }) x.0 x.1) o t t) (sym (stop_is r stops.OutOfMemory was))
+    (cut_off (Turn (polling from) node (more_from given) s)
+    (λ x. Knows (ended_with more) (record m { nodes = new }) x.0 x.1) stops.OutOfMemory t
+    (cut_there (more_from given) s) refl)
+
+-- what keeps what is given
+abbrev pub carries : Carrying GivingState
+carries = record { carried = Gives; some = λ a xs ls. ls ≡ []; lost = λ why a xs ls. WantedAt why ls }

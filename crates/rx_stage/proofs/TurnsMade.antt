@@ -1,14 +1,14 @@
 -- Turns of the dispatcher and of callers, from what is kept to what is kept.
 use Rattle.std.proofs.Common.{◌≡◌, ◌≢◌, ◌∙◌, ◌<◌, ◌≤◌, ◌⊎◌, ◌+◌, ◌==◌, ◌&&◌, not, ℕ, List}
 use Rattle.std.proofs.Common.{true, false}
-use Rattle.std.proofs.Common.{Option, Some, None, Result, Ok, Err, OnOk, refl, inl, inr, sym, subst, ap, length, set}
+use Rattle.std.proofs.Common.{Option, Some, None, refl, inl, inr, sym, subst, ap, length, set}
 use Rattle.std.proofs.Common.{get_or, arith}
 use Rattle.std.specs.Prelude.{nat_lt, slice_get}
 use Rattle.std.proofs.lemmas.Bool.Decides.{nat_tests}
 use Rattle.rx_asks.specs.Asks.{begun as caller_begun, calling}
 use Rattle.rx_asks.specs.declared.ask.TheConstants.{REPLY_BYTES}
 use Rattle.rx_asks.specs.View.{CallerState}
-use Rattle.rx_jobs.specs.Dispatching.{Turning, accepts, dispatching}
+use Rattle.rx_jobs.specs.Dispatching.{Turning, accepts, dispatching, over}
 use Rattle.rx_jobs.specs.Handlers.{Handlers}
 use Rattle.rx_jobs.specs.Jobs.{JobState}
 use Rattle.rx_dispatch.specs.States.{state_of}
@@ -17,7 +17,7 @@ use Rattle.rx_joint.specs.Nodes.{IsClientThere, NodesState}
 use Rattle.rx_joint.proofs.Lent.{read_some}
 use Rattle.rx_script.specs.Saying.{Answering}
 use Rattle.rx_stage.specs.declared.stop.Stop.{Stop}
-use Rattle.rx_stage.specs.Ran.{Ran, stop_of}
+use Rattle.rx_stage.specs.Ran.{Ran}
 use Rattle.rx_plan.specs.Parts.{To, by_test, ends}
 use Rattle.rx_stage.specs.TurnsPlayed.{Knows, PlaysTurn}
 use Rattle.rx_plan.specs.Programs.{Turn}
@@ -25,12 +25,11 @@ use Rattle.rx_plan.specs.Stages.{InvokedState, Stage}
 use Rattle.rx_stage.specs.Shown.{Plays, Shows, WorldState, jobs_of, script_of}
 use Rattle.rx_stage.specs.Shown.{stage_of}
 use Rattle.rx_stage.specs.Tells.{Told}
-use Rattle.rx_stage.specs.TurnsPlayed.{IsOverWith}
 use Rattle.rx_plan.specs.Turned.{dispatches, is_of, jobs_left, turns_at, turns_for, turns_of}
 use Rattle.rx_plan.specs.Turned.{turns_where}
 use Rattle.rx_stage.proofs.Following.{ran_as}
 use Rattle.rx_stage.proofs.Numbers.{length_shown}
-use Rattle.rx_stage.proofs.Running.{ran_stops, ran_to}
+use Rattle.rx_stage.proofs.Running.{ran_to}
 
 -- ---- what is shown
 
@@ -68,35 +67,29 @@ with_callers w s callers given shown same =
 
 -- ---- the dispatcher
 
-dispatched : (g : Handlers) (w : WorldState) (nodes : NodesState) (d : Dispatcher) (v : Turning)
-    (r : Result (Unit {0}) Stop) (a b : Told)
-    → PlaysTurn (dispatching g) 0 (accepts (jobs_of w)) v w.nodes nodes (stop_of r) a b
-    → OnOk r (IsOverWith v (state_of d).round.jobs)
-    → Plays (dispatches g) w (record w { nodes = nodes; dispatcher = d }) (stop_of r) a b
-dispatched g w nodes d v (Ok x) a b turn ends_so s shown =
+-- a turn of it
+dispatched : (g : Handlers) (w : WorldState) (nodes : NodesState) (d : Dispatcher) (stop : Option Stop) (a b : Told)
+    → PlaysTurn (dispatching g) 0 (accepts (jobs_of w)) (over (state_of d).round.jobs) w.nodes nodes stop a b
+    → Plays (dispatches g) w (record w { nodes = nodes; dispatcher = d }) stop a b
+dispatched g w nodes d stop a b turn s shown =
     ran_as (Turn (dispatching g) 0 (accepts s.jobs) s)
     (λ (r : Turning × Stage). record r.1 { jobs = jobs_left r.0 })
-    (λ r. Knows v (record w { nodes = nodes }) r.0 r.1) (Shows (record w { nodes = nodes; dispatcher = d })) None a b
+    (λ r. Knows (over (state_of d).round.jobs) (record w { nodes = nodes }) r.0 r.1)
+    (Shows (record w { nodes = nodes; dispatcher = d })) stop a b
     (subst (λ js. Ran (Turn (dispatching g) 0 (accepts js) s)
-    (λ r. Knows v (record w { nodes = nodes }) r.0 r.1) None a b) (sym (jobs_shown w s shown)) (turn w refl s shown))
-    (λ r known. with_jobs (record w { nodes = nodes }) d r.1 (jobs_left r.0) known.1
-    (ap jobs_left (known.0 ∙ ends_so)))
-dispatched g w nodes d v (Err stop) a b turn ends_so s shown =
-    ran_stops (Turn (dispatching g) 0 (accepts s.jobs) s) (λ r. ends (To (record r.1 { jobs = jobs_left r.0 })))
-    (λ r. Knows v (record w { nodes = nodes }) r.0 r.1) (Shows (record w { nodes = nodes; dispatcher = d })) stop a b
-    (subst (λ js. Ran (Turn (dispatching g) 0 (accepts js) s)
-    (λ r. Knows v (record w { nodes = nodes }) r.0 r.1) (Some stop) a b) (sym (jobs_shown w s shown))
-    (turn w refl s shown))
+    (λ r. Knows (over (state_of d).round.jobs) (record w { nodes = nodes }) r.0 r.1) stop a b)
+    (sym (jobs_shown w s shown)) (turn w refl s shown))
+    (λ r known. with_jobs (record w { nodes = nodes }) d r.1 (jobs_left r.0) known.1 (ap jobs_left known.0))
 
--- a turn of the dispatcher
+-- the same of what a run keeps
 pub dispatch_plays : (hs : List Answering → Handlers) (w old : WorldState) (nodes : NodesState) (d : Dispatcher)
-    (v : Turning) (r : Result (Unit {0}) Stop) (a b : Told) → w ≡ old
-    → PlaysTurn (dispatching (hs (script_of w))) 0 (accepts (jobs_of w)) v w.nodes nodes (stop_of r) a b
-    → OnOk r (IsOverWith v (state_of d).round.jobs)
-    → Plays (dispatches (hs (script_of old))) old (record w { nodes = nodes; dispatcher = d }) (stop_of r) a b
-dispatch_plays hs w old nodes d v r a b is turn ends_so =
+    (stop : Option Stop) (a b : Told) → w ≡ old
+    → PlaysTurn (dispatching (hs (script_of w))) 0 (accepts (jobs_of w)) (over (state_of d).round.jobs) w.nodes nodes
+    stop a b
+    → Plays (dispatches (hs (script_of old))) old (record w { nodes = nodes; dispatcher = d }) stop a b
+dispatch_plays hs w old nodes d stop a b is turn =
     subst (λ (u : WorldState). Plays (dispatches (hs (script_of u))) u (record w { nodes = nodes; dispatcher = d })
-    (stop_of r) a b) is (dispatched (hs (script_of w)) w nodes d v r a b turn ends_so)
+    stop a b) is (dispatched (hs (script_of w)) w nodes d stop a b turn)
 
 -- ---- a caller
 

@@ -7,3 +7,5 @@ pub mod Ran
 pub mod RoundsPlayed
 pub mod Shown
 pub mod TurnsPlayed
+pub mod Driving
+pub mod Giving

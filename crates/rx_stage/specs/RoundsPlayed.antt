@@ -1,16 +1,13 @@
 -- Polls and lossy rounds that were made on the nodes of a run, and told. Public clauses cite this module.
-use Rattle.std.specs.Prelude.{◌≡◌, ℕ, Bool, false, true, List, Option, Result, Ok, Err}
-use Rattle.rx_model.specs.declared.names.Host.{Host}
+use Rattle.std.specs.Prelude.{◌≡◌, false, true, List, Option}
 use Rattle.rx_law.specs.Worlds.{Datagram}
-use Rattle.rx_joint.specs.Nodes.{NodesState}
 use Rattle.rx_plan.specs.Parts.{Part}
 use Rattle.rand_pcg.specs.Lcg.{Lcg}
-use Rattle.rx_plan.specs.Rounds.{Polling, polling, Polled}
+use Rattle.rx_plan.specs.Rounds.{Polling, Polled}
 use Rattle.rx_plan.specs.Lossy.{drawn, Lossy}
 use Rattle.rx_plan.specs.Stages.{Stage}
 use Rattle.rx_stage.specs.Ran.{Ran}
 use Rattle.rx_stage.specs.Shown.{Shows, WorldState}
-use Rattle.rx_stage.specs.TurnsPlayed.{CallStops, CallsTold}
 use Rattle.rx_stage.specs.Tells.{Told}
 use Rattle.rx_stage.specs.declared.stop.Stop.{Stop}
 
@@ -32,14 +29,6 @@ more_from given = record { again = true; given = given }
 -- one that isn't
 abbrev pub ended_with : List Datagram → Polling
 ended_with given = record { again = false; given = given }
-
--- how one poll went: it was made and told, and what it gave is kept; or the run ended
-abbrev pub PollsOn : Host → ℕ → List Datagram → List Datagram → NodesState → NodesState → Result Bool Stop → Told → Told
-    → Type 0
-PollsOn from node given more old new (Ok again) before after =
-    CallsTold (polling from) node (more_from given) (record { again = again; given = more }) old new before after
-PollsOn from node given more old new (Err stop) before after =
-    CallStops (polling from) node (more_from given) old new stop before after
 
 -- a stage that is shown, with this generator and these datagrams that are held
 abbrev pub ShowsLossy : WorldState → Lcg → List Datagram → Lossy → Type 0

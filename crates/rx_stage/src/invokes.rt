@@ -1,6 +1,6 @@
 //! The callers of `invoke` lines, and their turns. A caller that is done gets none, since nothing would come of it: so
 //! a round costs no more than the callers that are still at work.
-ghost use Rattle.std.specs.Prelude.{◌≡◌, ◌∷◌, ◌++◌, ◌≤◌, ◌<◌, [], OnOk, length, true};
+ghost use Rattle.std.specs.Prelude.{◌≡◌, ◌∷◌, ◌++◌, ◌≤◌, ◌<◌, [], OnOk, length};
 ghost use Rattle.std.specs.List.{All};
 ghost use Rattle.rx_asks.specs.Asks.{begun as caller_begun, calling};
 ghost use Rattle.rx_asks.specs.declared.ask.TheConstants.{REPLY_BYTES};
@@ -8,15 +8,16 @@ ghost use Rattle.rx_joint.specs.Nodes.{IsClientThere};
 ghost use Rattle.rx_stage.specs.Done.{KeepsDone, PlaysCallers, StaysDone, is_done_at};
 ghost use Rattle.rx_plan.specs.Parts.{each};
 ghost use Rattle.rx_stage.specs.Ran.{stop_of};
-ghost use Rattle.rx_stage.specs.TurnsPlayed.{GoesOn, PlaysTurn};
+ghost use Rattle.rx_stage.specs.TurnsPlayed.{PlaysTurn};
 ghost use Rattle.rx_stage.specs.Tells.{told};
-ghost use Rattle.rx_stage.specs.TurnsPlayed.{RestsAnyhow};
 ghost use Rattle.rx_plan.specs.Turned.{turns_all, turns_at, turns_for, turns_on};
 
 use crate::stop::Stop;
-use crate::trace::{Trace, tell_call};
+use crate::telling::{Telling, plan_end};
+use crate::trace::Trace;
 use rx_base::Sink;
 use rx_caller::Caller;
+use rx_drive::call_turn;
 use rx_joint::{Nodes, SERVER};
 use rx_room::Room;
 use rx_wire::Journal;
@@ -283,34 +284,7 @@ fn call_on<O: Sink, J: Journal>(
         (told (J.told book.new) (O.told out.new) (O.faults out.new)) }
     ensures done { StaysDone caller.old caller.new }
 {
-    caller.begin();
-    'calls: for made in 0..u64::MAX {
-        if !call(node, caller, room, nodes, trace, out, book)? {
-            return Ok(());
-        }
-    }
-    Err(Stop::Endless)
-}
-
-/// Makes the next call of a caller's turn and tells it. Whether there was one.
-fn call<O: Sink, J: Journal>(
-    node: u32,
-    caller: &mut Caller,
-    room: &mut Room,
-    nodes: &mut Nodes,
-    trace: &mut Trace,
-    out: &mut O,
-    book: &mut J,
-) -> Result<bool, Stop>
-    requires { IsClientThere nodes.old node }
-    ensures goes { GoesOn (calling REPLY_BYTES) node RestsAnyhow caller.old caller.new nodes.old nodes.new result
-        (told (J.told book.old) (O.told out.old) (O.faults out.old))
-        (told (J.told book.new) (O.told out.new) (O.faults out.new)) }
-    ensures clients { length nodes.new.clients ≡ length nodes.old.clients }
-    ensures done { StaysDone caller.old caller.new }
-{
-    match caller.step(room, nodes.client_mut(node))? {
-        None => Ok(false),
-        Some(event) => tell_call(node, event, trace, out, book),
-    }
+    let mut telling = Telling { trace, out, book };
+    let client = nodes.client_mut(node);
+    plan_end(call_turn(node, caller, room, client, &mut telling))
 }

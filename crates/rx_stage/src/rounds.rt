@@ -1,26 +1,30 @@
 //! Fair rounds: each node gives what is due, all of it arrives, and each handler and caller has a turn.
-ghost use Rattle.std.specs.Prelude.{◌≡◌, ℕ, ◌+◌, ◌<◌, ◌^◌, ◌&&◌, ◌==◌, [], length, not, true, Some, IfErr, IfOk};
+ghost use Rattle.std.specs.Prelude.{◌≡◌, ℕ, ◌+◌, ◌<◌, ◌^◌, ◌&&◌, ◌==◌, [], length, not, true, Some};
 ghost use Rattle.rx_joint.specs.Nodes.{IsNodeThere, KeepsOthers, moment_of};
 ghost use Rattle.rx_jobs.specs.Handlers.{handlers_of};
 ghost use Rattle.rx_plan.specs.Network.{delivers};
 ghost use Rattle.rx_plan.specs.Parts.{each};
 ghost use Rattle.rx_stage.specs.Ran.{stop_of};
 ghost use Rattle.rx_stage.specs.TurnsPlayed.{PlaysTurn};
-ghost use Rattle.rx_stage.specs.RoundsPlayed.{PlaysGiven, PollsOn, ended_with};
-ghost use Rattle.rx_plan.specs.Rounds.{clients_first, heard_poll, may_move};
+ghost use Rattle.rx_stage.specs.RoundsPlayed.{PlaysGiven, ended_with};
+ghost use Rattle.rx_plan.specs.Rounds.{clients_first, may_move};
 ghost use Rattle.rx_stage.specs.RoundsPlayed.{more_from};
-ghost use Rattle.rx_plan.specs.Rounds.{moves_by, moves_on, polled, polling, polls_out, round, rounds};
+ghost use Rattle.rx_plan.specs.Rounds.{moves_by, moves_on, polling, polls_out, round, rounds};
 ghost use Rattle.rx_plan.specs.Rounds.{settles, turns, waits};
 ghost use Rattle.rx_stage.specs.Shown.{Plays, Shows, script_of};
 ghost use Rattle.rx_plan.specs.Stages.{Stage};
 ghost use Rattle.rx_stage.specs.Tells.{told};
 
+use crate::giving::Giving;
 use crate::network_lines::deliver_all;
-use crate::stop::{Stop, keep};
+use crate::stop::Stop;
+use crate::telling::{Telling, plan_end};
 use crate::world::{Datagram, World, node_count};
 use rx_base::Sink;
+use rx_drive::poll_out;
 use rx_joint::SERVER;
-use rx_model::{Bytes, Event, Host};
+use rx_model::Host;
+use rx_model::wire::DATAGRAM_BYTES;
 use rx_wire::Journal;
 use xdr_value::Interface;
 
@@ -185,33 +189,23 @@ impl World {
         ensures rest { self.new ≡ record self.old { nodes = self.new.nodes } }
         ensures clients { length self.new.nodes.clients ≡ length self.old.nodes.clients }
     {
-        'polls: for made in 0..u64::MAX {
-            if !self.poll_once(node, from, given, out, book)? {
-                return Ok(());
-            }
+        let mut single = vec![in self.alloc; 0u8; DATAGRAM_BYTES]?;
+        let mut giving = Giving {
+            alloc: self.alloc,
+            from,
+            given,
+        };
+        let mut telling = Telling {
+            trace: &mut self.trace,
+            out,
+            book,
+        };
+        if node == SERVER {
+            let server = self.nodes.server_mut();
+            return plan_end(poll_out(node, server, &mut single, &mut giving, &mut telling));
         }
-        Err(Stop::Endless)
-    }
-
-    /// Polls a node, and keeps what it gives. Whether it gave something.
-    fn poll_once<O: Sink, J: Journal>(
-        &mut self,
-        node: u32,
-        from: Host,
-        given: &mut Vec<Datagram>,
-        out: &mut O,
-        book: &mut J,
-    ) -> Result<bool, Stop>
-        requires { IsNodeThere self.old.nodes node }
-        ensures polls { PollsOn from node given.old.items given.new.items self.old.nodes self.new.nodes result
-            (told (J.told book.old) (O.told out.old) (O.faults out.old))
-            (told (J.told book.new) (O.told out.new) (O.faults out.new)) }
-        ensures rest { self.new ≡ record self.old { nodes = self.new.nodes } }
-        ensures clients { length self.new.nodes.clients ≡ length self.old.nodes.clients }
-    {
-        let event = self.nodes.poll(self.alloc, node)?;
-        self.tell(node, &event, out, book)?;
-        keep_given(given, from, event)
+        let client = self.nodes.client_mut(node);
+        plan_end(poll_out(node, client, &mut single, &mut giving, &mut telling))
     }
 
     /// All clocks move by the least time from a node's moment to what is due there next.
@@ -292,37 +286,4 @@ impl World {
         let now = self.nodes.moment(node) + time;
         self.clock(node, now, out, book)
     }
-}
-
-/// Keeps what a poll gave. Whether it gave something.
-fn keep_given(kept: &mut Vec<Datagram>, from: Host, event: Event) -> Result<bool, Stop>
-    ensures heard { IfOk result (λ again. record { again = again; given = kept.new.items }
-        ≡ heard_poll from (more_from kept.old.items) event) }
-    ensures wanting { IfErr result (λ stop. stop ≡ Stop.OutOfMemory) }
-{
-    match event {
-        Event::Polled { got } => keep_polled(kept, from, got),
-        Event::Linked { .. } | Event::Called { .. } | Event::Wrote { .. } | Event::Shut { .. } =>
-            Ok(false),
-        Event::HasRead { .. } | Event::Ended { .. } | Event::Cancelled { .. } => Ok(false),
-        Event::Accepted { .. } | Event::Finished { .. } | Event::Taken { .. } => Ok(false),
-        Event::Clocked { .. } => Ok(false),
-    }
-}
-
-/// The same of the answer of a poll.
-fn keep_polled(
-    kept: &mut Vec<Datagram>,
-    from: Host,
-    got: Option<(Host, Bytes)>,
-) -> Result<bool, Stop>
-    ensures heard { IfOk result (λ again. record { again = again; given = kept.new.items }
-        ≡ polled from got (more_from kept.old.items)) }
-    ensures wanting { IfErr result (λ stop. stop ≡ Stop.OutOfMemory) }
-{
-    let Some((to, bytes)) = got else {
-        return Ok(false);
-    };
-    keep(kept, Datagram { from, to, bytes })?;
-    Ok(true)
 }

@@ -1,72 +1,28 @@
-use Rattle.std.proofs.Common.{◌≡◌, ◌∙◌, Ok, Err, ap, sym, subst, true, false, rules}
-use Rattle.std.proofs.Common.{arith}
-use Rattle.rx_dispatch.specs.Rounds.{DispatcherState, turning_of}
-use Rattle.rx_jobs.specs.Dispatching.{accepts, dispatching}
-use Rattle.rx_jobs.specs.Handlers.{Handlers, handlers_of}
-use Rattle.rx_dispatch.specs.Making.{Remembers}
+-- The turn was driven on the server.
+use Rattle.std.proofs.Common.{◌∙◌, ap, get_or, refl, sym}
 use Rattle.rx_dispatch.specs.States.{state_of}
-use Rattle.rx_stage.specs.Tells.{Told, told}
-use Rattle.rx_stage.specs.TurnsPlayed.{IsOverWith}
-use Rattle.rx_stage.proofs.Going.{Going, goes_ended, goes_more, goes_over, goes_rest, going_here, turn_endless}
-use Rattle.rx_stage.proofs.Serving.{served_by}
+use Rattle.rx_dispatch.specs.Wanting.{IsWanting}
+use Rattle.rx_drive.specs.Tells.{Ways}
+use Rattle.rx_jobs.specs.Dispatching.{accepts, dispatching, over}
+use Rattle.rx_jobs.specs.Handlers.{Handlers, handlers_of}
+use Rattle.rx_stage.specs.Ran.{stop_of}
+use Rattle.rx_stage.specs.Tells.{told}
+use Rattle.rx_stage.proofs.Driving.{turn_driven}
+use Rattle.rx_stage.proofs.Lending.{server_lent}
+use Rattle.rx_stage.proofs.Polling.{turn_seen}
 use Rattle.rx_stage.proofs.turns.dispatch_on.Goals as goal
-
-pub calls-init : goal.calls-init
-calls-init g c =
-    let t : Told = told (g.J.Journal.told c.args.book.now) (g.O.Sink.told c.args.out.now) (g.O.Sink.faults
-    c.args.out.now) in
-    let old : DispatcherState = state_of c.args.dispatcher.now in
-    let by : Handlers = handlers_of c.args.iface.now old.script in
-    record {
-      going = subst (λ (s : DispatcherState). Going (dispatching by) 0 0 (accepts old.round.jobs)
-          (turning_of by s.round)
-          c.args.nodes.now c.args.nodes.now t t) (sym c.begin.ensures)
-          (going_here (dispatching by) 0 (accepts old.round.jobs) c.args.nodes.now t);
-      remembered = subst (λ (s : DispatcherState). Remembers (handlers_of c.args.iface.now s.script) s.round)
-          (sym c.begin.ensures) tt;
-      script = ap (λ (s : DispatcherState). s.script) c.begin.ensures;
-    }
-
-pub returns-in_err-serve-clause-plays : goal.returns-in_err-serve-clause-plays
-returns-in_err-serve-clause-plays g c =
-    goes_ended _ 0 _ _ _ _ _ c.calls.nodes c.serve.new.nodes _ c.from_residual.result c.in_err-serve.field-0.0 _ _ _
-    c.calls.invariant.going (omega arith) c.from_residual.ensures.1
-    (served_by (handlers_of c.args.iface.now) _ _ (state_of c.calls.dispatcher).round
-    (state_of c.serve.new.dispatcher).round (state_of c.serve.new.dispatcher).round.jobs _ _ (Err
-    c.in_err-serve.field-0.0)
-    _ _ c.calls.invariant.script c.in_err-serve.ensures.goes)
-
-pub returns-then-not-branch-clause-plays : goal.returns-then-not-branch-clause-plays
-returns-then-not-branch-clause-plays g c =
-    let off : c.in_ok-serve.field-0 ≡ false = search rules in
-    goes_over _ 0 _ (λ v. IsOverWith v (state_of c.serve.new.dispatcher).round.jobs) _ _ _ _ c.calls.nodes _
-    c.in_ok-serve.field-0 _ _ _ c.calls.invariant.going
-    (served_by (handlers_of c.args.iface.now) _ _ (state_of c.calls.dispatcher).round
-    (state_of c.serve.new.dispatcher).round (state_of c.serve.new.dispatcher).round.jobs _ _ (Ok c.in_ok-serve.field-0)
-    _ _ c.calls.invariant.script c.in_ok-serve.ensures.goes) off
-
-pub returns-then-not-branch-clause-over : goal.returns-then-not-branch-clause-over
-returns-then-not-branch-clause-over g c =
-    let off : c.in_ok-serve.field-0 ≡ false = search rules in
-    goes_rest _ 0 (λ v. IsOverWith v (state_of c.serve.new.dispatcher).round.jobs) _ _ c.calls.nodes _
-    c.in_ok-serve.field-0 _ _
-    (served_by (handlers_of c.args.iface.now) _ _ (state_of c.calls.dispatcher).round
-    (state_of c.serve.new.dispatcher).round (state_of c.serve.new.dispatcher).round.jobs _ _ (Ok c.in_ok-serve.field-0)
-    _ _ c.calls.invariant.script c.in_ok-serve.ensures.goes) off
-
-pub calls-preserved : goal.calls-preserved
-calls-preserved g c =
-    let on : c.in_ok-serve.field-0 ≡ true = search rules in
-    record {
-      going = goes_more _ 0 _ (λ v. IsOverWith v (state_of c.serve.new.dispatcher).round.jobs) _ _ _ _ c.calls.nodes _
-          c.in_ok-serve.field-0 _ _ _ c.calls.invariant.going
-          (served_by (handlers_of c.args.iface.now) _ _ (state_of c.calls.dispatcher).round
-          (state_of c.serve.new.dispatcher).round (state_of c.serve.new.dispatcher).round.jobs _ _
-          (Ok c.in_ok-serve.field-0) _ _ c.calls.invariant.script c.in_ok-serve.ensures.goes) on (omega arith);
-      remembered = c.serve.ensures.remembered;
-      script = c.serve.ensures.script ∙ c.calls.invariant.script;
-    }
 
 pub returns-clause-plays : goal.returns-clause-plays
 returns-clause-plays g c =
-    turn_endless _ 0 c.calls.made _ _ _ _ c.calls.nodes _ _ _ c.calls.invariant.going (omega arith)
+    let by : Handlers = handlers_of c.args.iface.now (state_of c.args.dispatcher.now).script in
+    let book = c.book-1.given.1 (sym (ap (λ (w : Ways). get_or w.names 2 0) c.dispatch.ensures.ways)) in
+    let out = c.out-1.given.1 (sym (ap (λ (w : Ways). get_or w.names 1 0) c.dispatch.ensures.ways)) in
+    turn_seen (dispatching by) 0 (accepts (state_of c.args.dispatcher.now).round.jobs)
+    (over (state_of c.dispatch.new.dispatcher).round.jobs) c.args.nodes.now _ _ (stop_of c.plan_end.result) _ _ _ refl
+    (ap (λ y. told (g.J.Journal.told y) (g.O.Sink.told c.out-1.given.0) (g.O.Sink.faults c.out-1.given.0)) book
+    ∙ ap (λ x. told (g.J.Journal.told c.dispatch.new.outside.book.now) (g.O.Sink.told x) (g.O.Sink.faults x)) out)
+    (turn_driven (dispatching by) (IsWanting by) c.args.nodes.now _ 0 _ _ _
+    (accepts (state_of c.args.dispatcher.now).round.jobs) (over (state_of c.dispatch.new.dispatcher).round.jobs) _
+    (stop_of c.plan_end.result) _ _ c.plan_end.ensures
+    (server_lent c.args.nodes.now 0 c.server_mut.result.now c.dispatch.new.server refl c.server_mut.ensures.value
+    c.dispatch.ensures.setup) c.dispatch.ensures.turned)

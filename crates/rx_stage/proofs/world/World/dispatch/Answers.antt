@@ -6,5 +6,4 @@ use Rattle.rx_stage.proofs.world.World.dispatch.Goals as goal
 pub returns-clause-plays : goal.returns-clause-plays
 returns-clause-plays g c =
     dispatch_plays (handlers_of c.args.iface.now) (the_view c.self.inside) c.args.self.now c.dispatch_on.new.nodes
-    c.dispatch_on.new.dispatcher _ c.dispatch_on.result _ _ c.self.view_is c.dispatch_on.ensures.plays
-    c.dispatch_on.ensures.over
+    c.dispatch_on.new.dispatcher _ _ _ c.self.view_is c.dispatch_on.ensures.plays

@@ -1,64 +1,75 @@
-use Rattle.std.proofs.Common.{◌≡◌, ◌≤◌, ◌∙◌, refl, ap, true, false, length, rules, arith}
-use Rattle.rx_stage.specs.RoundsPlayed.{more_from}
+-- The node was polled by its driver.
+use Rattle.std.proofs.Common.{◌≤◌, ◌∙◌, ap, arith, get_or, inl, length, subst, sym}
+use Rattle.rx_drive.specs.Tells.{Ways}
+use Rattle.rx_joint.specs.Nodes.{IsNodeThere}
 use Rattle.rx_plan.specs.Rounds.{polling}
+use Rattle.rx_stage.specs.Ran.{stop_of}
+use Rattle.rx_stage.specs.RoundsPlayed.{more_from}
 use Rattle.rx_stage.specs.Shown.{WorldState}
-use Rattle.rx_stage.specs.Tells.{Told, told}
-use Rattle.rx_stage.proofs.Going.{goes_ended, going_here, turn_endless}
-use Rattle.rx_stage.proofs.Polling.{polls_end, polls_more}
+use Rattle.rx_stage.specs.Tells.{told}
+use Rattle.rx_stage.proofs.Driving.{polls_driven}
+use Rattle.rx_stage.proofs.Lending.{client_lent, clients_left, server_lent}
+use Rattle.rx_stage.proofs.Polling.{carries, polls_want, turn_seen}
 use Rattle.rx_stage.proofs.world.World.poll_from.Goals as goal
 
-pub polls-init : goal.polls-init
-polls-init g c =
-    let t : Told = told (g.J.Journal.told c.args.book.now) (g.O.Sink.told c.args.out.now) (g.O.Sink.faults
-    c.args.out.now) in
-    record {
-      going = going_here (polling c.args.from) c.args.node (more_from c.args.given.now.items) c.args.self.now.nodes t;
-      rest = refl;
-      clients = refl;
-    }
+pub poll_out-requires-clause-can : goal.poll_out-requires-clause-can
+poll_out-requires-clause-can g c = inl (λ d. tt)
 
-pub returns-in_err-poll_once-clause-plays : goal.returns-in_err-poll_once-clause-plays
-returns-in_err-poll_once-clause-plays g c =
-    let there : c.args.node ≤ length c.polls.self.nodes.clients = omega (
-      arith,
-      c.polls.invariant.clients,
-      c.requires,
-    ) in
-    goes_ended (polling c.args.from) c.args.node _ _ (more_from c.polls.given.items) _ _ c.polls.self.nodes
-    c.poll_once.new.self.nodes _ c.from_residual.result c.in_err-poll_once.field-0.0 _ _ _ c.polls.invariant.going there
-    c.from_residual.ensures.1 c.in_err-poll_once.ensures.polls
+pub poll_out-requires-2-clause-can : goal.poll_out-requires-2-clause-can
+poll_out-requires-2-clause-can g c = inl (λ d. tt)
 
-pub returns-then-not-branch-clause-plays : goal.returns-then-not-branch-clause-plays
-returns-then-not-branch-clause-plays g c =
-    let there : c.args.node ≤ length c.polls.self.nodes.clients = omega (
-      arith,
-      c.polls.invariant.clients,
-      c.requires,
-    ) in
-    let off : c.in_ok-poll_once.field-0 ≡ false = search rules in
-    polls_end c.args.from c.args.node _ _ c.polls.given.items c.poll_once.new.given.items _ c.polls.self.nodes
-    c.poll_once.new.self.nodes c.in_ok-poll_once.field-0 _ _ _ c.polls.invariant.going c.in_ok-poll_once.ensures.polls
-    off there
+pub returns-in_err-single-clause-plays : goal.returns-in_err-single-clause-plays
+returns-in_err-single-clause-plays g c =
+    polls_want c.args.from c.args.node c.args.given.now.items _ _ _ c.from_residual.result _ c.from_residual.ensures
 
-pub polls-preserved : goal.polls-preserved
-polls-preserved g c =
-    let there : c.args.node ≤ length c.polls.self.nodes.clients = omega (
-      arith,
-      c.polls.invariant.clients,
-      c.requires,
-    ) in
-    let on : c.in_ok-poll_once.field-0 ≡ true = search rules in
-    record {
-      going = polls_more c.args.from c.args.node _ _ c.polls.given.items c.poll_once.new.given.items _
-          c.polls.self.nodes
-          c.poll_once.new.self.nodes c.in_ok-poll_once.field-0 _ _ _ c.polls.invariant.going
-          c.in_ok-poll_once.ensures.polls on there;
-      rest = c.poll_once.ensures.rest
-          ∙ ap (λ (u : WorldState). record u { nodes = c.poll_once.new.self.nodes }) c.polls.invariant.rest;
-      clients = c.poll_once.ensures.clients ∙ c.polls.invariant.clients;
-    }
+pub returns-then-node-eq-SERVER-clause-plays : goal.returns-then-node-eq-SERVER-clause-plays
+returns-then-node-eq-SERVER-clause-plays g c =
+    let book = c.book-1.given.1 (sym (ap (λ (w : Ways). get_or w.names 2 0) c.poll_out.ensures.ways)) in
+    let out = c.out-1.given.1 (sym (ap (λ (w : Ways). get_or w.names 1 0) c.poll_out.ensures.ways)) in
+    let given = c.given-1.given.1 (sym (ap (λ xs. get_or xs 0 0) c.poll_out.ensures.names)) in
+    turn_seen (polling c.args.from) c.args.node (more_from c.args.given.now.items) _ c.self.inside.nodes _ _
+    (stop_of c.plan_end.result) _ _ _ (ap (λ (w : WorldState). w.nodes) c.self.view_is)
+    (ap (λ y. told (g.J.Journal.told y) (g.O.Sink.told c.out-1.given.0) (g.O.Sink.faults c.out-1.given.0)) book
+    ∙ ap (λ x. told (g.J.Journal.told c.poll_out.new.outside.book.now) (g.O.Sink.told x) (g.O.Sink.faults x)) out)
+    (polls_driven carries (record { from = c.args.from; given = c.args.given.now.items; name = _ })
+    (record {
+      from = c.poll_out.new.carrier.from;
+      given = c.poll_out.new.carrier.given.now.items;
+      name = c.poll_out.new.carrier.given.ghost_name;
+    }) c.args.from c.args.given.now.items _ c.given-1.given.0.items c.self.inside.nodes _ c.args.node _ _ _
+    _ (stop_of c.plan_end.result) _ _ c.plan_end.ensures
+    (server_lent c.self.inside.nodes c.args.node c.server_mut-server.result.now c.poll_out.new.node
+    c.if-node-eq-SERVER.true c.server_mut-server.ensures.value c.poll_out.ensures.setup) c.poll_out.ensures.polls
+    (ap (λ v. v.items) given)
+    (λ xs ls is. is.kept)
+    (λ xs ls none. none))
 
 pub returns-clause-plays : goal.returns-clause-plays
 returns-clause-plays g c =
-    turn_endless (polling c.args.from) c.args.node c.polls.made _ (more_from c.polls.given.items) _ _ c.polls.self.nodes
-    _ _ _ c.polls.invariant.going (omega arith)
+    let there : IsNodeThere c.self.inside.nodes c.args.node =
+    subst (λ (w : WorldState). IsNodeThere w.nodes c.args.node) (sym c.self.view_is) c.requires in
+    let one : 1 ≤ c.args.node = omega (arith, c.if-node-eq-SERVER.false) in
+    let book = c.book-2-1.given.1 (sym (ap (λ (w : Ways). get_or w.names 2 0) c.poll_out-2.ensures.ways)) in
+    let out = c.out-2-1.given.1 (sym (ap (λ (w : Ways). get_or w.names 1 0) c.poll_out-2.ensures.ways)) in
+    let given = c.given-2-1.given.1 (sym (ap (λ xs. get_or xs 0 0) c.poll_out-2.ensures.names)) in
+    turn_seen (polling c.args.from) c.args.node (more_from c.args.given.now.items) _ c.self.inside.nodes _ _
+    (stop_of c.plan_end-2.result) _ _ _ (ap (λ (w : WorldState). w.nodes) c.self.view_is)
+    (ap (λ y. told (g.J.Journal.told y) (g.O.Sink.told c.out-2-1.given.0) (g.O.Sink.faults c.out-2-1.given.0)) book
+    ∙ ap (λ x. told (g.J.Journal.told c.poll_out-2.new.outside.book.now) (g.O.Sink.told x) (g.O.Sink.faults x)) out)
+    (polls_driven carries (record { from = c.args.from; given = c.args.given.now.items; name = _ })
+    (record {
+      from = c.poll_out-2.new.carrier.from;
+      given = c.poll_out-2.new.carrier.given.now.items;
+      name = c.poll_out-2.new.carrier.given.ghost_name;
+    }) c.args.from c.args.given.now.items _ c.given-2-1.given.0.items c.self.inside.nodes _ c.args.node _ _ _
+    _ (stop_of c.plan_end-2.result) _ _ c.plan_end-2.ensures
+    (client_lent c.self.inside.nodes c.args.node c.client_mut-client.result.now c.poll_out-2.new.node (one, there)
+    c.client_mut-client.ensures.value c.poll_out-2.ensures.setup) c.poll_out-2.ensures.polls
+    (ap (λ v. v.items) given)
+    (λ xs ls is. is.kept)
+    (λ xs ls none. none))
+
+pub returns-clause-clients : goal.returns-clause-clients
+returns-clause-clients g c =
+    clients_left c.self.inside.nodes c.args.node c.poll_out-2.new.node
+    ∙ ap (λ (w : WorldState). length w.nodes.clients) c.self.view_is
