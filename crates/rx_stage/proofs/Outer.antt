@@ -31,7 +31,7 @@ module _ (a b : Option (List Noted)) (x y : Option (List ℕ)) (f g : ℕ) (n : 
         puts = refl;
         calls = refl;
         moment = refl;
-        }
+      }
 
   -- it was noted, and this became of its line
   pub tells_of : (stop : Option Stop) → HasNoted a b n → PutsLine (event_line n) x y f g stop
@@ -44,7 +44,7 @@ module _ (a b : Option (List Noted)) (x y : Option (List ℕ)) (f g : ℕ) (n : 
         puts = puts.1;
         calls = refl;
         moment = refl;
-        }
+      }
   tells_of (Some stops.SinkFault) one puts =
       record {
         between = outside b x f;

@@ -192,4 +192,3 @@ ran_plan {A} {B} first shows part after stop result a b ends becomes r =
           made = so;
           fits = fits_endless (plain a) (plain b) (events_of ss) (gains_plain a b ss told);
         }
-
