@@ -1,0 +1,5 @@
+pub mod Flags
+pub mod Carrying
+pub mod Tags
+pub mod Linked
+pub mod Kept

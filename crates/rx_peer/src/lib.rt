@@ -1,0 +1,8 @@
+//! Peers: a client and a server on one port, as an AFS client that its file server calls back.
+#![tactic(auto)]
+
+mod laws;
+mod role;
+
+pub use laws::peers_keep_promises;
+pub use role::Role;
