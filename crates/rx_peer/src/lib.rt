@@ -2,7 +2,9 @@
 #![tactic(auto)]
 
 mod laws;
+mod peer;
 mod role;
 
 pub use laws::peers_keep_promises;
+pub use peer::Peer;
 pub use role::Role;
