@@ -17,7 +17,7 @@ PLACES = """
 .             .               .           .          .               .               rx_loader      rx_world
 .             .               .           .          .               rx_wire_loop    rx_stage       rx_words
 .             .               .           .          .               .               rx_drive       .
-rx_node_bench rx_server_tests rx_joint    rx_caller  .               .               rx_dispatch    rx_closing
+rx_node_bench rx_server_tests rx_joint    rx_caller  rx_peer         .               rx_dispatch    rx_closing
 .             rx_server       rx_client   .          .               .               rx_load        rx_rounds
 .             rx_books        rx_progress .          .               .               .              rx_plan
 rx_call_tests rx_node         rx_between  rx_token   rx_jumbo        .               rx_jobs        rx_run

@@ -16,9 +16,9 @@ use Rattle.rx_law.proofs.World.{if-some}
 use Rattle.rx_law.proofs.WorldTimed.{found-and}
 use Rattle.rx_peer.specs.declared.role.Role.{Role}
 use Rattle.rx_peer.specs.declared.role.Role.TheVariants as roles
-use Rattle.rx_peer.specs.PeerWorlds.{AreOfHalves, Between, GaveAs, IsFor, IsOfHalf, IsPeer, PeerNode}
+use Rattle.rx_peer.specs.PeerWorlds.{AreOfHalves, PeerConnection, GaveAs, IsFor, IsOfHalf, IsPeer, PeerNode}
 use Rattle.rx_peer.specs.PeerWorlds.{ends_of, half, peer_at, setup_at}
-use Rattle.rx_peer.specs.Roles.{node_of, role_of}
+use Rattle.rx_peer.specs.Roles.{node_of, half_of}
 use Rattle.rx_peer.proofs.Flags.{gave_other, other}
 
 -- ---- the numbers of nodes
@@ -79,14 +79,14 @@ same_other roles.Served roles.Caller is = absurd cc
 half_gave : (peers : List PeerNode) (j : ℕ) (q : PeerNode) (h : List Noted) (r : Role) (to : Host) (bytes : List ℕ)
     (m : Message)
     → ArePeers peers → AreApart peers → AreLegal peers h → peer_at peers j ≡ Some q → reading_of bytes ≡ Ok m
-    → role_of bytes ≡ other r → GaveAs peers q.host to bytes h → Gave to bytes (half r j h)
+    → half_of bytes ≡ other r → GaveAs peers q.host to bytes h → Gave to bytes (half r j h)
 half_gave peers j q h r to bytes m are apart legal there reads is gave =
     let n = found-and (peer_at peers gave.number) (λ p. p.host ≡ q.host) gave.sender in
     let number : gave.number ≡ j =
     if-some (peer_at peers j) q (λ o. n.0.host ≡ o.host → gave.number ≡ j) there
     (if-some (peer_at peers gave.number) n.0 (λ p. IfSome (peer_at peers j)
     (λ o. p.host ≡ o.host → gave.number ≡ j)) n.1 (apart gave.number j)) n.2 in
-    let told : role_of bytes ≡ other gave.role =
+    let told : half_of bytes ≡ other gave.role =
     gave_other gave.role n.0 (half gave.role gave.number h) to bytes m
     (if-some (peer_at peers gave.number) n.0 IsPeer n.1 (are gave.number))
     (if-some (peer_at peers gave.number) n.0 (λ p. Legal (setup_at gave.role p) (half gave.role gave.number h)) n.1
@@ -96,7 +96,7 @@ half_gave peers j q h r to bytes m are apart legal there reads is gave =
 
 -- ---- one connection
 
-module _ (peers : List PeerNode) (b : Between peers) (are : ArePeers peers) (apart : AreApart peers)
+module _ (peers : List PeerNode) (b : PeerConnection peers) (are : ArePeers peers) (apart : AreApart peers)
     (host : b.connection.host ≡ b.from.host) where
   at-served : (h : List Noted) (e : Event) → AreLegal peers h → IsFor peers b.to.host roles.Served h e
       → ComesOn b.connection b.connection.host e

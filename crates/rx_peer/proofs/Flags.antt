@@ -18,7 +18,7 @@ use Rattle.rx_law.proofs.World.{gave-mine}
 use Rattle.rx_peer.specs.declared.role.Role.{Role}
 use Rattle.rx_peer.specs.declared.role.Role.TheVariants as roles
 use Rattle.rx_peer.specs.PeerWorlds.{IsPeer, PeerNode, setup_at}
-use Rattle.rx_peer.specs.Roles.{role_of}
+use Rattle.rx_peer.specs.Roles.{half_of}
 
 -- the half that a datagram with the flag, or without it, is for
 abbrev pub role_for : Bool → Role
@@ -26,7 +26,7 @@ role_for flagged = if flagged then roles.Served else roles.Caller
 
 -- the flag that decides is that of the message
 role-read : (bytes : List ℕ) (m : Message) → reading_of bytes ≡ Ok m
-    → role_of bytes ≡ role_for (has_flag CLIENT_INITIATED m.flags)
+    → half_of bytes ≡ role_for (has_flag CLIENT_INITIATED m.flags)
 role-read bytes m is =
     of (nat_lt (length bytes) HEADER_BYTES)
     (body_reading (slice_index bytes 20) (slice_index bytes 21) (drop HEADER_BYTES bytes)) is
@@ -62,7 +62,7 @@ calls roles.Served p peer = of p.served.kind peer.served
 
 -- what a half gave is for the other half, if it says a message
 pub gave_other : (r : Role) (p : PeerNode) (h : List Event) (to : Host) (bytes : List ℕ) (m : Message) → IsPeer p
-    → Legal (setup_at r p) h → Gave to bytes h → reading_of bytes ≡ Ok m → role_of bytes ≡ other r
+    → Legal (setup_at r p) h → Gave to bytes h → reading_of bytes ≡ Ok m → half_of bytes ≡ other r
 gave_other r p h to bytes m peer legal gave reads =
     role-read bytes m reads
     ∙ ap role_for (gave-mine (setup_at r p) h to bytes m (peer.fits r) legal gave reads).flag

@@ -21,12 +21,12 @@ use Rattle.rx_law.proofs.Joins.{connection-law}
 use Rattle.rx_law.proofs.World.{if-some}
 use Rattle.rx_law.proofs.WorldTimed.{found-and}
 use Rattle.rx_peer.specs.declared.role.Role.TheVariants as roles
-use Rattle.rx_peer.specs.PeerWorlds.{Between, IsKept, IsMade, IsPeer, PeerLaw, PeerNode, PeerWorld, at_caller}
+use Rattle.rx_peer.specs.PeerWorlds.{PeerConnection, ForgotNoneOrTimely, IsMade, IsPeer, PeerLaw, PeerNode, PeerWorld, at_caller}
 use Rattle.rx_peer.specs.PeerWorlds.{ends_of, half, peer_at}
 use Rattle.rx_peer.proofs.Carrying.{carried_on}
 use Rattle.rx_peer.proofs.Linked.{linked_to}
 
-module _ (peers : List PeerNode) (h : List Noted) (w : PeerWorld peers h) (b : Between peers) (made : IsMade peers b h)
+module _ (peers : List PeerNode) (h : List Noted) (w : PeerWorld peers h) (b : PeerConnection peers) (made : IsMade peers b h)
   where
     from-is : IsPeer b.from
     from-is = if-some (peer_at peers b.caller) b.from IsPeer b.from_is (w.peers_are b.caller)
@@ -81,18 +81,18 @@ module _ (peers : List PeerNode) (h : List Noted) (w : PeerWorld peers h) (b : B
         of None is = absurd is
         of (Some r) is = is
 
-    kept-on : IsKept peers h b.served
+    kept-on : ForgotNoneOrTimely peers h b.served
         → ForgotNoneOf b.to.served b.connection (half roles.Served b.served h) ⊎ TimelyOn (ends_of peers b) h
     kept-on kept = of (if-some (peer_at peers b.served) b.to (λ q. ForgotNone q.served (half roles.Served b.served h)
-        ⊎ ((c : Between peers) → c.served ≡ b.served → IsMade peers c h → TimelyOn (ends_of peers c) h)) b.to_is kept)
+        ⊎ ((c : PeerConnection peers) → c.served ≡ b.served → IsMade peers c h → TimelyOn (ends_of peers c) h)) b.to_is kept)
       where
         of : ForgotNone b.to.served (half roles.Served b.served h)
-            ⊎ ((c : Between peers) → c.served ≡ b.served → IsMade peers c h → TimelyOn (ends_of peers c) h)
+            ⊎ ((c : PeerConnection peers) → c.served ≡ b.served → IsMade peers c h → TimelyOn (ends_of peers c) h)
             → ForgotNoneOf b.to.served b.connection (half roles.Served b.served h) ⊎ TimelyOn (ends_of peers b) h
         of (inl none) = inl (ap (λ (xs : List Connection). list_any (λ z. same_connection z b.connection) xs) none)
         of (inr timely) = inr (timely b refl made)
 
-    pub between_law : IsKept peers h b.served → LawOn (ends_of peers b) h
+    pub between_law : ForgotNoneOrTimely peers h b.served → LawOn (ends_of peers b) h
     between_law kept =
         connection-law (ends_of peers b) h
         (record {

@@ -17,7 +17,7 @@ use Rattle.rx_law.specs.Times.{TimelyOn}
 use Rattle.rx_law.specs.Worlds.{Gave, TwoEnds}
 use Rattle.rx_peer.specs.declared.role.Role.{Role}
 use Rattle.rx_peer.specs.declared.role.Role.TheVariants as roles
-use Rattle.rx_peer.specs.Roles.{node_of, role_of}
+use Rattle.rx_peer.specs.Roles.{node_of, half_of}
 
 -- ---- peers
 
@@ -58,7 +58,7 @@ pub record GaveAs (peers : List PeerNode) (from to : Host) (bytes : List ℕ) (h
 
 -- a datagram that is taken was given to the peer before, and is for this half
 abbrev pub IsFor : List PeerNode → Host → Role → List Noted → Event → Type 0
-IsFor peers at r h (Taken from bytes got) = (r ≡ role_of bytes) × GaveAs peers from at bytes h
+IsFor peers at r h (Taken from bytes got) = (r ≡ half_of bytes) × GaveAs peers from at bytes h
 IsFor peers at r h _ = Unit {0}
 
 -- an event is one of a half of a peer
@@ -87,7 +87,7 @@ pub record PeerWorld (peers : List PeerNode) (h : List Noted) : Type 0 where
 -- ---- connections between peers
 
 -- a connection of the caller half of a peer to another peer, or to itself
-pub record Between (peers : List PeerNode) : Type 0 where
+pub record PeerConnection (peers : List PeerNode) : Type 0 where
   pub connection : Connection
   pub caller : ℕ
   pub from : PeerNode
@@ -97,7 +97,7 @@ pub record Between (peers : List PeerNode) : Type 0 where
   pub to_is : peer_at peers served ≡ Some to
 
 -- its two ends
-abbrev pub ends_of : (peers : List PeerNode) → Between peers → TwoEnds
+abbrev pub ends_of : (peers : List PeerNode) → PeerConnection peers → TwoEnds
 ends_of peers b =
     record {
       connection = b.connection;
@@ -109,18 +109,18 @@ ends_of peers b =
     }
 
 -- what the caller half says of it
-abbrev pub at_caller : (peers : List PeerNode) → Between peers → List Noted → Looks
+abbrev pub at_caller : (peers : List PeerNode) → PeerConnection peers → List Noted → Looks
 at_caller peers b h = looks b.from.caller (half roles.Caller b.caller h)
 
 -- the caller half made it, to the other peer's address
-abbrev pub IsMade : (peers : List PeerNode) → Between peers → List Noted → Type 0
+abbrev pub IsMade : (peers : List PeerNode) → PeerConnection peers → List Noted → Type 0
 IsMade peers b h = IsSomeAnd (conn_at (at_caller peers b h) b.connection) (λ r. r.peer ≡ b.to.host)
 
 -- the served half of the peer with this number forgot no record, or no datagram of a connection to it is old
-abbrev pub IsKept : (peers : List PeerNode) → List Noted → ℕ → Type 0
-IsKept peers h j =
+abbrev pub ForgotNoneOrTimely : (peers : List PeerNode) → List Noted → ℕ → Type 0
+ForgotNoneOrTimely peers h j =
     IfSome (peer_at peers j) (λ q. ForgotNone q.served (half roles.Served j h)
-    ⊎ ((b : Between peers) → b.served ≡ j → IsMade peers b h → TimelyOn (ends_of peers b) h))
+    ⊎ ((b : PeerConnection peers) → b.served ≡ j → IsMade peers b h → TimelyOn (ends_of peers b) h))
 
 -- ---- the law
 
@@ -128,5 +128,5 @@ IsKept peers h j =
 -- the other said, and a call that ended has what its end says: at every moment
 abbrev pub PeerLaw : Type 0
 PeerLaw =
-    (peers : List PeerNode) (h : List Noted) → PeerWorld peers h → ((j : ℕ) → IsKept peers h j)
-    → (b : Between peers) → IsMade peers b h → LawOn (ends_of peers b) h
+    (peers : List PeerNode) (h : List Noted) → PeerWorld peers h → ((j : ℕ) → ForgotNoneOrTimely peers h j)
+    → (b : PeerConnection peers) → IsMade peers b h → LawOn (ends_of peers b) h

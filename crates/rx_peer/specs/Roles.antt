@@ -6,8 +6,8 @@ use Rattle.rx_peer.specs.declared.role.Role.{Role}
 use Rattle.rx_peer.specs.declared.role.Role.TheVariants as roles
 
 -- the served half takes what is shorter than a header or was given by a caller half, and the caller half all else
-abbrev pub role_of : List ℕ → Role
-role_of bytes =
+abbrev pub half_of : List ℕ → Role
+half_of bytes =
     if nat_lt (length bytes) HEADER_BYTES || has_flag CLIENT_INITIATED (slice_index bytes 21) then roles.Served
     else roles.Caller
 

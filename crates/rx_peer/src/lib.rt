@@ -4,6 +4,8 @@
 mod laws;
 mod peer;
 mod role;
+#[cfg(test)]
+mod tests;
 
 pub use laws::peers_keep_promises;
 pub use peer::Peer;

@@ -6,7 +6,7 @@ ghost use Rattle.rx_rules.specs.Setup as setups;
 ghost use Rattle.rx_due.specs.Cost.{AtMost};
 ghost use Rattle.rx_node.specs.Due.{lesser_of};
 ghost use Rattle.rx_node.specs.Node.{setup_of};
-ghost use Rattle.rx_peer.specs.Roles.{role_of};
+ghost use Rattle.rx_peer.specs.Roles.{half_of};
 ghost use Rattle.rx_peer.specs.Halves.{AnswersBoth, AnswersHalf, AtMostForPolls, PollsPeer, SameSetups, StandsPeer};
 ghost use Rattle.rx_peer.specs.Halves.{caller_looks, due_of, peer_count, served_looks};
 
@@ -67,8 +67,8 @@ impl<C: Class> Peer<C> {
 
     /// Takes a datagram from a host, by the half that it is for, and answers which one that is and what becomes of it.
     pub fn take(&mut self, from: Host, bytes: &[u8]) -> (Role, Took)
-        ensures role { result.0 ≡ role_of bytes.now }
-        ensures answered { AnswersHalf C.class_of self.old self.new (role_of bytes.now)
+        ensures role { result.0 ≡ half_of bytes.now }
+        ensures answered { AnswersHalf C.class_of self.old self.new (half_of bytes.now)
             (events.Taken from bytes.now result.1) }
         ensures setups { SameSetups C.class_of self.old self.new }
     {

@@ -1,5 +1,5 @@
 ghost use Rattle.std.specs.Prelude.{◌≡◌};
-ghost use Rattle.rx_peer.specs.Roles.{role_of};
+ghost use Rattle.rx_peer.specs.Roles.{half_of};
 
 use rx_model::wire::{CLIENT_INITIATED, HEADER_BYTES};
 
@@ -16,7 +16,7 @@ const FLAGS: usize = 21;
 impl Role {
     /// The half that a datagram is for: the served half where it is shorter than a header, or where a client sent it.
     pub fn of(bytes: &[u8]) -> Role
-        ensures { result ≡ role_of bytes.now }
+        ensures { result ≡ half_of bytes.now }
     {
         if bytes.len() < HEADER_BYTES || bytes[FLAGS] & CLIENT_INITIATED != 0 {
             Role::Served
