@@ -21,8 +21,8 @@ use Rattle.rx_law.proofs.Joins.{connection-law}
 use Rattle.rx_law.proofs.World.{if-some}
 use Rattle.rx_law.proofs.WorldTimed.{found-and}
 use Rattle.rx_peer.specs.declared.role.Role.TheVariants as roles
-use Rattle.rx_peer.specs.PeerWorlds.{PeerConnection, ForgotNoneOrTimely, IsMade, IsPeer, PeerLaw, PeerNode, PeerWorld, at_caller}
-use Rattle.rx_peer.specs.PeerWorlds.{ends_of, half, peer_at}
+use Rattle.rx_peer.specs.PeerWorlds.{ForgotNoneOrTimely, IsMade, IsPeer, PeerConnection, PeerLaw, PeerNode}
+use Rattle.rx_peer.specs.PeerWorlds.{PeerWorld, at_caller, ends_of, half, peer_at}
 use Rattle.rx_peer.proofs.Carrying.{carried_on}
 use Rattle.rx_peer.proofs.Linked.{linked_to}
 

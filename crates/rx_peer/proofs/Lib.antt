@@ -3,3 +3,4 @@ pub mod Carrying
 pub mod Tags
 pub mod Linked
 pub mod Kept
+pub mod Example

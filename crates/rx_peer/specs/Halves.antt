@@ -1,7 +1,7 @@
 -- What the halves of a peer answer, each for the histories for which it stands. Public clauses cite this module.
 use Rattle.std.specs.Prelude.{◌≡◌, ℕ, List, Option, Some, None, take}
 use Rattle.rx_model.specs.declared.event.Event.{Event}
-use Rattle.rx_model.specs.declared.event.Event.TheVariants.{Clocked, Polled}
+use Rattle.rx_model.specs.declared.event.Event.TheVariants.{Polled}
 use Rattle.rx_model.specs.declared.names.Host.{Host}
 use Rattle.rx_rules.specs.After.{looks}
 use Rattle.rx_rules.specs.Classes.{Class}
