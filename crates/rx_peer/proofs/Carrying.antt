@@ -103,7 +103,8 @@ module _ (peers : List PeerNode) (b : PeerConnection peers) (are : ArePeers peer
       (λ bytes. Gave b.to.host bytes (half roles.Caller b.caller h))
   at-served h (events.Taken from bytes tooks.Foreign) legal is = tt
   at-served h (events.Taken from bytes got) legal is = λ sender speaks.
-      half_gave peers b.caller b.from h roles.Caller b.to.host bytes speaks.message are apart legal b.from_is speaks.reads
+      half_gave peers b.caller b.from h roles.Caller b.to.host bytes speaks.message are apart legal b.from_is
+      speaks.reads
       (sym is.0) (subst (λ (a : Host). GaveAs peers a b.to.host bytes h) (sender ∙ host) is.1)
   at-served h _ legal is = tt
 

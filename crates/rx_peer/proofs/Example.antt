@@ -1,13 +1,14 @@
 -- The second peer calls the first, whose handler calls back before it ends: a world of peers, in which both calls have
 -- the law, though their connections have one epoch and one cid.
 use Rattle.std.proofs.Common.{◌≡◌, ℕ, pos, zero, suc, List, [], ◌∷◌, codes, Some, Ok, refl, inl, inr, ap, arith}
-use Rattle.std.specs.Prelude.{IfSome}
+use Rattle.std.specs.Prelude.{IfSome, IsSomeAnd}
 use Rattle.rx_model.specs.declared.answers.Asked.TheVariants as askeds
 use Rattle.rx_model.specs.declared.answers.End.TheVariants as ends
 use Rattle.rx_model.specs.declared.answers.ReadAns.TheVariants as answers
 use Rattle.rx_model.specs.declared.answers.ReadGot.TheVariants as readers
 use Rattle.rx_model.specs.declared.answers.ServeRead.TheVariants as reads
 use Rattle.rx_model.specs.declared.answers.Took.TheVariants as tooks
+use Rattle.rx_model.specs.declared.event.Event.{Event}
 use Rattle.rx_model.specs.declared.event.Event.TheVariants as events
 use Rattle.rx_model.specs.declared.event.Noted.{Noted}
 use Rattle.rx_model.specs.declared.names.Host.{Host}
@@ -16,11 +17,14 @@ use Rattle.rx_rules.specs.Rules.{Legal}
 use Rattle.rx_rules.specs.Setup.{Server, Client, FitsSetup, unprompted}
 use Rattle.rx_rules.proofs.Replay.{unhex}
 use Rattle.rx_law.specs.Promises.{EndsOk}
+use Rattle.rx_law.specs.Worlds.{Gave}
 use Rattle.rx_law.proofs.Example.{are_bytes, default_fits, host, name, null_fits}
 use Rattle.rx_peer.specs.declared.role.Role.{Role}
 use Rattle.rx_peer.specs.declared.role.Role.TheVariants as roles
-use Rattle.rx_peer.specs.PeerWorlds.{AreOfHalves, ForgotNoneOrTimely, IsMade, IsPeer, PeerConnection, PeerNode}
+use Rattle.rx_peer.specs.PeerWorlds.{AreOfHalves, ForgotNoneOrTimely, GaveAs, IsFor, IsMade, IsOfHalf, IsPeer}
+use Rattle.rx_peer.specs.PeerWorlds.{PeerConnection, PeerNode}
 use Rattle.rx_peer.specs.PeerWorlds.{PeerWorld, ends_of, half, peer_at, setup_at}
+use Rattle.rx_peer.specs.Roles.{node_of}
 use Rattle.rx_peer.proofs.Kept.{peer_law}
 
 abbrev peer : Host → PeerNode
@@ -193,70 +197,79 @@ a_peer_world = record { peers_are = peers-are; apart = apart; legal = legal; car
     )
     legal (suc (suc (suc i))) r = tt
 
+    at : {e : Event} {h : List Noted} (i : ℕ) (r : Role) → IsSomeAnd (peer_at peers i) (λ p. IsFor peers p.host r h e)
+        → IsOfHalf peers (record { node = node_of r i; event = e }) h
+    at i r takes = record { number = i; role = r; node = refl; takes = takes }
+
+    from : {host to : Host} {bytes : List ℕ} {h : List Noted} (i : ℕ) (r : Role)
+        → IsSomeAnd (peer_at peers i) (λ p. p.host ≡ host) → Gave to bytes (half r i h)
+        → GaveAs peers host to bytes h
+    from i r sender gave = record { number = i; role = r; sender = sender; gave = gave }
+
     carried : AreOfHalves peers happened
     carried = (
-      record { number = 2; role = roles.Caller; node = refl; takes = tt },
+      at 2 roles.Caller tt,
       (
-        record { number = 1; role = roles.Served; node = refl; takes = (refl, record { number = 2; role = roles.Caller; sender = refl; gave = inl (refl, refl) }) },
+        at 1 roles.Served (refl, from 2 roles.Caller refl (inl (refl, refl))),
         (
-          record { number = 2; role = roles.Caller; node = refl; takes = tt },
+          at 2 roles.Caller tt,
           (
-            record { number = 2; role = roles.Caller; node = refl; takes = (refl, record { number = 1; role = roles.Served; sender = refl; gave = inl (refl, refl) }) },
+            at 2 roles.Caller (refl, from 1 roles.Served refl (inl (refl, refl))),
             (
-              record { number = 2; role = roles.Caller; node = refl; takes = tt },
+              at 2 roles.Caller tt,
               (
-                record { number = 2; role = roles.Caller; node = refl; takes = (refl, record { number = 1; role = roles.Served; sender = refl; gave = inr (inl (refl, refl)) }) },
+                at 2 roles.Caller (refl, from 1 roles.Served refl (inr (inl (refl, refl)))),
                 (
-                  record { number = 1; role = roles.Served; node = refl; takes = tt },
+                  at 1 roles.Served tt,
                   (
-                    record { number = 1; role = roles.Served; node = refl; takes = tt },
+                    at 1 roles.Served tt,
                     (
-                      record { number = 1; role = roles.Served; node = refl; takes = tt },
+                      at 1 roles.Served tt,
                       (
-                        record { number = 1; role = roles.Caller; node = refl; takes = tt },
+                        at 1 roles.Caller tt,
                         (
-                          record { number = 2; role = roles.Served; node = refl; takes = (refl, record { number = 1; role = roles.Caller; sender = refl; gave = inl (refl, refl) }) },
+                          at 2 roles.Served (refl, from 1 roles.Caller refl (inl (refl, refl))),
                           (
-                            record { number = 1; role = roles.Caller; node = refl; takes = tt },
+                            at 1 roles.Caller tt,
                             (
-                              record { number = 1; role = roles.Caller; node = refl; takes = (refl, record { number = 2; role = roles.Served; sender = refl; gave = inl (refl, refl) }) },
+                              at 1 roles.Caller (refl, from 2 roles.Served refl (inl (refl, refl))),
                               (
-                                record { number = 1; role = roles.Caller; node = refl; takes = tt },
+                                at 1 roles.Caller tt,
                                 (
-                                  record { number = 1; role = roles.Caller; node = refl; takes = (refl, record { number = 2; role = roles.Served; sender = refl; gave = inr (inl (refl, refl)) }) },
+                                  at 1 roles.Caller (refl, from 2 roles.Served refl (inr (inl (refl, refl)))),
                                   (
-                                    record { number = 2; role = roles.Served; node = refl; takes = tt },
+                                    at 2 roles.Served tt,
                                     (
-                                      record { number = 2; role = roles.Served; node = refl; takes = tt },
+                                      at 2 roles.Served tt,
                                       (
-                                        record { number = 2; role = roles.Served; node = refl; takes = tt },
+                                        at 2 roles.Served tt,
                                         (
-                                          record { number = 2; role = roles.Served; node = refl; takes = tt },
+                                          at 2 roles.Served tt,
                                           (
-                                            record { number = 2; role = roles.Served; node = refl; takes = tt },
+                                            at 2 roles.Served tt,
                                             (
-                                              record { number = 2; role = roles.Served; node = refl; takes = (refl, record { number = 1; role = roles.Caller; sender = refl; gave = inl (refl, refl) }) },
+                                              at 2 roles.Served (refl, from 1 roles.Caller refl (inl (refl, refl))),
                                               (
-                                                record { number = 1; role = roles.Caller; node = refl; takes = tt },
+                                                at 1 roles.Caller tt,
                                                 (
-                                                  record { number = 1; role = roles.Caller; node = refl; takes = tt },
+                                                  at 1 roles.Caller tt,
                                                   (
-                                                    record { number = 1; role = roles.Caller; node = refl; takes = tt },
+                                                    at 1 roles.Caller tt,
                                                     (
-                                                      record { number = 1; role = roles.Caller; node = refl; takes = tt },
+                                                      at 1 roles.Caller tt,
                                                       (
-                                                        record { number = 1; role = roles.Served; node = refl; takes = tt },
+                                                        at 1 roles.Served tt,
                                                         (
-                                                          record { number = 1; role = roles.Served; node = refl; takes = tt },
+                                                          at 1 roles.Served tt,
                                                           (
-                                                            record { number = 1; role = roles.Served; node = refl; takes = (refl, record { number = 2; role = roles.Caller; sender = refl; gave = inl (refl, refl) }) },
+                                                            at 1 roles.Served (refl, from 2 roles.Caller refl (inl (refl, refl))),
                                                             (
-                                                              record { number = 2; role = roles.Caller; node = refl; takes = tt },
+                                                              at 2 roles.Caller tt,
                                                               (
-                                                                record { number = 2; role = roles.Caller; node = refl; takes = tt },
+                                                                at 2 roles.Caller tt,
                                                                 (
-                                                                  record { number = 2; role = roles.Caller; node = refl; takes = tt },
-                                                                  (record { number = 2; role = roles.Caller; node = refl; takes = tt }, tt),
+                                                                  at 2 roles.Caller tt,
+                                                                  (at 2 roles.Caller tt, tt),
                                                                 ),
                                                               ),
                                                             ),

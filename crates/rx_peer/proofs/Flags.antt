@@ -1,5 +1,6 @@
 -- A half gives what is for the other half: its datagrams have the flag exactly where it calls.
-use Rattle.std.proofs.Common.{◌≡◌, ◌||◌, if◌then◌else◌, nat_lt, ℕ, Bool, true, false, List, length, drop, Result, Ok, Err}
+use Rattle.std.proofs.Common.{◌≡◌, ◌||◌, if◌then◌else◌, nat_lt, ℕ, Bool, true, false, List, length, drop}
+use Rattle.std.proofs.Common.{Result, Ok, Err}
 use Rattle.std.proofs.Common.{refl, ◌∙◌, ap}
 use Rattle.std.specs.Prelude.{slice_index}
 use Rattle.rx_model.specs.declared.answers.BadMsg.{BadMsg}

@@ -206,7 +206,8 @@ map-more : (rs : List ConnLooks) (r : ConnLooks) → map tag_of (rs ++ r ∷ [])
 map-more [] r = refl
 map-more (q ∷ qs) r = ap (λ (ts : List Tag). tag_of q ∷ ts) (map-more qs r)
 
-adds-linked : (kind : Kind) (to : Host) (service first cid : ℕ) (l : Looks) → Adds l (linked kind to service first cid l)
+adds-linked : (kind : Kind) (to : Host) (service first cid : ℕ) (l : Looks)
+    → Adds l (linked kind to service first cid l)
 adds-linked (Client host epoch) to service first cid l =
     let new : ConnLooks = fresh_conn (record { host = host; epoch = epoch; cid = cid }) to service first l in
     (tag_of new ∷ [], map-more l.conns new)
