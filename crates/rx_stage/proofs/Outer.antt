@@ -1,5 +1,5 @@
 -- What a journal and a sink tell of an event, as the driver of nodes has it.
-use Rattle.std.proofs.Common.{◌≡◌, ◌≢◌, ◌∙◌, ℕ, List, [], ◌∷◌, ◌++◌, Option, Some, None, refl, sym, ap, subst, append-nil}
+use Rattle.std.proofs.Common.{◌≡◌, ◌≢◌, ◌∙◌, ℕ, List, [], ◌∷◌, ◌++◌, Option, Some, None, refl, sym, ap, append-nil}
 use Rattle.rx_model.specs.declared.event.Noted.{Noted}
 use Rattle.rx_wire.specs.Journal.{HasNoted}
 use Rattle.rx_drive.specs.Tells.{GainedMuch, Grows, TellsOf, one_event}

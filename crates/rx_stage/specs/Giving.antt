@@ -30,12 +30,15 @@ abbrev pub WantedAt : Fault → List Logged → Type 0
 WantedAt wants_memory ls = ls ≡ []
 WantedAt wire_failed ls = ⊥
 
+-- nothing behind nothing
 none_of_both : (ls ms : List Logged) → ls ≡ [] → ms ≡ [] → ls ++ ms ≡ []
 none_of_both ls ms first next = ap (λ (xs : List Logged). xs ++ ms) first ∙ next
 
+-- at first nothing was given
 pub gives_none : (k : GivingState) → Gives k k [] []
 gives_none k = record { none = refl; kept = sym (append-nil k.given); from = refl; name = refl }
 
+-- what is given behind what was given is given of both
 pub gives_both : (a b c : GivingState) (xs ys : List Given) (ls ms : List Logged) → Gives a b xs ls → Gives b c ys ms
     → Gives a c (xs ++ ys) (ls ++ ms)
 gives_both a b c xs ys ls ms x y =
@@ -52,6 +55,7 @@ gives_both a b c xs ys ls ms x y =
       name = y.name ∙ x.name;
     })
 
+-- memory may be wanted behind what was given
 pub wants_behind : (why : Fault) (ls ms : List Logged) → ls ≡ [] → WantedAt why ms → WantedAt why (ls ++ ms)
 wants_behind wants_memory ls ms first next = none_of_both ls ms first next
 wants_behind wire_failed ls ms first next = absurd next

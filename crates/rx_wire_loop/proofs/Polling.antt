@@ -39,7 +39,7 @@ use Rattle.rx_wire_loop.proofs.Giving.{gave_all_both, joined_last, joined_more, 
 use Rattle.rx_wire_loop.proofs.Noting.{note_refused, noted_gains, one_noted, one_refused}
 use Rattle.rx_wire_loop.proofs.Single.{single_polled}
 use Rattle.rx_wire_loop.proofs.Running.{plays_as, plays_at, plays_cut, plays_join, stops_any}
-use Rattle.rx_wire_loop.proofs.Telling.{gained_none, gains_both, logged_none, breaks_behind}
+use Rattle.rx_wire_loop.proofs.Telling.{gained_none, gains_both, breaks_behind}
 use Rattle.rx_wire_loop.specs.Tells.{Breaks, Gains, Refuses}
 
 -- ---- one poll

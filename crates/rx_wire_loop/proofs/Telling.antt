@@ -4,7 +4,6 @@ use Rattle.std.proofs.Common.{append_assoc}
 use Rattle.std.proofs.lemmas.List.{append-nil}
 use Rattle.rx_base.specs.Sink.{Gained, HasRisen}
 use Rattle.rx_model.specs.declared.event.Event.{Event}
-use Rattle.rx_model.specs.declared.event.Noted.{Noted}
 use Rattle.rx_wire.specs.Wire.{HasLogged, Logged, Traffic}
 use Rattle.rx_wire.specs.Turns.{HasNotedAll}
 use Rattle.rx_wire.proofs.TurnLaws.{HasNotedAll-append, HasNotedAll-none}
@@ -52,11 +51,6 @@ logged_one None b l is = is
 logged_one (Some old) b l is = is
 
 -- ---- all of it
-
--- no event was noted
-pub unnoted : (node : ℕ) (before after : Option (List Noted)) → after ≡ before → HasNotedAll before after node []
-unnoted node before after same =
-    subst (λ (n : Option (List Noted)). HasNotedAll before n node []) (sym same) (HasNotedAll-none before node)
 
 pub gains_none : (node : ℕ) (t : Told) → Gains node t t [] []
 gains_none node t =

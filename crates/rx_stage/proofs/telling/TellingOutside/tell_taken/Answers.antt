@@ -1,4 +1,3 @@
-use Rattle.std.proofs.Common.{Some}
 use Rattle.rx_drive.specs.Ran.{stop_of}
 use Rattle.rx_model.specs.declared.event.Event.TheVariants as events
 use Rattle.rx_wire.specs.Turns.{noted}
