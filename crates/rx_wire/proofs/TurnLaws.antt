@@ -5,24 +5,12 @@ use Rattle.std.proofs.lemmas.List.{append-nil, map-append}
 use Rattle.rx_model.specs.declared.event.Event.{Event}
 use Rattle.rx_model.specs.declared.event.Noted.{Noted}
 use Rattle.rx_wire.specs.Journal.{HasNoted}
-use Rattle.rx_wire.specs.Turns.{after_all, noted, HasNotedAll, HasNotedButLast, Program, Runs, stays, goes}
+use Rattle.rx_wire.specs.Turns.{after_all, noted, HasNotedAll}
 
 -- a history behind two lists of events is that behind the second, where the first is behind it already
 pub after_all-append : (xs ys h : List Event) → after_all (xs ++ ys) h ≡ after_all ys (after_all xs h)
 after_all-append [] ys h = refl
 after_all-append (x ∷ xs) ys h = after_all-append xs ys (x ∷ h)
-
--- what goes from one view to a second and then to a third goes from the first to the third
-pub Runs-append : {View Ask : Type 0} (p : Program View Ask) (v w u : View) (xs ys : List Event)
-    → Runs p v xs w → Runs p w ys u → Runs p v (xs ++ ys) u
-Runs-append p v w u xs ys (stays at) second = second
-Runs-append p v w u xs ys (goes at a e es to asked is first) second =
-    goes at a e (es ++ ys) u asked is (Runs-append p (p.heard at e) to u es ys first second)
-
--- one event
-pub Runs-one : {View Ask : Type 0} (p : Program View Ask) (v : View) (a : Ask) (e : Event)
-    → p.asks v ≡ Some a → p.is a e → Runs p v (e ∷ []) (p.heard v e)
-Runs-one p v a e asked is = goes v a e [] (p.heard v e) asked is (stays (p.heard v e))
 
 -- ---- journals
 
@@ -47,23 +35,3 @@ HasNotedAll-append (Some old) mid new node xs ys first second =
     subst (λ (m : Option (List Noted)). HasNotedAll m new node ys) first second in
     second' ∙ ap Some (append_assoc old (map (noted node) xs) (map (noted node) ys)
     ∙ ap (λ (zs : List Noted). old ++ zs) (sym (map-append (noted node) xs ys)))
-
--- some were noted, and then others but their last one
-pub HasNotedButLast-append : (old mid new : Option (List Noted)) (node : ℕ) (xs ys : List Event)
-    → HasNotedAll old mid node xs → HasNotedButLast mid new node ys → HasNotedButLast old new node (xs ++ ys)
-HasNotedButLast-append old mid new node xs ys first second = record {
-  front = xs ++ second.front;
-  last = second.last;
-  are = ap (λ (zs : List Event). xs ++ zs) second.are ∙ sym (append_assoc xs second.front (second.last ∷ []));
-  noted_front = HasNotedAll-append old mid new node xs second.front first second.noted_front;
-}
-
--- an event whose note was refused
-pub HasNotedButLast-one : (old new : Option (List Noted)) (node : ℕ) (e : Event)
-    → new ≡ old → HasNotedButLast old new node (e ∷ [])
-HasNotedButLast-one old new node e same = record {
-  front = [];
-  last = e;
-  are = refl;
-  noted_front = subst (λ (n : Option (List Noted)). HasNotedAll old n node []) (sym same) (HasNotedAll-none old node);
-}
