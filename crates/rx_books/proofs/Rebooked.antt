@@ -49,6 +49,12 @@ module _ (n z : NodeState) (b : BooksState) (booked : IsBooked n b) (limits : z.
         each = λ q. carried n z b b q (same q) refl refl (booked.each q);
       }
 
+  -- where none but one may have changed, and that one didn't
+  pub rebooked_still : (key : ℕ) → OthersSame n z key → SameChannel n z key → IsBooked z b
+  rebooked_still key others same =
+      rebooked_same (λ q. decided (SameChannel n z q) q key
+      (λ at. subst (λ (k : ℕ). SameChannel n z k) (sym at) same) (others q))
+
   module _ (d : BooksState) where
     -- where one channel did
     pub rebooked : (key : ℕ) → OthersSame n z key → IsNoted z d key → KeepsKeys b d key → IsBooked z d

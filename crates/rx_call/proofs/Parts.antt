@@ -1,6 +1,6 @@
 -- What is done to one part of a call, seen of the whole call.
 use Rattle.std.proofs.Common.{◌≡◌, ◌-◌, inl, inr, ◌<◌, ◌∙◌, cond, not, min, nat_lt, Bool, true, false, ℕ}
-use Rattle.std.proofs.Common.{Option, None, refl, sym, ap, subst, arith}
+use Rattle.std.proofs.Common.{Option, refl, sym, ap, subst, arith}
 use Rattle.std.proofs.lemmas.Bool.{cases_lt}
 use Rattle.std.proofs.lemmas.Bool.Decides.{nat_tests}
 use Rattle.rx_rules.specs.CallLooks.{CallLooks, found, is_timed_out, slowed, tells_hole, after_piece, after_ack_given}

@@ -1,5 +1,6 @@
 ghost use Rattle.std.specs.Prelude.{◌≡◌, ◌≤◌, ◌<◌, ◌+◌, ◌-◌, ◌^◌, ◌↔◌, ℕ, length, take, drop, min, Some, None};
 ghost use Rattle.std.specs.Prelude.{IfOk, IfSome, IsNone, IfNone, IsSomeAnd, false};
+ghost use Rattle.rx_model.specs.declared.answers.CallRead.TheVariants as reads;
 ghost use Rattle.rx_packet.specs.Seen.{message_of, body_of};
 ghost use Rattle.rx_rules.specs.CallItems.{call_due, next_sending};
 ghost use Rattle.rx_rules.specs.CallLooks.{CallLooks, after_read, after_shut, after_taken, after_write, call_row};
@@ -197,6 +198,7 @@ impl Ends {
         ensures steps { StepsEnd self.old self.new key
             (after_read now (tells_end result) (take (given_count result) to.new)) }
         ensures rest { drop (given_count result) to.new ≡ drop (given_count result) to.old }
+        ensures none { result ≡ reads.NotYet → call_under self.new.calls key ≡ call_under self.old.calls key }
         ensures live { live_count self.new.calls ≡ live_count self.old.calls }
     {
         self.read_counted::<Brand>(key, now, to, Blank::new(1))

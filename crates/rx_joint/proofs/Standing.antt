@@ -69,18 +69,20 @@ found_client None was there = absurd (cc (there))
 found_client (Some c) was there = (c, refl, cc (there))
 
 -- another client with the same setup
-abbrev changed : NodeState → ClientAt → ClientAt
+abbrev pub changed : NodeState → ClientAt → ClientAt
 changed new c = record c { client = new }
 
-changed_nodes : (cs : List ClientAt) (k : ℕ) (c : ClientAt) (new : NodeState) → slice_get cs k ≡ Some c
-    → setup_of chosen new ≡ setup_of chosen c.client
+-- the setups of all clients are then what they were
+pub changed_nodes : (cs : List ClientAt) (k : ℕ) (was new : NodeState)
+    → option_map (λ c. c.client) (slice_get cs k) ≡ Some was → setup_of chosen new ≡ setup_of chosen was
     → map client_node (changed_at k (changed new) cs) ≡ map client_node cs
-changed_nodes [] k c new there same = refl
-changed_nodes (d ∷ ds) zero c new there same =
-    (let is : d ≡ c = cc (there) in
+changed_nodes [] k was new there same = refl
+changed_nodes (d ∷ ds) zero was new there same =
+    (let is : d.client ≡ was = cc (there) in
     ap (λ x. x ∷ map client_node ds)
-    (ap (λ s. record { host = d.host; setup = s }) (same ∙ ap (λ x. setup_of chosen x.client) (sym is))))
-changed_nodes (d ∷ ds) (suc k) c new there same = ap (λ xs. client_node d ∷ xs) (changed_nodes ds k c new there same)
+    (ap (λ s. record { host = d.host; setup = s }) (same ∙ ap (setup_of chosen) (sym is))))
+changed_nodes (d ∷ ds) (suc k) was new there same =
+    ap (λ xs. client_node d ∷ xs) (changed_nodes ds k was new there same)
 
 -- an event of the client at a place
 client_makes_at : (n : NodesState) (k : ℕ) (c : ClientAt) (new : NodeState) (e : Event) → slice_get n.clients k ≡ Some c
@@ -103,7 +105,7 @@ client_makes_at n k c new e there answered setup =
             (λ p. apart (ap suc p));
       };
       nodes = ap (λ xs. record { host = n.host; setup = setup_of chosen n.server.node } ∷ xs)
-          (changed_nodes n.clients k c new there setup);
+          (changed_nodes n.clients k c.client new (ap (option_map (λ d. d.client)) there) setup);
       count = changed-length n.clients k (changed new);
     }
   where

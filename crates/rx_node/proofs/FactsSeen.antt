@@ -1,11 +1,11 @@
 -- What decides the rows of a message, by the key of its channel.
-use Rattle.std.proofs.Common.{◌≡◌, ℕ, Bool, false, List, Option, Some, None, option_map, refl, ap, sym}
+use Rattle.std.proofs.Common.{◌≡◌, ℕ, Bool, false, List, Option, Some, None, option_map, ap, sym}
 use Rattle.std.specs.Prelude.{is_some}
 use Rattle.rx_model.specs.Names.{Channel}
 use Rattle.rx_rules.specs.Classes.{Class}
 use Rattle.rx_rules.specs.Life.{Life}
 use Rattle.rx_rules.specs.Looks.{CallRecord, ConnLooks, Looks, conn_at, is_call}
-use Rattle.rx_node.specs.Mirrors.{IsChannel, Mirrors}
+use Rattle.rx_node.specs.Mirrors.{Mirrors}
 use Rattle.rx_node.specs.Node.{NodeState}
 use Rattle.rx_node.specs.Steps.{IsChannelAt}
 use Rattle.rx_node.proofs.Steps.IdleSteps.{channel_conn}

@@ -151,6 +151,14 @@ module _ (n : NodeState) (seats : IsSeated n) (key end : ℕ) (seat : Seat)
       same_parts n (record n { ends = e }) q refl refl refl
       (λ s f is its. keeps.others.others f (other-end q apart s f is its))
 
+  -- nothing at all, where that is the end that it was
+  pub same_with_end : (e : EndsState) → call_under e.calls end ≡ call_under n.ends.calls end
+      → SameChannel n (record n { ends = e }) key
+  same_with_end e same =
+      same_parts n (record n { ends = e }) key refl refl refl
+      (λ s f is its. subst (λ (j : ℕ). call_under e.calls j ≡ call_under n.ends.calls j)
+      (cc (there, is, names, its)) same)
+
   -- its life
   pub same_with_life : (code : Life) (q : ℕ) → q ≢ key → SameChannel n (record n { lives = set n.lives key code }) q
   same_with_life code q apart =

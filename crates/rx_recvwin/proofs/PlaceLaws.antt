@@ -1,6 +1,6 @@
 -- Places and what lies in them.
 use Rattle.std.proofs.Common.{◌≡◌, inl, inr, ◌<◌, ◌≤◌, ◌+◌, ◌-◌, ◌^◌, is_some}
-use Rattle.std.proofs.Common.{true, false, ℕ, suc, zero, List, [], ◌∷◌, ◌++◌, length, set, drop}
+use Rattle.std.proofs.Common.{true, ℕ, suc, zero, List, [], ◌∷◌, ◌++◌, length, set, drop}
 use Rattle.std.proofs.Common.{Option, Some, None, refl, sym, ap, subst, ◌∙◌, arith}
 use Rattle.std.proofs.lemmas.Bool.{cases_lt, cases_eq, false≢true}
 use Rattle.rx_model.specs.declared.wire.TheConstants.{PAYLOAD_BYTES}

@@ -3,7 +3,7 @@ use Rattle.std.proofs.Common.{◌≡◌, ◌<◌, ◌≤◌, ◌+◌, min, nat_l
 use Rattle.std.proofs.Common.{List, [], ◌++◌, length, take, drop, Option, Some, None, refl, sym, ap, subst}
 use Rattle.std.proofs.Common.{◌∙◌, arith, length-append}
 use Rattle.std.proofs.lemmas.Bool.Decides.{nat_tests}
-use Rattle.std.proofs.lemmas.List.{length-drop, length-take-le}
+use Rattle.std.proofs.lemmas.List.{append-nil, length-drop, length-take-le}
 use Rattle.std.proofs.lemmas.List.{take-append-le}
 use Rattle.rx_rules.specs.Received.{Piece, Received, packet_at, payload_of, last_seq, front_of}
 use Rattle.rx_rules.specs.Received.{end_of, heard_of, is_done_by, unread_of, is_within}
@@ -94,6 +94,24 @@ first_read w new d n from old to room wide is count bytes settled s =
         fits = fits;
       };
       none = λ e. first_empty w d s (omega (arith, e, count, same, room));
+    }
+
+-- where nothing of the first packet is unread, none is given, and the window stays what it was
+pub first_none : (w : Window) (d : Received) (from old to : List ℕ) → 0 < length old →
+    from ≡ drop w.offset (payload_of (place_at w.ahead 0)) → 0 ≡ min (length old) (length from) → StandsFor w d →
+    FirstRead w d 0 to
+first_none w d from old to wide is count s =
+    let here : from ≡ drop w.offset (payload_of (packet_at d.kept (suc w.used))) = (
+    is ∙ ap (λ o. drop w.offset (payload_of o)) (first_is w d s.near)) in
+    let same = ap length here in
+    record {
+      some = record {
+        stands = subst (λ xs. StandsFor w (record d { read = xs })) (sym (append-nil d.read)) s;
+        bytes = refl;
+        most = omega arith;
+        fits = omega arith;
+      };
+      none = λ e. first_empty w d s (omega (arith, count, same, wide));
     }
 
 -- ---- the end

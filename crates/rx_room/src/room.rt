@@ -39,7 +39,7 @@ impl Room {
         }
     }
 
-    /// So many bytes to read into: those that `filled` kept, where they are as many.
+    /// So many bytes to read into: those that are kept, where they are as many.
     pub fn lend(&mut self, size: usize) -> Result<Vec<u8>, AllocError>
         ensures size { IfOk result (λ bytes. length bytes.items ≡ size) }
         ensures kept { self.new ≡ self.old }
@@ -57,11 +57,18 @@ impl Room {
         ensures kept { self.new ≡ self.old }
     {
         if count == 0 {
-            self.lent = bytes;
+            self.take_back(bytes);
             return Vec::new(self.alloc);
         }
         bytes.truncate(count);
         bytes
+    }
+
+    /// Keeps bytes that were lent for the next.
+    pub fn take_back(&mut self, bytes: Vec<u8>)
+        ensures { self.new ≡ self.old }
+    {
+        self.lent = bytes;
     }
 
     /// Sees to it that so many bytes can be put behind those of a stream. For one that is shorter than that, memory is
@@ -85,6 +92,9 @@ impl Room {
         requires { length bytes.now ≤ room_for self.old (vec_len stream.old) (vec_capacity stream.old) }
         ensures { stream.new.items ≡ stream.old.items ++ bytes.now }
     {
+        if bytes.is_empty() {
+            return;
+        }
         if stream.reserve_exact(bytes.len()).is_err() {
             self.carry_on(stream);
         }

@@ -16,6 +16,7 @@ use Rattle.rx_table.specs.Records.{changed_at}
 use Rattle.rx_joint.specs.declared.nodes.ClientAt.{ClientAt}
 use Rattle.rx_joint.specs.Nodes.{IsClientThere, IsNodeThere, NodesState, Standing, client_node, client_of, nodes_of}
 use Rattle.rx_joint.specs.Nodes.{with_client, with_server}
+use Rattle.rx_joint.proofs.Standing.{changed, changed_nodes}
 
 -- behind more events of one node, which stands for its side then, all stand
 abbrev pub Lends : NodesState → NodesState → ℕ → (List Event → Type 0) → Type 0
@@ -47,7 +48,8 @@ pub server_lent : (n : NodesState) (node : ℕ) (was new : ServerState) → node
     → setup_of chosen new.node ≡ setup_of chosen was.node
     → Lent n (with_server n new) node (setup_of chosen was.node) (Stands chosen was) (Stands chosen new)
 server_lent n node was new is same setup =
-    subst (λ k. Lent n (with_server n new) k (setup_of chosen was.node) (Stands chosen was) (Stands chosen new)) (sym is)
+    subst (λ k. Lent n (with_server n new) k (setup_of chosen was.node) (Stands chosen was) (Stands chosen new))
+        (sym is)
     (subst (λ (s : ServerState). Lent n (with_server n new) 0 (setup_of chosen s.node) (Stands chosen s)
     (Stands chosen new)) (sym same) (of (setup ∙ ap (λ (s : ServerState). setup_of chosen s.node) same)))
   where
@@ -63,10 +65,6 @@ server_lent n node was new is same setup =
         }
 
 -- ---- a client
-
--- another client at the same place
-abbrev changed : NodeState → ClientAt → ClientAt
-changed new c = record c { client = new }
 
 -- all stand behind more of its events
 client_lends : (n : NodesState) (k : ℕ) (new : NodeState)
@@ -94,17 +92,6 @@ client_lends n k new h t was others stands =
         (sym (changed-other n.clients k j (changed new) other))
         (subst (λ es. IfSome (slice_get n.clients j) (λ d. StandsNode chosen d.client es))
         (sym (others (suc j) (λ p. other (omega (arith, p))))) (was.clients j)))
-
--- its setup stays
-changed_nodes : (cs : List ClientAt) (k : ℕ) (was new : NodeState)
-    → option_map (λ c. c.client) (slice_get cs k) ≡ Some was → setup_of chosen new ≡ setup_of chosen was
-    → map client_node (changed_at k (changed new) cs) ≡ map client_node cs
-changed_nodes [] k was new there same = refl
-changed_nodes (d ∷ ds) zero was new there same =
-    (let is : d.client ≡ was = cc (there) in
-    ap (λ x. x ∷ map client_node ds)
-    (ap (λ s. record { host = d.host; setup = s }) (same ∙ ap (setup_of chosen) (sym is))))
-changed_nodes (d ∷ ds) (suc k) was new there same = ap (λ xs. client_node d ∷ xs) (changed_nodes ds k was new there same)
 
 -- how it is set up
 found_setup : (o : Option ClientAt) (was : NodeState) → option_map (λ c. c.client) o ≡ Some was

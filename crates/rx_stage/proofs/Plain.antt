@@ -19,7 +19,8 @@ use Rattle.rx_wire.specs.Journal.{HasNoted}
 use Rattle.rx_wire.specs.Wire.{Logged}
 use Rattle.rx_stage.specs.Driving.{plan_stop}
 use Rattle.rx_stage.specs.Ran.{Fits, Ran, fits_endless, fits_fails, fits_to, fits_wants}
-use Rattle.rx_stage.specs.Tells.{FailsOne, FitsNoted, Gains, GainsOne, Told, WantsOne, event_line, fails_last, gains_none}
+use Rattle.rx_stage.specs.Tells.{FailsOne, FitsNoted, Gains, GainsOne, Told, WantsOne, event_line, fails_last}
+use Rattle.rx_stage.specs.Tells.{gains_none}
 use Rattle.rx_stage.specs.Tells.{gains_one, told, wants_last}
 use Rattle.rx_stage.specs.declared.stop.Stop.{Stop}
 use Rattle.rx_stage.specs.declared.stop.Stop.TheVariants as stops

@@ -20,7 +20,8 @@ impl<'a, X: Outside> Carrier<X> for Giving<'a> {
     ghost use Rattle.std.specs.Prelude.{◌≡◌, ◌∷◌, []};
     ghost use Rattle.rx_stage.specs.Giving.{GivingState, Gives, WantedAt};
 
-    ghost carried = { λ k l xs ls. Gives (record { from = k.from; given = k.given.now.items; name = k.given.ghost_name })
+    ghost carried = { λ k l xs ls. Gives
+        (record { from = k.from; given = k.given.now.items; name = k.given.ghost_name })
         (record { from = l.from; given = l.given.now.items; name = l.given.ghost_name }) xs ls };
 
     ghost some = { λ k xs ls. ls ≡ [] };

@@ -189,7 +189,7 @@ impl World {
         ensures rest { self.new ≡ record self.old { nodes = self.new.nodes } }
         ensures clients { length self.new.nodes.clients ≡ length self.old.nodes.clients }
     {
-        let mut single = vec![in self.alloc; 0u8; DATAGRAM_BYTES]?;
+        let mut single = self.room.lend(DATAGRAM_BYTES)?;
         let mut giving = Giving {
             alloc: self.alloc,
             from,
@@ -200,12 +200,15 @@ impl World {
             out,
             book,
         };
-        if node == SERVER {
+        let polled = if node == SERVER {
             let server = self.nodes.server_mut();
-            return plan_end(poll_out(node, server, &mut single, &mut giving, &mut telling));
-        }
-        let client = self.nodes.client_mut(node);
-        plan_end(poll_out(node, client, &mut single, &mut giving, &mut telling))
+            poll_out(node, server, &mut single, &mut giving, &mut telling)
+        } else {
+            let client = self.nodes.client_mut(node);
+            poll_out(node, client, &mut single, &mut giving, &mut telling)
+        };
+        self.room.take_back(single);
+        plan_end(polled)
     }
 
     /// All clocks move by the least time from a node's moment to what is due there next.

@@ -28,6 +28,7 @@ use rx_joint::{Nodes, SERVER};
 use rx_model::wire::{MAX_WINDOW, MIN_WINDOW};
 use rx_model::{Host, Limits};
 use rx_plan::{MAX_CLIENTS, MAX_SLOTS};
+use rx_room::Room;
 use rx_script::{Numbered, Outcome, Plan, PlanLine, PlanWhy, Script};
 use rx_token::{Chosen, KEY_BYTES, Token};
 use rx_wire::Journal;
@@ -164,6 +165,7 @@ pub fn at_start(alloc: Global, nodes: Nodes, service: u16, script: Script) -> Wo
         callers: Callers::new(alloc),
         dispatcher: Dispatcher::make(alloc, script),
         trace: Trace::make(alloc),
+        room: Room::none(alloc),
     }
 }
 

@@ -17,6 +17,7 @@ use rx_dispatch::Dispatcher;
 use rx_joint::{Nodes, SERVER};
 use rx_model::{Bytes, CallName, Event, Host};
 use rx_plan::ClientCall;
+use rx_room::Room;
 use rx_script::PlanWhy;
 use rx_wire::Journal;
 use std::alloc::Global;
@@ -54,6 +55,8 @@ pub struct World {
     pub callers: Callers,
     pub dispatcher: Dispatcher,
     pub trace: Trace,
+    /// What nodes are polled into.
+    pub room: Room,
 }
 
 impl Model for World {

@@ -53,8 +53,8 @@ Fits c shows p es ls (To a) (Some stop) = ⊥
 Fits c shows p es ls (Cut why) None = ⊥
 Fits c shows p es ls (Cut why) (Some stop) = (why ≡ stop) × Stops c es ls stop
 
--- events and entries that the part may make were made and told, a legal history is legal with them, and what was come to
--- is shown; or passes end as the part says
+-- events and entries that the part may make were made and told, a legal history is legal with them, and what was come
+-- to is shown; or passes end as the part says
 pub record Ran {A : Type 0} (c : Change) (part : Part A) (shows : A → Type 0) (stop : Option Stop) (p : Place)
     : Type 0 where
   pub events : List Event

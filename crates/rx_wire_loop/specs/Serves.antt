@@ -38,8 +38,8 @@ pub data Passed {V : Type 0} (play : V → Part V) (take : Part (Unit {0})) (goe
 -- ---- serving
 
 -- why a turn that came so far, whose next call may want memory where this is so of what is known, ends passes: its next
--- call wants memory, the sink fails, there is no memory for a line, a note is refused, or the turn has 2^64 - 1 calls or
--- more
+-- call wants memory, the sink fails, there is no memory for a line, a note is refused, or the turn has 2^64 - 1 calls
+-- or more
 abbrev pub CutsTurn : {View : Type 0} → (View → Type 0) → Stop → List Event → View → Type 0
 CutsTurn wants stops.OutOfMemory es w = wants w
 CutsTurn wants stops.Unformatted es w = Unit {0}

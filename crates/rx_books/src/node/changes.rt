@@ -221,7 +221,10 @@ impl<C: Class> Node<C> {
         ensures same { KeepsNode self.old self.new }
     {
         let answer = self.core.read(key, end, to);
-        self.books.refresh_now(&self.core, key);
+        match answer {
+            CallRead::NotYet => {}
+            CallRead::Got(_) | CallRead::End => self.books.refresh_now(&self.core, key),
+        }
         answer
     }
 

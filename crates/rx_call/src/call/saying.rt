@@ -1,4 +1,5 @@
 ghost use Rattle.std.specs.Prelude.{◌≡◌, ◌≤◌, ◌<◌, ◌+◌, ◌-◌, ◌^◌, min, length, take, drop, true, false};
+ghost use Rattle.rx_model.specs.declared.answers.CallRead.TheVariants as reads;
 ghost use Rattle.rx_rules.specs.CallLooks.{CallLooks, lead, after_write, after_shut, after_read};
 ghost use Rattle.rx_rules.specs.Received.{read_of};
 ghost use Rattle.rx_rules.specs.Sent.{room_of};
@@ -63,6 +64,7 @@ impl Call {
         ensures keeps { Keeps pool.old pool.new (slots_of self.old) (slots_of self.new) }
         ensures same { IsSameEnd self.old self.new }
         ensures unshut { self.new.sent.shut ≡ self.old.sent.shut }
+        ensures none { result ≡ reads.NotYet → self.new ≡ self.old }
     {
         let before = self.received.held();
         let answer = self.received.read(pool, to);

@@ -3,6 +3,7 @@
 
 ghost use Rattle.std.specs.Prelude.{◌≡◌, ◌≤◌, ◌<◌, ◌+◌, ◌-◌, ◌^◌, ◌↔◌, length, take, drop, min, Some, None};
 ghost use Rattle.std.specs.Prelude.{IfSome, IsNone, IfNone};
+ghost use Rattle.rx_model.specs.declared.answers.CallRead.TheVariants as reads;
 ghost use Rattle.rx_packet.specs.Seen.{message_of, body_of};
 ghost use Rattle.rx_rules.specs.CallLooks.{CallLooks, after_read, after_shut, after_taken, after_write, call_row};
 ghost use Rattle.rx_rules.specs.CallLooks.{fresh_call, has_lead, lead};
@@ -137,6 +138,7 @@ impl Ends {
         ensures steps { StepsEnd self.old self.new key
             (after_read now (tells_end result) (take (given_count result) to.new)) }
         ensures rest { drop (given_count result) to.new ≡ drop (given_count result) to.old }
+        ensures none { result ≡ reads.NotYet → call_under self.new.calls key ≡ call_under self.old.calls key }
         ensures live { live_count self.new.calls ≡ live_count self.old.calls }
     {
         let mut steps = Steps::<L>::new(blank);

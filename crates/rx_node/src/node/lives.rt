@@ -3,6 +3,7 @@
 ghost use Rattle.std.specs.Prelude.{◌≡◌, ◌≤◌, ◌<◌, ◌+◌, ◌^◌, ℕ, Some, None, Option, IfSome, length, take, drop, min};
 ghost use Rattle.std.specs.Prelude.{true, false, is_some, slice_get};
 ghost use Rattle.std.specs.Prelude.{option_and_then, option_map};
+ghost use Rattle.rx_model.specs.declared.answers.CallRead.TheVariants as reads;
 ghost use Rattle.rx_model.specs.Names.{Channel};
 ghost use Rattle.rx_rules.specs.After.{owing_ackall, read_done, settled, stopped_all};
 ghost use Rattle.rx_rules.specs.CallLooks.{after_shut, after_write};
@@ -23,7 +24,7 @@ ghost use Rattle.rx_call_ends.specs.Ends.{HasShutSlot, IsUnshut};
 ghost use Rattle.rx_table.specs.Records.{seat_at};
 ghost use Rattle.rx_node.specs.Lives.{after_turn, is_of, life_of};
 ghost use Rattle.rx_node.specs.Mirrors.{IsActiveAt, IsChannel, IsKey, Mirrors, StepsAt, StepsNode};
-ghost use Rattle.rx_node.specs.Moments.{OthersSame, PlacesSame, active_end, silence_at};
+ghost use Rattle.rx_node.specs.Moments.{OthersSame, PlacesSame, SameChannel, active_end, silence_at};
 ghost use Rattle.rx_node.specs.Node.{KeepsNode, is_active_life, life_at, setup_of};
 
 use crate::life::{Life, Turn, end_of, ended_life};
@@ -298,6 +299,7 @@ impl<C: Class> Node<C> {
         ensures steps { StepsAt C.class_of self.old self.new key
             (λ ch l. read_done (latest_name l ch) (tells_end result) (take (given_count result) to.new) l) }
         ensures rest { drop (given_count result) to.new ≡ drop (given_count result) to.old }
+        ensures none { result ≡ reads.NotYet → SameChannel self.old self.new key }
         ensures others { OthersSame self.old self.new key }
         ensures same { KeepsNode self.old self.new }
     {

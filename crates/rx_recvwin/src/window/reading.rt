@@ -1,4 +1,5 @@
 ghost use Rattle.std.specs.Prelude.{◌≡◌, ◌≤◌, ◌<◌, ◌+◌, ◌==◌, length, max, take, drop, [], Some, None, true, false};
+ghost use Rattle.rx_model.specs.declared.answers.CallRead.TheVariants as reads;
 ghost use Rattle.rx_rules.specs.Received.{Received, payload_of, read_of, after_read, is_within};
 ghost use Rattle.rx_pool.specs.Held.{Holds, Keeps};
 ghost use Rattle.rx_recvwin.specs.Places.{place_at, leading, seen_at};
@@ -35,8 +36,12 @@ impl RecvWin {
         ensures keeps { Keeps pool.old pool.new (packet_slots self.old) (packet_slots self.new) }
         ensures width { self.new.width ≡ self.old.width }
         ensures rest { drop result to.new ≡ drop result to.old }
+        ensures none { result ≡ 0 → self.new ≡ self.old }
     {
         let n = copy_front(self.unread(pool), to);
+        if n == 0 {
+            return 0;
+        }
         self.offset += n as u32;
         self.settle(pool);
         n
@@ -51,6 +56,7 @@ impl RecvWin {
         ensures keeps { Keeps pool.old pool.new (packet_slots self.old) (packet_slots self.new) }
         ensures width { self.new.width ≡ self.old.width }
         ensures rest { drop result to.new ≡ drop result to.old }
+        ensures none { result ≡ 0 → self.new ≡ self.old }
     {
         let mut at = 0;
         while at < to.len() {
@@ -86,6 +92,7 @@ impl RecvWin {
         ensures keeps { Keeps pool.old pool.new (packet_slots self.old) (packet_slots self.new) }
         ensures width { self.new.width ≡ self.old.width }
         ensures rest { drop (given_count result) to.new ≡ drop (given_count result) to.old }
+        ensures none { result ≡ reads.NotYet → self.new ≡ self.old }
     {
         let n = self.copy_to(pool, to);
         if n > 0 {

@@ -3,7 +3,7 @@ use Rattle.rx_model.specs.declared.names.Limits.{Limits}
 use Rattle.rx_node.specs.Mirrors.{IsActiveAt}
 use Rattle.rx_node.specs.Node.{NodeState}
 use Rattle.rx_node.proofs.KeptKeys.{kept_key, seat_key}
-use Rattle.rx_books.proofs.Rebooked.{rebooked}
+use Rattle.rx_books.proofs.Rebooked.{rebooked, rebooked_still}
 use Rattle.rx_books.proofs.node.Node.read.Goals as goal
 
 pub refresh_now-requires-clause-key : goal.refresh_now-requires-clause-key
@@ -20,15 +20,29 @@ pub refresh_now-requires-clause-silences : goal.refresh_now-requires-clause-sile
 refresh_now-requires-clause-silences g c =
     c.self.invariant.silences ∙ sym (ap (λ (l : Limits). 4 * l.conns) c.read-answer.ensures.same.limits)
 
-pub invariant_of-self : goal.invariant_of-self
-invariant_of-self g c =
+pub invariant_of-self-in-Got : goal.invariant_of-self-in-Got
+invariant_of-self-in-Got g c =
     rebooked c.self.inside.core c.read-answer.new.self c.self.inside.books c.self.invariant
     c.read-answer.ensures.same.limits
     c.refresh_now.new.self c.args.key c.read-answer.ensures.others c.refresh_now.ensures.noted
     c.refresh_now.ensures.keeps
 
-pub returns-clause-answered : goal.returns-clause-answered
-returns-clause-answered g c = rw (← c.self.view_is) c.read-answer.ensures.answered
+pub returns-in-Got : goal.returns-in-Got
+returns-in-Got g c = record {
+  answered = rw (← c.self.view_is) c.read-answer.ensures.answered;
+  steps = rw (← c.self.view_is) c.read-answer.ensures.steps;
+  rest = c.read-answer.ensures.rest;
+  same = rw (← c.self.view_is) c.read-answer.ensures.same;
+}
 
-pub returns-clause-steps : goal.returns-clause-steps
-returns-clause-steps g c = rw (← c.self.view_is) c.read-answer.ensures.steps
+pub invariant_of-self : goal.invariant_of-self
+invariant_of-self g c =
+    rebooked_still c.self.inside.core c.read-answer.new.self c.self.inside.books c.self.invariant
+    c.read-answer.ensures.same.limits c.args.key c.read-answer.ensures.others
+    (c.read-answer.ensures.none c.in-NotYet.is)
+
+pub returns-in-NotYet-clause-answered : goal.returns-in-NotYet-clause-answered
+returns-in-NotYet-clause-answered g c = rw (← c.self.view_is) c.read-answer.ensures.answered
+
+pub returns-in-NotYet-clause-steps : goal.returns-in-NotYet-clause-steps
+returns-in-NotYet-clause-steps g c = rw (← c.self.view_is) c.read-answer.ensures.steps

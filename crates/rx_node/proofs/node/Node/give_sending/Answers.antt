@@ -1,4 +1,4 @@
-use Rattle.std.proofs.Common.{◌≡◌, ◌==◌, ◌+◌, ◌∙◌, Some, take, ap, sym, subst}
+use Rattle.std.proofs.Common.{◌≡◌, ◌==◌, ◌∙◌, Some, take, ap, sym, subst}
 use Rattle.rx_model.specs.declared.wire.TheConstants.{ACK_PING}
 use Rattle.rx_model.specs.Message.{Message}
 use Rattle.rx_model.specs.Spelling.{made}

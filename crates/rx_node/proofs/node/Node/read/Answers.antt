@@ -9,7 +9,7 @@ use Rattle.rx_node.proofs.Steps.ActiveSteps.{active_stands, there_low}
 use Rattle.rx_node.proofs.Steps.EndSteps.{mirrors_end}
 use Rattle.rx_node.proofs.Steps.ReadSteps.{mirrors_more, read_end, read_whole, roomy_read_of}
 use Rattle.rx_node.proofs.Steps.SeatedSteps.{end_seated, end_set_up}
-use Rattle.rx_node.proofs.SameChannels.{others_then, same_with_ends}
+use Rattle.rx_node.proofs.SameChannels.{others_then, same_with_end, same_with_ends}
 use Rattle.rx_node.proofs.node.Node.read.Goals as goal
 
 pub invariant_of-self : goal.invariant_of-self
@@ -99,6 +99,8 @@ returns-in-Got g c =
           (λ k is. read_whole k (length c.args.to.now) result bytes
           (c.read-got.ensures.answered k.looks (active_stands class _ l before key end ch at a k is))))));
       rest = c.read-got.ensures.rest;
+      none = λ is. rw (← c.self.view_is)
+          (same_with_end _ c.self.invariant.1 key end a.seat a.there a.live _ (c.read-got.ensures.none is));
       others = rw (← c.self.view_is)
           (same_with_ends _ c.self.invariant.1 key end a.seat a.there a.live _ c.read-got.ensures.steps.keeps);
       same = rw (← c.self.view_is)

@@ -47,4 +47,5 @@ loop-at-preserved c =
       rest =
           rest_next c.args.to.now c.loop-at.to given c.split_at_mut-given.result.1.now next.new.to at next.result
           split.front_len split.back next.ensures.rest so.rest;
+      none = λ e. absurd (omega (arith, e, c.if-n-eq0.false));
     }

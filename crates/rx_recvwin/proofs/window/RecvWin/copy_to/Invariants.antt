@@ -12,6 +12,7 @@ invariant-loop-at l = record {
   keeps : Keeps l.fn.pool l.pool (packet_slots l.fn.self) (packet_slots l.self);
   width : l.self.width ≡ l.fn.self.width;
   rest : drop l.at l.to ≡ drop l.at l.fn.to;
+  none : l.at ≡ 0 → l.self ≡ l.fn.self;
 }
 
 abbrev pub decreases-loop-at : goal.decreases-loop-at

@@ -53,7 +53,8 @@ returns-in_err-turn-clause-plays g c =
     c.from_residual-in_err-turn.ensures.1)
     (play_turn 1 _ c.args.self.now.ports.joiner.most calls c.args.self.now.caller
     (λ (v : CallerState). v ≡ c.turn.new.self.caller) _ _ _ _ _ _ _ _ c.in_err-turn.field-0.0
-    (λ (v : CallerState). v ≡ c.turn.new.self.caller) (plays_at 1 c.args.self.now.ports.node _ _ _ _ _ _ clocks AnyTime _ c.requires.ready.number refl
+    (λ (v : CallerState). v ≡ c.turn.new.self.caller)
+        (plays_at 1 c.args.self.now.ports.node _ _ _ _ _ _ clocks AnyTime _ c.requires.ready.number refl
     (c.in_ok-clock.ensures.plays sink)) (polls_at 1 c.args.self.now.ports.node _ _ _ _ _ _
     c.args.self.now.ports.joiner.most c.args.self.now.ports.joiner.most _ c.requires.ready.number c.clock.ensures.setup
     refl (c.in_ok-give_due.ensures.plays sink)) (plays_at 1 1 _ _ _ _ _ _
@@ -65,7 +66,8 @@ returns-in_err-give_due-2-clause-plays g c =
     λ sink. rw (stopped c.from_residual-in_err-give_due-2.result c.in_err-give_due-2.field-0.0
     c.from_residual-in_err-give_due-2.ensures.1) (play_last 1 _ c.args.self.now.ports.joiner.most calls
     c.args.self.now.caller (λ (v : CallerState). v ≡ c.turn.new.self.caller) _ _ _ _ _ _ _ _ _ _
-    (Some c.in_err-give_due-2.field-0.0) (plays_at 1 c.args.self.now.ports.node _ _ _ _ _ _ clocks AnyTime _ c.requires.ready.number refl
+    (Some c.in_err-give_due-2.field-0.0)
+        (plays_at 1 c.args.self.now.ports.node _ _ _ _ _ _ clocks AnyTime _ c.requires.ready.number refl
     (c.in_ok-clock.ensures.plays sink)) (polls_at 1 c.args.self.now.ports.node _ _ _ _ _ _
     c.args.self.now.ports.joiner.most c.args.self.now.ports.joiner.most _ c.requires.ready.number c.clock.ensures.setup
     refl (c.in_ok-give_due.ensures.plays sink)) (plays_at 1 1 _ _ _ _ _ _
@@ -81,7 +83,8 @@ returns-in_err-give_due-2-clause-plays g c =
 pub returns-clause-plays : goal.returns-clause-plays
 returns-clause-plays g c =
     λ sink. play_last 1 _ c.args.self.now.ports.joiner.most calls c.args.self.now.caller
-    (λ (v : CallerState). v ≡ c.turn.new.self.caller) _ _ _ _ _ _ _ _ _ _ None (plays_at 1 c.args.self.now.ports.node _ _ _ _ _ _ clocks AnyTime _ c.requires.ready.number refl
+    (λ (v : CallerState). v ≡ c.turn.new.self.caller) _ _ _ _ _ _ _ _ _ _ None
+        (plays_at 1 c.args.self.now.ports.node _ _ _ _ _ _ clocks AnyTime _ c.requires.ready.number refl
     (c.in_ok-clock.ensures.plays sink)) (polls_at 1 c.args.self.now.ports.node _ _ _ _ _ _
     c.args.self.now.ports.joiner.most c.args.self.now.ports.joiner.most _ c.requires.ready.number c.clock.ensures.setup
     refl (c.in_ok-give_due.ensures.plays sink)) (plays_at 1 1 _ _ _ _ _ _
