@@ -262,8 +262,11 @@ a_peer_world = record { peers_are = peers-are; apart = apart; legal = legal; car
                                                         (
                                                           at 1 roles.Served tt,
                                                           (
-                                                            at 1 roles.Served (refl, from 2 roles.Caller refl
-                                                                (inl (refl, refl))),
+                                                            at 1 roles.Served (
+                                                              refl,
+                                                              from 2 roles.Caller refl
+                                                                  (inl (refl, refl)),
+                                                            ),
                                                             (
                                                               at 2 roles.Caller tt,
                                                               (

@@ -49,7 +49,7 @@ pub server_lent : (n : NodesState) (node : ℕ) (was new : ServerState) → node
     → Lent n (with_server n new) node (setup_of chosen was.node) (Stands chosen was) (Stands chosen new)
 server_lent n node was new is same setup =
     subst (λ k. Lent n (with_server n new) k (setup_of chosen was.node) (Stands chosen was) (Stands chosen new))
-        (sym is)
+    (sym is)
     (subst (λ (s : ServerState). Lent n (with_server n new) 0 (setup_of chosen s.node) (Stands chosen s)
     (Stands chosen new)) (sym same) (of (setup ∙ ap (λ (s : ServerState). setup_of chosen s.node) same)))
   where

@@ -7,5 +7,5 @@ use Rattle.rx_stage.proofs.telling.TellingOutside.tell_taken.Goals as goal
 pub returns-in-Ok-clause-told : goal.returns-in-Ok-clause-told
 returns-in-Ok-clause-told g c =
     tells_of _ _ _ _ _ _ (noted c.args.node (events.Taken c.args.from c.args.bytes.now c.args.got))
-        (stop_of c.put_taken.result)
+    (stop_of c.put_taken.result)
     c.in-Ok.ensures.ok c.put_taken.ensures

@@ -54,7 +54,7 @@ returns-in_err-turn-clause-plays g c =
     (play_turn 1 _ c.args.self.now.ports.joiner.most calls c.args.self.now.caller
     (λ (v : CallerState). v ≡ c.turn.new.self.caller) _ _ _ _ _ _ _ _ c.in_err-turn.field-0.0
     (λ (v : CallerState). v ≡ c.turn.new.self.caller)
-        (plays_at 1 c.args.self.now.ports.node _ _ _ _ _ _ clocks AnyTime _ c.requires.ready.number refl
+    (plays_at 1 c.args.self.now.ports.node _ _ _ _ _ _ clocks AnyTime _ c.requires.ready.number refl
     (c.in_ok-clock.ensures.plays sink)) (polls_at 1 c.args.self.now.ports.node _ _ _ _ _ _
     c.args.self.now.ports.joiner.most c.args.self.now.ports.joiner.most _ c.requires.ready.number c.clock.ensures.setup
     refl (c.in_ok-give_due.ensures.plays sink)) (plays_at 1 1 _ _ _ _ _ _
@@ -67,7 +67,7 @@ returns-in_err-give_due-2-clause-plays g c =
     c.from_residual-in_err-give_due-2.ensures.1) (play_last 1 _ c.args.self.now.ports.joiner.most calls
     c.args.self.now.caller (λ (v : CallerState). v ≡ c.turn.new.self.caller) _ _ _ _ _ _ _ _ _ _
     (Some c.in_err-give_due-2.field-0.0)
-        (plays_at 1 c.args.self.now.ports.node _ _ _ _ _ _ clocks AnyTime _ c.requires.ready.number refl
+    (plays_at 1 c.args.self.now.ports.node _ _ _ _ _ _ clocks AnyTime _ c.requires.ready.number refl
     (c.in_ok-clock.ensures.plays sink)) (polls_at 1 c.args.self.now.ports.node _ _ _ _ _ _
     c.args.self.now.ports.joiner.most c.args.self.now.ports.joiner.most _ c.requires.ready.number c.clock.ensures.setup
     refl (c.in_ok-give_due.ensures.plays sink)) (plays_at 1 1 _ _ _ _ _ _
@@ -84,7 +84,7 @@ pub returns-clause-plays : goal.returns-clause-plays
 returns-clause-plays g c =
     λ sink. play_last 1 _ c.args.self.now.ports.joiner.most calls c.args.self.now.caller
     (λ (v : CallerState). v ≡ c.turn.new.self.caller) _ _ _ _ _ _ _ _ _ _ None
-        (plays_at 1 c.args.self.now.ports.node _ _ _ _ _ _ clocks AnyTime _ c.requires.ready.number refl
+    (plays_at 1 c.args.self.now.ports.node _ _ _ _ _ _ clocks AnyTime _ c.requires.ready.number refl
     (c.in_ok-clock.ensures.plays sink)) (polls_at 1 c.args.self.now.ports.node _ _ _ _ _ _
     c.args.self.now.ports.joiner.most c.args.self.now.ports.joiner.most _ c.requires.ready.number c.clock.ensures.setup
     refl (c.in_ok-give_due.ensures.plays sink)) (plays_at 1 1 _ _ _ _ _ _

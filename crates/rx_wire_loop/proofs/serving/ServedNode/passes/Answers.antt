@@ -77,7 +77,7 @@ returns-in_err-put_time_up-clause-serves g c =
     c.args.end (state_of c.loop-taken.self.dispatcher).round.jobs _ _ _ _ (λ (js : List JobState). js ≡
     (state_of c.pass.new.self.dispatcher).round.jobs) None c.loop-taken.invariant.script c.loop-taken.invariant.setup
     c.loop-taken.invariant.most c.in_ok-pass.ensures.plays) low late
-        (legal_as _ _ _ c.loop-taken.invariant.setup (λ h is. is.legal)) _ c.in_err-put_time_up.field-0.0
+    (legal_as _ _ _ c.loop-taken.invariant.setup (λ h is. is.legal)) _ c.in_err-put_time_up.field-0.0
     c.in_err-put_time_up.ensures)
 
 pub returns-then-end-now-clause-serves : goal.returns-then-end-now-clause-serves
