@@ -73,21 +73,21 @@ fn with_opcode(iface: &Interface, opcode: u32) -> Option<(usize, &Proc)>
     None
 }
 
-// What the bytes behind the opcode are, where `waits` says that more may come.
+// What the bytes behind the opcode of the procedure found are, where `waits` says that more may come.
 fn read_args(
     alloc: Global,
     iface: &Interface,
-    index: usize,
-    proc: &Proc,
+    found: (usize, &Proc),
     seen: usize,
     bytes: &[u8],
     waits: bool,
 ) -> Request
-    requires known { IsTrue (params_known (types_of iface.now.types.items) (map param_of proc.now.args.items)) }
+    requires known { IsTrue (params_known (types_of iface.now.types.items) (map param_of found.1.now.args.items)) }
     requires within { length bytes.now ≤ seen }
     ensures { IsRequestAnswer result (found_answer (types_of iface.now.types.items) seen waits bytes.now
-        (Some (index, proc_of proc.now))) }
+        (Some (found.entry.0, proc_of found.entry.1.now))) }
 {
+    let (index, proc) = found;
     match read_values(alloc, iface, Stream::Request, &proc.args, bytes) {
         Ok((args, left)) => Request::Whole {
             index,
@@ -127,7 +127,7 @@ fn read_seen(alloc: Global, iface: &Interface, seen: &[u8], ended: bool, waits: 
         }
         Some((opcode, rest)) => match with_opcode(iface, opcode) {
             None => Request::Code(OPCODE),
-            Some((index, proc)) => read_args(alloc, iface, index, proc, seen.len(), rest, waits),
+            Some(found) => read_args(alloc, iface, found, seen.len(), rest, waits),
         },
     }
 }
