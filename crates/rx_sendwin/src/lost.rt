@@ -117,11 +117,10 @@ pub fn lost_among(
     lost
 }
 
-/// What `lost_among` answers: with no look through the pieces where all of them are known to be on their way, as far as
-/// none is acknowledged (`plain`), and none is.
+/// What `lost_among` answers: with no look through the pieces where none is acknowledged, and each is known to be on its
+/// way (`all`).
 pub fn lost_behind(
-    plain: bool,
-    flight: u32,
+    all: bool,
     acked: u32,
     given: u32,
     since: u64,
@@ -130,16 +129,16 @@ pub fn lost_behind(
 ) -> Lost
     requires acked { acked ≤ given }
     requires held { given ≤ acked + deque_len pieces.now }
-    requires flight { flight ≡ flight_by (is_acked_by acked soft.now) given }
-    requires plain { plain ≡ true → (k : ℕ) → acked < k → k ≤ given →
+    requires flight { all ≡ true → flight_by (is_acked_by acked soft.now) given ≡ given - acked }
+    requires later { all ≡ true → (k : ℕ) → acked < k → k ≤ given →
         since < order_in pieces.now.items (k - suc acked) }
     ensures { AreLost acked given since soft.now (order_in pieces.now.items) result }
 {
-    if plain && flight == given - acked {
+    if all {
         return Lost {
             overtaken: None,
             late: None,
-            under_way: flight,
+            under_way: given - acked,
         };
     }
     lost_among(acked, given, since, soft, pieces)

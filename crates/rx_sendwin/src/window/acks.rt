@@ -81,8 +81,7 @@ impl SendWin {
         self.flight = count_in_flight(self.acked, marks, self.given);
         self.peer_window = peer_window(self.peer_window, window);
         self.lost = lost_behind(
-            plain,
-            self.flight,
+            plain && self.flight == self.given - self.acked,
             self.acked,
             self.given,
             self.since,

@@ -12,6 +12,7 @@ use Rattle.rx_sendwin.proofs.Acks.{leading_most, makes_sense}
 use Rattle.rx_sendwin.proofs.PieceLaws.{slots_drop, last_drop}
 use Rattle.rx_sendwin.proofs.Acknowledging.{stale_newly, fresh_newly, ack_stands, ack_tied, marks_alike}
 use Rattle.rx_sendwin.proofs.window.SendWin.on_ack.Goals as goal
+use Rattle.rx_sendwin.proofs.window.SendWin.on_ack.Goals.{then-plain, else-plain}
 
 pub returns-then-first-self-clause-newly : goal.returns-then-first-self-clause-newly
 returns-then-first-self-clause-newly c =
@@ -31,31 +32,41 @@ pub lost_behind-self-inside-requires-clause-flight : goal.lost_behind-self-insid
 lost_behind-self-inside-requires-clause-flight c =
     let valid = (rw (← c.self.view_is) at c.requires.valid) in
     let acked = c.args.first - 1 in
+    let given = c.self.inside.given in
     let soft = c.set_marks.new.soft.items in
     let alike = (
     marks_alike _ c.self.inside.low c.self.inside.flight c.args.first c.args.marks.now soft c.self.invariant.1 valid
     c.if-first-self.false c.set_marks.ensures) in
+    let flight : c.count_in_flight-self-inside.result ≡ flight_by (is_acked_by acked c.as_slice-2.result.now) given = (
     c.count_in_flight-self-inside.ensures.value
-    ∙ ap (λ (known : ℕ → Bool). flight_by known c.self.inside.given)
-    (sym (known_alike acked soft c.args.marks.now alike))
-    ∙ ap (λ (ms : List Bool). flight_by (is_acked_by acked ms) c.self.inside.given) (sym c.as_slice-2.ensures.value)
+    ∙ ap (λ (known : ℕ → Bool). flight_by known given) (sym (known_alike acked soft c.args.marks.now alike))
+    ∙ ap (λ (ms : List Bool). flight_by (is_acked_by acked ms) given) (sym c.as_slice-2.ensures.value)) in
+    λ yes. elim c.if-plain.branch [
+      | then-plain w ↦ (
+          let all : c.count_in_flight-self-inside.result ≡ given - acked =
+          grind (arith, nat_tests, sym w.lost_behind-is ∙ yes) in
+          sym flight ∙ all)
+      | else-plain w ↦ absurd (w.if-plain.false (grind (arith, nat_tests, sym w.lost_behind-is ∙ yes)))
+    ]
 
-pub lost_behind-self-inside-requires-clause-plain : goal.lost_behind-self-inside-requires-clause-plain
-lost_behind-self-inside-requires-clause-plain c =
+pub lost_behind-self-inside-requires-clause-later : goal.lost_behind-self-inside-requires-clause-later
+lost_behind-self-inside-requires-clause-later c =
     let w = c.self.inside in
     let hs = w.pieces.items in
     let acked = c.args.first - 1 in
     let n = acked - w.acked in
-    λ yes k more upto. (
-    let all : w.lost.under_way ≡ w.given - w.acked = grind (arith, nat_tests, yes) in
-    let later : w.since < order_in hs (k - suc w.acked) = (
-    all_later w.acked w.given w.since w.soft.items (order_in hs) w.lost c.self.invariant.1.acked_most
-    c.self.invariant.2 all k (omega (arith, more, c.if-first-self.false)) upto) in
-    let at : n + (k - suc acked) ≡ k - suc w.acked = omega (arith, more, c.if-first-self.false) in
-    let same : order_in c.free_front.new.pieces.items (k - suc acked) ≡ order_in hs (k - suc w.acked) = (
-    ap (λ ps. order_in ps (k - suc acked)) c.free_front.ensures.rest ∙ order_dropped hs n (k - suc acked)
-    ∙ ap (order_in hs) at) in
-    omega (arith, later, same))
+    λ yes k more upto. elim c.if-plain.branch [
+      | then-plain t ↦ (
+          let later : w.since < order_in hs (k - suc w.acked) = (
+          all_later w.acked w.given w.since w.soft.items (order_in hs) w.lost c.self.invariant.1.acked_most
+          c.self.invariant.2 t.if-plain.true k (omega (arith, more, c.if-first-self.false)) upto) in
+          let at : n + (k - suc acked) ≡ k - suc w.acked = omega (arith, more, c.if-first-self.false) in
+          let same : order_in c.free_front.new.pieces.items (k - suc acked) ≡ order_in hs (k - suc w.acked) = (
+          ap (λ ps. order_in ps (k - suc acked)) c.free_front.ensures.rest ∙ order_dropped hs n (k - suc acked)
+          ∙ ap (order_in hs) at) in
+          omega (arith, later, same))
+      | else-plain t ↦ absurd (t.if-plain.false (grind (arith, nat_tests, sym t.lost_behind-is ∙ yes)))
+    ]
 
 pub invariant_of-self : goal.invariant_of-self
 invariant_of-self c =
