@@ -16,4 +16,4 @@ mod tests;
 mod window;
 
 pub use ack_view::AckView;
-pub use window::RecvWin;
+pub use window::{RecvWin, Spare};

@@ -2,7 +2,7 @@ ghost use Rattle.std.specs.Prelude.{◌≤◌, ◌+◌, length};
 ghost use Rattle.rx_pool.specs.Held.{Holds, Keeps};
 ghost use Rattle.rx_recvwin.specs.Window.{packet_slots};
 
-use crate::RecvWin;
+use crate::{RecvWin, Spare};
 use rx_model::{CallRead, Took};
 use rx_pool::Pool;
 use std::process::Abort;
@@ -15,10 +15,9 @@ fn keep(win: &mut RecvWin, pool: &mut Pool, seq: u32, bytes: &[u8], last: bool) 
     ensures { Keeps pool.old pool.new (packet_slots win.old) (packet_slots win.new) }
 {
     let free = pool.free();
-    if free == 0 {
-        return win.keep(pool, seq, bytes, last, false, 0);
-    }
-    win.keep(pool, seq, bytes, last, true, free - 1)
+    let lead = free > 0;
+    let common = if lead { free - 1 } else { 0 };
+    win.keep(pool, seq, bytes, last, Spare { lead, common })
 }
 
 #[test]

@@ -19,6 +19,8 @@ use std::marker::Model;
 mod keeping;
 mod reading;
 
+pub use keeping::Spare;
+
 /// The receiving window of one stream: the packets that are kept and not used, in slots of a pool.
 ///
 /// Packets are used in the order of their seqs. Each place is for one seq, from the one behind the used packets on.

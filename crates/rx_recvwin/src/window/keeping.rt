@@ -13,13 +13,21 @@ use rx_model::Took;
 use rx_model::wire::LAST_SEQ;
 use rx_pool::Pool;
 
+/// Which slots are left for a packet that comes: `common` for any packet, and with `lead` one more for the packet behind
+/// the front.
+#[derive(Clone, Copy, Debug, PartialEq, Eq)]
+pub struct Spare {
+    pub lead: bool,
+    pub common: u32,
+}
+
 impl RecvWin {
     ghost use Rattle.rx_model.specs.declared.wire.TheConstants.{PAYLOAD_BYTES};
 
     /// What becomes of a packet.
-    fn judge(&self, seq: u32, last: bool, lead: bool, common: u32) -> Took
-        ensures { result ≡ arrival_row
-            (arrival_at self.now (slot_behind lead common seq (self.now.used + leading self.now.places)) seq last) }
+    fn judge(&self, seq: u32, last: bool, spare: Spare) -> Took
+        ensures { result ≡ arrival_row (arrival_at self.now
+            (slot_behind spare.lead spare.common seq (self.now.used + leading self.now.places)) seq last) }
     {
         if seq == 0 || seq > LAST_SEQ {
             return Took::Strange;
@@ -33,7 +41,7 @@ impl RecvWin {
         if self.clashes(seq, last) {
             return Took::Clash;
         }
-        if common == 0 && !(lead && seq - 1 == self.front) {
+        if spare.common == 0 && !(spare.lead && seq - 1 == self.front) {
             return Took::NoSlot;
         }
         Took::Kept
@@ -86,29 +94,27 @@ impl RecvWin {
         self.previous = seq;
     }
 
-    /// A data packet comes, with at most 1,444 bytes: it is kept, or refused with its cause. `common` slots
-    /// are left for any packet, and with `lead` one more for the packet behind the front.
+    /// A data packet comes, with at most 1,444 bytes: it is kept, or refused with its cause.
     pub fn keep(
         &mut self,
         pool: &mut Pool,
         seq: u32,
         bytes: &[u8],
         last: bool,
-        lead: bool,
-        common: u32,
+        spare: Spare,
     ) -> Took
         requires size { length bytes.now ≤ PAYLOAD_BYTES }
         requires holds { Holds pool.old (packet_slots self.old) }
-        requires spare { common + (if lead then 1 else 0) ≤ length pool.old.free }
+        requires spare { spare.common + (if spare.lead then 1 else 0) ≤ length pool.old.free }
         ensures answered { (r : Received) → StandsReceived pool.old self.old r →
             result ≡ arrival_row
-            (arrival_of self.old.width (has_slot lead common seq r) (as_packet seq bytes.now last) r) }
+            (arrival_of self.old.width (has_slot spare.lead spare.common seq r) (as_packet seq bytes.now last) r) }
         ensures stands { (r : Received) → StandsReceived pool.old self.old r →
             StandsReceived pool.new self.new (after_packet result (as_packet seq bytes.now last) r) }
         ensures keeps { Keeps pool.old pool.new (packet_slots self.old) (packet_slots self.new) }
         ensures width { self.new.width ≡ self.old.width }
     {
-        let took = self.judge(seq, last, lead, common);
+        let took = self.judge(seq, last, spare);
         match took {
             Took::Kept => {
                 self.put(pool, seq, bytes, last);

@@ -10,14 +10,14 @@ use Rattle.rx_recvwin.proofs.window.RecvWin.keep.Goals as goal
 pub returns-in-Kept-clause-answered : goal.returns-in-Kept-clause-answered
 returns-in-Kept-clause-answered c =
     let p = as_packet c.args.seq c.args.bytes.now c.args.last in
-    λ r s. row_is c.args.pool.now c.args.self.now r c.args.lead c.args.common p c.judge-took.result c.judge-took.ensures
-    s
+    λ r s. row_is c.args.pool.now c.args.self.now r c.args.spare.lead c.args.spare.common p c.judge-took.result
+    c.judge-took.ensures s
 
 pub returns-in-Kept-clause-stands : goal.returns-in-Kept-clause-stands
 returns-in-Kept-clause-stands c =
     let w = c.args.self.now in
     let p = as_packet c.args.seq c.args.bytes.now c.args.last in
-    let slot = slot_behind c.args.lead c.args.common c.args.seq (w.used + leading w.places) in
+    let slot = slot_behind c.args.spare.lead c.args.spare.common c.args.seq (w.used + leading w.places) in
     λ r s. subst (λ (took : Took). StandsReceived c.settle.new.pool c.settle.new.self (after_packet took p r))
     (sym c.in-Kept.is)
     (kept_stands c.args.pool.now w (window_of c.put.new.pool c.put.new.self)
@@ -28,8 +28,8 @@ returns-in-Kept-clause-stands c =
 pub returns-in-Repeat-clause-answered : goal.returns-in-Repeat-clause-answered
 returns-in-Repeat-clause-answered c =
     let p = as_packet c.args.seq c.args.bytes.now c.args.last in
-    λ r s. row_is c.args.pool.now c.args.self.now r c.args.lead c.args.common p c.judge-took.result c.judge-took.ensures
-    s
+    λ r s. row_is c.args.pool.now c.args.self.now r c.args.spare.lead c.args.spare.common p c.judge-took.result
+    c.judge-took.ensures s
 
 pub returns-in-Repeat-clause-stands : goal.returns-in-Repeat-clause-stands
 returns-in-Repeat-clause-stands c =
@@ -39,8 +39,8 @@ returns-in-Repeat-clause-stands c =
 pub returns-in-Clash-clause-answered : goal.returns-in-Clash-clause-answered
 returns-in-Clash-clause-answered c =
     let p = as_packet c.args.seq c.args.bytes.now c.args.last in
-    λ r s. row_is c.args.pool.now c.args.self.now r c.args.lead c.args.common p c.judge-took.result c.judge-took.ensures
-    s
+    λ r s. row_is c.args.pool.now c.args.self.now r c.args.spare.lead c.args.spare.common p c.judge-took.result
+    c.judge-took.ensures s
 
 pub returns-in-Clash-clause-stands : goal.returns-in-Clash-clause-stands
 returns-in-Clash-clause-stands c =
