@@ -10,7 +10,7 @@ ghost use Rattle.rx_model.specs.Body as models;
 ghost use Rattle.rx_model.specs.Names.{Channel};
 ghost use Rattle.rx_model.specs.Spelling.{made};
 ghost use Rattle.rx_model.specs.Strays.{stray_message};
-ghost use Rattle.rx_packet.specs.Seen.{message_with_head};
+ghost use Rattle.rx_packet.specs.Seen.{ack_of, message_with_head};
 ghost use Rattle.rx_due.specs.Cost.{AtMost, AtMostForEntries};
 ghost use Rattle.rx_call_ends.specs.Ends.{IsThere, StandsEnd};
 ghost use Rattle.rx_rules.specs.After.{counted};
@@ -375,41 +375,37 @@ impl<C: Class> Node<C> {
                 let flags = head.flags | flag_where(reason == ACK_PING, REQUEST_ACK);
                 let head = Head { flags, ..*head };
                 let window = self.limits.window;
-                write_ack(&self.ends, end, window, reason, serial, &head, to, steps)
+                let ack = ack_of(&self.ends, end, window, reason, serial, steps);
+                write_msg(&head, &Body::Ack(ack), to)
             }
             None => 0,
         }
     }
 }
 
-/// Writes an ACK of a call behind a header, and answers its length.
-fn write_ack<L: Ledger>(
+/// The ACK of a call.
+fn ack_of<L: Ledger>(
     ends: &Ends,
     end: usize,
     window: u32,
     reason: u8,
     serial: u32,
-    head: &Head,
-    to: &mut [u8],
     steps: &mut Steps<L>,
-) -> usize
-    requires room { DATAGRAM_BYTES ≤ length to.old }
-    requires there { IsThere ends.now end }
-    ensures written { (k : CallLooks) → StandsEnd ends.now end k → take result to.new
-        ≡ made (message_with_head head.now (models.Ack (ack_body window reason serial k.received))) }
-    ensures rest { drop result to.new ≡ drop result to.old }
+) -> AckBody
+    requires { IsThere ends.now end }
+    ensures seen { (k : CallLooks) → StandsEnd ends.now end k →
+        ack_of result ≡ ack_body window reason serial k.received }
     ensures steps { steps.new ≡ steps.old + 1 }
 {
     let view = ends.ack_view(end, steps);
-    let ack = AckBody {
+    AckBody {
         first: view.first,
         previous: view.previous,
         serial,
         reason,
         marks: view.marks,
         window: Some(window),
-    };
-    write_msg(head, &Body::Ack(ack), to)
+    }
 }
 
 /// The first of what a seat owes at once, by whether the client of its connection is proved.

@@ -66,14 +66,15 @@ returns-clause-gives g c =
         | in-Some-Ack w ↦ (
             let ack = w.in-Some-Ack in
             let received = given_received now next looks in
-            (λ t. take (w.result-is t) (w.to-is t)) ∙ w.write_ack.ensures.written _ after
+            (λ t. take (w.result-is t) (w.to-is t)) ∙ w.write_msg-in-Some-Ack.ensures.written
             ∙ ap (λ (msg : Message). made msg)
             (sent_ack g.C.Class.class_of _ l m key end ch at active i sends due inv.0.client head
             ack.reason ack.serial _
             _ (sym (ack.is ∙ ap (λ (x : Giving). Some x) ack.field-0-is) ∙ answered)
             (or_flag kind (ack.reason == ACK_PING) head.flags w.flag_where-in-Some-Ack.result flagged
             w.flag_where-in-Some-Ack.ensures)
-            (ap (λ (r : Received). ack_body c.self.inside.limits.window ack.reason ack.serial r) received)
+            (w.ack_of-ack.ensures.seen _ after
+            ∙ ap (λ (r : Received). ack_body c.self.inside.limits.window ack.reason ack.serial r) received)
             numbered seqless))
         | in-None w ↦ absurd (sent_some g.C.Class.class_of _ l m key end ch at active i sends due inv.0.client
             (sym w.in-None.is ∙ answered))
