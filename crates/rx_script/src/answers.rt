@@ -29,6 +29,14 @@ pub enum Answer<'a> {
     },
 }
 
+/// What came for a call: the values of the procedure's arguments that are IN or INOUT, in order, and the upload.
+#[derive(Clone, Copy)]
+struct Request<'a> {
+    args: &'a [Arg],
+    values: &'a [Value],
+    upload: &'a [u8],
+}
+
 // ---- the arguments as they came
 
 /// The value that came for the argument of the name.
@@ -175,25 +183,24 @@ fn last_giving<'a>(lines: &'a [ScriptLine], name: &str) -> Option<&'a ScriptLine
     last
 }
 
-/// What a line gives an argument. The procedure's arguments came with these values.
-fn given_value(
-    alloc: Global,
-    args: &[Arg],
-    values: &[Value],
-    upload: &[u8],
-    line: &ScriptLine,
-) -> Result<Value, AllocError>
-    ensures { IfOk result (λ v. value_of v ≡ given_value (map param_of args.now) (values_of values.now) upload.now
-        (saying_of line.now)) }
+/// What a line gives an argument.
+fn given_value(alloc: Global, request: &Request<'_>, line: &ScriptLine) -> Result<Value, AllocError>
+    ensures { IfOk result (λ v. value_of v ≡ given_value (map param_of request.now.args.now)
+        (values_of request.now.values.now) request.now.upload.now (saying_of line.now)) }
 {
     match line {
         ScriptLine::Set { value, .. } => Ok(value.copied(alloc)?),
-        ScriptLine::Copy { from, .. } => Ok(came_copy(alloc, args, values, from.as_str())?),
+        ScriptLine::Copy { from, .. } => Ok(came_copy(
+            alloc,
+            request.args,
+            request.values,
+            from.as_str(),
+        )?),
         ScriptLine::Size { from, .. } => {
-            let size = byte_count(args, values, from.as_str());
+            let size = byte_count(request.args, request.values, from.as_str());
             Ok(Value::Number(size as i128))
         }
-        ScriptLine::Count(_) => Ok(Value::Number(upload.len() as i128)),
+        ScriptLine::Count(_) => Ok(Value::Number(request.upload.len() as i128)),
         ScriptLine::Wait(_) | ScriptLine::Up | ScriptLine::Down | ScriptLine::When { .. } => {
             Ok(Value::Void)
         }
@@ -205,16 +212,15 @@ fn given_value(
 fn start_value(
     alloc: Global,
     iface: &Interface,
-    args: &[Arg],
-    values: &[Value],
+    request: &Request<'_>,
     arg: &Arg,
 ) -> Result<Value, AllocError>
     requires { IsTrue (is_known (types_of iface.now.types.items) (kind_of arg.now.ty)) }
-    ensures { IfOk result (λ v. value_of v ≡ start_value (types_of iface.now.types.items) (map param_of args.now)
-        (values_of values.now) (param_of arg.now)) }
+    ensures { IfOk result (λ v. value_of v ≡ start_value (types_of iface.now.types.items)
+        (map param_of request.now.args.now) (values_of request.now.values.now) (param_of arg.now)) }
 {
     if comes(arg.mode) {
-        Ok(came_copy(alloc, args, values, arg.name.as_str())?)
+        Ok(came_copy(alloc, request.args, request.values, arg.name.as_str())?)
     } else {
         Ok(zero(alloc, iface, &arg.ty)?)
     }
@@ -224,19 +230,18 @@ fn start_value(
 fn reply_value(
     alloc: Global,
     iface: &Interface,
-    args: &[Arg],
-    values: &[Value],
-    upload: &[u8],
+    request: &Request<'_>,
     lines: &[ScriptLine],
     arg: &Arg,
 ) -> Result<Value, AllocError>
     requires { IsTrue (is_known (types_of iface.now.types.items) (kind_of arg.now.ty)) }
-    ensures { IfOk result (λ v. value_of v ≡ reply_value (types_of iface.now.types.items) (map param_of args.now)
-        (values_of values.now) upload.now (map saying_of lines.now) (param_of arg.now)) }
+    ensures { IfOk result (λ v. value_of v ≡ reply_value (types_of iface.now.types.items)
+        (map param_of request.now.args.now) (values_of request.now.values.now) request.now.upload.now
+        (map saying_of lines.now) (param_of arg.now)) }
 {
     match last_giving(lines, arg.name.as_str()) {
-        None => Ok(start_value(alloc, iface, args, values, arg)?),
-        Some(line) => Ok(given_value(alloc, args, values, upload, line)?),
+        None => Ok(start_value(alloc, iface, request, arg)?),
+        Some(line) => Ok(given_value(alloc, request, line)?),
     }
 }
 
@@ -244,19 +249,18 @@ fn reply_value(
 fn reply_values(
     alloc: Global,
     iface: &Interface,
-    args: &[Arg],
-    values: &[Value],
-    upload: &[u8],
+    request: &Request<'_>,
     lines: &[ScriptLine],
 ) -> Result<Vec<Value>, AllocError>
-    requires { IsTrue (params_known (types_of iface.now.types.items) (map param_of args.now)) }
+    requires { IsTrue (params_known (types_of iface.now.types.items) (map param_of request.now.args.now)) }
     ensures { IfOk result (λ v. values_of v.items ≡ values_by (reply_value (types_of iface.now.types.items)
-        (map param_of args.now) (values_of values.now) upload.now (map saying_of lines.now)) (map param_of args.now)) }
+        (map param_of request.now.args.now) (values_of request.now.values.now) request.now.upload.now
+        (map saying_of lines.now)) (map param_of request.now.args.now)) }
 {
     let mut all = Vec::new(alloc);
-    for arg in args {
+    for arg in request.args {
         if returns(arg.mode) {
-            all.push(reply_value(alloc, iface, args, values, upload, lines, arg)?)?;
+            all.push(reply_value(alloc, iface, request, lines, arg)?)?;
         }
     }
     Ok(all)
@@ -349,7 +353,12 @@ fn lines_answer<'a>(
     if let Some(code) = code_of(args, values, lines) {
         return Ok(Answer::Code(code));
     }
-    let all = reply_values(alloc, iface, args, values, upload, lines)?;
+    let request = Request {
+        args,
+        values,
+        upload,
+    };
+    let all = reply_values(alloc, iface, &request, lines)?;
     Ok(Answer::Reply {
         values: all,
         download: download(upload, lines),

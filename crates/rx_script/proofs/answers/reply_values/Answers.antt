@@ -12,9 +12,10 @@ use Rattle.rx_script.proofs.answers.reply_values.Goals.{then-returns+in_ok-reply
 pub loop-arg-preserved : goal.loop-arg-preserved
 loop-arg-preserved c =
     let types = types_of c.args.iface.now.types.items in
-    let value : Param → Datum = reply_value types (map param_of c.args.args.now) (values_of c.args.values.now)
-    c.args.upload.now (map saying_of c.args.lines.now) in
-    let left = in_left c.args.args.now c.loop-arg.arg-index c.arg-item.result c.loop-arg-test.true c.arg-item.is in
+    let request = c.args.request.now in
+    let value : Param → Datum = reply_value types (map param_of request.args.now) (values_of request.values.now)
+    request.upload.now (map saying_of c.args.lines.now) in
+    let left = in_left request.args.now c.loop-arg.arg-index c.arg-item.result c.loop-arg-test.true c.arg-item.is in
     let known = known_rest types _ _ c.arg-item.result left c.loop-arg.invariant.known in
     elim c.if-returns.branch [
       | then-returns+in_ok-reply_value+in_ok-push w ↦
@@ -36,7 +37,8 @@ loop-arg-preserved c =
 pub returns : goal.returns
 returns c =
     let types = types_of c.args.iface.now.types.items in
-    let value : Param → Datum = reply_value types (map param_of c.args.args.now) (values_of c.args.values.now)
-    c.args.upload.now (map saying_of c.args.lines.now) in
-    let none = drop_all c.loop-arg.arg-index c.args.args.now c.loop-arg-test.false in
+    let request = c.args.request.now in
+    let value : Param → Datum = reply_value types (map param_of request.args.now) (values_of request.values.now)
+    request.upload.now (map saying_of c.args.lines.now) in
+    let none = drop_all c.loop-arg.arg-index request.args.now c.loop-arg-test.false in
     values_done value (values_of c.loop-arg.all.items) _ _ none c.loop-arg.invariant.told

@@ -8,9 +8,10 @@ use Rattle.rx_script.proofs.answers.reply_values.Given as goal
 
 abbrev pub invariant-loop-arg : goal.invariant-loop-arg
 invariant-loop-arg l = record {
-  known : params_known (types_of l.iface.types.items) (map param_of (drop l.arg-index l.args)) ≡ true;
-  told : append (values_of l.all.items) (values_by (reply_value (types_of l.iface.types.items) (map param_of l.args)
-      (values_of l.values) l.upload (map saying_of l.lines)) (map param_of (drop l.arg-index l.args)))
-      ≡ values_by (reply_value (types_of l.iface.types.items) (map param_of l.args) (values_of l.values) l.upload
-      (map saying_of l.lines)) (map param_of l.args);
+  known : params_known (types_of l.iface.types.items) (map param_of (drop l.arg-index l.request.args.now)) ≡ true;
+  told : append (values_of l.all.items) (values_by (reply_value (types_of l.iface.types.items)
+      (map param_of l.request.args.now) (values_of l.request.values.now) l.request.upload.now (map saying_of l.lines))
+      (map param_of (drop l.arg-index l.request.args.now)))
+      ≡ values_by (reply_value (types_of l.iface.types.items) (map param_of l.request.args.now)
+      (values_of l.request.values.now) l.request.upload.now (map saying_of l.lines)) (map param_of l.request.args.now);
 }
