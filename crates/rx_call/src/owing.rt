@@ -24,6 +24,14 @@ pub struct OwedAck {
     pub rank: u64,
 }
 
+/// How the packets stood before one came: all up to `front` without a gap, and one above the next where there was a
+/// `hole`.
+#[derive(Clone, Copy, Debug, PartialEq, Eq)]
+pub struct Before {
+    pub front: u32,
+    pub hole: bool,
+}
+
 /// Whether a flag is set.
 pub fn has_flag(flags: u8, flag: u8) -> bool
     ensures { result ≡ has_flag flag flags }
@@ -89,27 +97,25 @@ fn owe_behind_read(now: u64, prompt: bool, reason: u8, serial: u32) -> Option<Ow
     })
 }
 
-/// What is owed behind a packet that was kept, where all up to `front` stood without a gap before it, and one above the
-/// next where there was a `hole`.
+/// What is owed behind a packet that was kept.
 fn owe_for_kept(
     now: u64,
     prompt: bool,
-    hole: bool,
+    before: Before,
     head: &Head,
-    front: u32,
     owed: Option<OwedAck>,
 ) -> Option<OwedAck>
     requires { now < 2 ^ 62 }
-    ensures { (body : Body) → owed_of result ≡ owed_for_kept now prompt hole (message_with_head head.now body) front
-        (owed_of owed) }
+    ensures { (body : Body) → owed_of result ≡ owed_for_kept now prompt before.hole (message_with_head head.now body)
+        before.front (owed_of owed) }
 {
-    if head.seq as u64 != front as u64 + 1 {
+    if head.seq as u64 != before.front as u64 + 1 {
         return owe_now(ACK_OUT_OF_SEQUENCE, head.serial);
     }
     if has_flag(head.flags, REQUEST_ACK) {
         return owe_behind_read(now, prompt, ACK_REQUESTED, head.serial);
     }
-    if prompt && hole {
+    if prompt && before.hole {
         return owe_behind_read(now, prompt, ACK_DELAY, head.serial);
     }
     owe_within(ack_delay(prompt, head.flags), now, head.serial, owed)
@@ -120,17 +126,16 @@ pub fn owe_for(
     took: Took,
     now: u64,
     prompt: bool,
-    hole: bool,
+    before: Before,
     head: &Head,
-    front: u32,
     owed: Option<OwedAck>,
 ) -> Option<OwedAck>
     requires { now < 2 ^ 62 }
-    ensures { (body : Body) → owed_of result ≡ owed_for took now prompt hole (message_with_head head.now body) front
-        (owed_of owed) }
+    ensures { (body : Body) → owed_of result ≡ owed_for took now prompt before.hole (message_with_head head.now body)
+        before.front (owed_of owed) }
 {
     match took {
-        Took::Kept => owe_for_kept(now, prompt, hole, head, front, owed),
+        Took::Kept => owe_for_kept(now, prompt, before, head, owed),
         Took::Repeat => owe_now(ACK_DUPLICATE, head.serial),
         Took::Beyond => owe_now(ACK_EXCEEDS_WINDOW, head.serial),
         Took::NoSlot => owe_now(ACK_NOSPACE, head.serial),

@@ -16,12 +16,13 @@ ghost use Rattle.rx_call.specs.Standing.{is_sent};
 ghost use Rattle.rx_call.specs.Standing.{data_row, heard_or_same};
 
 use crate::call::Call;
-use crate::owing::{has_flag, owe_for, owe_for_ack};
+use crate::owing::{Before, has_flag, owe_for, owe_for_ack};
 use crate::side::Side;
 use rx_model::Took;
 use rx_model::wire::{LAST_PACKET, LAST_SEQ};
 use rx_packet::{AckBody, Body, Head};
 use rx_pool::Pool;
+use rx_recvwin::Spare;
 use rx_sendwin::Newly;
 
 impl Call {
@@ -123,22 +124,17 @@ impl Call {
         ensures keeps { Keeps pool.old pool.new (slots_of self.old) (slots_of self.new) }
         ensures same { IsSameEnd self.old self.new }
     {
-        let front = self.received.front();
+        let before = Before {
+            front: self.received.front(),
+            hole: self.received.has_hole(),
+        };
         let last = has_flag(head.flags, LAST_PACKET);
-        let hole = self.received.has_hole();
-        let leadless = !self.lead();
-        let took = self
-            .received
-            .keep(pool, head.seq, payload, last, leadless, left);
-        self.owed = owe_for(
-            took,
-            now,
-            self.cwnd.recovers(),
-            hole,
-            head,
-            front,
-            self.owed,
-        );
+        let spare = Spare {
+            lead: !self.lead(),
+            common: left,
+        };
+        let took = self.received.keep(pool, head.seq, payload, last, spare);
+        self.owed = owe_for(took, now, self.cwnd.recovers(), before, head, self.owed);
         self.heard = now;
         took
     }

@@ -20,7 +20,7 @@ returns-clause-answered c =
     let width = c.self.invariant.2 ∙ ap (λ (e : EndOfCall). e.pace.window) c.self.view_is in
     λ k st.
     let here = (rw (← c.self.view_is) at st) in
-    let lead = c.lead-leadless.ensures.answered c.args.pool.now k st in
+    let lead = c.lead.ensures.answered c.args.pool.now k st in
     let last = c.has_flag-last.ensures in
     c.keep-took.ensures.answered k.received here.received
     ∙ (λ i. arrival_row
@@ -34,8 +34,8 @@ returns-clause-stands c =
     let m = message_with_head c.args.head.now (bodies.Chunk c.args.payload.now) in
     rw (← c.self.view_is) (λ k st.
     let prompt = c.recovers.ensures ∙ (λ i. (st.cwnd i).prompt) in
-    let hole = c.has_hole-hole.ensures.answered c.args.pool.now k.received st.received in
-    let front = c.front-front.ensures.answered c.args.pool.now k.received st.received in
+    let hole = c.has_hole.ensures.answered c.args.pool.now k.received st.received in
+    let front = c.front.ensures.answered c.args.pool.now k.received st.received in
     let owed = (
     c.owe_for-self-inside.ensures (bodies.Chunk c.args.payload.now)
     ∙ (λ i. owed_for c.keep-took.result c.args.now (prompt i) (hole i) m (front i) (st.owed i))) in
