@@ -200,13 +200,14 @@ impl World {
             out,
             book,
         };
-        let polled = if node == SERVER {
+        if node == SERVER {
             let server = self.nodes.server_mut();
-            poll_out(node, server, &mut single, &mut giving, &mut telling)
-        } else {
-            let client = self.nodes.client_mut(node);
-            poll_out(node, client, &mut single, &mut giving, &mut telling)
-        };
+            let polled = poll_out(node, server, &mut single, &mut giving, &mut telling);
+            self.room.take_back(single);
+            return plan_end(polled);
+        }
+        let client = self.nodes.client_mut(node);
+        let polled = poll_out(node, client, &mut single, &mut giving, &mut telling);
         self.room.take_back(single);
         plan_end(polled)
     }
