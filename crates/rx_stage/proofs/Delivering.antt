@@ -4,13 +4,11 @@ use Rattle.std.proofs.Common.{Some, None}
 use Rattle.std.proofs.Common.{Result, take, drop, get_or, add-one}
 use Rattle.std.specs.Result.{IsErr, IsErrAnd}
 use Rattle.std.proofs.Common.{refl, sym, subst, ap, inr, arith, length, option_map, unwrap_or}
-use Rattle.rx_model.specs.declared.event.Event.{Event}
 use Rattle.rx_model.specs.declared.names.Host.{Host}
 use Rattle.rx_model.specs.Names.{same_host}
 use Rattle.rx_law.specs.Worlds.{Datagram}
 use Rattle.rx_events.specs.Events.{IsTaken}
-use Rattle.rx_joint.specs.Nodes.{IsNodeThere, Makes, NodesState, host_of}
-use Rattle.rx_wire.specs.Turns.{noted}
+use Rattle.rx_joint.specs.Nodes.{IsNodeThere, NodesState, host_of}
 use Rattle.rx_stage.specs.declared.stop.Stop.{Stop}
 use Rattle.rx_stage.specs.declared.stop.Stop.TheVariants as stops
 use Rattle.rx_plan.specs.Network.{all_nodes, below, comes_to, delivers, is_for}
@@ -18,12 +16,11 @@ use Rattle.rx_plan.specs.Parts.{To, Cut, Part, by_test, each, ends}
 use Rattle.rx_stage.specs.Ran.{Ran, stop_of}
 use Rattle.rx_stage.specs.Shown.{Plays, PlaysNodes, Shows, WorldState}
 use Rattle.rx_plan.specs.Stages.{Stage, event}
-use Rattle.rx_stage.specs.Tells.{IsTold, Told}
+use Rattle.rx_stage.specs.Tells.{Told}
 use Rattle.rx_stage.proofs.Finding.{count_shown, host_shown}
-use Rattle.rx_stage.proofs.Making.{cut_as, each_cut, event_cut, stop_is, where_fails, where_holds}
+use Rattle.rx_stage.proofs.Making.{each_cut, event_cut, stop_is, where_fails, where_holds}
 use Rattle.rx_stage.proofs.Ordering.{Around, around, below_one}
 use Rattle.rx_stage.proofs.Playing.{each_none, each_one, each_stops}
-use Rattle.rx_stage.proofs.Stepping.{event_plays}
 
 -- ---- lists
 
@@ -128,24 +125,6 @@ delivers_all d old new stop a b plays w is s shown =
     subst (λ ns. Ran (each (comes_to d) ns s) (Shows (record w { nodes = new })) stop a b)
     (sym (all_shown d w s shown ∙ ap (λ (m : NodesState). below (suc (length m.clients))) is))
     (plays w is s shown)
-
--- ---- events over nodes alone
-
--- a call was made and told
-pub node_told : (node : ℕ) (is : Event → Type 0) (e : Event) (old new : NodesState) (stop : Option Stop) (a b : Told)
-    → Makes old new node e → IsNodeThere old node → is e → IsTold stop a b (noted node e)
-    → PlaysNodes (event node is) old new stop a b
-node_told node is e old new stop a b made there asked told w same =
-    event_plays w new node is e stop a b (subst (λ n. Makes n new node e) (sym same) made)
-    (subst (λ n. IsNodeThere n node) (sym same) there) asked told
-
--- memory was wanted before anything was made
-pub nodes_cut_as : (part : Stage → Part Stage) (old new : NodesState) (r : Result (Unit {0}) Stop) (stop : Stop) (t
-    : Told)
-    → IsErr r × IsErrAnd r (λ x. x ≡ stop) → stop ≡ stops.OutOfMemory → ((s : Stage) → part s [] Cut)
-    → PlaysNodes part old new (stop_of r) t t
-nodes_cut_as part old new r stop t was wants cut w same =
-    cut_as part w (record w { nodes = new }) r stop t was wants cut
 
 -- deliveries to nodes before the run ended in one
 pub delivers_stop_as : (d : Datagram) (k : ℕ) (old m new : NodesState) (r : Result (Unit {0}) Stop) (stop : Stop)

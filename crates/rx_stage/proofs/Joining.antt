@@ -1,9 +1,9 @@
--- Datagrams that a joiner takes, and parts of invented bytes.
-use Rattle.std.proofs.Common.{◌≡◌, ◌<◌, ◌≤◌, ◌∙◌, ◌+◌, ◌-◌, ◌&&◌, ℕ, zero, suc, List, [], ◌∷◌, ◌++◌, Bool}
+-- Datagrams that a joiner takes.
+use Rattle.std.proofs.Common.{◌≡◌, ◌<◌, ◌≤◌, ◌∙◌, ◌+◌, ◌-◌, ◌&&◌, ℕ, zero, suc, List, [], ◌∷◌, Bool}
 use Rattle.std.proofs.Common.{true, false}
 use Rattle.std.proofs.Common.{Option, Some, None, Result, Err, refl, sym, subst, ap, arith, add-one, drop}
 use Rattle.std.proofs.Common.{take, length}
-use Rattle.std.proofs.Common.{slice_get, nat_le, inr}
+use Rattle.std.proofs.Common.{nat_le, inr}
 use Rattle.std.specs.Result.{IsErr, IsErrAnd}
 use Rattle.std.proofs.lemmas.Bool.Decides.{nat_tests}
 use Rattle.rx_model.specs.declared.names.Host.{Host}
@@ -15,7 +15,7 @@ use Rattle.rx_stage.specs.LinesPlayed.{Found}
 use Rattle.rx_plan.specs.Finds.{at_packet, numbered}
 use Rattle.rx_plan.specs.Lines.{can_join, joins_all, joins_to, jumbo_line, packets_in}
 use Rattle.rx_plan.specs.Network.{delivers}
-use Rattle.rx_plan.specs.Parts.{Cut, Part, Refused, by_test, each, ends}
+use Rattle.rx_plan.specs.Parts.{Cut, Refused, by_test, each, ends}
 use Rattle.rx_stage.specs.Ran.{stop_of}
 use Rattle.rx_stage.specs.Shown.{Plays, Shows, WorldState}
 use Rattle.rx_plan.specs.Stages.{Stage}
@@ -24,8 +24,7 @@ use Rattle.rx_stage.specs.declared.stop.Stop.{Stop}
 use Rattle.rx_stage.specs.declared.stop.Stop.TheVariants as stops
 use Rattle.rx_stage.proofs.Delivering.{delivers_cut}
 use Rattle.rx_stage.proofs.Keeping.{packets_shown}
-use Rattle.rx_stage.proofs.Making.{each_cut, found_goes, names_none, stop_is, where_fails}
-use Rattle.rx_stage.proofs.Playing.{each_one, each_stops}
+use Rattle.rx_stage.proofs.Making.{each_cut, found_goes, names_none, where_fails}
 use Rattle.rx_stage.proofs.Running.{ran_refused}
 
 -- ---- a joiner
@@ -153,48 +152,3 @@ joins_fail first last w t fails =
     (Some (stops.Refused causes.Jumbo)) t t
     (λ s shown. ap (λ ps. nat_le first last && can_join ps) (in_shown first last w s shown) ∙ fails)
     (λ s shown. ran_refused (Shows w) causes.Jumbo t)
-
--- ---- parts, one after another
-
-front_suc : {X : Type 0} (xs : List X) (k : ℕ) (x : X) → slice_get xs k ≡ Some x → take (suc k) xs ≡ take k xs ++ x ∷ []
-front_suc [] zero x is = (cc)
-front_suc [] (suc k) x is = (cc)
-front_suc (y ∷ ys) zero x is = ap (λ z. z ∷ []) (cc)
-front_suc (y ∷ ys) (suc k) x is = ap (λ zs. y ∷ zs) (front_suc ys k x is)
-
-front_around : {X : Type 0} (xs : List X) (k : ℕ) (x : X) → slice_get xs k ≡ Some x
-    → xs ≡ take k xs ++ x ∷ drop (suc k) xs
-front_around [] zero x is = (cc)
-front_around [] (suc k) x is = (cc)
-front_around (y ∷ ys) zero x is = ap (λ z. z ∷ ys) (cc)
-front_around (y ∷ ys) (suc k) x is = ap (λ zs. y ∷ zs) (front_around ys k x is)
-
--- one more
-pub parts_more : {X : Type 0} (part : X → Stage → Part Stage) (xs : List X) (k : ℕ) (x : X) (w m new : WorldState)
-    (a b c : Told) → slice_get xs k ≡ Some x → Plays (each part (take k xs)) w m None a b
-    → Plays (part x) m new None b c → Plays (each part (take (k + 1) xs)) w new None a c
-parts_more part xs k x w m new a b c is so_far next =
-    subst (λ ys. Plays (each part ys) w new None a c) (sym (ap (λ n. take n xs) (add-one k) ∙ front_suc xs k x is))
-    (each_one part (take k xs) x w m new None a b c so_far next)
-
--- one that ended the run
-pub parts_stop_as : {X : Type 0} (part : X → Stage → Part Stage) (xs : List X) (k : ℕ) (x : X) (w m new : WorldState)
-    (r : Result (Unit {0}) Stop) (stop : Stop) (a b c : Told) → IsErr r × IsErrAnd r (λ y. y ≡ stop)
-    → slice_get xs k ≡ Some x → Plays (each part (take k xs)) w m None a b → Plays (part x) m new (Some stop) b c
-    → Plays (each part xs) w new (stop_of r) a c
-parts_stop_as part xs k x w m new r stop a b c was is so_far last =
-    subst (λ o. Plays (each part xs) w new o a c) (sym (stop_is r stop was))
-    (subst (λ ys. Plays (each part ys) w new (Some stop) a c) (sym (front_around xs k x is))
-    (each_stops part (take k xs) (drop (suc k) xs) x w m new stop a b c so_far last))
-
-take_past : {X : Type 0} (xs : List X) (k : ℕ) → length xs ≤ k → take k xs ≡ xs
-take_past [] zero past = refl
-take_past [] (suc k) past = refl
-take_past (x ∷ xs) zero past = absurd (omega (arith, past))
-take_past (x ∷ xs) (suc k) past = ap (λ ys. x ∷ ys) (take_past xs k (omega (arith, past)))
-
--- all were made
-pub parts_done : {X : Type 0} (part : X → Stage → Part Stage) (xs : List X) (k : ℕ) (w new : WorldState) (a b : Told)
-    → length xs ≤ k → Plays (each part (take k xs)) w new None a b → Plays (each part xs) w new None a b
-parts_done part xs k w new a b past plays =
-    subst (λ ys. Plays (each part ys) w new None a b) (take_past xs k past) plays

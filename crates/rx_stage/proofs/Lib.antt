@@ -31,5 +31,6 @@ pub mod RoundsMade
 pub mod RunKeeps
 pub mod Running
 pub mod Stepping
+pub mod Taking
 pub mod ToldEvents
 pub mod TurnsMade

@@ -75,7 +75,7 @@ gains_plain a b ss (gains_one x y z (Made n) es one rest) =
 gains_plain a b ss (gains_one x y z (Entry l) es one rest) =
     subst (λ (t : Told). Gains t (plain z) (events_of es)) (plain_same x y (l ∷ []) one) (gains_plain y z es rest)
 
-events_both : (xs ys : List Step) → events_of (xs ++ ys) ≡ events_of xs ++ events_of ys
+pub events_both : (xs ys : List Step) → events_of (xs ++ ys) ≡ events_of xs ++ events_of ys
 events_both [] ys = refl
 events_both (Made n ∷ xs) ys = ap (λ (es : List Noted). n ∷ es) (events_both xs ys)
 events_both (Entry l ∷ xs) ys = events_both xs ys

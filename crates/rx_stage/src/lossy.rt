@@ -198,13 +198,6 @@ impl World {
             (told (J.told book.new) (O.told out.new) (O.faults out.new)) }
         ensures script { script_of self.new ≡ script_of self.old }
     {
-        deliver(
-            self.alloc,
-            &mut self.nodes,
-            &mut self.trace,
-            datagram,
-            out,
-            book,
-        )
+        deliver(&mut self.nodes, &mut self.trace, datagram, out, book)
     }
 }

@@ -1,9 +1,7 @@
 //! The lines of the network: polls, deliveries and invented bytes.
-ghost use Rattle.std.specs.Prelude.{◌≡◌, ◌<◌, ◌≤◌, ◌+◌, None, IfErr, IfOk, IsTrue, length, take};
+ghost use Rattle.std.specs.Prelude.{◌≡◌, ◌<◌, ◌+◌, None, IfErr, IfOk, IsTrue, length};
 ghost use Rattle.rx_model.specs.Names.{same_host};
-ghost use Rattle.rx_events.specs.Events.{IsTaken};
 ghost use Rattle.rx_joint.specs.Nodes.{IsNodeThere};
-ghost use Rattle.rx_jumbo.specs.Parts.{parts_of};
 ghost use Rattle.rx_law.specs.Worlds.{Datagram as Given};
 ghost use Rattle.rx_stage.specs.LinesPlayed.{Found};
 ghost use Rattle.rx_plan.specs.Finds.{at_node, at_packet, numbered};
@@ -14,15 +12,17 @@ ghost use Rattle.rx_plan.specs.Network.{comes_to, delivers};
 ghost use Rattle.rx_plan.specs.Parts.{each};
 ghost use Rattle.rx_stage.specs.Ran.{stop_of};
 ghost use Rattle.rx_stage.specs.Shown.{Plays, PlaysNodes, script_of};
-ghost use Rattle.rx_plan.specs.Stages.{event, packet_given};
+ghost use Rattle.rx_plan.specs.Stages.{packet_given};
 ghost use Rattle.rx_stage.specs.Tells.{told};
 
 use crate::stop::{Stop, keep};
+use crate::telling::{Telling, plan_end};
 use crate::trace::Trace;
 use crate::world::{Datagram, World, at_number, node_count};
 use rx_base::Sink;
-use rx_joint::Nodes;
-use rx_jumbo::{JUMBO_PARTS, Joiner, is_jumbo, part, parts};
+use rx_drive::{take, take_parts};
+use rx_joint::{Nodes, SERVER};
+use rx_jumbo::{JUMBO_PARTS, Joiner, is_jumbo};
 use rx_model::wire::DATAGRAM_BYTES;
 use rx_model::{Bytes, Event, Host};
 use rx_plan::MAX_PACKETS;
@@ -63,14 +63,7 @@ impl World {
         ensures script { script_of self.new ≡ script_of self.old }
     {
         match at_number(&self.packets, k) {
-            Some(datagram) => deliver(
-                self.alloc,
-                &mut self.nodes,
-                &mut self.trace,
-                datagram,
-                out,
-                book,
-            ),
+            Some(datagram) => deliver(&mut self.nodes, &mut self.trace, datagram, out, book),
             None => Err(Stop::Refused(PlanWhy::NoPacket)),
         }
     }
@@ -113,14 +106,7 @@ impl World {
         let packets = &self.packets[from..to + 1];
         let joins = can_join(self.alloc, packets)?;
         if joins {
-            return deliver_all(
-                self.alloc,
-                &mut self.nodes,
-                &mut self.trace,
-                packets,
-                out,
-                book,
-            );
+            return deliver_all(&mut self.nodes, &mut self.trace, packets, out, book);
         }
         Err(Stop::Refused(PlanWhy::Jumbo))
     }
@@ -173,32 +159,17 @@ impl World {
         ensures script { script_of self.new ≡ script_of self.old }
     {
         let mut single = vec![in self.alloc; 0u8; bytes.len()]?;
-        for k in 0..parts(bytes) {
-            let length = part(bytes, k, &mut single);
-            let taken = front(&single, length);
-            self.take_part(node, from, taken, out, book)?;
+        let mut telling = Telling {
+            trace: &mut self.trace,
+            out,
+            book,
+        };
+        if node == SERVER {
+            let server = self.nodes.server_mut();
+            return plan_end(take_parts(node, server, from, bytes, &mut single, &mut telling));
         }
-        Ok(())
-    }
-
-    /// A node takes bytes.
-    fn take_part<O: Sink, J: Journal>(
-        &mut self,
-        node: u32,
-        from: Host,
-        bytes: &[u8],
-        out: &mut O,
-        book: &mut J,
-    ) -> Result<(), Stop>
-        requires { IsNodeThere self.old.nodes node }
-        ensures plays { Plays (event node (IsTaken from bytes.now)) self.old self.new (stop_of result)
-            (told (J.told book.old) (O.told out.old) (O.faults out.old))
-            (told (J.told book.new) (O.told out.new) (O.faults out.new)) }
-        ensures script { script_of self.new ≡ script_of self.old }
-        ensures clients { length self.new.nodes.clients ≡ length self.old.nodes.clients }
-    {
-        let event = self.nodes.take(self.alloc, node, from, bytes)?;
-        self.tell(node, &event, out, book)
+        let client = self.nodes.client_mut(node);
+        plan_end(take_parts(node, client, from, bytes, &mut single, &mut telling))
     }
 }
 
@@ -261,7 +232,6 @@ fn joins(joiner: &mut Joiner, packet: &Datagram) -> bool
 
 /// Each of these datagrams is delivered, in order.
 pub fn deliver_all<O: Sink, J: Journal>(
-    alloc: Global,
     nodes: &mut Nodes,
     trace: &mut Trace,
     packets: &[Datagram],
@@ -273,14 +243,13 @@ pub fn deliver_all<O: Sink, J: Journal>(
         (told (J.told book.new) (O.told out.new) (O.faults out.new)) }
 {
     for datagram in packets {
-        deliver(alloc, nodes, trace, datagram, out, book)?;
+        deliver(nodes, trace, datagram, out, book)?;
     }
     Ok(())
 }
 
 /// Each node with the host that a datagram is for takes it: the server, or the clients in their order.
 pub fn deliver<O: Sink, J: Journal>(
-    alloc: Global,
     nodes: &mut Nodes,
     trace: &mut Trace,
     datagram: &Datagram,
@@ -292,14 +261,13 @@ pub fn deliver<O: Sink, J: Journal>(
         (told (J.told book.new) (O.told out.new) (O.faults out.new)) }
 {
     for node in 0..node_count(nodes) {
-        come_to(alloc, nodes, trace, node, datagram, out, book)?;
+        come_to(nodes, trace, node, datagram, out, book)?;
     }
     Ok(())
 }
 
 /// A node takes a datagram, where it is for that node.
 fn come_to<O: Sink, J: Journal>(
-    alloc: Global,
     nodes: &mut Nodes,
     trace: &mut Trace,
     node: u32,
@@ -314,20 +282,17 @@ fn come_to<O: Sink, J: Journal>(
     ensures clients { length nodes.new.clients ≡ length nodes.old.clients }
 {
     let here = is_for(datagram.to, nodes.host(node));
-    if here {
-        let event = nodes.take(alloc, node, datagram.from, datagram.bytes.as_slice())?;
-        return trace.tell(node, &event, out, book);
+    if !here {
+        return Ok(());
     }
-    Ok(())
-}
-
-/// The first bytes, so many of them.
-fn front(bytes: &[u8], count: usize) -> &[u8]
-    requires { count ≤ length bytes.now }
-    ensures { result.now ≡ take count bytes.now }
-{
-    let (first, _) = bytes.split_at(count);
-    first
+    let bytes = datagram.bytes.as_slice();
+    let mut telling = Telling { trace, out, book };
+    if node == SERVER {
+        let server = nodes.server_mut();
+        return plan_end(take(node, server, datagram.from, bytes, &mut telling));
+    }
+    let client = nodes.client_mut(node);
+    plan_end(take(node, client, datagram.from, bytes, &mut telling))
 }
 
 /// Whether what is for one host comes to another.

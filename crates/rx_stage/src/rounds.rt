@@ -89,14 +89,7 @@ impl World {
             (told (J.told book.new) (O.told out.new) (O.faults out.new)) }
         ensures script { script_of self.new ≡ script_of self.old }
     {
-        deliver_all(
-            self.alloc,
-            &mut self.nodes,
-            &mut self.trace,
-            given,
-            out,
-            book,
-        )
+        deliver_all(&mut self.nodes, &mut self.trace, given, out, book)
     }
 
     /// The turns of a round: the dispatcher's, and then each caller's.
