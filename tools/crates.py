@@ -16,7 +16,7 @@ PLACES = """
 .             .               .           .          .               .               rx_top         .
 .             .               .           .          .               .               rx_loader      rx_world
 .             .               .           .          .               rx_wire_loop    rx_stage       rx_words
-.             .               .           .          .               .               rx_drive       .
+.             .               .           .          rx_joint_peers  .               rx_drive       .
 rx_node_bench rx_server_tests rx_joint    rx_caller  rx_peer         .               rx_dispatch    rx_closing
 .             rx_server       rx_client   .          .               .               rx_load        rx_rounds
 .             rx_books        rx_progress .          .               .               .              rx_plan
@@ -29,7 +29,7 @@ rx_pool       rx_rtt          rx_room     rx_history rx_packet_bench stub_table 
 .             .               rx_model    .          rx_base         xdr_value       .              xg_lex
 """
 # A wing: its title, its color, its first and last column, and its lowest and highest floor.
-WINGS = [("the program", "#fdeee0", 5, 7, 6, 14), ("the protocol", "#e8f0fb", 0, 4, 0, 9),
+WINGS = [("the program", "#fdeee0", 5, 7, 6, 14), ("the protocol", "#e8f0fb", 0, 4, 0, 10),
          ("values", "#e9f6ea", 5, 6, 0, 4), ("interface files", "#f5ebf8", 7, 7, 0, 4)]
 FLOORS = ["what is said", "rules, bytes", "laws, rates, slots", "windows, moments", "one end of a call",
           "ends, connections", "what both nodes share", "what is due", "the two nodes", "around the nodes", "what drives them", "runs, passes",

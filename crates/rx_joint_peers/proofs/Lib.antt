@@ -1,0 +1,5 @@
+pub mod Standing
+pub mod Lent
+pub mod Added
+pub mod Times
+pub mod World

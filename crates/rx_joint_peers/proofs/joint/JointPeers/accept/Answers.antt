@@ -1,0 +1,7 @@
+use Rattle.rx_joint_peers.proofs.Standing.{served_makes}
+use Rattle.rx_joint_peers.proofs.joint.JointPeers.accept.Goals as goal
+
+pub returns-clause-made : goal.returns-clause-made
+returns-clause-made c =
+    served_makes _ _ _ _ _ c.requires.0 c.peer_mut.ensures.value c.accept-got.ensures.answered
+    c.accept-got.ensures.setup tt

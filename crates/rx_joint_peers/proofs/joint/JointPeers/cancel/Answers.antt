@@ -1,0 +1,7 @@
+use Rattle.rx_joint_peers.proofs.Standing.{caller_makes}
+use Rattle.rx_joint_peers.proofs.joint.JointPeers.cancel.Goals as goal
+
+pub returns-clause-made : goal.returns-clause-made
+returns-clause-made c =
+    caller_makes _ _ _ _ _ c.requires.there.0 c.peer_mut.ensures.value c.cancel-got.ensures.answered
+    c.cancel-got.ensures.setup tt

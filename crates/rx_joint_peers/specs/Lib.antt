@@ -1,0 +1,4 @@
+pub mod Joint
+pub mod Lending
+pub mod Polls
+pub mod Worlds
