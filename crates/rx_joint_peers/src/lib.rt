@@ -8,6 +8,8 @@
 
 mod joint;
 mod laws;
+#[cfg(test)]
+mod tests;
 
 pub use joint::{JointPeers, PolledBy};
 pub use laws::joint_peers_keep_promises;
