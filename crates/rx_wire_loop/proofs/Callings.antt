@@ -4,7 +4,7 @@ use Rattle.std.proofs.Common.{refl}
 use Rattle.std.proofs.Common.{◌-◌, ◌^◌, arith, length, inl, inr, sym, ap, subst, rules}
 use Rattle.std.proofs.lemmas.List.{append-nil}
 use Rattle.std.specs.Prelude.{is_some}
-use Rattle.rx_base.specs.Sink.{Gained, HasRisen}
+use Rattle.rx_base.specs.Sink.{HasRisen}
 use Rattle.rx_asks.specs.Asks.{Asking, Cancels, IsAsked, Offers, Reads, Shuts, begun, calling, heard}
 use Rattle.rx_caller.specs.Turn.{CallerWants}
 use Rattle.rx_asks.specs.View.{CallerState}
@@ -35,8 +35,8 @@ use Rattle.rx_wire_loop.specs.Tells.{Gains, SinkTells, Told, WireTells, outside,
 use Rattle.rx_wire_loop.specs.Texts.{event_line, lines, noted_line}
 use Rattle.rx_wire_loop.proofs.Lineless.{pass_lineless, play_lineless}
 use Rattle.rx_wire_loop.proofs.Placing.{behind_both}
-use Rattle.rx_wire_loop.proofs.Telling.{breaks_behind, gained_none, gains_both, gains_none, lines_both}
-use Rattle.rx_wire_loop.proofs.Telling.{refuses_behind}
+use Rattle.rx_wire_loop.proofs.Telling.{back_none, breaks_behind, front_none, gains_any, gains_both, gains_none}
+use Rattle.rx_wire_loop.proofs.Telling.{lines_last, refuses_behind}
 use Rattle.rx_wire_loop.proofs.Driven.{plays_turn, turns}
 use Rattle.rx_wire_loop.proofs.Measure.{turn_few}
 
@@ -71,14 +71,6 @@ lines_quiet limit v w es (stays at) = refl
 lines_quiet limit v w es (goes at a e rest to asked is more) =
     ap (λ (xs : List ℕ). xs ++ lines rest) (asked_quiet a e is).0 ∙ lines_quiet limit (heard at e) to rest more
 
-front_none : (xs ys : List ℕ) → xs ++ ys ≡ [] → xs ≡ []
-front_none [] ys none = refl
-front_none (x ∷ xs) ys none = absurd (cc (none))
-
-back_none : (xs ys : List ℕ) → xs ++ ys ≡ [] → ys ≡ []
-back_none [] ys none = none
-back_none (x ∷ xs) ys none = absurd (cc (none))
-
 -- no sink failed that is the same behind
 no_rise : HasRisen 0 0 → ⊥
 no_rise (inl low) = search rules
@@ -100,21 +92,6 @@ module _ (s : Setup) (v w : CallerState) (s0 s1 : List Event → Type 0) (before
   abbrev Passed : Option Stop → Place → Type 0
   Passed stop p = Ran (moved sink) (calls v) (λ u. u ≡ w) stop p
 
-  quietly : (es : List Event) → lines es ≡ [] → Gained sink.put sink.put (lines es)
-  quietly es quiet = subst (λ (xs : List ℕ). Gained sink.put sink.put xs) (sym quiet) (gained_none sink.put)
-
-  -- what was noted, whatever a sink has
-  gains_any : (es : List Event) (ls : List Logged) → lines es ≡ []
-      → Gains 1 (told before no_sink wire) (told after no_sink wire) es ls
-      → Gains 1 (told before sink wire) (told after sink wire) es ls
-  gains_any es ls quiet g =
-      record { noted = g.noted; put = quietly es quiet; log = g.log; puts = refl; calls = g.calls }
-
-  -- the lines of all events but the last, and of the last
-  lines_last : (es early : List Event) (last : Event) → es ≡ early ++ last ∷ [] → lines es ≡ []
-      → lines early ++ lines (last ∷ []) ≡ []
-  lines_last es early last are quiet = sym (lines_both early (last ∷ [])) ∙ sym (ap lines are) ∙ quiet
-
   -- passes end in a turn
   call_cut : (few : length v.offering < 2 ^ 63) (p : Place) (es : List Event) (ls : List Logged) (stop : Stop)
       → turns first (CallerWants REPLY_BYTES) (begun v) p es ls (Cut stop) → Stops (moved no_sink) es ls stop
@@ -126,7 +103,10 @@ module _ (s : Setup) (v w : CallerState) (s0 s1 : List Event → Type 0) (before
         came = Cut stops.OutOfMemory;
         made = (none, (u, runs, want));
         legal = legal;
-        fits = (refl, gains_any es ls (lines_quiet REPLY_BYTES (begun v) u es runs) told);
+        fits = (
+          refl,
+          gains_any 1 before after no_sink no_sink sink wire es ls (lines_quiet REPLY_BYTES (begun v) u es runs) told,
+        );
       }
   call_cut few p es ls stops.Unnoted (none, (u, runs, any)) told legal =
       record {
@@ -141,7 +121,7 @@ module _ (s : Setup) (v w : CallerState) (s0 s1 : List Event → Type 0) (before
             early = told.early;
             last = told.last;
             are = told.are;
-            gains = gains_any told.early ls
+            gains = gains_any 1 before after no_sink no_sink sink wire told.early ls
                 (front_none (lines told.early) (lines (told.last ∷ []))
                 (lines_last es told.early told.last told.are (lines_quiet REPLY_BYTES (begun v) u es runs)))
                 told.gains;
@@ -179,7 +159,8 @@ module _ (s : Setup) (v w : CallerState) (s0 s1 : List Event → Type 0) (before
             legal = legal;
             fits = (
               is,
-              gains_any es ls (lines_quiet REPLY_BYTES (begun v) u es made.1.runs) told,
+              gains_any 1 before after no_sink no_sink sink wire es ls
+                  (lines_quiet REPLY_BYTES (begun v) u es made.1.runs) told,
               record { standing = there.standing; now = there.now; later = there.later },
             );
           }

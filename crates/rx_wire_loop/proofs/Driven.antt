@@ -70,7 +70,7 @@ module _ (n : ℕ) (wire : WireTells) where
       }
 
   -- several of them
-  gains_all : (es : List Event) (a b : drive.Told) (ss : List Step) → ss ≡ steps_of n es
+  pub gains_all : (es : List Event) (a b : drive.Told) (ss : List Step) → ss ≡ steps_of n es
       → run.Gains (telling noted_line) a b ss → Gains n (beside a wire) (beside b wire) es []
   gains_all [] a b ss are (run.gains_none x) = gains_none n (beside a wire)
   gains_all (e ∷ es) a b ss are (run.gains_none x) = absurd (cc (are))
@@ -130,7 +130,7 @@ module _ (n : ℕ) (wire : WireTells) where
 
 -- ---- events of which the last one is another step
 
-record LastOf (n : ℕ) (es : List Event) (early : List Step) (last : Step) : Type 0 where
+pub record LastOf (n : ℕ) (es : List Event) (early : List Step) (last : Step) : Type 0 where
   pub front : List Event
   pub one : Event
   pub whole : es ≡ front ++ one ∷ []
@@ -141,7 +141,7 @@ no_more : (n : ℕ) (es : List Event) → steps_of n es ≡ [] → es ≡ []
 no_more n [] none = refl
 no_more n (e ∷ es) none = absurd (cc (none))
 
-last_of : (n : ℕ) (es : List Event) (early : List Step) (last : Step) → steps_of n es ≡ early ++ last ∷ []
+pub last_of : (n : ℕ) (es : List Event) (early : List Step) (last : Step) → steps_of n es ≡ early ++ last ∷ []
     → LastOf n es early last
 last_of n [] [] last are = absurd (cc (are))
 last_of n [] (x ∷ xs) last are = absurd (cc (are))

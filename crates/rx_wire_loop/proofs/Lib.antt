@@ -4,7 +4,6 @@ pub mod Running
 pub mod Noting
 pub mod Callings
 pub mod Beginning
-pub mod Clocking
 pub mod Taking
 pub mod Giving
 pub mod Unjoinable
@@ -13,6 +12,7 @@ pub mod Single
 pub mod Outer
 pub mod Measure
 pub mod Driven
+pub mod Handed
 pub mod Passing
 pub mod Bringing
 pub mod Driving

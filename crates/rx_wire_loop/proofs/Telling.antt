@@ -4,11 +4,12 @@ use Rattle.std.proofs.Common.{append_assoc}
 use Rattle.std.proofs.lemmas.List.{append-nil}
 use Rattle.rx_base.specs.Sink.{Gained, HasRisen}
 use Rattle.rx_model.specs.declared.event.Event.{Event}
+use Rattle.rx_model.specs.declared.event.Noted.{Noted}
 use Rattle.rx_wire.specs.Wire.{HasLogged, Logged, Traffic}
 use Rattle.rx_wire.specs.Turns.{HasNotedAll}
 use Rattle.rx_wire.proofs.TurnLaws.{HasNotedAll-append, HasNotedAll-none}
 use Rattle.rx_wire_loop.specs.Tells.{Breaks, Fails, GainedLast, Gains, HasLoggedAll, Refuses, Told, Wants}
-use Rattle.rx_wire_loop.specs.Tells.{logged_all}
+use Rattle.rx_wire_loop.specs.Tells.{SinkTells, WireTells, logged_all, told}
 use Rattle.rx_wire_loop.specs.Texts.{event_line, lines}
 
 -- ---- lines
@@ -19,6 +20,19 @@ lines_both [] fs = refl
 lines_both (e ∷ es) fs =
     ap (λ (xs : List ℕ). event_line e ++ xs) (lines_both es fs) ∙ sym (append_assoc (event_line e) (lines es)
     (lines fs))
+
+pub front_none : (xs ys : List ℕ) → xs ++ ys ≡ [] → xs ≡ []
+front_none [] ys none = refl
+front_none (x ∷ xs) ys none = absurd (cc (none))
+
+pub back_none : (xs ys : List ℕ) → xs ++ ys ≡ [] → ys ≡ []
+back_none [] ys none = none
+back_none (x ∷ xs) ys none = absurd (cc (none))
+
+-- where events have no lines, neither all but the last nor the last has
+pub lines_last : (es early : List Event) (last : Event) → es ≡ early ++ last ∷ [] → lines es ≡ []
+    → lines early ++ lines (last ∷ []) ≡ []
+lines_last es early last are quiet = sym (lines_both early (last ∷ [])) ∙ sym (ap lines are) ∙ quiet
 
 -- nothing was put
 pub gained_none : (a : Option (List ℕ)) → Gained a a []
@@ -86,6 +100,19 @@ gains_both node a b c es fs ls ms x y =
       log = logged_both a.wire.traffic b.wire.traffic c.wire.traffic ls ms x.log y.log;
       puts = y.puts ∙ x.puts;
       calls = y.calls ∙ x.calls;
+    }
+
+-- what was noted of events without lines, whatever a sink has
+pub gains_any : (node : ℕ) (before after : Option (List Noted)) (k l sink : SinkTells) (wire : WireTells)
+    (es : List Event) (ls : List Logged) → lines es ≡ [] → Gains node (told before k wire) (told after l wire) es ls
+    → Gains node (told before sink wire) (told after sink wire) es ls
+gains_any node before after k l sink wire es ls quiet g =
+    record {
+      noted = g.noted;
+      put = subst (λ (xs : List ℕ). Gained sink.put sink.put xs) (sym quiet) (gained_none sink.put);
+      log = g.log;
+      puts = refl;
+      calls = g.calls;
     }
 
 pub wants_behind : (node : ℕ) (a b c : Told) (es fs : List Event) (ls ms : List Logged) → Gains node a b es ls

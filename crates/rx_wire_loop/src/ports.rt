@@ -5,20 +5,20 @@ ghost use Rattle.std.specs.Prelude.{take};
 ghost use Rattle.std.specs.Prelude.{IfErr, IfOk, OnErr, OnOk};
 ghost use Rattle.rx_jumbo.specs.declared.sizes.TheConstants.{JUMBO_BYTES, JUMBO_PARTS};
 ghost use Rattle.rx_jumbo.specs.JoinerState.{takes};
-ghost use Rattle.rx_jumbo.specs.Parts.{is_jumbo, parts_of};
+ghost use Rattle.rx_jumbo.specs.Parts.{is_jumbo};
 ghost use Rattle.rx_model.specs.declared.event.Event.{Event as OneEvent};
 ghost use Rattle.rx_model.specs.declared.wire.TheConstants.{DATAGRAM_BYTES};
 ghost use Rattle.rx_rules.specs.Setup.{FitsSetup};
 ghost use Rattle.rx_wire_loop.specs.Ports.{Empties, GivesOne, IsWithin, Keeps, NotesOne, Passes, PassesOn, clocks};
-ghost use Rattle.rx_wire_loop.specs.Ports.{lesser};
-ghost use Rattle.rx_wire_loop.specs.Ports.{polls, polls_once, takes_came, takes_parts, takes_until, until_of};
+ghost use Rattle.rx_wire_loop.specs.Ports.{lesser, polls, polls_once, takes_until, until_of};
 ghost use Rattle.rx_drive.specs.Ran.{stop_of};
 ghost use Rattle.rx_wire_loop.specs.Runs.{IsBehind, Plays, change};
-ghost use Rattle.rx_wire_loop.specs.Tells.{SinkTells, WireTells, told, wire_tells};
+ghost use Rattle.rx_wire_loop.specs.Tells.{SinkTells, told, wire_tells};
 
-use crate::notes::{note, note_polled, note_taken};
-use rx_drive::{Endpoint, Stop};
-use rx_jumbo::{JUMBO_BYTES, Joiner, part, parts};
+use crate::notes::{note, note_polled};
+use crate::outside::Unlined;
+use rx_drive::{Endpoint, Stop, clock, take_parts};
+use rx_jumbo::{JUMBO_BYTES, Joiner};
 use rx_model::wire::DATAGRAM_BYTES;
 use rx_model::{Event, Host};
 use rx_wire::{Journal, Wire};
@@ -92,7 +92,7 @@ impl Ports {
         ensures wants { OnErr result (J.may_want ≡ true) }
         ensures setup { N.setup node.new ≡ N.setup node.old }
     {
-        clock(self.node, node, wire, book)
+        clock(self.node, node, wire.now(), &mut Unlined { book })
     }
 
     /// Polls the node until nothing is due, and gives what it gave, as many datagrams as can be joined as one.
@@ -195,34 +195,15 @@ impl Ports {
     {
         match wire.take(until, &mut self.whole) {
             Ok(Some((from, count))) => {
+                let mut outside = Unlined { book };
+                clock(self.node, node, wire.now(), &mut outside)?;
                 let came = front(&self.whole, count);
-                take_came(self.node, from, came, &mut self.single, node, wire, book)
+                take_parts(self.node, node, from, came, &mut self.single, &mut outside)
             }
             Ok(None) => Ok(()),
             Err(_) => Err(Stop::WireFault),
         }
     }
-}
-
-/// The node's moment is the wire's now.
-fn clock<N: Endpoint, W: Wire, J: Journal>(
-    number: u32,
-    node: &mut N,
-    wire: &W,
-    book: &mut J,
-) -> Result<(), Stop>
-    requires { IsBehind (N.setup node.old) (N.stands node.old) (W.moment wire.now) }
-    ensures plays { (sink : SinkTells) → Plays (change number (N.setup node.old) (N.stands node.old) (N.stands node.new)
-        (told (J.told book.old) sink (wire_tells (W.told wire.now) (W.faults wire.now) (W.moment wire.now)))
-        (told (J.told book.new) sink (wire_tells (W.told wire.now) (W.faults wire.now) (W.moment wire.now))))
-        clocks (λ u. Unit {0}) (stop_of result) }
-    ensures refused { IfErr result (λ stop. stop ≡ Stop.Unnoted) }
-    ensures wants { OnErr result (J.may_want ≡ true) }
-    ensures setup { N.setup node.new ≡ N.setup node.old }
-{
-    let now = wire.now();
-    node.clock(now);
-    note(number, &Event::Clocked { now }, book)
 }
 
 /// Notes that a poll gave nothing.
@@ -259,72 +240,6 @@ fn pass_on<W: Wire, J: Journal>(
     note_polled(number, to, datagram, book)?;
     offer(joiner, whole, to, datagram, wire)?;
     Ok(true)
-}
-
-/// Hands in the clock, and has the node take each part of what came.
-fn take_came<N: Endpoint, W: Wire, J: Journal>(
-    number: u32,
-    from: Host,
-    came: &[u8],
-    single: &mut [u8],
-    node: &mut N,
-    wire: &W,
-    book: &mut J,
-) -> Result<(), Stop>
-    requires room { length came.now ≤ length single.old }
-    requires behind { IsBehind (N.setup node.old) (N.stands node.old) (W.moment wire.now) }
-    ensures plays { (sink : SinkTells) → Plays (change number (N.setup node.old) (N.stands node.old) (N.stands node.new)
-        (told (J.told book.old) sink (wire_tells (W.told wire.now) (W.faults wire.now) (W.moment wire.now)))
-        (told (J.told book.new) sink (wire_tells (W.told wire.now) (W.faults wire.now) (W.moment wire.now))))
-        (takes_came (Some (record { from = from; bytes = came.now }))) (λ u. Unit {0}) (stop_of result) }
-    ensures wants { OnErr result (J.may_want ≡ true) }
-    ensures setup { N.setup node.new ≡ N.setup node.old }
-{
-    clock(number, node, wire, book)?;
-    take_parts(number, from, came, single, node, book)
-}
-
-/// The node takes each part of what came.
-fn take_parts<N: Endpoint, J: Journal>(
-    number: u32,
-    from: Host,
-    came: &[u8],
-    single: &mut [u8],
-    node: &mut N,
-    book: &mut J,
-) -> Result<(), Stop>
-    requires { length came.now ≤ length single.old }
-    ensures plays { (sink : SinkTells) (wire : WireTells) → Plays (change number (N.setup node.old)
-        (N.stands node.old) (N.stands node.new)
-        (told (J.told book.old) sink wire) (told (J.told book.new) sink wire))
-        (takes_parts from (parts_of came.now)) (λ u. Unit {0}) (stop_of result) }
-    ensures wants { OnErr result (J.may_want ≡ true) }
-    ensures setup { N.setup node.new ≡ N.setup node.old }
-{
-    for k in 0..parts(came) {
-        let length = part(came, k, single);
-        take_part(number, from, front(single, length), node, book)?;
-    }
-    Ok(())
-}
-
-/// The node takes a single datagram.
-fn take_part<N: Endpoint, J: Journal>(
-    number: u32,
-    from: Host,
-    taken: &[u8],
-    node: &mut N,
-    book: &mut J,
-) -> Result<(), Stop>
-    ensures plays { (sink : SinkTells) (wire : WireTells) → Plays (change number (N.setup node.old)
-        (N.stands node.old) (N.stands node.new)
-        (told (J.told book.old) sink wire) (told (J.told book.new) sink wire))
-        (takes_parts from (taken.now ∷ [])) (λ u. Unit {0}) (stop_of result) }
-    ensures wants { OnErr result (J.may_want ≡ true) }
-    ensures setup { N.setup node.new ≡ N.setup node.old }
-{
-    let got = node.take(from, taken);
-    note_taken(number, from, taken, got, book)
 }
 
 /// Holds a datagram back behind those that it follows, and gives what it doesn't follow.
