@@ -1,6 +1,6 @@
 -- Lemmas on what commands are asked for: the numbers of their words are within bounds.
 use Rattle.std.proofs.Common.{◌≡◌, ◌≤◌, ◌<◌, ◌&&◌, ◌^◌, ℕ, Bool, true, false, List, [], ◌∷◌, Option, Some, None, refl}
-use Rattle.std.proofs.Common.{IfSome, ◌-◌, arith, is_some, lit<, lit≤, not, subst}
+use Rattle.std.proofs.Common.{IfSome, ◌-◌, ◌∙◌, arith, is_some, lit<, lit≤, not, subst, sym}
 use Rattle.std.proofs.lemmas.Bool.{and_parts, leb-true, ltb-true}
 use Rattle.std.specs.Prelude.{if◌then◌else◌, nat_le, nat_lt}
 use Rattle.std.specs.Str.Parse.{digits_value}
@@ -190,3 +190,8 @@ words_fit (word ∷ words) =
 -- the same where the words are this command
 pub command_fits : (words : List (List ℕ)) (c : Command) → command_of words ≡ Some c → CanDo c
 command_fits words c is = subst (λ (o : Option Command). IfSome o CanDo) is (words_fit words)
+
+-- words are one command
+pub same_command : (words : List (List ℕ)) (c d : Command) → command_of words ≡ Some c → command_of words ≡ Some d
+    → c ≡ d
+same_command words c d first second = let both : Some c ≡ Some d = sym first ∙ second in cc (both)

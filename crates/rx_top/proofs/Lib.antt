@@ -1,5 +1,7 @@
 pub mod TopLemmas
 pub mod PutLemmas
+pub mod OutsideLemmas
+pub mod LoadLemmas
 pub mod SimLemmas
 pub mod CommandLemmas
 pub mod WireLemmas

@@ -35,7 +35,7 @@ use Rattle.xg_check.specs.Constants.{ConstantDef, constants_in, in_32_bits}
 use Rattle.xg_check.specs.Meaning.{Meant}
 use Rattle.xg_check.specs.Meant.{proc_meant, procs_behind, with_proc}
 use Rattle.xg_check.specs.Opcodes.{opcode_behind}
-use Rattle.rx_top.specs.Inputs.{IsInterface, IsScript, behind, read_on, reads_by}
+use Rattle.rx_top.specs.Inputs.{IsInterface, IsScript}
 use Rattle.rx_top.specs.Sims.{IsRead, Played, handlers_with}
 
 -- ---- files
@@ -44,13 +44,6 @@ use Rattle.rx_top.specs.Sims.{IsRead, Played, handlers_with}
 pub empty_is_sound : is_sound [] [] ≡ true
 unfolding is_sound differ
 empty_is_sound = refl
-
--- what files tell from behind the read of a named file on, if one is named, where that didn't fail
-pub reads_behind : {F : Type 0} (contents : F → Option (List (List ℕ × List ℕ)))
-    (failed_last : F → Option (Option (List ℕ))) (reads : F → ℕ) (name : Option (List ℕ)) (old now new : F)
-    → contents now ≡ contents old → failed_last now ≡ failed_last old → reads now ≡ read_on name (reads old)
-    → reads_by contents failed_last reads now new ≡ behind name (reads_by contents failed_last reads old new)
-reads_behind contents failed_last reads name old now new same last count = rw (same, last, count) refl
 
 -- ---- what serves the calls of a plan
 

@@ -3,9 +3,11 @@ pub mod LoadLines
 pub mod Compiles
 pub mod Commands
 pub mod Inputs
+pub mod Outside
 pub mod Sims
 pub mod Wires
 pub mod Puts
 pub mod Serves
 pub mod Calls
+pub mod Asked
 pub mod Leaves

@@ -1,14 +1,14 @@
 //! The command that prints the table of an interface file.
 
-ghost use Rattle.std.specs.Prelude.{◌≡◌, ◌≢◌};
+ghost use Rattle.std.specs.Prelude.{◌≡◌};
 ghost use Rattle.rx_base.specs.Count.{one_more};
-ghost use Rattle.rx_base.specs.Sink.{HasRisen, IsPut};
 ghost use Rattle.rx_top.specs.Compiles.{CompileIs, IsRefusalOf, compile_said, compile_status};
-ghost use Rattle.rx_top.specs.Endings.{seen_by};
+ghost use Rattle.rx_top.specs.Outside.{Counts, OnlyErr, Says, seen_of};
 
-use crate::saying::{say, say_refused};
+use crate::around::Surroundings;
+use crate::saying::say_refused;
 use crate::status::Status;
-use rx_base::{Files, ReadFault, Sink};
+use rx_base::ReadFault;
 use std::alloc::Global;
 use std::str;
 use xg_compile::{CompileFault, compile, table};
@@ -45,24 +45,15 @@ impl CompileOutcome {
 }
 
 /// Puts the table of an interface file.
-pub fn compile_file<F: Files, O: Sink>(
-    alloc: Global,
-    name: &str,
-    files: &mut F,
-    out: &mut O,
-) -> CompileOutcome
-    ensures compile { CompileIs result name.now
-        (seen_by F.contents F.failed_last F.reads O.told files.old files.new out.old out.new) }
-    ensures file_fault { result ≡ CompileOutcome.FileFault → HasRisen (F.faults files.old) (F.faults files.new) }
-    ensures no_file_fault { result ≢ CompileOutcome.FileFault → F.faults files.new ≡ F.faults files.old }
-    ensures sink_fault { result ≡ CompileOutcome.SinkFault → HasRisen (O.faults out.old) (O.faults out.new) }
-    ensures no_sink_fault { result ≢ CompileOutcome.SinkFault → O.faults out.new ≡ O.faults out.old }
-    ensures reads { F.reads files.new ≡ one_more (F.reads files.old) }
-    ensures same_contents { F.contents files.new ≡ F.contents files.old }
-    ensures same_failed_last { result ≢ CompileOutcome.FileFault
-        → F.failed_last files.new ≡ F.failed_last files.old }
+pub fn compile_file<X: Surroundings>(alloc: Global, name: &str, x: &mut X) -> CompileOutcome
+    ensures compile { CompileIs result name.now (seen_of (X.told x.old) (X.told x.new)) }
+    ensures reads { (X.told x.new).files.reads ≡ one_more (X.told x.old).files.reads }
+    ensures counts { Counts (compile_status result) (X.told x.old) (X.told x.new) }
+    ensures silent { (X.told x.new).err ≡ (X.told x.old).err }
+    ensures same_wire { (X.told x.new).wire ≡ (X.told x.old).wire }
+    ensures no_events { (X.told x.new).noted ≡ (X.told x.old).noted }
 {
-    let bytes = match files.read(alloc, name) {
+    let bytes = match x.read(alloc, name) {
         Ok(bytes) => bytes,
         Err(ReadFault::Failed) => return CompileOutcome::FileFault,
         Err(ReadFault::OutOfMemory) => return CompileOutcome::OutOfMemory,
@@ -77,7 +68,7 @@ pub fn compile_file<F: Files, O: Sink>(
     let Ok(table) = table(alloc, &iface) else {
         return CompileOutcome::OutOfMemory;
     };
-    match out.put(table.as_bytes()) {
+    match x.put(table.as_bytes()) {
         Ok(()) => CompileOutcome::Put,
         Err(_) => CompileOutcome::SinkFault,
     }
@@ -100,18 +91,17 @@ fn refused(alloc: Global, fault: &CompileFault) -> CompileOutcome
 }
 
 /// Says the line of an outcome.
-pub fn say_compiled<E: Sink>(err: &mut E, name: &str, outcome: &CompileOutcome)
-    ensures said { IsPut (E.told err.old) (E.told err.new) (E.faults err.old) (E.faults err.new)
-        (compile_said outcome.now name.now) }
-    ensures quiet_told { outcome.now ≡ CompileOutcome.Put → E.told err.new ≡ E.told err.old }
-    ensures quiet_faults { outcome.now ≡ CompileOutcome.Put → E.faults err.new ≡ E.faults err.old }
+pub fn say_compiled<X: Surroundings>(x: &mut X, name: &str, outcome: &CompileOutcome)
+    ensures said { Says (X.told x.old) (X.told x.new) (compile_said outcome.now name.now) }
+    ensures quiet { outcome.now ≡ CompileOutcome.Put → (X.told x.new).err ≡ (X.told x.old).err }
+    ensures only { OnlyErr (X.told x.old) (X.told x.new) }
 {
     match outcome {
         CompileOutcome::Put => {}
-        CompileOutcome::NoText => say_refused(err, name, 0, "word"),
-        CompileOutcome::Refused { line, why } => say_refused(err, name, *line, why.as_str()),
-        CompileOutcome::FileFault => say(err, &["rx: cannot read ", name, "\n"]),
-        CompileOutcome::SinkFault => say(err, &["rx: cannot write\n"]),
-        CompileOutcome::OutOfMemory => say(err, &["rx: out of memory\n"]),
+        CompileOutcome::NoText => say_refused(x, name, 0, "word"),
+        CompileOutcome::Refused { line, why } => say_refused(x, name, *line, why.as_str()),
+        CompileOutcome::FileFault => x.say(&["rx: cannot read ", name, "\n"]),
+        CompileOutcome::SinkFault => x.say(&["rx: cannot write\n"]),
+        CompileOutcome::OutOfMemory => x.say(&["rx: out of memory\n"]),
     }
 }

@@ -2,6 +2,8 @@
 //! prints the table of an interface file, `load` has many calls made over a network that loses.
 #![tactic(auto)]
 
+mod around;
+mod asked;
 mod call;
 mod cause;
 mod compile;

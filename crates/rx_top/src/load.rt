@@ -1,19 +1,15 @@
 //! The command that makes a load.
 
-ghost use Rattle.std.specs.Prelude.{◌≡◌, ◌≢◌, ◌≤◌, ◌++◌, IfOk, OnOk};
+ghost use Rattle.std.specs.Prelude.{◌≡◌, ◌≤◌, ◌++◌, IfOk, OnOk};
 ghost use Rattle.std.specs.String.{string_bytes};
-ghost use Rattle.rx_base.specs.Sink.{HasRisen, IsPut};
-ghost use Rattle.rx_stage.specs.Tells.{told};
 ghost use Rattle.rx_top.specs.LoadLines.{LoadPuts, calls_line, counted, load_said, load_status, rounds_line};
 ghost use Rattle.rx_top.specs.LoadLines.{summary_text};
+ghost use Rattle.rx_top.specs.Outside.{Counts, OnlyErr, Says, plan_told};
 
-use crate::saying::say;
+use crate::around::Surroundings;
 use crate::status::Status;
 use itoa::Buffer;
-use rx_base::Sink;
 use rx_load::{Loaded, Summary};
-use rx_loader::load;
-use rx_wire::Journal;
 use std::alloc::{AllocError, Global};
 
 /// How `load` ended.
@@ -41,30 +37,21 @@ impl LoadOutcome {
 
 /// Makes a load of so many calls by words of the generator of a number, and puts what became of it. How far it is is
 /// shown on `err`.
-pub fn load_calls<O: Sink, E: Sink, J: Journal>(
-    alloc: Global,
-    number: u64,
-    calls: u32,
-    out: &mut O,
-    err: &mut E,
-    book: &mut J,
-) -> LoadOutcome
+pub fn load_calls<X: Surroundings>(alloc: Global, number: u64, calls: u32, x: &mut X) -> LoadOutcome
     requires { (1 ≤ calls) × (calls ≤ 10000) }
-    ensures load { LoadPuts number calls result
-        (told (J.told book.old) (O.told out.old) (O.faults out.old))
-        (told (J.told book.new) (O.told out.new) (O.faults out.new)) }
-    ensures sink_fault { result ≡ LoadOutcome.SinkFault → HasRisen (O.faults out.old) (O.faults out.new) }
-    ensures no_sink_fault { result ≢ LoadOutcome.SinkFault → O.faults out.new ≡ O.faults out.old }
-    ensures err_told { E.told err.new ≡ E.told err.old }
-    ensures err_faults { E.faults err.new ≡ E.faults err.old }
+    ensures load { LoadPuts number calls result (plan_told (X.told x.old)) (plan_told (X.told x.new)) }
+    ensures counts { Counts (load_status result) (X.told x.old) (X.told x.new) }
+    ensures silent { (X.told x.new).err ≡ (X.told x.old).err }
+    ensures same_wire { (X.told x.new).wire ≡ (X.told x.old).wire }
+    ensures same_files { (X.told x.new).files ≡ (X.told x.old).files }
 {
-    let Loaded::Ran(summary) = load(alloc, number, calls, err, book) else {
+    let Loaded::Ran(summary) = x.load(alloc, number, calls) else {
         return LoadOutcome::OutOfMemory;
     };
     let Ok(text) = summary_text(alloc, &summary) else {
         return LoadOutcome::OutOfMemory;
     };
-    match out.put(text.as_bytes()) {
+    match x.put(text.as_bytes()) {
         Ok(()) => LoadOutcome::Put,
         Err(_) => LoadOutcome::SinkFault,
     }
@@ -114,15 +101,14 @@ fn add_count(text: &mut String, name: &str, count: u64) -> Result<(), AllocError
 }
 
 /// Says the line of an outcome.
-pub fn say_loaded<E: Sink>(err: &mut E, outcome: LoadOutcome)
-    ensures said { IsPut (E.told err.old) (E.told err.new) (E.faults err.old) (E.faults err.new)
-        (load_said outcome) }
-    ensures quiet_told { outcome ≡ LoadOutcome.Put → E.told err.new ≡ E.told err.old }
-    ensures quiet_faults { outcome ≡ LoadOutcome.Put → E.faults err.new ≡ E.faults err.old }
+pub fn say_loaded<X: Surroundings>(x: &mut X, outcome: LoadOutcome)
+    ensures said { Says (X.told x.old) (X.told x.new) (load_said outcome) }
+    ensures quiet { outcome ≡ LoadOutcome.Put → (X.told x.new).err ≡ (X.told x.old).err }
+    ensures only { OnlyErr (X.told x.old) (X.told x.new) }
 {
     match outcome {
         LoadOutcome::Put => {}
-        LoadOutcome::SinkFault => say(err, &["rx: cannot write\n"]),
-        LoadOutcome::OutOfMemory => say(err, &["rx: out of memory\n"]),
+        LoadOutcome::SinkFault => x.say(&["rx: cannot write\n"]),
+        LoadOutcome::OutOfMemory => x.say(&["rx: out of memory\n"]),
     }
 }

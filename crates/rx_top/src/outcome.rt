@@ -1,13 +1,13 @@
 //! How the run of a plan's file ended, and what is said of it.
 
 ghost use Rattle.std.specs.Prelude.{◌≡◌};
-ghost use Rattle.rx_base.specs.Sink.{IsPut};
 ghost use Rattle.rx_top.specs.Inputs.{said_of, status_of};
+ghost use Rattle.rx_top.specs.Outside.{OnlyErr, Says};
 
+use crate::around::Surroundings;
 use crate::cause::Cause;
-use crate::saying::{say, say_refused};
+use crate::saying::say_refused;
 use crate::status::Status;
-use rx_base::Sink;
 
 /// How `sim` ended.
 #[derive(Debug, Drop)]
@@ -46,17 +46,16 @@ impl<'a> SimOutcome<'a> {
 }
 
 /// Says the line of an outcome.
-pub fn say_outcome<E: Sink>(err: &mut E, outcome: &SimOutcome<'_>)
-    ensures said { IsPut (E.told err.old) (E.told err.new) (E.faults err.old) (E.faults err.new)
-        (said_of outcome.now) }
-    ensures quiet_told { outcome.now ≡ SimOutcome.Ran → E.told err.new ≡ E.told err.old }
-    ensures quiet_faults { outcome.now ≡ SimOutcome.Ran → E.faults err.new ≡ E.faults err.old }
+pub fn say_outcome<X: Surroundings>(x: &mut X, outcome: &SimOutcome<'_>)
+    ensures said { Says (X.told x.old) (X.told x.new) (said_of outcome.now) }
+    ensures quiet { outcome.now ≡ SimOutcome.Ran → (X.told x.new).err ≡ (X.told x.old).err }
+    ensures only { OnlyErr (X.told x.old) (X.told x.new) }
 {
     match outcome {
         SimOutcome::Ran => {}
-        SimOutcome::Refused { file, line, cause } => say_refused(err, file, *line, cause.as_str()),
-        SimOutcome::FileFault { file } => say(err, &["rx: cannot read ", *file, "\n"]),
-        SimOutcome::SinkFault => say(err, &["rx: cannot write\n"]),
-        SimOutcome::OutOfMemory => say(err, &["rx: out of memory\n"]),
+        SimOutcome::Refused { file, line, cause } => say_refused(x, file, *line, cause.as_str()),
+        SimOutcome::FileFault { file } => x.say(&["rx: cannot read ", *file, "\n"]),
+        SimOutcome::SinkFault => x.say(&["rx: cannot write\n"]),
+        SimOutcome::OutOfMemory => x.say(&["rx: out of memory\n"]),
     }
 }

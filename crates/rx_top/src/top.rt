@@ -13,16 +13,17 @@ ghost use Rattle.rx_words.specs.declared.options.ServeOptions.{ServeOptions};
 ghost use Rattle.rx_wire_loop.specs.Tells.{sink_tells, told as told_over, wire_tells};
 ghost use Rattle.rx_stage.specs.Tells.{told};
 ghost use Rattle.rx_top.specs.Calls.{CallLeaves, CanCall};
-ghost use Rattle.rx_top.specs.Commands.{has_command, has_events, has_files, has_wire, is_command, is_over_wire};
-ghost use Rattle.rx_top.specs.Commands.{makes_events, reads_files};
+ghost use Rattle.rx_top.specs.Commands.{has_command, has_events, has_files, has_wire, is_command};
 ghost use Rattle.rx_top.specs.Compiles.{CompileLeaves};
 ghost use Rattle.rx_top.specs.Endings.{memory_text, seen_by, usage_text};
 ghost use Rattle.rx_top.specs.Inputs.{reads_by};
 ghost use Rattle.rx_top.specs.LoadLines.{LoadLeaves};
-ghost use Rattle.rx_top.specs.Leaves.{CanDo, Leaves, calling_of, serving_of};
+ghost use Rattle.rx_top.specs.Leaves.{CanDo, Leaves, Spares, calling_of, serving_of};
+ghost use Rattle.rx_top.specs.Outside.{Counts, OnlyErr, Says, plan_told, reads_of, seen_of, wire_told};
 ghost use Rattle.rx_top.specs.Serves.{CanServe, ServeLeaves};
 ghost use Rattle.rx_top.specs.Sims.{SimLeaves};
 
+use crate::around::{Around, Surroundings};
 use crate::call::call_files;
 use crate::compile::{compile_file, say_compiled};
 use crate::load::{load_calls, say_loaded};
@@ -128,237 +129,132 @@ pub fn rx_main<F: Files, O: Sink, E: Sink, W: Wire, J: Journal>(
     ensures same_failed_last { result ≢ Status.FileFault → F.failed_last files.new ≡ F.failed_last files.old }
 {
     match read_words(alloc, words) {
-        Ok(command) => do_command(alloc, &command, files, out, err, wire, book),
+        Ok(command) => {
+            let mut x = Around {
+                files,
+                out,
+                err,
+                wire,
+                book,
+            };
+            do_command(alloc, &command, &mut x)
+        }
         Err(WordsFault::Usage) => refuse(err),
         Err(WordsFault::OutOfMemory) => end_for_memory(err),
     }
 }
 
 /// Does a command.
-fn do_command<F: Files, O: Sink, E: Sink, W: Wire, J: Journal>(
-    alloc: Global,
-    command: &Command,
-    files: &mut F,
-    out: &mut O,
-    err: &mut E,
-    wire: &mut W,
-    book: &mut J,
-) -> Status
+fn do_command<X: Surroundings>(alloc: Global, command: &Command, x: &mut X) -> Status
     requires { CanDo command.now }
-    ensures leaves { Leaves command.now result (record {
-      reads = reads_by F.contents F.failed_last F.reads files.old files.new;
-      seen = seen_by F.contents F.failed_last F.reads O.told files.old files.new out.old out.new;
-      before = told (J.told book.old) (O.told out.old) (O.faults out.old);
-      after = told (J.told book.new) (O.told out.new) (O.faults out.new);
-      before_wire = told_over (J.told book.old) (sink_tells (O.told out.old) (O.faults out.old))
-          (wire_tells (W.told wire.old) (W.faults wire.old) (W.moment wire.old));
-      after_wire = told_over (J.told book.new) (sink_tells (O.told out.new) (O.faults out.new))
-          (wire_tells (W.told wire.new) (W.faults wire.new) (W.moment wire.new));
-      may_want = J.may_want;
-    }) (IsPut (E.told err.old) (E.told err.new) (E.faults err.old) (E.faults err.new)) }
+    ensures leaves { Leaves command.now result X.may_want (X.told x.old) (X.told x.new) }
     ensures usage { result ≡ Status.Usage → has_command command.now ≡ false }
     ensures nothing { has_command command.now ≡ false → result ≡ Status.Usage }
-    ensures nothing_put { has_command command.now ≡ false → O.told out.new ≡ O.told out.old }
-    ensures nothing_read { reads_files command.now ≡ false → F.reads files.new ≡ F.reads files.old }
-    ensures no_events { makes_events command.now ≡ false → J.told book.new ≡ J.told book.old }
-    ensures no_wire { is_over_wire command.now ≡ false
-        → (W.told wire.new ≡ W.told wire.old) × (W.moment wire.new ≡ W.moment wire.old) }
-    ensures quiet_told { result ≡ Status.Ok → E.told err.new ≡ E.told err.old }
-    ensures quiet_faults { result ≡ Status.Ok → E.faults err.new ≡ E.faults err.old }
-    ensures file_fault { result ≡ Status.FileFault → HasRisen (F.faults files.old) (F.faults files.new) }
-    ensures no_file_fault { result ≢ Status.FileFault → F.faults files.new ≡ F.faults files.old }
-    ensures sink_fault { result ≡ Status.SinkFault → HasRisen (O.faults out.old) (O.faults out.new) }
-    ensures no_sink_fault { result ≢ Status.SinkFault → O.faults out.new ≡ O.faults out.old }
-    ensures wire_fault { result ≡ Status.WireFault → HasRisen (W.faults wire.old) (W.faults wire.new) }
-    ensures no_wire_fault { result ≢ Status.WireFault → W.faults wire.new ≡ W.faults wire.old }
-    ensures same_contents { F.contents files.new ≡ F.contents files.old }
-    ensures same_failed_last { result ≢ Status.FileFault
-        → F.failed_last files.new ≡ F.failed_last files.old }
+    ensures spares { Spares command.now (X.told x.old) (X.told x.new) }
+    ensures counts { Counts result (X.told x.old) (X.told x.new) }
+    ensures quiet { result ≡ Status.Ok → (X.told x.new).err ≡ (X.told x.old).err }
 {
     match command {
-        Command::Sim(names) => do_sim(alloc, names, files, out, err, book),
-        Command::Serve(names, given) => {
-            do_serve(
-                alloc,
-                names,
-                &serving_of(given),
-                files,
-                out,
-                err,
-                wire,
-                book,
-            )
-        }
-        Command::Call(asked, given) => {
-            do_call(
-                alloc,
-                asked,
-                &calling_of(given),
-                files,
-                out,
-                err,
-                wire,
-                book,
-            )
-        }
-        Command::Compile(xg) => do_compile(alloc, xg.as_str(), files, out, err),
-        Command::Load { number, calls } => do_load(alloc, *number, *calls, out, err, book),
-        Command::Peers { .. } => refuse(err),
+        Command::Sim(names) => do_sim(alloc, names, x),
+        Command::Serve(names, given) => do_serve(alloc, names, &serving_of(given), x),
+        Command::Call(asked, given) => do_call(alloc, asked, &calling_of(given), x),
+        Command::Compile(xg) => do_compile(alloc, xg.as_str(), x),
+        Command::Load { number, calls } => do_load(alloc, *number, *calls, x),
+        Command::Peers { .. } => do_nothing(x),
     }
 }
 
 /// Runs the plan of a file, and says how that ended.
-fn do_sim<F: Files, O: Sink, E: Sink, J: Journal>(
-    alloc: Global,
-    names: &SimFiles,
-    files: &mut F,
-    out: &mut O,
-    err: &mut E,
-    book: &mut J,
-) -> Status
-    ensures sim { SimLeaves result names.now (reads_by F.contents F.failed_last F.reads files.old files.new)
-        (told (J.told book.old) (O.told out.old) (O.faults out.old))
-        (told (J.told book.new) (O.told out.new) (O.faults out.new))
-        (IsPut (E.told err.old) (E.told err.new) (E.faults err.old) (E.faults err.new)) }
+fn do_sim<X: Surroundings>(alloc: Global, names: &SimFiles, x: &mut X) -> Status
+    ensures sim { SimLeaves result names.now (reads_of (X.told x.old) (X.told x.new)) (plan_told (X.told x.old))
+        (plan_told (X.told x.new)) (Says (X.told x.old) (X.told x.new)) }
     ensures a_command { result ≢ Status.Usage }
-    ensures quiet_told { result ≡ Status.Ok → E.told err.new ≡ E.told err.old }
-    ensures quiet_faults { result ≡ Status.Ok → E.faults err.new ≡ E.faults err.old }
-    ensures file_fault { result ≡ Status.FileFault → HasRisen (F.faults files.old) (F.faults files.new) }
-    ensures no_file_fault { result ≢ Status.FileFault → F.faults files.new ≡ F.faults files.old }
-    ensures sink_fault { result ≡ Status.SinkFault → HasRisen (O.faults out.old) (O.faults out.new) }
-    ensures no_sink_fault { result ≢ Status.SinkFault → O.faults out.new ≡ O.faults out.old }
-    ensures same_contents { F.contents files.new ≡ F.contents files.old }
-    ensures same_failed_last { result ≢ Status.FileFault → F.failed_last files.new ≡ F.failed_last files.old }
+    ensures counts { Counts result (X.told x.old) (X.told x.new) }
+    ensures quiet { result ≡ Status.Ok → (X.told x.new).err ≡ (X.told x.old).err }
+    ensures same_wire { (X.told x.new).wire ≡ (X.told x.old).wire }
 {
-    let outcome = sim(alloc, names, files, out, book);
-    say_outcome(err, &outcome);
+    let outcome = sim(alloc, names, x);
+    say_outcome(x, &outcome);
     outcome.status()
 }
 
 /// Serves a node, and says how that ended.
-fn do_serve<F: Files, O: Sink, E: Sink, W: Wire, J: Journal>(
+fn do_serve<X: Surroundings>(
     alloc: Global,
     names: &ServeFiles,
     serving: &Serving,
-    files: &mut F,
-    out: &mut O,
-    err: &mut E,
-    wire: &mut W,
-    book: &mut J,
+    x: &mut X,
 ) -> Status
     requires { CanServe serving.now }
-    ensures serve { ServeLeaves result names.now serving.now
-        (reads_by F.contents F.failed_last F.reads files.old files.new)
-        (told_over (J.told book.old) (sink_tells (O.told out.old) (O.faults out.old))
-        (wire_tells (W.told wire.old) (W.faults wire.old) (W.moment wire.old)))
-        (told_over (J.told book.new) (sink_tells (O.told out.new) (O.faults out.new))
-        (wire_tells (W.told wire.new) (W.faults wire.new) (W.moment wire.new))) J.may_want
-        (IsPut (E.told err.old) (E.told err.new) (E.faults err.old) (E.faults err.new)) }
+    ensures serve { ServeLeaves result names.now serving.now (reads_of (X.told x.old) (X.told x.new))
+        (wire_told (X.told x.old)) (wire_told (X.told x.new)) X.may_want (Says (X.told x.old) (X.told x.new)) }
     ensures a_command { result ≢ Status.Usage }
-    ensures quiet_told { result ≡ Status.Ok → E.told err.new ≡ E.told err.old }
-    ensures quiet_faults { result ≡ Status.Ok → E.faults err.new ≡ E.faults err.old }
-    ensures file_fault { result ≡ Status.FileFault → HasRisen (F.faults files.old) (F.faults files.new) }
-    ensures no_file_fault { result ≢ Status.FileFault → F.faults files.new ≡ F.faults files.old }
-    ensures sink_fault { result ≡ Status.SinkFault → HasRisen (O.faults out.old) (O.faults out.new) }
-    ensures no_sink_fault { result ≢ Status.SinkFault → O.faults out.new ≡ O.faults out.old }
-    ensures wire_fault { result ≡ Status.WireFault → HasRisen (W.faults wire.old) (W.faults wire.new) }
-    ensures no_wire_fault { result ≢ Status.WireFault → W.faults wire.new ≡ W.faults wire.old }
-    ensures same_contents { F.contents files.new ≡ F.contents files.old }
-    ensures same_failed_last { result ≢ Status.FileFault
-        → F.failed_last files.new ≡ F.failed_last files.old }
+    ensures counts { Counts result (X.told x.old) (X.told x.new) }
+    ensures quiet { result ≡ Status.Ok → (X.told x.new).err ≡ (X.told x.old).err }
 {
-    let outcome = serve_files(alloc, names, serving, files, out, wire, book);
-    say_ended(err, &outcome);
+    let outcome = serve_files(alloc, names, serving, x);
+    say_ended(x, &outcome);
     outcome.status()
 }
 
 /// Makes a call, and says how that ended.
-fn do_call<F: Files, O: Sink, E: Sink, W: Wire, J: Journal>(
+fn do_call<X: Surroundings>(
     alloc: Global,
     asked: &CallWords,
     calling: &Calling,
-    files: &mut F,
-    out: &mut O,
-    err: &mut E,
-    wire: &mut W,
-    book: &mut J,
+    x: &mut X,
 ) -> Status
     requires { CanCall calling.now }
-    ensures call { CallLeaves result asked.now calling.now
-        (reads_by F.contents F.failed_last F.reads files.old files.new)
-        (told_over (J.told book.old) (sink_tells (O.told out.old) (O.faults out.old))
-        (wire_tells (W.told wire.old) (W.faults wire.old) (W.moment wire.old)))
-        (told_over (J.told book.new) (sink_tells (O.told out.new) (O.faults out.new))
-        (wire_tells (W.told wire.new) (W.faults wire.new) (W.moment wire.new))) J.may_want
-        (IsPut (E.told err.old) (E.told err.new) (E.faults err.old) (E.faults err.new)) }
+    ensures call { CallLeaves result asked.now calling.now (reads_of (X.told x.old) (X.told x.new))
+        (wire_told (X.told x.old)) (wire_told (X.told x.new)) X.may_want (Says (X.told x.old) (X.told x.new)) }
     ensures a_command { result ≢ Status.Usage }
-    ensures quiet_told { result ≡ Status.Ok → E.told err.new ≡ E.told err.old }
-    ensures quiet_faults { result ≡ Status.Ok → E.faults err.new ≡ E.faults err.old }
-    ensures file_fault { result ≡ Status.FileFault → HasRisen (F.faults files.old) (F.faults files.new) }
-    ensures no_file_fault { result ≢ Status.FileFault → F.faults files.new ≡ F.faults files.old }
-    ensures sink_fault { result ≡ Status.SinkFault → HasRisen (O.faults out.old) (O.faults out.new) }
-    ensures no_sink_fault { result ≢ Status.SinkFault → O.faults out.new ≡ O.faults out.old }
-    ensures wire_fault { result ≡ Status.WireFault → HasRisen (W.faults wire.old) (W.faults wire.new) }
-    ensures no_wire_fault { result ≢ Status.WireFault → W.faults wire.new ≡ W.faults wire.old }
-    ensures same_contents { F.contents files.new ≡ F.contents files.old }
-    ensures same_failed_last { result ≢ Status.FileFault
-        → F.failed_last files.new ≡ F.failed_last files.old }
+    ensures counts { Counts result (X.told x.old) (X.told x.new) }
+    ensures quiet { result ≡ Status.Ok → (X.told x.new).err ≡ (X.told x.old).err }
 {
-    let outcome = call_files(alloc, asked, calling, files, out, wire, book);
-    say_ended(err, &outcome);
+    let outcome = call_files(alloc, asked, calling, x);
+    say_ended(x, &outcome);
     outcome.status()
 }
 
 /// Puts the table of an interface file, and says how that ended.
-fn do_compile<F: Files, O: Sink, E: Sink>(
-    alloc: Global,
-    xg: &str,
-    files: &mut F,
-    out: &mut O,
-    err: &mut E,
-) -> Status
-    ensures compile { CompileLeaves result xg.now
-        (seen_by F.contents F.failed_last F.reads O.told files.old files.new out.old out.new)
-        (IsPut (E.told err.old) (E.told err.new) (E.faults err.old) (E.faults err.new)) }
+fn do_compile<X: Surroundings>(alloc: Global, xg: &str, x: &mut X) -> Status
+    ensures compile { CompileLeaves result xg.now (seen_of (X.told x.old) (X.told x.new))
+        (Says (X.told x.old) (X.told x.new)) }
     ensures a_command { result ≢ Status.Usage }
-    ensures quiet_told { result ≡ Status.Ok → E.told err.new ≡ E.told err.old }
-    ensures quiet_faults { result ≡ Status.Ok → E.faults err.new ≡ E.faults err.old }
-    ensures file_fault { result ≡ Status.FileFault → HasRisen (F.faults files.old) (F.faults files.new) }
-    ensures no_file_fault { result ≢ Status.FileFault → F.faults files.new ≡ F.faults files.old }
-    ensures sink_fault { result ≡ Status.SinkFault → HasRisen (O.faults out.old) (O.faults out.new) }
-    ensures no_sink_fault { result ≢ Status.SinkFault → O.faults out.new ≡ O.faults out.old }
-    ensures same_contents { F.contents files.new ≡ F.contents files.old }
-    ensures same_failed_last { result ≢ Status.FileFault → F.failed_last files.new ≡ F.failed_last files.old }
+    ensures counts { Counts result (X.told x.old) (X.told x.new) }
+    ensures quiet { result ≡ Status.Ok → (X.told x.new).err ≡ (X.told x.old).err }
+    ensures same_wire { (X.told x.new).wire ≡ (X.told x.old).wire }
+    ensures no_events { (X.told x.new).noted ≡ (X.told x.old).noted }
 {
-    let outcome = compile_file(alloc, xg, files, out);
-    say_compiled(err, xg, &outcome);
+    let outcome = compile_file(alloc, xg, x);
+    say_compiled(x, xg, &outcome);
     outcome.status()
 }
 
 /// Makes a load, and says how that ended.
-fn do_load<O: Sink, E: Sink, J: Journal>(
-    alloc: Global,
-    number: u64,
-    calls: u32,
-    out: &mut O,
-    err: &mut E,
-    book: &mut J,
-) -> Status
+fn do_load<X: Surroundings>(alloc: Global, number: u64, calls: u32, x: &mut X) -> Status
     requires { (1 ≤ calls) × (calls ≤ 10000) }
-    ensures load { LoadLeaves result number calls (told (J.told book.old) (O.told out.old) (O.faults out.old))
-        (told (J.told book.new) (O.told out.new) (O.faults out.new))
-        (IsPut (E.told err.old) (E.told err.new) (E.faults err.old) (E.faults err.new)) }
+    ensures load { LoadLeaves result number calls (plan_told (X.told x.old)) (plan_told (X.told x.new))
+        (Says (X.told x.old) (X.told x.new)) }
     ensures a_command { result ≢ Status.Usage }
-    ensures quiet_told { result ≡ Status.Ok → E.told err.new ≡ E.told err.old }
-    ensures quiet_faults { result ≡ Status.Ok → E.faults err.new ≡ E.faults err.old }
-    ensures no_file_fault { result ≢ Status.FileFault }
-    ensures no_wire_fault { result ≢ Status.WireFault }
-    ensures sink_fault { result ≡ Status.SinkFault → HasRisen (O.faults out.old) (O.faults out.new) }
-    ensures no_sink_fault { result ≢ Status.SinkFault → O.faults out.new ≡ O.faults out.old }
+    ensures counts { Counts result (X.told x.old) (X.told x.new) }
+    ensures quiet { result ≡ Status.Ok → (X.told x.new).err ≡ (X.told x.old).err }
+    ensures same_wire { (X.told x.new).wire ≡ (X.told x.old).wire }
+    ensures same_files { (X.told x.new).files ≡ (X.told x.old).files }
 {
-    let outcome = load_calls(alloc, number, calls, out, err, book);
-    say_loaded(err, outcome);
+    let outcome = load_calls(alloc, number, calls, x);
+    say_loaded(x, outcome);
     outcome.status()
+}
+
+/// Ends the program at a command that it doesn't have.
+fn do_nothing<X: Surroundings>(x: &mut X) -> Status
+    ensures usage { result ≡ Status.Usage }
+    ensures said { Says (X.told x.old) (X.told x.new) usage_text }
+    ensures only { OnlyErr (X.told x.old) (X.told x.new) }
+{
+    x.say(&["rx: usage\n"]);
+    Status::Usage
 }
 
 /// Ends the program where its words are no command.

@@ -2,14 +2,14 @@
 
 ghost use Rattle.std.specs.Prelude.{◌≡◌, ◌++◌, codes, decimal};
 ghost use Rattle.std.specs.Fmt.{signed_decimal};
-ghost use Rattle.rx_base.specs.Sink.{IsPut};
+ghost use Rattle.rx_top.specs.Outside.{OnlyErr, Says};
 ghost use Rattle.rx_top.specs.Wires.{args_text, wire_said, wire_status};
 
+use crate::around::Surroundings;
 use crate::outcome::{SimOutcome, say_outcome};
-use crate::saying::{say, say_refused};
+use crate::saying::say_refused;
 use crate::status::Status;
 use itoa::Buffer;
-use rx_base::Sink;
 
 /// Why the arguments of a call are refused.
 #[derive(Debug, Drop)]
@@ -72,65 +72,62 @@ impl<'a> WireOutcome<'a> {
 }
 
 /// Says the line of an outcome.
-pub fn say_ended<E: Sink>(err: &mut E, outcome: &WireOutcome<'_>)
-    ensures said { IsPut (E.told err.old) (E.told err.new) (E.faults err.old) (E.faults err.new)
-        (wire_said outcome.now) }
-    ensures quiet_told { wire_status outcome.now ≡ Status.Ok → E.told err.new ≡ E.told err.old }
-    ensures quiet_faults { wire_status outcome.now ≡ Status.Ok → E.faults err.new ≡ E.faults err.old }
+pub fn say_ended<X: Surroundings>(x: &mut X, outcome: &WireOutcome<'_>)
+    ensures said { Says (X.told x.old) (X.told x.new) (wire_said outcome.now) }
+    ensures quiet { wire_status outcome.now ≡ Status.Ok → (X.told x.new).err ≡ (X.told x.old).err }
+    ensures only { OnlyErr (X.told x.old) (X.told x.new) }
 {
     match outcome {
         WireOutcome::Done => {}
-        WireOutcome::Input(outcome) => say_outcome(err, outcome),
-        WireOutcome::BadKey { file } => say_refused(err, file, 0, "key"),
-        WireOutcome::BadArgs(fault) => say_args(err, fault),
-        WireOutcome::BadReply => say(err, &["rx: reply: -451\n"]),
-        WireOutcome::Aborted { code } => say_number(err, "rx: aborted ", *code),
-        WireOutcome::Dead { silence } => say_count(err, "rx: dead ", *silence),
-        WireOutcome::SinkFault => say(err, &["rx: cannot write\n"]),
-        WireOutcome::WireFault => say(err, &["rx: network fault\n"]),
-        WireOutcome::TurnsSpent { turns } => say_count(err, "rx: turns spent ", *turns),
-        WireOutcome::OutOfMemory => say(err, &["rx: out of memory\n"]),
-        WireOutcome::Unnoted => say(err, &["rx: out of memory\n"]),
+        WireOutcome::Input(outcome) => say_outcome(x, outcome),
+        WireOutcome::BadKey { file } => say_refused(x, file, 0, "key"),
+        WireOutcome::BadArgs(fault) => say_args(x, fault),
+        WireOutcome::BadReply => x.say(&["rx: reply: -451\n"]),
+        WireOutcome::Aborted { code } => say_number(x, "rx: aborted ", *code),
+        WireOutcome::Dead { silence } => say_count(x, "rx: dead ", *silence),
+        WireOutcome::SinkFault => x.say(&["rx: cannot write\n"]),
+        WireOutcome::WireFault => x.say(&["rx: network fault\n"]),
+        WireOutcome::TurnsSpent { turns } => say_count(x, "rx: turns spent ", *turns),
+        WireOutcome::OutOfMemory => x.say(&["rx: out of memory\n"]),
+        WireOutcome::Unnoted => x.say(&["rx: out of memory\n"]),
     }
 }
 
 /// Says why arguments are refused.
-fn say_args<E: Sink>(err: &mut E, fault: &ArgsFault)
-    ensures { IsPut (E.told err.old) (E.told err.new) (E.faults err.old) (E.faults err.new) (args_text fault.now) }
+fn say_args<X: Surroundings>(x: &mut X, fault: &ArgsFault)
+    ensures said { Says (X.told x.old) (X.told x.new) (args_text fault.now) }
+    ensures only { OnlyErr (X.told x.old) (X.told x.new) }
 {
     match fault {
-        ArgsFault::Proc => say(err, &["rx: args: proc\n"]),
-        ArgsFault::Kind => say(err, &["rx: args: kind\n"]),
-        ArgsFault::NotJson => say(err, &["rx: args: notjson\n"]),
-        ArgsFault::Mismatch { path, want } => say(
-            err,
-            &[
-                "rx: args: mismatch ",
-                path.as_str(),
-                " ",
-                want.as_str(),
-                "\n",
-            ],
-        ),
-        ArgsFault::Number => say(err, &["rx: args: number\n"]),
-        ArgsFault::Code(code) => say_number(err, "rx: args: ", *code),
+        ArgsFault::Proc => x.say(&["rx: args: proc\n"]),
+        ArgsFault::Kind => x.say(&["rx: args: kind\n"]),
+        ArgsFault::NotJson => x.say(&["rx: args: notjson\n"]),
+        ArgsFault::Mismatch { path, want } => x.say(&[
+            "rx: args: mismatch ",
+            path.as_str(),
+            " ",
+            want.as_str(),
+            "\n",
+        ]),
+        ArgsFault::Number => x.say(&["rx: args: number\n"]),
+        ArgsFault::Code(code) => say_number(x, "rx: args: ", *code),
     }
 }
 
 /// Says a text and a number behind it.
-fn say_number<E: Sink>(err: &mut E, text: &str, number: i32)
-    ensures { IsPut (E.told err.old) (E.told err.new) (E.faults err.old) (E.faults err.new)
-        (text.now ++ (signed_decimal number ++ codes "\n")) }
+fn say_number<X: Surroundings>(x: &mut X, text: &str, number: i32)
+    ensures said { Says (X.told x.old) (X.told x.new) (text.now ++ (signed_decimal number ++ codes "\n")) }
+    ensures only { OnlyErr (X.told x.old) (X.told x.new) }
 {
     let mut digits = Buffer::new();
-    say(err, &[text, digits.format(number), "\n"]);
+    x.say(&[text, digits.format(number), "\n"]);
 }
 
 /// Says a text and a count behind it.
-fn say_count<E: Sink>(err: &mut E, text: &str, count: u64)
-    ensures { IsPut (E.told err.old) (E.told err.new) (E.faults err.old) (E.faults err.new)
-        (text.now ++ (decimal count ++ codes "\n")) }
+fn say_count<X: Surroundings>(x: &mut X, text: &str, count: u64)
+    ensures said { Says (X.told x.old) (X.told x.new) (text.now ++ (decimal count ++ codes "\n")) }
+    ensures only { OnlyErr (X.told x.old) (X.told x.new) }
 {
     let mut digits = Buffer::new();
-    say(err, &[text, digits.format(count), "\n"]);
+    x.say(&[text, digits.format(count), "\n"]);
 }

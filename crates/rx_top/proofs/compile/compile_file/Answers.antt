@@ -1,7 +1,8 @@
-use Rattle.std.proofs.Common.{◌≡◌, ℕ, List, false, refl, subst}
+use Rattle.std.proofs.Common.{◌≡◌, ℕ, List, ap, false, subst}
 use Rattle.std.proofs.lemmas.Bool.{false_from_ne_true}
 use Rattle.std.proofs.lemmas.Str.{IsUtf8-from_is_utf8}
 use Rattle.std.specs.Str.{is_utf8}
+use Rattle.rx_wire_loop.specs.Tells.{SinkTells}
 use Rattle.rx_top.proofs.compile.compile_file.Goals as goal
 
 pub returns-in_default-clause-compile : goal.returns-in_default-clause-compile
@@ -14,5 +15,5 @@ returns-in_default-clause-compile g c =
         there = c.in-Ok.ensures.ok;
         no_text = subst (λ (b : List ℕ). is_utf8 b ≡ false) c.as_slice.ensures.value no_text;
       },
-      refl,
+      ap (λ (s : SinkTells). s.put) c.in-Ok.ensures.only.out,
     )

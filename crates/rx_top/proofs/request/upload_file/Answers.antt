@@ -6,7 +6,6 @@ pub returns-in-Ok-clause-ok : goal.returns-in-Ok-clause-ok
 returns-in-Ok-clause-ok g c =
     let grown : c.extend_from_slice.new.self.items ≡ c.args.request.items ++ (0 ∷ 0 ∷ 0 ∷ 0 ∷ []) =
     search (rules, c.extend_from_slice.ensures.items) in
-    sent_upload (g.F.Files.contents c.args.files.now) c.args.name.now (0 ∷ 0 ∷ 0 ∷ 0 ∷ []) c.in-Ok.bytes.items
-    c.args.request c.extend_from_slice.new.self c.len-at.result c.uploaded.result (search (rules, c.len-at.ensures))
-    refl
-    grown c.in-Ok.ensures.front c.in-Ok.ensures.ok c.uploaded.ensures.ok
+    sent_upload (g.X.Surroundings.told c.args.x.now).files.contents c.args.name.now (0 ∷ 0 ∷ 0 ∷ 0 ∷ [])
+    c.in-Ok.bytes.items c.args.request c.extend_from_slice.new.self c.len-at.result c.uploaded.result
+    (search (rules, c.len-at.ensures)) refl grown c.in-Ok.ensures.front c.in-Ok.ensures.ok c.uploaded.ensures.ok

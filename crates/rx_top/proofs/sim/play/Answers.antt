@@ -2,6 +2,7 @@ use Rattle.std.proofs.Common.{refl}
 use Rattle.rx_script.specs.Saying.{blocks_of}
 use Rattle.xg_check.specs.Meaning.{interface_of}
 use Rattle.rx_top.specs.Sims.{handlers_with}
+use Rattle.rx_top.proofs.OutsideLemmas.{counts_plan, counts_plan_fault}
 use Rattle.rx_top.proofs.SimLemmas.{run_faults, run_plays}
 use Rattle.rx_top.proofs.sim.play.Goals as goal
 
@@ -19,8 +20,9 @@ returns-in-Ran-clause-played g c =
     c.in-Ran.ensures.headline c.in-Ran.ensures.arrives c.in-Ran.ensures.completes
     c.in-Ran.ensures.closes c.in-Ran.ensures.all_close
 
-pub returns-in-Ran-clause-no_sink_fault : goal.returns-in-Ran-clause-no_sink_fault
-returns-in-Ran-clause-no_sink_fault g c is = run_faults _ _ _ _ _ c.in-Ran.ensures.run
+pub returns-in-Ran-clause-counts : goal.returns-in-Ran-clause-counts
+returns-in-Ran-clause-counts g c =
+    counts_plan _ _ _ refl c.in-Ran.ensures.only (run_faults _ _ _ _ _ c.in-Ran.ensures.run)
 
 pub returns-in-Refused-clause-played : goal.returns-in-Refused-clause-played
 returns-in-Refused-clause-played g c =
@@ -33,8 +35,9 @@ returns-in-Refused-clause-played g c =
           c.in-Refused.ensures.closes c.in-Refused.ensures.all_close,
     )
 
-pub returns-in-Refused-clause-no_sink_fault : goal.returns-in-Refused-clause-no_sink_fault
-returns-in-Refused-clause-no_sink_fault g c is = run_faults _ _ _ _ _ c.in-Refused.ensures.run
+pub returns-in-Refused-clause-counts : goal.returns-in-Refused-clause-counts
+returns-in-Refused-clause-counts g c =
+    counts_plan _ _ _ refl c.in-Refused.ensures.only (run_faults _ _ _ _ _ c.in-Refused.ensures.run)
 
 pub returns-in-SinkFault-clause-played : goal.returns-in-SinkFault-clause-played
 returns-in-SinkFault-clause-played g c =
@@ -45,8 +48,9 @@ returns-in-SinkFault-clause-played g c =
     c.in-SinkFault.ensures.headline c.in-SinkFault.ensures.arrives c.in-SinkFault.ensures.completes
     c.in-SinkFault.ensures.closes c.in-SinkFault.ensures.all_close
 
-pub returns-in-SinkFault-clause-sink_fault : goal.returns-in-SinkFault-clause-sink_fault
-returns-in-SinkFault-clause-sink_fault g c is = run_faults _ _ _ _ _ c.in-SinkFault.ensures.run
+pub returns-in-SinkFault-clause-counts : goal.returns-in-SinkFault-clause-counts
+returns-in-SinkFault-clause-counts g c =
+    counts_plan_fault _ _ c.in-SinkFault.ensures.only (run_faults _ _ _ _ _ c.in-SinkFault.ensures.run)
 
 pub returns-in-OutOfMemory-clause-played : goal.returns-in-OutOfMemory-clause-played
 returns-in-OutOfMemory-clause-played g c =
@@ -57,5 +61,6 @@ returns-in-OutOfMemory-clause-played g c =
     c.in-OutOfMemory.ensures.headline c.in-OutOfMemory.ensures.arrives c.in-OutOfMemory.ensures.completes
     c.in-OutOfMemory.ensures.closes c.in-OutOfMemory.ensures.all_close
 
-pub returns-in-OutOfMemory-clause-no_sink_fault : goal.returns-in-OutOfMemory-clause-no_sink_fault
-returns-in-OutOfMemory-clause-no_sink_fault g c is = run_faults _ _ _ _ _ c.in-OutOfMemory.ensures.run
+pub returns-in-OutOfMemory-clause-counts : goal.returns-in-OutOfMemory-clause-counts
+returns-in-OutOfMemory-clause-counts g c =
+    counts_plan _ _ _ refl c.in-OutOfMemory.ensures.only (run_faults _ _ _ _ _ c.in-OutOfMemory.ensures.run)
