@@ -302,14 +302,15 @@ module _ (limit : ℕ) (request : List ℕ) (s : Setup) (host : Host) (epoch : �
       })
   made_in _ _ asked is allowed = absurd is
 
--- an event of its own carries it on
-pub tells_made : (limit : ℕ) (request : List ℕ) (s : Setup) (host : Host) (epoch : ℕ) (v : CallerState) (l : Looks)
-    (a : Asking) (e : Event) → (calling limit).asks v ≡ Some a → IsAsked a e → AllowedClient s host epoch l e
-    → Tells request v l → Tells request (heard v e) (after s e l)
-tells_made limit request s host epoch v l a e asked is allowed t =
-    let at = is_there (call_at l v.call) t.called in
-    made_in limit request s host epoch v l at.call at.there (tells_in request v l at.call at.there t) a e asked is
-    allowed
+module _ (limit : ℕ) (request : List ℕ) (s : Setup) (host : Host) (epoch : ℕ) (v : CallerState) (l : Looks) (a : Asking)
+    (e : Event) where
+  -- an event of its own carries it on
+  pub tells_made : (calling limit).asks v ≡ Some a → IsAsked a e → AllowedClient s host epoch l e → Tells request v l
+      → Tells request (heard v e) (after s e l)
+  tells_made asked is allowed t =
+      let at = is_there (call_at l v.call) t.called in
+      made_in limit request s host epoch v l at.call at.there (tells_in request v l at.call at.there t) a e asked is
+      allowed
 
 -- so does the beginning of a turn
 pub tells_begun : (request : List ℕ) (v : CallerState) (l : Looks) → Tells request v l → Tells request (begun v) l

@@ -38,14 +38,14 @@ kept_conns old new kept =
     sym (length-map new.table.conns (λ r. r.connection)) ∙ ap (λ (xs : List Connection). length xs) kept.names
     ∙ length-map old.table.conns (λ r. r.connection)
 
--- what it costs to note a channel in right books, so that they are right books of a node that stays what it was
-pub noted_cost : (n z : NodeState) (b e : BooksState) (conns : ℕ) → length n.table.conns ≡ conns → KeepsNode n z
-    → IsBooked n b → IsBooked z e → (before after : ℕ)
-    → ((m d : ℕ) → HasEntries b m → HasEntries e m → 2 * m + 1 < 2 ^ (d + 1) → AtMost (16 * d + 18) before after)
-    → (d : ℕ) → 2 * (4 * conns) + 1 < 2 ^ (d + 1) → AtMost (16 * d + 18) before after
-noted_cost n z b e conns same kept was is before after most d power =
-    most (4 * conns) d (subst (λ (c : ℕ). HasEntries b (4 * c)) same (booked_entries n b was))
-    (subst (λ (c : ℕ). HasEntries e (4 * c)) (kept_conns n z kept ∙ same) (booked_entries z e is)) power
+module _ (n z : NodeState) (b e : BooksState) (conns : ℕ) where
+  -- what it costs to note a channel in right books, so that they are right books of a node that stays what it was
+  pub noted_cost : length n.table.conns ≡ conns → KeepsNode n z → IsBooked n b → IsBooked z e → (before after : ℕ)
+      → ((m d : ℕ) → HasEntries b m → HasEntries e m → 2 * m + 1 < 2 ^ (d + 1) → AtMost (16 * d + 18) before after)
+      → (d : ℕ) → 2 * (4 * conns) + 1 < 2 ^ (d + 1) → AtMost (16 * d + 18) before after
+  noted_cost same kept was is before after most d power =
+      most (4 * conns) d (subst (λ (c : ℕ). HasEntries b (4 * c)) same (booked_entries n b was))
+      (subst (λ (c : ℕ). HasEntries e (4 * c)) (kept_conns n z kept ∙ same) (booked_entries z e is)) power
 
 -- what silent calls cost, and what is given then, is no more than a poll may cost
 pub poll_cost : (l : Looks) (a b c : ℕ)

@@ -199,14 +199,15 @@ apart_at calls key q c e s is other apart unshared held =
     apart_middle p.front (slots_of c) p.back s (subst HasNoRepeat p.is unshared)
     (ap (has s) (sym p.without) ∙ among)
 
--- every other call stands for what it stood for
-pub stands_at : (pool after : Slots) (calls : KeptCalls) (key q : ℕ) (c d e : EndOfCall) (k : CallLooks) →
-    call_under calls key ≡ Some c → Holds pool (slots_of_all calls) → Keeps pool after (slots_of c) (slots_of d) →
-    q ≢ key → call_under calls q ≡ Some e → StandsCall pool e k → StandsCall after e k
-stands_at pool after calls key q c d e k is h keeps apart other st =
-    call_undisturbed pool after e k st
-    (λ s held. (keeps.others s ((holds_at pool calls q e other h).of s held)
-    (apart_at calls key q c e s is other apart h.apart held)).bytes)
+module _ (pool after : Slots) (calls : KeptCalls) (key q : ℕ) (c d e : EndOfCall) (k : CallLooks) where
+  -- every other call stands for what it stood for
+  pub stands_at : call_under calls key ≡ Some c → Holds pool (slots_of_all calls)
+      → Keeps pool after (slots_of c) (slots_of d) → q ≢ key → call_under calls q ≡ Some e → StandsCall pool e k
+      → StandsCall after e k
+  stands_at is h keeps apart other st =
+      call_undisturbed pool after e k st
+      (λ s held. (keeps.others s ((holds_at pool calls q e other h).of s held)
+      (apart_at calls key q c e s is other apart h.apart held)).bytes)
 
 -- the call of a key used the pool
 pub changes_one : (pool after : Slots) (calls : KeptCalls) (key : ℕ) (c d : EndOfCall) → call_under calls key ≡ Some c →

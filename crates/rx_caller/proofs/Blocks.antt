@@ -53,11 +53,12 @@ accepted-within n m k xs within =
     let rest = length-drop n xs in
     omega arith
 
--- and so many more are within the request
-pub accepts_within : (a m k size n : ℕ) (xs block bytes : List ℕ) → a ≤ size → size ≡ length xs
-    → block ≡ take m (drop a xs) → bytes ≡ take k block → n ≡ length bytes → a + n ≤ size
-accepts_within a m k size n xs block bytes within is next first count =
-    let all : bytes ≡ take k (take m (drop a xs)) = first ∙ ap (take k) next in
-    let len : n ≡ length (take k (take m (drop a xs))) = count ∙ ap length all in
-    let low = accepted-within a m k xs (subst (λ (j : ℕ). a ≤ j) is within) in
-    omega arith
+module _ (a m k size n : ℕ) (xs block bytes : List ℕ) where
+  -- and so many more are within the request
+  pub accepts_within : a ≤ size → size ≡ length xs → block ≡ take m (drop a xs) → bytes ≡ take k block
+      → n ≡ length bytes → a + n ≤ size
+  accepts_within within is next first count =
+      let all : bytes ≡ take k (take m (drop a xs)) = first ∙ ap (take k) next in
+      let len : n ≡ length (take k (take m (drop a xs))) = count ∙ ap length all in
+      let low = accepted-within a m k xs (subst (λ (j : ℕ). a ≤ j) is within) in
+      omega arith

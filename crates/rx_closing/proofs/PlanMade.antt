@@ -186,20 +186,20 @@ pub record RoundsMade (g : Handlers) (ls : List Numbered) (n : ℕ) (es : List N
   pub servable : AreServable g
   pub waits : WaitsShort g
 
-pub rounds_made_of : (g : Handlers) (ls : List Numbered) (es : List Noted) (went : Went) → AreServable g
-    → WaitsShort g → All (λ l. IsWell g l.what) ls → plan_goes g ls es went → (before : List Numbered) (line n : ℕ)
-    → (t : Stage) → ls ≡ before ++ record { line = line; what = lines.Rounds n } ∷ [] → went ≡ Whole t
-    → RoundsMade g before n es t
-rounds_made_of g ls es went servable waits well goes before line n t is whole =
-    (let last : Numbered = record { line = line; what = lines.Rounds n } in
-    record {
-      made = plan_made g before line n es t
-          (subst (λ (v : Went). plan_goes g (before ++ last ∷ []) es v) whole
-          (subst (λ (ks : List Numbered). plan_goes g ks es went) is goes));
-      well = all_front (λ l. IsWell g l.what) before last (subst (All (λ l. IsWell g l.what)) is well);
-      servable = servable;
-      waits = waits;
-    })
+module _ (g : Handlers) (ls : List Numbered) (es : List Noted) (went : Went) where
+  pub rounds_made_of : AreServable g → WaitsShort g → All (λ l. IsWell g l.what) ls → plan_goes g ls es went
+      → (before : List Numbered) (line n : ℕ) → (t : Stage)
+      → ls ≡ before ++ record { line = line; what = lines.Rounds n } ∷ [] → went ≡ Whole t → RoundsMade g before n es t
+  rounds_made_of servable waits well goes before line n t is whole =
+      (let last : Numbered = record { line = line; what = lines.Rounds n } in
+      record {
+        made = plan_made g before line n es t
+            (subst (λ (v : Went). plan_goes g (before ++ last ∷ []) es v) whole
+            (subst (λ (ks : List Numbered). plan_goes g ks es went) is goes));
+        well = all_front (λ l. IsWell g l.what) before last (subst (All (λ l. IsWell g l.what)) is well);
+        servable = servable;
+        waits = waits;
+      })
 
 -- the rounds are behind lines of a driven plan, where the two stages are fair
 abbrev pub behind_of : (g : Handlers) (ls : List Numbered) (n : ℕ) (es : List Noted) (t : Stage)

@@ -101,23 +101,23 @@ ready_hears g old new want x k e served b hears =
     ∙ ap (settle g (take old.place old.jobs) (heard g x.job e)) (rest_is (was_at g old new x.job k b) x.at)
     ∙ sym (ap (λ t. (dispatching g).heard t e) (ready_serves g old want x served))
 
--- the job that wants it makes it
-pub ready_calls : (class : List ℕ → Class) (g : Handlers) (old new : RoundState) (want : Want) (x : Ready old want)
-    (j k : JobState) (before after : ServerState) (e : Event) → old.stage ≡ stages.Serving → Becomes old new j k
-    → Called class j want k new.next before after e
-    → MakesCall class g (turning_of g old) (turning_of g new) before after e
-ready_calls class g old new want x j k before after e served b called =
-    let same : j ≡ x.job = first_is (was_at g old new j k b) x.at in
-    let own : Becomes old new x.job k = subst (λ (y : JobState). Becomes old new y k) same b in
-    let makes : Called class x.job want k new.next before after e =
-    subst (λ (y : JobState). Called class y want k new.next before after e) same called in
-    record {
-      ask = ask_of x.job want;
-      asked = ready_asks g old want x served;
-      is = makes.is;
-      answered = makes.answered;
-      told = ready_hears g old new want x k e served own (makes.hearing g);
-    }
+module _ (class : List ℕ → Class) (g : Handlers) (old new : RoundState) (want : Want) (x : Ready old want)
+    (j k : JobState) (before after : ServerState) (e : Event) where
+  -- the job that wants it makes it
+  pub ready_calls : old.stage ≡ stages.Serving → Becomes old new j k → Called class j want k new.next before after e
+      → MakesCall class g (turning_of g old) (turning_of g new) before after e
+  ready_calls served b called =
+      let same : j ≡ x.job = first_is (was_at g old new j k b) x.at in
+      let own : Becomes old new x.job k = subst (λ (y : JobState). Becomes old new y k) same b in
+      let makes : Called class x.job want k new.next before after e =
+      subst (λ (y : JobState). Called class y want k new.next before after e) same called in
+      record {
+        ask = ask_of x.job want;
+        asked = ready_asks g old want x served;
+        is = makes.is;
+        answered = makes.answered;
+        told = ready_hears g old new want x k e served own (makes.hearing g);
+      }
 
 -- what was remembered stays so where more of its request came
 pub ready_remembers : (g : Handlers) (old new : RoundState) (j k : JobState) → Becomes old new j k

@@ -104,17 +104,17 @@ pub wanting_before : (g : Handlers) (r : RoundState) (v : Turning) → turning_o
     → IsWanting g v
 wanting_before g r v is wants = record { round = r; is = is; wants = wants }
 
--- handlers of the same script
-pub served_by : (hs : List Answering → Handlers) (old now : List Answering) (s : Setup)
-    (stood stands : List Event → Type 0) (node : ℕ) (line : Noted → List ℕ) (r later : RoundState) (a b : Told)
-    (o : Result Bool Stop) → now ≡ old
-    → CallsOnce (dispatching (hs now)) (IsWanting (hs now)) s stood stands node line (turning_of (hs now) r)
-    (turning_of (hs now) later) a b o
-    → CallsOnce (dispatching (hs old)) (IsWanting (hs old)) s stood stands node line (turning_of (hs old) r)
-    (turning_of (hs old) later) a b o
-served_by hs old now s stood stands node line r later a b o same once =
-    subst (λ (x : List Answering). CallsOnce (dispatching (hs x)) (IsWanting (hs x)) s stood stands node line
-    (turning_of (hs x) r) (turning_of (hs x) later) a b o) same once
+module _ (hs : List Answering → Handlers) (old now : List Answering) (s : Setup) (stood stands : List Event → Type 0)
+    (node : ℕ) (line : Noted → List ℕ) (r later : RoundState) (a b : Told) (o : Result Bool Stop) where
+  -- handlers of the same script
+  pub served_by : now ≡ old
+      → CallsOnce (dispatching (hs now)) (IsWanting (hs now)) s stood stands node line (turning_of (hs now) r)
+      (turning_of (hs now) later) a b o
+      → CallsOnce (dispatching (hs old)) (IsWanting (hs old)) s stood stands node line (turning_of (hs old) r)
+      (turning_of (hs old) later) a b o
+  served_by same once =
+      subst (λ (x : List Answering). CallsOnce (dispatching (hs x)) (IsWanting (hs x)) s stood stands node line
+      (turning_of (hs x) r) (turning_of (hs x) later) a b o) same once
 
 -- they know that a turn is over with these jobs
 pub over_by : (hs : List Answering → Handlers) (old now : List Answering) (later : RoundState) (jobs : List JobState)

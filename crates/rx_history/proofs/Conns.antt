@@ -351,17 +351,16 @@ good-finish s d code (Err refusals.Unread) l all = all
 pub good-cancelled : (s : Setup) (d : CallName) (code : ℤ) (l : Looks) → Conns s l → Conns s (cancelled d code l)
 good-cancelled s d code l all = good-on_channel s (channel_of d) (owing_abort (Some code)) l (λ q low. low) all
 
-pub good-linked : (s : Setup) (host : Host) (epoch : ℕ) (to : Host) (service first cid : ℕ) (l : Looks) → s.kind
-    ≡ Client host epoch
-    → service < 2 ^ 16 → 1 ≤ first → first < 2 ^ 32 → cid % 4 ≡ 0 → cid + 4 ≤ 2 ^ 32 → Conns s l
-    → Conns s (linked (Client host epoch) to service first cid l)
-good-linked s host epoch to service first cid l is low some fits whole top all =
-    let new : ConnLooks = fresh_conn (record { host = host; epoch = epoch; cid = cid }) to service first l in
-    good-placed s new None l
-    (record {
-      service = low;
-      first = some;
-      first_fits = fits;
-      numbers = fresh-low new.connection;
-      kind = subst (λ (k : Kind). OfKind k new) (sym is) (whole, top, refl);
-    }) all
+module _ (s : Setup) (host : Host) (epoch : ℕ) (to : Host) (service first cid : ℕ) (l : Looks) where
+  pub good-linked : s.kind ≡ Client host epoch → service < 2 ^ 16 → 1 ≤ first → first < 2 ^ 32 → cid % 4 ≡ 0
+      → cid + 4 ≤ 2 ^ 32 → Conns s l → Conns s (linked (Client host epoch) to service first cid l)
+  good-linked is low some fits whole top all =
+      let new : ConnLooks = fresh_conn (record { host = host; epoch = epoch; cid = cid }) to service first l in
+      good-placed s new None l
+      (record {
+        service = low;
+        first = some;
+        first_fits = fits;
+        numbers = fresh-low new.connection;
+        kind = subst (λ (k : Kind). OfKind k new) (sym is) (whole, top, refl);
+      }) all

@@ -495,20 +495,20 @@ no-stray x to bytes m payload is reads chunk =
     let chunked = made-chunk (stray_message x) m payload (ap reading_of text ∙ reads) chunk in
     absurd (let e = chunked.1 in cc (e))
 
--- what a poll gives and is read as DATA is a piece of a call
-pub poll-gives : (s : Setup) (l : Looks) (strays : List Stray) (to : Host) (bytes : List ℕ) (m : Message)
-    (payload : List ℕ)
-    → FitsSetup s → Conns s l → ((c : CallName) → GoodCall s l c) → poll_with s l strays ≡ Some (to, bytes)
-    → reading_of bytes ≡ Ok m → m.body ≡ bodies.Chunk payload → GivesPiece s l to m payload
-poll-gives s l (x ∷ xs) to bytes m payload fits conns good is reads chunk = absurd
-    (no-stray x to bytes m payload is reads chunk)
-poll-gives s l [] to bytes m payload fits conns good is reads chunk = of (next_item s l) refl is
-  where
-    of : (o : Option Item) → next_item s l ≡ o → datagram_for s l o ≡ Some (to, bytes) → GivesPiece s l to m payload
-    of None next is = absurd cc
-    of (Some i) next is =
-        item-gives s l i (conn_at l (connection_of i.name)) to bytes m payload fits conns good refl
-        (next-says s l good i next) is reads chunk
+module _ (s : Setup) (l : Looks) where
+  -- what a poll gives and is read as DATA is a piece of a call
+  pub poll-gives : (strays : List Stray) (to : Host) (bytes : List ℕ) (m : Message) (payload : List ℕ) → FitsSetup s
+      → Conns s l → ((c : CallName) → GoodCall s l c) → poll_with s l strays ≡ Some (to, bytes)
+      → reading_of bytes ≡ Ok m → m.body ≡ bodies.Chunk payload → GivesPiece s l to m payload
+  poll-gives (x ∷ xs) to bytes m payload fits conns good is reads chunk = absurd
+      (no-stray x to bytes m payload is reads chunk)
+  poll-gives [] to bytes m payload fits conns good is reads chunk = of (next_item s l) refl is
+    where
+      of : (o : Option Item) → next_item s l ≡ o → datagram_for s l o ≡ Some (to, bytes) → GivesPiece s l to m payload
+      of None next is = absurd cc
+      of (Some i) next is =
+          item-gives s l i (conn_at l (connection_of i.name)) to bytes m payload fits conns good refl
+          (next-says s l good i next) is reads chunk
 
 -- ---- whose it is
 

@@ -237,26 +237,27 @@ own_by true e x l given handled = cc
 own_by false true x l given handled = refl
 own_by false false x l given handled = cc
 
-call_lived : (g : Handlers) (h : List Event) (done : List JobState) (m : Moving) (todo : List JobState) (a : Ask)
-    (e : Event) → (serving g).asks m ≡ Some a → IsCall a e → HasCount e → Every (Waits g h) done → Acts g h m
-    → Every (Waits g h) todo → Differ (calls_of done ++ m.job.call ∷ calls_of todo)
-    → Lived g (e ∷ h) (settle g done ((serving g).heard m e) todo)
-call_lived g h done m todo a e asked is count all acts rest d =
-    let c : CallName = m.job.call in
-    let x : Of c e = of_ask g m a e asked is in
-    let own : life_of c (e ∷ h) ≡ e ∷ life_of c h =
-    own_by (gives c e) (handles c e) e (life_of c h) (x.given c) (x.handled c ∙ name_itself c) in
-    let n : Moving = (serving g).heard m e in
-    let life : Lives g c (life_of c (e ∷ h)) n =
-    subst (λ (l : List Event). Lives g c l n) (sym own) (lives.calls (life_of c h) m a e acts asked is count) in
-    let same : n.job.call ≡ c = (lives_exact g c (life_of c (e ∷ h)) n life).own in
-    settle_lived g (e ∷ h) done n todo
-    (waits_on g e h done (others_given c e x (calls_of done))
-    (others_handled c e x (calls_of done) (apart-front (calls_of done) (calls_of todo) c d)) all)
-    (acts_by g (e ∷ h) n c same life)
-    (waits_on g e h todo (others_given c e x (calls_of todo))
-    (others_handled c e x (calls_of todo) (apart-back (calls_of done) (calls_of todo) c d)) rest)
-    (subst (λ (k : CallName). Differ (calls_of done ++ k ∷ calls_of todo)) (sym same) d)
+module _ (g : Handlers) (h : List Event) (done : List JobState) (m : Moving) (todo : List JobState) (a : Ask)
+    (e : Event) where
+  call_lived : (serving g).asks m ≡ Some a → IsCall a e → HasCount e → Every (Waits g h) done → Acts g h m
+      → Every (Waits g h) todo → Differ (calls_of done ++ m.job.call ∷ calls_of todo)
+      → Lived g (e ∷ h) (settle g done ((serving g).heard m e) todo)
+  call_lived asked is count all acts rest d =
+      let c : CallName = m.job.call in
+      let x : Of c e = of_ask g m a e asked is in
+      let own : life_of c (e ∷ h) ≡ e ∷ life_of c h =
+      own_by (gives c e) (handles c e) e (life_of c h) (x.given c) (x.handled c ∙ name_itself c) in
+      let n : Moving = (serving g).heard m e in
+      let life : Lives g c (life_of c (e ∷ h)) n =
+      subst (λ (l : List Event). Lives g c l n) (sym own) (lives.calls (life_of c h) m a e acts asked is count) in
+      let same : n.job.call ≡ c = (lives_exact g c (life_of c (e ∷ h)) n life).own in
+      settle_lived g (e ∷ h) done n todo
+      (waits_on g e h done (others_given c e x (calls_of done))
+      (others_handled c e x (calls_of done) (apart-front (calls_of done) (calls_of todo) c d)) all)
+      (acts_by g (e ∷ h) n c same life)
+      (waits_on g e h todo (others_given c e x (calls_of todo))
+      (others_handled c e x (calls_of todo) (apart-back (calls_of done) (calls_of todo) c d)) rest)
+      (subst (λ (k : CallName). Differ (calls_of done ++ k ∷ calls_of todo)) (sym same) d)
 
 makes_lived : (g : Handlers) (t : Turning) (a : Ask) (e : Event) (h : List Event) → (dispatching g).asks t ≡ Some a
     → IsCall a e → HasCount e → Every (λ c. gives c e ≡ false) (turn_calls t) → Lived g h t

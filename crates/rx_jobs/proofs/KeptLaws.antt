@@ -207,33 +207,33 @@ args_within i n waits (Err (Bad left why)) index args used is = cc
 args_within i n true (Err Short) index args used is = cc
 args_within i n false (Err Short) index args used is = cc
 
-whole_found : (g : Handlers) (r s : List ℕ) (opcode : ℕ) (waits : Bool) (o : Option (ℕ × Procedure))
-    → found_from 0 opcode g.procs ≡ o → has_upload g r ≡ found_uploads g o → length s ≤ 65536
-    → (index : ℕ) (args : Data) (used : ℕ)
-    → found_answer g.types (length s) waits (drop 4 s) o ≡ whole index args used → IsWhole g r index used
-whole_found g r s opcode waits None at uploads short index args used is = cc
-whole_found g r s opcode waits (Some found) at uploads short index args used is =
-    let says : (found.0 ≡ index) × (used ≤ length s) = args_within found.0 (length s) waits _ index args used is in
-    let stands : (k : ℕ) × (found.0 ≡ 0 + k) × (slice_get g.procs k ≡ Some found.1) =
-    found_stands 0 opcode g.procs found at in
-    let place : stands.0 ≡ index = omega (arith, stands.1, says.0) in
-    record {
-      proc = found.1;
-      is = subst (λ (k : ℕ). slice_get g.procs k ≡ Some found.1) place stands.2;
-      uploads = uploads;
-      within = omega (arith, says.1);
-    }
+module _ (g : Handlers) (r s : List ℕ) where
+  whole_found : (opcode : ℕ) (waits : Bool) (o : Option (ℕ × Procedure)) → found_from 0 opcode g.procs ≡ o
+      → has_upload g r ≡ found_uploads g o → length s ≤ 65536 → (index : ℕ) (args : Data) (used : ℕ)
+      → found_answer g.types (length s) waits (drop 4 s) o ≡ whole index args used → IsWhole g r index used
+  whole_found opcode waits None at uploads short index args used is = cc
+  whole_found opcode waits (Some found) at uploads short index args used is =
+      let says : (found.0 ≡ index) × (used ≤ length s) = args_within found.0 (length s) waits _ index args used is in
+      let stands : (k : ℕ) × (found.0 ≡ 0 + k) × (slice_get g.procs k ≡ Some found.1) =
+      found_stands 0 opcode g.procs found at in
+      let place : stands.0 ≡ index = omega (arith, stands.1, says.0) in
+      record {
+        proc = found.1;
+        is = subst (λ (k : ℕ). slice_get g.procs k ≡ Some found.1) place stands.2;
+        uploads = uploads;
+        within = omega (arith, says.1);
+      }
 
-whole_opcode : (g : Handlers) (r s : List ℕ) (ended waits : Bool) (b : Bool) → ltb (length s) 4 ≡ b
-    → has_upload g s ≡ has_upload g r → length s ≤ 65536 → (index : ℕ) (args : Data) (used : ℕ)
-    → opcode_answer g.types g.procs (length s) ended waits
-    (cond b None (Some (from_be_bytes w32 s, drop 4 s))) ≡ whole index args used
-    → IsWhole g r index used
-whole_opcode g r s true waits true e same short index args used is = cc
-whole_opcode g r s false waits true e same short index args used is = cc
-whole_opcode g r s ended waits false e same short index args used is =
-    whole_found g r s (from_be_bytes w32 s) waits (found_from 0 (from_be_bytes w32 s) g.procs) refl
-    (sym same ∙ uploads_long g s (ltb-false _ _ e)) short index args used is
+  whole_opcode : (ended waits : Bool) (b : Bool) → ltb (length s) 4 ≡ b → has_upload g s ≡ has_upload g r
+      → length s ≤ 65536 → (index : ℕ) (args : Data) (used : ℕ)
+      → opcode_answer g.types g.procs (length s) ended waits (cond b None (Some (from_be_bytes w32 s, drop 4 s))) ≡
+      whole index args used
+      → IsWhole g r index used
+  whole_opcode true waits true e same short index args used is = cc
+  whole_opcode false waits true e same short index args used is = cc
+  whole_opcode ended waits false e same short index args used is =
+      whole_found (from_be_bytes w32 s) waits (found_from 0 (from_be_bytes w32 s) g.procs) refl
+      (sym same ∙ uploads_long g s (ltb-false _ _ e)) short index args used is
 
 is_whole : (g : Handlers) (r : List ℕ) (ended : Bool) (index : ℕ) (args : Data) (used : ℕ)
     → answer_to g r ended ≡ whole index args used → IsWhole g r index used

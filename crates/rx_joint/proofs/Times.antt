@@ -116,20 +116,21 @@ wait_is h k n d m is at =
     ap (λ (t : ℕ). option_map (λ x. x - t) d) (at ∙ now-side n.setup k h)
     ∙ ap (option_map (λ x. x - moment k h)) is
 
--- the least of all, by the server's and the clients'
-pub least_all : (host : Host) (server : ServerState) (cs xs : List ClientAt) (n : NodesState) (d : Option ℕ) (m : ℕ)
-    (served result : Option ℕ) → with_fields host server cs ≡ n → xs ≡ cs → served ≡ option_map (λ x. x - m) d
-    → ((es : List Event) → Stands chosen server es
-    → d ≡ due (setup_of chosen server.node) (looks (setup_of chosen server.node) es))
-    → ((es : List Event) → Stands chosen server es → m ≡ (looks (setup_of chosen server.node) es).now)
-    → ((h : List Noted) → ClientsStand xs h
-    → result ≡ lesser served (least_of (over_nodes (wait_at h) 1 (map client_node xs))))
-    → (h : List Noted) → Standing n h → result ≡ least_wait (nodes_of n) h
-least_all host server cs xs n d m served result is same served_is due_is now_is rest h =
-    subst (λ k. Standing k h → result ≡ least_wait (nodes_of k) h) is
-    (λ stand. rest h (subst (λ ys. ClientsStand ys h) (sym same) stand.clients)
-    ∙ ap (λ ys. lesser served (least_of (over_nodes (wait_at h) 1 (map client_node ys)))) same
-    ∙ ap (λ o. lesser o (least_of (over_nodes (wait_at h) 1 (map client_node cs))))
-    (served_is ∙ wait_is h 0 (server_node host server) d m (due_is (side 0 h) stand.server)
-    (now_is (side 0 h) stand.server))
-    ∙ sym (least_more (wait_at h 0 (server_node host server)) (over_nodes (wait_at h) 1 (map client_node cs))))
+module _ (host : Host) (server : ServerState) (cs xs : List ClientAt) (n : NodesState) (d : Option ℕ) (m : ℕ)
+    (served result : Option ℕ) where
+  -- the least of all, by the server's and the clients'
+  pub least_all : with_fields host server cs ≡ n → xs ≡ cs → served ≡ option_map (λ x. x - m) d
+      → ((es : List Event) → Stands chosen server es
+      → d ≡ due (setup_of chosen server.node) (looks (setup_of chosen server.node) es))
+      → ((es : List Event) → Stands chosen server es → m ≡ (looks (setup_of chosen server.node) es).now)
+      → ((h : List Noted) → ClientsStand xs h
+      → result ≡ lesser served (least_of (over_nodes (wait_at h) 1 (map client_node xs))))
+      → (h : List Noted) → Standing n h → result ≡ least_wait (nodes_of n) h
+  least_all is same served_is due_is now_is rest h =
+      subst (λ k. Standing k h → result ≡ least_wait (nodes_of k) h) is
+      (λ stand. rest h (subst (λ ys. ClientsStand ys h) (sym same) stand.clients)
+      ∙ ap (λ ys. lesser served (least_of (over_nodes (wait_at h) 1 (map client_node ys)))) same
+      ∙ ap (λ o. lesser o (least_of (over_nodes (wait_at h) 1 (map client_node cs))))
+      (served_is ∙ wait_is h 0 (server_node host server) d m (due_is (side 0 h) stand.server)
+      (now_is (side 0 h) stand.server))
+      ∙ sym (least_more (wait_at h 0 (server_node host server)) (over_nodes (wait_at h) 1 (map client_node cs))))

@@ -109,16 +109,16 @@ lives_first host server cs n m is exact some h =
     (λ stand. sym (ap (λ b. b || list_any (λ b. b) (over_nodes (lives_at h) 1 (map client_node cs)))
     (live_true h 0 (server_node host server) m (exact (side 0 h) stand.server) some)))
 
--- at a client
-pub lives_rest : (host : Host) (server : ServerState) (cs xs : List ClientAt) (n : NodesState) (m : ℕ) (result : Bool)
-    → with_fields host server cs ≡ n → xs ≡ cs
-    → ((es : List Event) → Stands chosen server es → m ≡ live (looks (setup_of chosen server.node) es)) → m ≤ 0
-    → ((h : List Noted) → ClientsStand xs h
-    → result ≡ list_any (λ b. b) (over_nodes (lives_at h) 1 (map client_node xs)))
-    → (h : List Noted) → Standing n h → result ≡ any_lives (nodes_of n) h
-lives_rest host server cs xs n m result is same exact none rest h =
-    subst (λ k. Standing k h → result ≡ any_lives (nodes_of k) h) is
-    (λ stand. rest h (subst (λ ys. ClientsStand ys h) (sym same) stand.clients)
-    ∙ ap (λ ys. list_any (λ b. b) (over_nodes (lives_at h) 1 (map client_node ys))) same
-    ∙ sym (ap (λ b. b || list_any (λ b. b) (over_nodes (lives_at h) 1 (map client_node cs)))
-    (live_false h 0 (server_node host server) m (exact (side 0 h) stand.server) none)))
+module _ (host : Host) (server : ServerState) (cs xs : List ClientAt) (n : NodesState) (m : ℕ) (result : Bool) where
+  -- at a client
+  pub lives_rest : with_fields host server cs ≡ n → xs ≡ cs
+      → ((es : List Event) → Stands chosen server es → m ≡ live (looks (setup_of chosen server.node) es)) → m ≤ 0
+      → ((h : List Noted) → ClientsStand xs h
+      → result ≡ list_any (λ b. b) (over_nodes (lives_at h) 1 (map client_node xs)))
+      → (h : List Noted) → Standing n h → result ≡ any_lives (nodes_of n) h
+  lives_rest is same exact none rest h =
+      subst (λ k. Standing k h → result ≡ any_lives (nodes_of k) h) is
+      (λ stand. rest h (subst (λ ys. ClientsStand ys h) (sym same) stand.clients)
+      ∙ ap (λ ys. list_any (λ b. b) (over_nodes (lives_at h) 1 (map client_node ys))) same
+      ∙ sym (ap (λ b. b || list_any (λ b. b) (over_nodes (lives_at h) 1 (map client_node cs)))
+      (live_false h 0 (server_node host server) m (exact (side 0 h) stand.server) none)))

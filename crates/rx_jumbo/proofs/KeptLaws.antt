@@ -118,24 +118,24 @@ held_full {count = suc last} {len = len} {bytes = bytes} kept some =
 
 -- ---- the first datagram
 
--- a buffer that begins with a datagram
-pub begun : (most end : ℕ) (bytes d : List ℕ) → take end bytes ≡ d → IsBytes bytes → length bytes ≡ 22712 →
-    1 ≤ most → most ≤ 16 → end ≤ 1472 → IsBytes d → is_jumbo d ≡ false → length d ≤ 1472 →
-    IsJoinerBuffer most 1 end bytes
-begun most end bytes d text known size some few low fits single small =
-    record {
-      known = known;
-      size = size;
-      some = some;
-      few = few;
-      within = omega arith;
-      counted = omega arith;
-      alone = λ none. omega arith;
-      joined = λ last counted whole.
-          let first : last ≡ 0 = omega arith in
-          let join = first_join d fits (sym (ap is_data_datagram text) ∙ whole) single small in
-          rw (first, text) join;
-    }
+module _ (most end : ℕ) (bytes d : List ℕ) where
+  -- a buffer that begins with a datagram
+  pub begun : take end bytes ≡ d → IsBytes bytes → length bytes ≡ 22712 → 1 ≤ most → most ≤ 16 → end ≤ 1472 → IsBytes d
+      → is_jumbo d ≡ false → length d ≤ 1472 → IsJoinerBuffer most 1 end bytes
+  begun text known size some few low fits single small =
+      record {
+        known = known;
+        size = size;
+        some = some;
+        few = few;
+        within = omega arith;
+        counted = omega arith;
+        alone = λ none. omega arith;
+        joined = λ last counted whole.
+            let first : last ≡ 0 = omega arith in
+            let join = first_join d fits (sym (ap is_data_datagram text) ∙ whole) single small in
+            rw (first, text) join;
+      }
 
 -- ---- one more datagram
 

@@ -95,41 +95,40 @@ firm-placed c x new o l named unknown fresh now apart =
           ]);
     }
 
--- its own connection goes
-recalls-forgotten : (c : CallName) (x : Connection) (new old : ConnLooks) (l : Looks) (u : ℕ) → new.connection ≡ x
-    → conn_at l x ≡ None
-    → new.channels ≡ fresh_channels x → new.last_use ≡ l.now → same_connection old.connection (connection_of c) ≡ true
-    → u + IDLE_MS ≤ l.now
-    → Recalls l c u → Recalls (placed new (Some old) l) c u
-recalls-forgotten c x new old l u named unknown fresh now same idle before =
-    let low = before.before in
-    record {
-      before = before.before;
-      fours = only-fours x new (conn_at (placed new (Some old) l) y) fresh only;
-      young = young-placed y u new (Some old) l (omega arith) before.young;
-      held = λ is. inr idle;
-      busy = λ n is. absurd (let none = new-busy x new (conn_at (placed new (Some old) l) y) c.chan fresh only in cc
-          (none, is));
-    }
-  where
-    y : Connection
-    y = connection_of c
+module _ (c : CallName) (x : Connection) (new old : ConnLooks) (l : Looks) (u : ℕ) where
+  -- its own connection goes
+  recalls-forgotten : new.connection ≡ x → conn_at l x ≡ None → new.channels ≡ fresh_channels x → new.last_use ≡ l.now
+      → same_connection old.connection (connection_of c) ≡ true → u + IDLE_MS ≤ l.now → Recalls l c u
+      → Recalls (placed new (Some old) l) c u
+  recalls-forgotten named unknown fresh now same idle before =
+      let low = before.before in
+      record {
+        before = before.before;
+        fours = only-fours x new (conn_at (placed new (Some old) l) y) fresh only;
+        young = young-placed y u new (Some old) l (omega arith) before.young;
+        held = λ is. inr idle;
+        busy = λ n is. absurd (let none = new-busy x new (conn_at (placed new (Some old) l) y) c.chan fresh only in cc
+            (none, is));
+      }
+    where
+      y : Connection
+      y = connection_of c
 
-    own : (r : ConnLooks) → same_connection r.connection y ≡ true → same_connection r.connection old.connection ≡ true
-    own r is =
-        subst (λ (z : Connection). same_connection z old.connection ≡ true) (sym (connection_is r.connection y is))
-        (subst (λ (z : Connection). same_connection z old.connection ≡ true) (connection_is old.connection y same)
-        (connection_itself old.connection))
+      own : (r : ConnLooks) → same_connection r.connection y ≡ true → same_connection r.connection old.connection ≡ true
+      own r is =
+          subst (λ (z : Connection). same_connection z old.connection ≡ true) (sym (connection_is r.connection y is))
+          (subst (λ (z : Connection). same_connection z old.connection ≡ true) (connection_is old.connection y same)
+          (connection_itself old.connection))
 
-    only : OnlyNew new (conn_at (placed new (Some old) l) y)
-    only =
-        (elim (same_connection new.connection y) as (λ b. same_connection new.connection y ≡ b
-        → OnlyNew new (conn_at (placed new (Some old) l) y)) [
-          | true ↦ λ is.
-              find-only (λ r. same_connection r.connection y) new old l.conns
-              (subst (λ (z : Connection). conn_at l z ≡ None) (sym named ∙ connection_is new.connection y is) unknown)
-          | false ↦ λ other. subst (OnlyNew new) (sym (find-gone y new old l.conns other own)) tt
-        ]) refl
+      only : OnlyNew new (conn_at (placed new (Some old) l) y)
+      only =
+          (elim (same_connection new.connection y) as (λ b. same_connection new.connection y ≡ b
+          → OnlyNew new (conn_at (placed new (Some old) l) y)) [
+            | true ↦ λ is.
+                find-only (λ r. same_connection r.connection y) new old l.conns
+                (subst (λ (z : Connection). conn_at l z ≡ None) (sym named ∙ connection_is new.connection y is) unknown)
+            | false ↦ λ other. subst (OnlyNew new) (sym (find-gone y new old l.conns other own)) tt
+          ]) refl
 
 recalls-placed : (c : CallName) (x : Connection) (new : ConnLooks) (o : Option ConnLooks) (l : Looks) (u : ℕ)
     → new.connection ≡ x

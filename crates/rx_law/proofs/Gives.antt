@@ -115,20 +115,20 @@ no-stray s x to bytes m c is reads name some =
     let number : m.number ≡ c.number = ap (λ (n : CallName). n.number) name in
     absurd (omega arith)
 
--- what a poll gives with the name of a call
-pub poll-tells : (s : Setup) (l : Looks) (strays : List Stray) (to : Host) (bytes : List ℕ) (m : Message) (c : CallName)
-    → IsServer s.kind → Conns s l → 1 ≤ c.number → ((n : ℕ) → busy_of (conn_at l (connection_of c)) c.chan ≡ Some n
-    → n < 2 ^ 32)
-    → poll_with s l strays ≡ Some (to, bytes) → reading_of bytes ≡ Ok m → named s to m ≡ c → Told l c
-poll-tells s l (x ∷ xs) to bytes m c server conns some low is reads name = absurd
-    (no-stray s x to bytes m c is reads name some)
-poll-tells s l [] to bytes m c server conns some low is reads name = of (next_item s l) refl is
-  where
-    of : (o : Option Item) → next_item s l ≡ o → datagram_for s l o ≡ Some (to, bytes) → Told l c
-    of None next is = absurd cc
-    of (Some i) next is =
-        item-tells s l i (conn_at l (connection_of i.name)) to bytes m c server conns low
-        (next-due s l i next) refl is reads name
+module _ (s : Setup) (l : Looks) where
+  -- what a poll gives with the name of a call
+  pub poll-tells : (strays : List Stray) (to : Host) (bytes : List ℕ) (m : Message) (c : CallName) → IsServer s.kind
+      → Conns s l → 1 ≤ c.number → ((n : ℕ) → busy_of (conn_at l (connection_of c)) c.chan ≡ Some n → n < 2 ^ 32)
+      → poll_with s l strays ≡ Some (to, bytes) → reading_of bytes ≡ Ok m → named s to m ≡ c → Told l c
+  poll-tells (x ∷ xs) to bytes m c server conns some low is reads name = absurd
+      (no-stray s x to bytes m c is reads name some)
+  poll-tells [] to bytes m c server conns some low is reads name = of (next_item s l) refl is
+    where
+      of : (o : Option Item) → next_item s l ≡ o → datagram_for s l o ≡ Some (to, bytes) → Told l c
+      of None next is = absurd cc
+      of (Some i) next is =
+          item-tells s l i (conn_at l (connection_of i.name)) to bytes m c server conns low
+          (next-due s l i next) refl is reads name
 
 -- ---- what the server knows behind it
 

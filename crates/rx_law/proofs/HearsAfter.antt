@@ -212,19 +212,19 @@ awake-still : (now heard : ℕ) (active : Bool) → active ≡ true → (active 
 awake-still now heard true is test = grind (arith, nat_tests)
 awake-still now heard false is test = absurd cc
 
--- what a poll gives and is read as DATA is of a call that was heard a short while ago
-pub gives-heard : (s : Setup) (l : Looks) (got : Option (Host × List ℕ)) (to : Host) (bytes : List ℕ) (m : Message)
-    (payload : List ℕ) (c : CallName)
-    → FitsSetup s → Standing s l → got ≡ poll_answer s l → got ≡ Some (to, bytes) → reading_of bytes ≡ Ok m → m.body
-    ≡ bodies.Chunk payload
-    → named s to m ≡ c → (heard : ℕ) × (heard_at l c ≡ Some heard) × (l.now < heard + SILENCE_MS)
-gives-heard s l got to bytes m payload c fits standing answer is reads chunk name =
-    let g = poll-gives s (silenced l) l.strays to bytes m payload fits standing.conns
-    (λ d. good-silenced s l d (standing.calls d))
-    (sym answer ∙ is) reads chunk in
-    let there : call_at (silenced l) c ≡ Some g.call = subst
-    (λ (n : CallName). call_at (silenced l) n ≡ Some g.call) name g.there in (
-      g.call.looks.heard,
-      sym (heard-silenced c l) ∙ ap heard_by there,
-      awake-still l.now g.call.looks.heard (is_active g.call.life) g.active g.awake,
-    )
+module _ (s : Setup) (l : Looks) (got : Option (Host × List ℕ)) (to : Host) (bytes : List ℕ) (m : Message)
+    (payload : List ℕ) (c : CallName) where
+  -- what a poll gives and is read as DATA is of a call that was heard a short while ago
+  pub gives-heard : FitsSetup s → Standing s l → got ≡ poll_answer s l → got ≡ Some (to, bytes)
+      → reading_of bytes ≡ Ok m → m.body ≡ bodies.Chunk payload → named s to m ≡ c
+      → (heard : ℕ) × (heard_at l c ≡ Some heard) × (l.now < heard + SILENCE_MS)
+  gives-heard fits standing answer is reads chunk name =
+      let g = poll-gives s (silenced l) l.strays to bytes m payload fits standing.conns
+      (λ d. good-silenced s l d (standing.calls d))
+      (sym answer ∙ is) reads chunk in
+      let there : call_at (silenced l) c ≡ Some g.call = subst
+      (λ (n : CallName). call_at (silenced l) n ≡ Some g.call) name g.there in (
+        g.call.looks.heard,
+        sym (heard-silenced c l) ∙ ap heard_by there,
+        awake-still l.now g.call.looks.heard (is_active g.call.life) g.active g.awake,
+      )

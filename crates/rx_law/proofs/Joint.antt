@@ -82,28 +82,27 @@ polled-is (Client host epoch) s l got allowed = allowed
 abbrev Brings : Setup → List Event → CallName → Message → List ℕ → Type 0
 Brings s h c m payload = IsAt (of_call s h c).said (of_call s h c).shut m.seq (packet_of m payload).piece
 
-gives-now : (s : Setup) (l : Looks) (got : Option (Host × List ℕ)) (to : Host) (bytes : List ℕ) (m : Message)
-    (payload : List ℕ) (c : CallName)
-    → FitsSetup s → Standing s l → got ≡ poll_answer s l → got ≡ Some (to, bytes) → reading_of bytes ≡ Ok m → m.body
-    ≡ bodies.Chunk payload
-    → named s to m ≡ c → IsAt (ends_of (call_at l c)).said (ends_of (call_at l c)).shut m.seq
-    (packet_of m payload).piece
-gives-now s l got to bytes m payload c fits standing answer is reads chunk name =
-    let g = poll-gives s (silenced l) l.strays to bytes m payload fits standing.conns
-    (λ d. good-silenced s l d (standing.calls d))
-    (sym answer ∙ is) reads chunk in
-    let there : call_at (silenced l) c ≡ Some g.call = subst
-    (λ (n : CallName). call_at (silenced l) n ≡ Some g.call) name g.there in
-    let same : ends_of (call_at (silenced l) c) ≡ ends_of (call_at l c) =
-    calls-streams (λ end. Unit {0}) (call_at l c) (call_at (silenced l) c)
-    (calls-silenced (λ end. Unit {0}) c l (λ k t silent. tt)) in
-    let streams : ends_in g.call.looks ≡ ends_of (call_at l c) = ap ends_of (sym there) ∙ same in
-    let piece : IsPiece g.call.looks.sent.said g.call.looks.sent.shut g.behind (packet_of m payload).piece =
-    subst (λ (p : Piece). IsPiece g.call.looks.sent.said g.call.looks.sent.shut g.behind p) (sym g.piece)
-    (piece_is g.call.looks.sent g.behind g.counts) in
-    subst (λ (x : Ends). IsAt x.said x.shut m.seq (packet_of m payload).piece) streams
-    (subst (λ (n : ℕ). IsAt g.call.looks.sent.said g.call.looks.sent.shut n (packet_of m payload).piece)
-    (sym g.seq) piece)
+module _ (s : Setup) (l : Looks) (got : Option (Host × List ℕ)) (to : Host) (bytes : List ℕ) (m : Message)
+    (payload : List ℕ) (c : CallName) where
+  gives-now : FitsSetup s → Standing s l → got ≡ poll_answer s l → got ≡ Some (to, bytes) → reading_of bytes ≡ Ok m
+      → m.body ≡ bodies.Chunk payload → named s to m ≡ c
+      → IsAt (ends_of (call_at l c)).said (ends_of (call_at l c)).shut m.seq (packet_of m payload).piece
+  gives-now fits standing answer is reads chunk name =
+      let g = poll-gives s (silenced l) l.strays to bytes m payload fits standing.conns
+      (λ d. good-silenced s l d (standing.calls d))
+      (sym answer ∙ is) reads chunk in
+      let there : call_at (silenced l) c ≡ Some g.call = subst
+      (λ (n : CallName). call_at (silenced l) n ≡ Some g.call) name g.there in
+      let same : ends_of (call_at (silenced l) c) ≡ ends_of (call_at l c) =
+      calls-streams (λ end. Unit {0}) (call_at l c) (call_at (silenced l) c)
+      (calls-silenced (λ end. Unit {0}) c l (λ k t silent. tt)) in
+      let streams : ends_in g.call.looks ≡ ends_of (call_at l c) = ap ends_of (sym there) ∙ same in
+      let piece : IsPiece g.call.looks.sent.said g.call.looks.sent.shut g.behind (packet_of m payload).piece =
+      subst (λ (p : Piece). IsPiece g.call.looks.sent.said g.call.looks.sent.shut g.behind p) (sym g.piece)
+      (piece_is g.call.looks.sent g.behind g.counts) in
+      subst (λ (x : Ends). IsAt x.said x.shut m.seq (packet_of m payload).piece) streams
+      (subst (λ (n : ℕ). IsAt g.call.looks.sent.said g.call.looks.sent.shut n (packet_of m payload).piece)
+      (sym g.seq) piece)
 
 pub gives-at : (to : Host) (bytes : List ℕ) (e : Event) → GivesTo to bytes e → (got : Option (Host × List ℕ))
     × (e ≡ events.Polled got) × (got ≡ Some (to, bytes))
@@ -227,87 +226,84 @@ pub client-name : (s : Setup) (y : Connection) (to : Host) (m : Message) → s.k
     → named s to m ≡ name_of y.host m
 client-name s y to m kind = ap (λ (k : Kind). name_of (client_host k to) m) kind
 
--- an event of the client
-client-step : (x : TwoEnds) (cl sv : List Event) (e : Event) (c : CallName) → x.client_setup.kind
-    ≡ Client x.connection.host x.connection.epoch
-    → IsServer x.server_setup.kind → FitsSetup x.client_setup → FitsSetup x.server_setup
-    → Legal x.client_setup (e ∷ cl) → Legal x.server_setup sv
-    → StartsOnce x.server_setup sv c → connection_of c ≡ x.connection
-    → Came x.client_setup (looks x.client_setup cl) x.connection e (λ bytes. Gave x.connection.host bytes sv)
-    → Between (of_call x.client_setup cl c) (of_call x.server_setup sv c)
-    → Between (of_call x.client_setup (e ∷ cl) c) (of_call x.server_setup sv c)
-client-step x cl sv e c kind server client_fits server_fits legal served_legal once on came b =
-    let old = client-calls x.client_setup x.connection.host x.connection.epoch cl kind client_fits legal.1 in
-    let moves = (called-turn x.client_setup x.connection.host x.connection.epoch e cl c kind client_fits legal
-    old).moves tt in
-    record {
-      request = sender_step _ _ _ _ (of_call x.server_setup sv c) moves.grows b.request;
-      reply =
-          receiver_step (of_call x.server_setup sv c).said (of_call x.server_setup sv c).shut
-          (Arrives x.client_setup (looks x.client_setup cl) e c)
-          (of_call x.client_setup cl c) (of_call x.client_setup (e ∷ cl) c) moves
-          (λ p arrives. comes e came p arrives) b.reply;
-    }
-  where
-    comes : (e : Event) → Came x.client_setup (looks x.client_setup cl) x.connection e
-        (λ bytes. Gave x.connection.host bytes sv) → (p : Packet)
-        → Arrives x.client_setup (looks x.client_setup cl) e c p
-        → IsAt (of_call x.server_setup sv c).said (of_call x.server_setup sv c).shut p.seq p.piece
-    comes (events.Taken from bytes tooks.Kept) came p a =
-        let at : connection_of (named x.client_setup from a.message) ≡ x.connection = ap connection_of a.named_is
-        ∙ on in
-        let gave = came a.message a.payload a.reads a.body a.front at in
-        let name : named x.server_setup x.connection.host a.message ≡ c =
-        server-name x.server_setup x.connection.host a.message server
-        ∙ sym (client-name x.client_setup x.connection from a.message kind) ∙ a.named_is in
-        subst (λ (q : Packet). IsAt (of_call x.server_setup sv c).said
-        (of_call x.server_setup sv c).shut q.seq q.piece) (sym a.packet)
-        (given-says x.server_setup sv c x.connection.host bytes a.message a.payload server_fits served_legal
-        (server-grown x.server_setup sv c server server_fits served_legal once) a.reads a.body name gave)
-    comes _ came p a = absurd a
+module _ (x : TwoEnds) (cl sv : List Event) (e : Event) (c : CallName) where
+  -- an event of the client
+  client-step : x.client_setup.kind ≡ Client x.connection.host x.connection.epoch → IsServer x.server_setup.kind
+      → FitsSetup x.client_setup → FitsSetup x.server_setup → Legal x.client_setup (e ∷ cl) → Legal x.server_setup sv
+      → StartsOnce x.server_setup sv c → connection_of c ≡ x.connection
+      → Came x.client_setup (looks x.client_setup cl) x.connection e (λ bytes. Gave x.connection.host bytes sv)
+      → Between (of_call x.client_setup cl c) (of_call x.server_setup sv c)
+      → Between (of_call x.client_setup (e ∷ cl) c) (of_call x.server_setup sv c)
+  client-step kind server client_fits server_fits legal served_legal once on came b =
+      let old = client-calls x.client_setup x.connection.host x.connection.epoch cl kind client_fits legal.1 in
+      let moves = (called-turn x.client_setup x.connection.host x.connection.epoch e cl c kind client_fits legal
+      old).moves tt in
+      record {
+        request = sender_step _ _ _ _ (of_call x.server_setup sv c) moves.grows b.request;
+        reply =
+            receiver_step (of_call x.server_setup sv c).said (of_call x.server_setup sv c).shut
+            (Arrives x.client_setup (looks x.client_setup cl) e c)
+            (of_call x.client_setup cl c) (of_call x.client_setup (e ∷ cl) c) moves
+            (λ p arrives. comes e came p arrives) b.reply;
+      }
+    where
+      comes : (e : Event) → Came x.client_setup (looks x.client_setup cl) x.connection e
+          (λ bytes. Gave x.connection.host bytes sv) → (p : Packet)
+          → Arrives x.client_setup (looks x.client_setup cl) e c p
+          → IsAt (of_call x.server_setup sv c).said (of_call x.server_setup sv c).shut p.seq p.piece
+      comes (events.Taken from bytes tooks.Kept) came p a =
+          let at : connection_of (named x.client_setup from a.message) ≡ x.connection = ap connection_of a.named_is
+          ∙ on in
+          let gave = came a.message a.payload a.reads a.body a.front at in
+          let name : named x.server_setup x.connection.host a.message ≡ c =
+          server-name x.server_setup x.connection.host a.message server
+          ∙ sym (client-name x.client_setup x.connection from a.message kind) ∙ a.named_is in
+          subst (λ (q : Packet). IsAt (of_call x.server_setup sv c).said
+          (of_call x.server_setup sv c).shut q.seq q.piece) (sym a.packet)
+          (given-says x.server_setup sv c x.connection.host bytes a.message a.payload server_fits served_legal
+          (server-grown x.server_setup sv c server server_fits served_legal once) a.reads a.body name gave)
+      comes _ came p a = absurd a
 
--- an event of the server
-server-step : (x : TwoEnds) (cl sv : List Event) (e : Event) (c : CallName) → x.client_setup.kind
-    ≡ Client x.connection.host x.connection.epoch
-    → IsServer x.server_setup.kind → FitsSetup x.client_setup → FitsSetup x.server_setup → Legal x.client_setup cl
-    → Legal x.server_setup (e ∷ sv)
-    → StartsOnce x.server_setup (e ∷ sv) c → connection_of c ≡ x.connection
-    → DataCame x.server_setup (looks x.server_setup sv) x.connection e (λ bytes. Gave x.server_host bytes cl)
-    → Between (of_call x.client_setup cl c) (of_call x.server_setup sv c)
-    → Between (of_call x.client_setup cl c) (of_call x.server_setup (e ∷ sv) c)
-server-step x cl sv e c kind server client_fits server_fits called_legal legal once on came b =
-    let old = server-serves x.server_setup sv c server server_fits legal.1 once.1 in
-    let moves = (served-turn x.server_setup e sv c server server_fits legal once old).moves tt in
-    record {
-      request =
-          receiver_step (of_call x.client_setup cl c).said (of_call x.client_setup cl c).shut
-          (Arrives x.server_setup (looks x.server_setup sv) e c)
-          (of_call x.server_setup sv c) (of_call x.server_setup (e ∷ sv) c) moves
-          (λ p arrives. comes e came p arrives) b.request;
-      reply = sender_step _ _ _ _ (of_call x.client_setup cl c) moves.grows b.reply;
-    }
-  where
-    comes : (e : Event) → DataCame x.server_setup (looks x.server_setup sv) x.connection e
-        (λ bytes. Gave x.server_host bytes cl) → (p : Packet)
-        → Arrives x.server_setup (looks x.server_setup sv) e c p
-        → IsAt (of_call x.client_setup cl c).said (of_call x.client_setup cl c).shut p.seq p.piece
-    comes (events.Taken from bytes tooks.Kept) came p a =
-        let at : connection_of (named x.server_setup from a.message) ≡ x.connection = ap connection_of a.named_is
-        ∙ on in
-        let gave = came a.message a.payload a.reads a.body a.front at in
-        let own : named x.server_setup from a.message
-        ≡ name_of from a.message = server-name x.server_setup from a.message server in
-        let host : from ≡ x.connection.host = ap (λ (n : CallName). n.host) (sym own)
-        ∙ ap (λ (y : Connection). y.host) at in
-        let name : named x.client_setup x.server_host a.message ≡ c =
-        client-name x.client_setup x.connection x.server_host a.message kind
-        ∙ ap (λ (q : Host). name_of q a.message) (sym host) ∙ sym own ∙ a.named_is in
-        subst (λ (q : Packet). IsAt (of_call x.client_setup cl c).said
-        (of_call x.client_setup cl c).shut q.seq q.piece) (sym a.packet)
-        (given-says x.client_setup cl c x.server_host bytes a.message a.payload client_fits called_legal
-        (client-grown x.client_setup x.connection.host x.connection.epoch cl c kind client_fits called_legal) a.reads
-        a.body name gave)
-    comes _ came p a = absurd a
+  -- an event of the server
+  server-step : x.client_setup.kind ≡ Client x.connection.host x.connection.epoch → IsServer x.server_setup.kind
+      → FitsSetup x.client_setup → FitsSetup x.server_setup → Legal x.client_setup cl → Legal x.server_setup (e ∷ sv)
+      → StartsOnce x.server_setup (e ∷ sv) c → connection_of c ≡ x.connection
+      → DataCame x.server_setup (looks x.server_setup sv) x.connection e (λ bytes. Gave x.server_host bytes cl)
+      → Between (of_call x.client_setup cl c) (of_call x.server_setup sv c)
+      → Between (of_call x.client_setup cl c) (of_call x.server_setup (e ∷ sv) c)
+  server-step kind server client_fits server_fits called_legal legal once on came b =
+      let old = server-serves x.server_setup sv c server server_fits legal.1 once.1 in
+      let moves = (served-turn x.server_setup e sv c server server_fits legal once old).moves tt in
+      record {
+        request =
+            receiver_step (of_call x.client_setup cl c).said (of_call x.client_setup cl c).shut
+            (Arrives x.server_setup (looks x.server_setup sv) e c)
+            (of_call x.server_setup sv c) (of_call x.server_setup (e ∷ sv) c) moves
+            (λ p arrives. comes e came p arrives) b.request;
+        reply = sender_step _ _ _ _ (of_call x.client_setup cl c) moves.grows b.reply;
+      }
+    where
+      comes : (e : Event) → DataCame x.server_setup (looks x.server_setup sv) x.connection e
+          (λ bytes. Gave x.server_host bytes cl) → (p : Packet)
+          → Arrives x.server_setup (looks x.server_setup sv) e c p
+          → IsAt (of_call x.client_setup cl c).said (of_call x.client_setup cl c).shut p.seq p.piece
+      comes (events.Taken from bytes tooks.Kept) came p a =
+          let at : connection_of (named x.server_setup from a.message) ≡ x.connection = ap connection_of a.named_is
+          ∙ on in
+          let gave = came a.message a.payload a.reads a.body a.front at in
+          let own : named x.server_setup from a.message
+          ≡ name_of from a.message = server-name x.server_setup from a.message server in
+          let host : from ≡ x.connection.host = ap (λ (n : CallName). n.host) (sym own)
+          ∙ ap (λ (y : Connection). y.host) at in
+          let name : named x.client_setup x.server_host a.message ≡ c =
+          client-name x.client_setup x.connection x.server_host a.message kind
+          ∙ ap (λ (q : Host). name_of q a.message) (sym host) ∙ sym own ∙ a.named_is in
+          subst (λ (q : Packet). IsAt (of_call x.client_setup cl c).said
+          (of_call x.client_setup cl c).shut q.seq q.piece) (sym a.packet)
+          (given-says x.client_setup cl c x.server_host bytes a.message a.payload client_fits called_legal
+          (client-grown x.client_setup x.connection.host x.connection.epoch cl c kind client_fits called_legal) a.reads
+          a.body name gave)
+      comes _ came p a = absurd a
 
 -- an event at one of the ends, at the other, or at neither
 step : (x : TwoEnds) (cl sv : List Event) (e : Event) (at_c at_s : Bool) (c : CallName)

@@ -122,18 +122,18 @@ there-is : (o : Option ℕ) → is_some o ≡ true → (t : ℕ) × (o ≡ Some 
 there-is None is = absurd cc
 there-is (Some t) is = (t, refl)
 
--- DATA of a call that has begun comes soon after its last use
-pub soon : (x : TwoEnds) (c : CallName) (h : List Noted) (lc ls : Looks) (now : ℕ) (bytes : List ℕ) (m : Message)
-    (payload : List ℕ)
-    (k : Timed x c h lc ls now) → is_some (call_at ls c) ≡ true
-    → GaveLately x.server x.client x.server_host bytes now h → reading_of bytes ≡ Ok m
-    → m.body ≡ bodies.Chunk payload → named x.client_setup x.server_host m ≡ c → now < k.used + 312000
-soon x c h lc ls now bytes m payload k there gave reads chunk name =
-    let g = k.gave bytes m payload now gave reads chunk name in
-    let t = there-is (heard_at lc c) g.0 in
-    let late = g.1 in
-    let start = (k.begun there).1 in
-    (elim (k.since t.0 t.1).1 as (λ t. now < k.used + 312000) [
-      | inl first ↦ omega arith
-      | inr again ↦ omega arith
-    ])
+module _ (x : TwoEnds) (c : CallName) (h : List Noted) (lc ls : Looks) (now : ℕ) (bytes : List ℕ) (m : Message)
+    (payload : List ℕ) (k : Timed x c h lc ls now) where
+  -- DATA of a call that has begun comes soon after its last use
+  pub soon : is_some (call_at ls c) ≡ true → GaveLately x.server x.client x.server_host bytes now h
+      → reading_of bytes ≡ Ok m → m.body ≡ bodies.Chunk payload → named x.client_setup x.server_host m ≡ c
+      → now < k.used + 312000
+  soon there gave reads chunk name =
+      let g = k.gave bytes m payload now gave reads chunk name in
+      let t = there-is (heard_at lc c) g.0 in
+      let late = g.1 in
+      let start = (k.begun there).1 in
+      (elim (k.since t.0 t.1).1 as (λ t. now < k.used + 312000) [
+        | inl first ↦ omega arith
+        | inr again ↦ omega arith
+      ])

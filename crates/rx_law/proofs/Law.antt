@@ -147,26 +147,25 @@ ended-by (ends.Cancelled code) x c (events.Cancelled d told (Ok done)) cl sv kin
 ended-by (ends.Cancelled code) x c (events.Cancelled d told (Err closed)) cl sv kind on came w = absurd w
 ended-by (ends.Cancelled code) x c _ cl sv kind on came w = absurd w
 
-ends-step : (x : TwoEnds) (cl sv : List Event) (e : Event) (at_c at_s : Bool) (c : CallName)
-    → (at_c ≡ true → at_s ≡ true → ⊥)
-    → x.client_setup.kind ≡ Client x.connection.host x.connection.epoch → FitsSetup x.client_setup
-    → Legal x.client_setup (cond at_c (e ∷ cl) cl)
-    → connection_of c ≡ x.connection
-    → (at_c ≡ true → Came x.client_setup (looks x.client_setup cl) x.connection e
-    (λ bytes. Gave x.connection.host bytes sv))
-    → ((end : End) → end_by (call_at (looks x.client_setup cl) c) ≡ Some end → Stood end x c cl sv)
-    → (end : End) → end_by (call_at (looks x.client_setup (cond at_c (e ∷ cl) cl)) c) ≡ Some end
-    → Stood end x c (cond at_c (e ∷ cl) cl) (cond at_s (e ∷ sv) sv)
-ends-step x cl sv e true true c apart kind fits legal on came old end is = absurd (apart refl refl)
-ends-step x cl sv e false false c apart kind fits legal on came old end is = old end is
-ends-step x cl sv e false true c apart kind fits legal on came old end is = stands-server end x c e cl sv (old end is)
-ends-step x cl sv e true false c apart kind fits legal on came old end is =
-    let calls = client-calls x.client_setup x.connection.host x.connection.epoch cl kind fits legal.1 in
-    let turn = called-turn x.client_setup x.connection.host x.connection.epoch e cl c kind fits legal calls in
-    (elim (turn.ends tt end is) as (λ t. Stood end x c (e ∷ cl) sv) [
-      | inl before ↦ stands-client end x c e cl sv (old end before)
-      | inr now ↦ ended-by end x c e cl sv kind on (came refl) now
-    ])
+module _ (x : TwoEnds) (cl sv : List Event) (e : Event) where
+  ends-step : (at_c at_s : Bool) (c : CallName) → (at_c ≡ true → at_s ≡ true → ⊥)
+      → x.client_setup.kind ≡ Client x.connection.host x.connection.epoch → FitsSetup x.client_setup
+      → Legal x.client_setup (cond at_c (e ∷ cl) cl) → connection_of c ≡ x.connection
+      → (at_c ≡ true → Came x.client_setup (looks x.client_setup cl) x.connection e
+      (λ bytes. Gave x.connection.host bytes sv))
+      → ((end : End) → end_by (call_at (looks x.client_setup cl) c) ≡ Some end → Stood end x c cl sv) → (end : End)
+      → end_by (call_at (looks x.client_setup (cond at_c (e ∷ cl) cl)) c) ≡ Some end
+      → Stood end x c (cond at_c (e ∷ cl) cl) (cond at_s (e ∷ sv) sv)
+  ends-step true true c apart kind fits legal on came old end is = absurd (apart refl refl)
+  ends-step false false c apart kind fits legal on came old end is = old end is
+  ends-step false true c apart kind fits legal on came old end is = stands-server end x c e cl sv (old end is)
+  ends-step true false c apart kind fits legal on came old end is =
+      let calls = client-calls x.client_setup x.connection.host x.connection.epoch cl kind fits legal.1 in
+      let turn = called-turn x.client_setup x.connection.host x.connection.epoch e cl c kind fits legal calls in
+      (elim (turn.ends tt end is) as (λ t. Stood end x c (e ∷ cl) sv) [
+        | inl before ↦ stands-client end x c e cl sv (old end before)
+        | inr now ↦ ended-by end x c e cl sv kind on (came refl) now
+      ])
 
 stood : (x : TwoEnds) (h : List Noted) (c : CallName) → Fed x h → connection_of c ≡ x.connection → (end : End)
     → end_at (at_client x h) c ≡ Some end

@@ -71,16 +71,16 @@ judged-behind s (Some row) from bytes m got l c u server answer reads front fits
 judged-behind s None from bytes m got l c u server answer reads front fits new old =
     judged-with s l from bytes got m c u server answer reads front fits new old
 
-judged-message : (s : Setup) (from : Host) (bytes : List ℕ) (reading : Result Message BadMsg) (got : Took) (l : Looks)
-    (c : CallName) (u : ℕ)
-    → IsServer s.kind → IsBytes bytes → got ≡ took_reading s l from reading → reading_of bytes ≡ reading
-    → AsksNew s l (events.Taken from bytes got) c → Recalls l c u
-    → Judged s l (taken_message s from reading got l) from bytes got c u
-judged-message s from bytes (Err bad) got l c u server is_bytes answer reads new old =
-    judged-keeps s l l from bytes got c u (keeps-refl c l) (firm-same c l l refl refl) old
-judged-message s from bytes (Ok m) got l c u server is_bytes answer reads new old =
-    judged-behind s (outer_row s s.kind l from m) from bytes m got l c u server answer reads refl
-    (spelled bytes m is_bytes reads).fits.number new old
+module _ (s : Setup) (from : Host) (bytes : List ℕ) where
+  judged-message : (reading : Result Message BadMsg) (got : Took) (l : Looks) (c : CallName) (u : ℕ) → IsServer s.kind
+      → IsBytes bytes → got ≡ took_reading s l from reading → reading_of bytes ≡ reading
+      → AsksNew s l (events.Taken from bytes got) c → Recalls l c u
+      → Judged s l (taken_message s from reading got l) from bytes got c u
+  judged-message (Err bad) got l c u server is_bytes answer reads new old =
+      judged-keeps s l l from bytes got c u (keeps-refl c l) (firm-same c l l refl refl) old
+  judged-message (Ok m) got l c u server is_bytes answer reads new old =
+      judged-behind s (outer_row s s.kind l from m) from bytes m got l c u server answer reads refl
+      (spelled bytes m is_bytes reads).fits.number new old
 
 -- ---- each event
 
@@ -146,20 +146,19 @@ server-next s l (events.Cancelled d code got) c u server allowed conns some new 
 
 -- ---- a start
 
--- where no DATA asks for a call that is there, none starts it
-pub starts-by : (s : Setup) (l : Looks) (from : Host) (bytes : List ℕ) (got : Took) (c : CallName) (u : ℕ)
-    → IsServer s.kind → IsBytes bytes
-    → got ≡ took_of s l from bytes → enters got ≡ true → AsksNew s l (events.Taken from bytes got) c → Recalls l c u
-    → StartsBy s l from bytes c got
-starts-by s l from bytes got c u server is_bytes is enter new old = λ m reads front name above. (
-    let answer : got ≡ took_reading s l from (Ok m) = is ∙ ap (took_reading s l from) reads in
-    let fits = (spelled bytes m is_bytes reads).fits.number in
-    let ready : nat_lt (channel_at (prepared s got (connection_of (named s from m)) l) (channel_of c)).number c.number
-    ≡ true =
-    subst (λ (n : CallName). nat_lt (channel_at (prepared s got (connection_of n) l) (channel_of c)).number c.number
-    ≡ true) (sym name) above in
-    let before = above-before s l from bytes got m c u server answer reads front fits new old name ready in
-    new (asked s l from bytes got m c u server answer reads front fits new old name enter before) before)
+module _ (s : Setup) (l : Looks) (from : Host) (bytes : List ℕ) (got : Took) (c : CallName) (u : ℕ) where
+  -- where no DATA asks for a call that is there, none starts it
+  pub starts-by : IsServer s.kind → IsBytes bytes → got ≡ took_of s l from bytes → enters got ≡ true
+      → AsksNew s l (events.Taken from bytes got) c → Recalls l c u → StartsBy s l from bytes c got
+  starts-by server is_bytes is enter new old = λ m reads front name above. (
+      let answer : got ≡ took_reading s l from (Ok m) = is ∙ ap (took_reading s l from) reads in
+      let fits = (spelled bytes m is_bytes reads).fits.number in
+      let ready : nat_lt (channel_at (prepared s got (connection_of (named s from m)) l) (channel_of c)).number c.number
+      ≡ true =
+      subst (λ (n : CallName). nat_lt (channel_at (prepared s got (connection_of n) l) (channel_of c)).number c.number
+      ≡ true) (sym name) above in
+      let before = above-before s l from bytes got m c u server answer reads front fits new old name ready in
+      new (asked s l from bytes got m c u server answer reads front fits new old name enter before) before)
 
 -- with any event
 pub starts-new : (s : Setup) (l : Looks) (e : Event) (c : CallName) (u : ℕ) → IsServer s.kind → AllowedServer s l e

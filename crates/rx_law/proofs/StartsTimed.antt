@@ -61,61 +61,60 @@ clients : (s : Setup) (host : Host) (epoch : ℕ) (l : Looks) (e : Event) → s.
     → AllowedAt s.kind s l e → AllowedClient s host epoch l e
 clients s host epoch l e kind allowed = subst (λ (k : Kind). AllowedAt k s l e) kind allowed
 
--- an event of neither end
-neither-timed : (x : TwoEnds) (c : CallName) (e : Noted) (h : List Noted) → (e.node == x.client) ≡ false
-    → (e.node == x.server) ≡ false
-    → TimedAt x c h → Timed x c (e ∷ h) (at_client x h) (at_server x h) (moment x.server h)
-neither-timed x c e h out away k =
-    record {
-      used = k.used;
-      called = k.called;
-      heard = k.heard;
-      recalls = k.recalls;
-      called_before = k.called_before;
-      heard_before = k.heard_before;
-      since = λ t is. (let s = k.since t is in (inr s.0, s.1));
-      begun = k.begun;
-      gave = λ bytes m payload at gave reads chunk name. (
-          elim gave as (λ g. (is_some (heard_at (at_client x h) c) ≡ true) × (suc at ≤ k.heard + 192000)) [
-            | inl g ↦ absurd (not-here e.node x.client g.node_is out)
-            | inr before ↦ k.gave bytes m payload at before reads chunk name
-          ]);
-      told = λ bytes m at gave reads name. (
-          elim gave as (λ g. suc at ≤ k.used + LIFETIME_MS) [
-            | inl g ↦ absurd (not-here e.node x.server g.node_is away)
-            | inr before ↦ k.told bytes m at before reads name
-          ]);
-    }
-  where
-    not-here : (a b : ℕ) → a ≡ b → (a == b) ≡ false → ⊥
-    not-here a b is out = (let same : (a == b) ≡ true = rw is (number_itself b) in absurd (cc (same, out)))
+module _ (x : TwoEnds) (c : CallName) (e : Noted) (h : List Noted) where
+  -- an event of neither end
+  neither-timed : (e.node == x.client) ≡ false → (e.node == x.server) ≡ false → TimedAt x c h
+      → Timed x c (e ∷ h) (at_client x h) (at_server x h) (moment x.server h)
+  neither-timed out away k =
+      record {
+        used = k.used;
+        called = k.called;
+        heard = k.heard;
+        recalls = k.recalls;
+        called_before = k.called_before;
+        heard_before = k.heard_before;
+        since = λ t is. (let s = k.since t is in (inr s.0, s.1));
+        begun = k.begun;
+        gave = λ bytes m payload at gave reads chunk name. (
+            elim gave as (λ g. (is_some (heard_at (at_client x h) c) ≡ true) × (suc at ≤ k.heard + 192000)) [
+              | inl g ↦ absurd (not-here e.node x.client g.node_is out)
+              | inr before ↦ k.gave bytes m payload at before reads chunk name
+            ]);
+        told = λ bytes m at gave reads name. (
+            elim gave as (λ g. suc at ≤ k.used + LIFETIME_MS) [
+              | inl g ↦ absurd (not-here e.node x.server g.node_is away)
+              | inr before ↦ k.told bytes m at before reads name
+            ]);
+      }
+    where
+      not-here : (a b : ℕ) → a ≡ b → (a == b) ≡ false → ⊥
+      not-here a b is out = (let same : (a == b) ≡ true = rw is (number_itself b) in absurd (cc (same, out)))
 
-step : (x : TwoEnds) (c : CallName) (e : Noted) (h : List Noted) → FedLately x (e ∷ h) → connection_of c ≡ x.connection
-    → 1 ≤ c.number
-    → TimedAt x c h → (at_c at_s : Bool) → (e.node == x.client) ≡ at_c → (e.node == x.server) ≡ at_s
-    → Legal x.client_setup (cond at_c (e.event ∷ side x.client h) (side x.client h))
-    → Legal x.server_setup (cond at_s (e.event ∷ side x.server h) (side x.server h))
-    → Timed x c (e ∷ h) (looks x.client_setup (cond at_c (e.event ∷ side x.client h) (side x.client h)))
-    (looks x.server_setup (cond at_s (e.event ∷ side x.server h) (side x.server h)))
-    (cond at_s (with_clock e.event (moment x.server h)) (moment x.server h))
-step x c e h f on some k true true here there lc ls = absurd (not-both x.client x.server e.node f.apart here there)
-step x c e h f on some k false false here there lc ls = neither-timed x c e h here there k
-step x c e h f on some k true false here there lc ls =
-    let at = same_number e.node x.client here in
-    let old = client-calls x.client_setup x.connection.host x.connection.epoch
-    (side x.client h) f.client_kind f.client_fits lc.1 in
-    client-timed x c on f.client_kind f.server_kind f.apart e h (at_client x h) (at_server x h)
-    (moment x.server h) f.client_fits at
-    (now-side x.client_setup x.client h) refl
-    (clients x.client_setup x.connection.host x.connection.epoch
-    (at_client x h) e.event f.client_kind lc.0) old.standing (old.sound c)
-    (f.late.1 at) f.alike.0 k
-step x c e h f on some k false true here there lc ls =
-    let at = same_number e.node x.server there in
-    server-timed x c on f.client_kind f.server_kind f.apart e h (at_client x h) (at_server x h) (moment x.server h) at
-    (now-side x.server_setup x.server h) refl
-    (served x.server_setup.kind x.server_setup (at_server x h) e.event f.server_kind ls.0)
-    (server-stands x.server_setup (side x.server h) f.server_kind f.server_fits ls.1).conns some (f.late.0 at) k
+  step : FedLately x (e ∷ h) → connection_of c ≡ x.connection → 1 ≤ c.number → TimedAt x c h → (at_c at_s : Bool)
+      → (e.node == x.client) ≡ at_c → (e.node == x.server) ≡ at_s
+      → Legal x.client_setup (cond at_c (e.event ∷ side x.client h) (side x.client h))
+      → Legal x.server_setup (cond at_s (e.event ∷ side x.server h) (side x.server h))
+      → Timed x c (e ∷ h) (looks x.client_setup (cond at_c (e.event ∷ side x.client h) (side x.client h)))
+      (looks x.server_setup (cond at_s (e.event ∷ side x.server h) (side x.server h)))
+      (cond at_s (with_clock e.event (moment x.server h)) (moment x.server h))
+  step f on some k true true here there lc ls = absurd (not-both x.client x.server e.node f.apart here there)
+  step f on some k false false here there lc ls = neither-timed here there k
+  step f on some k true false here there lc ls =
+      let at = same_number e.node x.client here in
+      let old = client-calls x.client_setup x.connection.host x.connection.epoch
+      (side x.client h) f.client_kind f.client_fits lc.1 in
+      client-timed x c on f.client_kind f.server_kind f.apart e h (at_client x h) (at_server x h)
+      (moment x.server h) f.client_fits at
+      (now-side x.client_setup x.client h) refl
+      (clients x.client_setup x.connection.host x.connection.epoch
+      (at_client x h) e.event f.client_kind lc.0) old.standing (old.sound c)
+      (f.late.1 at) f.alike.0 k
+  step f on some k false true here there lc ls =
+      let at = same_number e.node x.server there in
+      server-timed x c on f.client_kind f.server_kind f.apart e h (at_client x h) (at_server x h) (moment x.server h) at
+      (now-side x.server_setup x.server h) refl
+      (served x.server_setup.kind x.server_setup (at_server x h) e.event f.server_kind ls.0)
+      (server-stands x.server_setup (side x.server h) f.server_kind f.server_fits ls.1).conns some (f.late.0 at) k
 
 -- a call with a number, whose times hold
 pub timed : (x : TwoEnds) (h : List Noted) (c : CallName) → FedLately x h → connection_of c ≡ x.connection

@@ -62,22 +62,22 @@ clients_at (suc (suc (suc zero))) some low = record { more = 4 ∷ []; are = ref
 clients_at (suc (suc (suc (suc zero)))) some low = record { more = []; are = refl }
 clients_at (suc (suc (suc (suc (suc k))))) some low = absurd (omega (arith, low))
 
--- the load ended in that of a client
-pub client_stops : {A : Type 0} (part : ℕ → A → Part A) (k : ℕ) (old mid new : A → Type 0)
-    (r : Result (Unit {0}) Stop) (stop : Stop) (a b c : Told) → 1 ≤ k → k < 5
-    → PlaysOn (each part (drop 1 (below k))) old mid None a b → PlaysOn (part k) mid new (Some stop) b c
-    → IsErr r × IsErrAnd r (λ why. why ≡ stop) → PlaysOn (each part clients) old new (stop_of r) a c
-client_stops part k old mid new r stop a b c some low before next err =
-    (let here : At clients (drop 1 (below k)) k = clients_at k some low in
-    subst (λ o. PlaysOn (each part clients) old new o a c) (sym (stop_is r stop err))
-    (subst (λ xs. PlaysOn (each part xs) old new (Some stop) a c) (sym here.are)
-    (on_stops part (drop 1 (below k)) here.more k old mid new stop a b c before next)))
+module _ {A : Type 0} (part : ℕ → A → Part A) (k : ℕ) (old : A → Type 0) where
+  -- the load ended in that of a client
+  pub client_stops : (mid new : A → Type 0) (r : Result (Unit {0}) Stop) (stop : Stop) (a b c : Told) → 1 ≤ k → k < 5
+      → PlaysOn (each part (drop 1 (below k))) old mid None a b → PlaysOn (part k) mid new (Some stop) b c
+      → IsErr r × IsErrAnd r (λ why. why ≡ stop) → PlaysOn (each part clients) old new (stop_of r) a c
+  client_stops mid new r stop a b c some low before next err =
+      (let here : At clients (drop 1 (below k)) k = clients_at k some low in
+      subst (λ o. PlaysOn (each part clients) old new o a c) (sym (stop_is r stop err))
+      (subst (λ xs. PlaysOn (each part xs) old new (Some stop) a c) (sym here.are)
+      (on_stops part (drop 1 (below k)) here.more k old mid new stop a b c before next)))
 
--- that of each was made
-pub clients_made : {A : Type 0} (part : ℕ → A → Part A) (k : ℕ) (old new : A → Type 0) (a b : Told) → k ≡ 5
-    → PlaysOn (each part (drop 1 (below k))) old new None a b → PlaysOn (each part clients) old new None a b
-clients_made part k old new a b all made =
-    subst (λ n. PlaysOn (each part (drop 1 (below n))) old new None a b) all made
+  -- that of each was made
+  pub clients_made : (new : A → Type 0) (a b : Told) → k ≡ 5 → PlaysOn (each part (drop 1 (below k))) old new None a b
+      → PlaysOn (each part clients) old new None a b
+  clients_made new a b all made =
+      subst (λ n. PlaysOn (each part (drop 1 (below n))) old new None a b) all made
 
 -- ---- connections
 
@@ -151,19 +151,20 @@ lossy_polls w new m first given r stop a b none polled err l shown =
     (ran_stops (polls l.net.stage) (λ p. rest_of l p.given p.stage) (ShowsGiven m given) (ShowsLoad new) stop a b
     (polled (record { stage = l.net.stage; given = [] }) (shown.net.0, sym none)))
 
--- behind them
-pub lossy_stops : (w new : Loading) (m n : WorldState) (words : Lcg) (kept first given : List Datagram)
-    (r : Result (Unit {0}) Stop) (stop : Stop) (a b c : Told) → first ≡ []
-    → PlaysGiven (λ p. each polls_out (clients_first p.stage) p) w.world first m given None a b
-    → PlaysCarried (carries load_handlers w.words w.held.items given) m n words kept (Some stop) b c
-    → IsErr r × IsErrAnd r (λ why. why ≡ stop) → PlaysLoad lossy_with w new (stop_of r) a c
-lossy_stops w new m n words kept first given r stop a b c none polled carried err =
-    subst (λ o. PlaysLoad lossy_with w new o a c) (sym (stop_is r stop err))
-    (polled_then w new m first given (Some stop) a b c none polled
-    (λ l s shown there.
-    ran_ended (carries load_handlers l.net.words l.net.held given s) (λ net. ends (To (behind l given net)))
-    (ShowsLossy n words kept) (ShowsLoad new) stop b c
-    (carried_shown w l given s (ShowsLossy n words kept) (Some stop) b c shown (carried s there))))
+module _ (w new : Loading) (m n : WorldState) (words : Lcg) (kept first given : List Datagram)
+    (r : Result (Unit {0}) Stop) (stop : Stop) (a b c : Told) where
+  -- behind them
+  pub lossy_stops : first ≡ []
+      → PlaysGiven (λ p. each polls_out (clients_first p.stage) p) w.world first m given None a b
+      → PlaysCarried (carries load_handlers w.words w.held.items given) m n words kept (Some stop) b c
+      → IsErr r × IsErrAnd r (λ why. why ≡ stop) → PlaysLoad lossy_with w new (stop_of r) a c
+  lossy_stops none polled carried err =
+      subst (λ o. PlaysLoad lossy_with w new o a c) (sym (stop_is r stop err))
+      (polled_then w new m first given (Some stop) a b c none polled
+      (λ l s shown there.
+      ran_ended (carries load_handlers l.net.words l.net.held given s) (λ net. ends (To (behind l given net)))
+      (ShowsLossy n words kept) (ShowsLoad new) stop b c
+      (carried_shown w l given s (ShowsLossy n words kept) (Some stop) b c shown (carried s there))))
 
 -- it was made
 pub lossy_made : (w new : Loading) (m : WorldState) (first given : List Datagram) (a b c : Told) → first ≡ []
@@ -185,14 +186,15 @@ lossy_made w new m first given a b c none polled carried left =
           ∙ (ap (λ t. tallied (fated w.words given) t) shown.tally ∙ sym left.tally);
     }))
 
--- by the handlers of a load
-pub carried_by : (hs : List Answering → Handlers) (now old its : List Answering) (m new : WorldState) (words last : Lcg)
-    (held kept given : List Datagram) (stop : Option Stop) (a b : Told) → now ≡ old → old ≡ its
-    → hs its ≡ load_handlers → PlaysCarried (carries (hs now) words held given) m new last kept stop a b
-    → PlaysCarried (carries load_handlers words held given) m new last kept stop a b
-carried_by hs now old its m new words last held kept given stop a b same is handlers plays =
-    subst (λ (g : Handlers). PlaysCarried (carries g words held given) m new last kept stop a b)
-    (ap hs (same ∙ is) ∙ handlers) plays
+module _ (hs : List Answering → Handlers) (now old its : List Answering) (m new : WorldState) (words last : Lcg)
+    (held kept given : List Datagram) (stop : Option Stop) (a b : Told) where
+  -- by the handlers of a load
+  pub carried_by : now ≡ old → old ≡ its → hs its ≡ load_handlers
+      → PlaysCarried (carries (hs now) words held given) m new last kept stop a b
+      → PlaysCarried (carries load_handlers words held given) m new last kept stop a b
+  carried_by same is handlers plays =
+      subst (λ (g : Handlers). PlaysCarried (carries g words held given) m new last kept stop a b)
+      (ap hs (same ∙ is) ∙ handlers) plays
 
 -- ---- rounds
 
@@ -211,13 +213,13 @@ onward_none calls most w t new stop c rest =
 abbrev choice : ℕ → ℕ → Load → Bool → Part Load
 choice calls n l ended = by_test ended (ends (To l)) (Then (load_round calls l) (load_rounds calls n))
 
--- the rounds that are left, one of which was made
-more : (calls n : ℕ) (w m new : Loading) (ended : Bool) (stop : Option Stop) (a b c : Told)
-    → Loads w (λ l. ended ≡ all_ended calls l) → ended ≡ false → PlaysLoad (load_round calls) w m None a b
-    → PlaysLoad (load_rounds calls n) m new stop b c → PlaysLoad (load_rounds calls (suc n)) w new stop a c
-more calls n w m new ended stop a b c exact yet made rest l shown =
-    subst (λ v. Ran (choice calls n l v) (ShowsLoad new) stop a c) (sym (sym (exact l shown) ∙ yet))
-    (ran_then (load_round calls l) (load_rounds calls n) (ShowsLoad m) (ShowsLoad new) stop a b c (made l shown) rest)
+module _ (calls n : ℕ) (w m new : Loading) (ended : Bool) (stop : Option Stop) (a b c : Told) where
+  -- the rounds that are left, one of which was made
+  more : Loads w (λ l. ended ≡ all_ended calls l) → ended ≡ false → PlaysLoad (load_round calls) w m None a b
+      → PlaysLoad (load_rounds calls n) m new stop b c → PlaysLoad (load_rounds calls (suc n)) w new stop a c
+  more exact yet made rest l shown =
+      subst (λ v. Ran (choice calls n l v) (ShowsLoad new) stop a c) (sym (sym (exact l shown) ∙ yet))
+      (ran_then (load_round calls l) (load_rounds calls n) (ShowsLoad m) (ShowsLoad new) stop a b c (made l shown) rest)
 
 -- the load ended in one
 stops : (calls n : ℕ) (w m new : Loading) (ended : Bool) (stop : Stop) (a b : Told)
@@ -235,27 +237,29 @@ over calls (suc n) w ended t exact holds l shown =
     subst (λ v. Ran (choice calls n l v) (ShowsLoad w) None t t) (sym (sym (exact l shown) ∙ holds))
     (ran_to (ShowsLoad w) l t shown)
 
--- one round more
-pub onward_more : (calls most k : ℕ) (w0 w m : Loading) (ended : Bool) (a b c : Told) → k < most
-    → Loads w (λ l. ended ≡ all_ended calls l) → ended ≡ false → PlaysLoad (load_round calls) w m None b c
-    → OnwardLoad (load_rounds calls most) (load_rounds calls (most - k)) w0 w a b
-    → OnwardLoad (load_rounds calls most) (load_rounds calls (most - (k + 1))) w0 m a c
-onward_more calls most k w0 w m ended a b c low exact yet made onward new stop e rest =
-    onward new stop e
-    (subst (λ n. PlaysLoad (load_rounds calls n) w new stop b e) (sym (less_one most k low))
-    (more calls (most - (k + 1)) w m new ended stop b c e exact yet made rest))
+module _ (calls most k : ℕ) (w0 w m : Loading) (ended : Bool) (a b c : Told) where
+  -- one round more
+  pub onward_more : k < most → Loads w (λ l. ended ≡ all_ended calls l) → ended ≡ false
+      → PlaysLoad (load_round calls) w m None b c
+      → OnwardLoad (load_rounds calls most) (load_rounds calls (most - k)) w0 w a b
+      → OnwardLoad (load_rounds calls most) (load_rounds calls (most - (k + 1))) w0 m a c
+  onward_more low exact yet made onward new stop e rest =
+      onward new stop e
+      (subst (λ n. PlaysLoad (load_rounds calls n) w new stop b e) (sym (less_one most k low))
+      (more calls (most - (k + 1)) w m new ended stop b c e exact yet made rest))
 
--- the load ended in a round
-pub onward_stops : (calls most k : ℕ) (w0 w m new : Loading) (ended : Bool) (r : Result (Unit {0}) Stop) (stop : Stop)
-    (a b c : Told) → k < most → Loads w (λ l. ended ≡ all_ended calls l) → ended ≡ false
-    → PlaysLoad (load_round calls) w m (Some stop) b c → IsErr r × IsErrAnd r (λ why. why ≡ stop)
-    → OnwardLoad (load_rounds calls most) (load_rounds calls (most - k)) w0 w a b
-    → PlaysLoad (load_rounds calls most) w0 new (stop_of r) a c
-onward_stops calls most k w0 w m new ended r stop a b c low exact yet made err onward =
-    subst (λ o. PlaysLoad (load_rounds calls most) w0 new o a c) (sym (stop_is r stop err))
-    (onward new (Some stop) c
-    (subst (λ n. PlaysLoad (load_rounds calls n) w new (Some stop) b c) (sym (less_one most k low))
-    (stops calls (most - (k + 1)) w m new ended stop b c exact yet made)))
+module _ (calls most k : ℕ) (w0 w m new : Loading) (ended : Bool) (r : Result (Unit {0}) Stop) (stop : Stop)
+    (a b c : Told) where
+  -- the load ended in a round
+  pub onward_stops : k < most → Loads w (λ l. ended ≡ all_ended calls l) → ended ≡ false
+      → PlaysLoad (load_round calls) w m (Some stop) b c → IsErr r × IsErrAnd r (λ why. why ≡ stop)
+      → OnwardLoad (load_rounds calls most) (load_rounds calls (most - k)) w0 w a b
+      → PlaysLoad (load_rounds calls most) w0 new (stop_of r) a c
+  onward_stops low exact yet made err onward =
+      subst (λ o. PlaysLoad (load_rounds calls most) w0 new o a c) (sym (stop_is r stop err))
+      (onward new (Some stop) c
+      (subst (λ n. PlaysLoad (load_rounds calls n) w new (Some stop) b c) (sym (less_one most k low))
+      (stops calls (most - (k + 1)) w m new ended stop b c exact yet made)))
 
 -- every call ended
 pub onward_over : (calls most k : ℕ) (w0 w : Loading) (ended : Bool) (a b : Told)

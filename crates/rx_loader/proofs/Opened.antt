@@ -47,19 +47,20 @@ pub record IsNext (w : Loading) (client number length : ℕ) (bytes : List ℕ) 
   pub drawn : words ≡ (pcg32 w.words).1
   pub said : bytes ≡ load_request number length
 
--- that call was made
-asked : (client number length : ℕ) (bytes : List ℕ) (words : Lcg) (w : Loading) (m : WorldState) (stop : Option Stop)
-    (a b : Told) → IsNext w client number length bytes words
-    → Plays (at_client client (invokes number 4 bytes)) w.world m stop a b → (l : Load) → ShowsLoad w l
-    → Ran (asks client l) (Shows m) stop a b
-asked client number length bytes words w m stop a b is plays l shown =
-    (let same : number ≡ next_call l.next client = is.at ∙ ap (λ ns. next_call ns client) (sym shown.next) in
-    let bytes_are : bytes ≡ load_request number (body_length (pcg32 l.net.words).0) =
-    is.said ∙ ap (λ k. load_request number k) (is.long ∙ ap (λ g. body_length (pcg32 g).0) (sym shown.net.1)) in
-    subst (λ k. Ran (at_client client (invokes k 4 (load_request k (body_length (pcg32 l.net.words).0))) l.net.stage)
-    (Shows m) stop a b) same
-    (subst (λ bs. Ran (at_client client (invokes number 4 bs) l.net.stage) (Shows m) stop a b) bytes_are
-    (plays l.net.stage shown.net.0)))
+module _ (client number length : ℕ) (bytes : List ℕ) (words : Lcg) (w : Loading) (m : WorldState) (stop : Option Stop)
+    (a b : Told) where
+  -- that call was made
+  asked : IsNext w client number length bytes words
+      → Plays (at_client client (invokes number 4 bytes)) w.world m stop a b → (l : Load) → ShowsLoad w l
+      → Ran (asks client l) (Shows m) stop a b
+  asked is plays l shown =
+      (let same : number ≡ next_call l.next client = is.at ∙ ap (λ ns. next_call ns client) (sym shown.next) in
+      let bytes_are : bytes ≡ load_request number (body_length (pcg32 l.net.words).0) =
+      is.said ∙ ap (λ k. load_request number k) (is.long ∙ ap (λ g. body_length (pcg32 g).0) (sym shown.net.1)) in
+      subst (λ k. Ran (at_client client (invokes k 4 (load_request k (body_length (pcg32 l.net.words).0))) l.net.stage)
+      (Shows m) stop a b) same
+      (subst (λ bs. Ran (at_client client (invokes number 4 bs) l.net.stage) (Shows m) stop a b) bytes_are
+      (plays l.net.stage shown.net.0)))
 
 -- the rest of a load, as it is left by a call that was made
 pub record LeftBy (w new : Loading) (client number length : ℕ) (words : Lcg) : Type 0 where
@@ -96,15 +97,16 @@ opened client number length bytes words w new a b is plays left l shown =
       tally = shown.tally ∙ sym left.tally;
     }))
 
--- the load ended in it
-pub opening_stops : (client number length : ℕ) (bytes : List ℕ) (words : Lcg) (w new : Loading) (m : WorldState)
-    (r : Result (Unit {0}) Stop) (stop : Stop) (a b : Told) → IsNext w client number length bytes words
-    → Plays (at_client client (invokes number 4 bytes)) w.world m (Some stop) a b
-    → IsErr r × IsErrAnd r (λ why. why ≡ stop) → PlaysLoad (opens client) w new (stop_of r) a b
-opening_stops client number length bytes words w new m r stop a b is plays err l shown =
-    subst (λ o. Ran (opens client l) (ShowsLoad new) o a b) (sym (stop_is r stop err))
-    (ran_ended (asks client l) (λ s. ends (To (behind client l s))) (Shows m) (ShowsLoad new) stop a b
-    (asked client number length bytes words w m (Some stop) a b is plays l shown))
+module _ (client number length : ℕ) (bytes : List ℕ) (words : Lcg) (w new : Loading) (m : WorldState)
+    (r : Result (Unit {0}) Stop) (stop : Stop) (a b : Told) where
+  -- the load ended in it
+  pub opening_stops : IsNext w client number length bytes words
+      → Plays (at_client client (invokes number 4 bytes)) w.world m (Some stop) a b
+      → IsErr r × IsErrAnd r (λ why. why ≡ stop) → PlaysLoad (opens client) w new (stop_of r) a b
+  opening_stops is plays err l shown =
+      subst (λ o. Ran (opens client l) (ShowsLoad new) o a b) (sym (stop_is r stop err))
+      (ran_ended (asks client l) (λ s. ends (To (behind client l s))) (Shows m) (ShowsLoad new) stop a b
+      (asked client number length bytes words w m (Some stop) a b is plays l shown))
 
 -- ---- memory is wanted before it
 
@@ -139,21 +141,22 @@ onward_none calls most client w t new stop c rest =
 abbrev choice : ℕ → ℕ → ℕ → Load → Bool → Part Load
 choice calls n client l may = by_test may (Then (opens client l) (opens_free calls n client)) (ends (To l))
 
--- the calls that are left, one of which was opened
-more : (calls n client : ℕ) (w m new : Loading) (may : Bool) (stop : Option Stop) (a b c : Told)
-    → Loads w (λ l. may ≡ may_open calls client l) → may ≡ true → PlaysLoad (opens client) w m None a b
-    → PlaysLoad (opens_free calls n client) m new stop b c → PlaysLoad (opens_free calls (suc n) client) w new stop a c
-more calls n client w m new may stop a b c exact holds made rest l shown =
-    subst (λ v. Ran (choice calls n client l v) (ShowsLoad new) stop a c) (sym (sym (exact l shown) ∙ holds))
-    (ran_then (opens client l) (opens_free calls n client) (ShowsLoad m) (ShowsLoad new) stop a b c (made l shown) rest)
+module _ (calls n client : ℕ) (w m new : Loading) (may : Bool) where
+  -- the calls that are left, one of which was opened
+  more : (stop : Option Stop) (a b c : Told) → Loads w (λ l. may ≡ may_open calls client l) → may ≡ true
+      → PlaysLoad (opens client) w m None a b → PlaysLoad (opens_free calls n client) m new stop b c
+      → PlaysLoad (opens_free calls (suc n) client) w new stop a c
+  more stop a b c exact holds made rest l shown =
+      subst (λ v. Ran (choice calls n client l v) (ShowsLoad new) stop a c) (sym (sym (exact l shown) ∙ holds))
+      (ran_then (opens client l) (opens_free calls n client) (ShowsLoad m) (ShowsLoad new) stop a b c (made l shown)
+      rest)
 
--- the load ended in one
-stops_at : (calls n client : ℕ) (w m new : Loading) (may : Bool) (stop : Stop) (a b : Told)
-    → Loads w (λ l. may ≡ may_open calls client l) → may ≡ true → PlaysLoad (opens client) w m (Some stop) a b
-    → PlaysLoad (opens_free calls (suc n) client) w new (Some stop) a b
-stops_at calls n client w m new may stop a b exact holds made l shown =
-    subst (λ v. Ran (choice calls n client l v) (ShowsLoad new) (Some stop) a b) (sym (sym (exact l shown) ∙ holds))
-    (ran_stops (opens client l) (opens_free calls n client) (ShowsLoad m) (ShowsLoad new) stop a b (made l shown))
+  -- the load ended in one
+  stops_at : (stop : Stop) (a b : Told) → Loads w (λ l. may ≡ may_open calls client l) → may ≡ true
+      → PlaysLoad (opens client) w m (Some stop) a b → PlaysLoad (opens_free calls (suc n) client) w new (Some stop) a b
+  stops_at stop a b exact holds made l shown =
+      subst (λ v. Ran (choice calls n client l v) (ShowsLoad new) (Some stop) a b) (sym (sym (exact l shown) ∙ holds))
+      (ran_stops (opens client l) (opens_free calls n client) (ShowsLoad m) (ShowsLoad new) stop a b (made l shown))
 
 -- none may be opened
 over : (calls n client : ℕ) (w : Loading) (may : Bool) (t : Told) → Loads w (λ l. may ≡ may_open calls client l)
@@ -163,27 +166,29 @@ over calls (suc n) client w may t exact fails l shown =
     subst (λ v. Ran (choice calls n client l v) (ShowsLoad w) None t t) (sym (sym (exact l shown) ∙ fails))
     (ran_to (ShowsLoad w) l t shown)
 
--- one more was opened
-pub onward_more : (calls most k client : ℕ) (w0 w m : Loading) (may : Bool) (a b c : Told) → k < most
-    → Loads w (λ l. may ≡ may_open calls client l) → may ≡ true → PlaysLoad (opens client) w m None b c
-    → OnwardLoad (opens_free calls most client) (opens_free calls (most - k) client) w0 w a b
-    → OnwardLoad (opens_free calls most client) (opens_free calls (most - (k + 1)) client) w0 m a c
-onward_more calls most k client w0 w m may a b c low exact holds made onward new stop e rest =
-    onward new stop e
-    (subst (λ n. PlaysLoad (opens_free calls n client) w new stop b e) (sym (less_one most k low))
-    (more calls (most - (k + 1)) client w m new may stop b c e exact holds made rest))
+module _ (calls most k client : ℕ) (w0 w m : Loading) (may : Bool) (a b c : Told) where
+  -- one more was opened
+  pub onward_more : k < most → Loads w (λ l. may ≡ may_open calls client l) → may ≡ true
+      → PlaysLoad (opens client) w m None b c
+      → OnwardLoad (opens_free calls most client) (opens_free calls (most - k) client) w0 w a b
+      → OnwardLoad (opens_free calls most client) (opens_free calls (most - (k + 1)) client) w0 m a c
+  onward_more low exact holds made onward new stop e rest =
+      onward new stop e
+      (subst (λ n. PlaysLoad (opens_free calls n client) w new stop b e) (sym (less_one most k low))
+      (more calls (most - (k + 1)) client w m new may stop b c e exact holds made rest))
 
--- the load ended in one
-pub onward_stops : (calls most k client : ℕ) (w0 w m new : Loading) (may : Bool) (r : Result (Unit {0}) Stop)
-    (stop : Stop) (a b c : Told) → k < most → Loads w (λ l. may ≡ may_open calls client l) → may ≡ true
-    → PlaysLoad (opens client) w m (Some stop) b c → IsErr r × IsErrAnd r (λ why. why ≡ stop)
-    → OnwardLoad (opens_free calls most client) (opens_free calls (most - k) client) w0 w a b
-    → PlaysLoad (opens_free calls most client) w0 new (stop_of r) a c
-onward_stops calls most k client w0 w m new may r stop a b c low exact holds made err onward =
-    subst (λ o. PlaysLoad (opens_free calls most client) w0 new o a c) (sym (stop_is r stop err))
-    (onward new (Some stop) c
-    (subst (λ n. PlaysLoad (opens_free calls n client) w new (Some stop) b c) (sym (less_one most k low))
-    (stops_at calls (most - (k + 1)) client w m new may stop b c exact holds made)))
+module _ (calls most k client : ℕ) (w0 w m new : Loading) (may : Bool) (r : Result (Unit {0}) Stop) (stop : Stop)
+    (a b c : Told) where
+  -- the load ended in one
+  pub onward_stops : k < most → Loads w (λ l. may ≡ may_open calls client l) → may ≡ true
+      → PlaysLoad (opens client) w m (Some stop) b c → IsErr r × IsErrAnd r (λ why. why ≡ stop)
+      → OnwardLoad (opens_free calls most client) (opens_free calls (most - k) client) w0 w a b
+      → PlaysLoad (opens_free calls most client) w0 new (stop_of r) a c
+  onward_stops low exact holds made err onward =
+      subst (λ o. PlaysLoad (opens_free calls most client) w0 new o a c) (sym (stop_is r stop err))
+      (onward new (Some stop) c
+      (subst (λ n. PlaysLoad (opens_free calls n client) w new (Some stop) b c) (sym (less_one most k low))
+      (stops_at calls (most - (k + 1)) client w m new may stop b c exact holds made)))
 
 -- none may be opened any more
 pub onward_over : (calls most k client : ℕ) (w0 w : Loading) (may : Bool) (a b : Told)

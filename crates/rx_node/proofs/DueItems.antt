@@ -87,25 +87,25 @@ module _ (s : Setup) (l : Looks) where
 
 -- ---- of a node
 
-pub due_sending : (class : List ℕ → Class) (n : NodeState) (l : Looks) → Mirrors class n l → (key : ℕ) (ch : Channel)
-    → IsChannel l key ch → (end : ℕ) → IsActiveAt n key end → (e : EndsState) → e ≡ n.ends → e.client ≡ is_client n.kind
-    → (o : Option ℕ) → ((k : CallLooks) → StandsEnd e end k → o ≡ call_due e.client k)
-    → OwesAtOnce (setup_of class n) l ch None
-    → AreDueAs (setup_of class n) l (option_map (λ rank. record { rank = rank; key = key; item = kinds.Sending end }) o)
-    (least_by (λ i. i.rank) (channel_items (setup_of class n) (unsilenced l) ch))
-due_sending class n l m key ch at end active e same client o due owes =
-    let its = active_call class n l m key end ch at active in
-    due_sent (setup_of class n) l key ch at end its.call o owes its.latest_is its.active
-    (due its.call.looks (subst (λ (f : EndsState). StandsEnd f end its.call.looks) (sym same) its.stands)
-    ∙ ap (λ (b : Bool). call_due b its.call.looks) client)
+module _ (class : List ℕ → Class) (n : NodeState) (l : Looks) where
+  pub due_sending : Mirrors class n l → (key : ℕ) (ch : Channel) → IsChannel l key ch → (end : ℕ) → IsActiveAt n key end
+      → (e : EndsState) → e ≡ n.ends → e.client ≡ is_client n.kind → (o : Option ℕ)
+      → ((k : CallLooks) → StandsEnd e end k → o ≡ call_due e.client k) → OwesAtOnce (setup_of class n) l ch None
+      → AreDueAs (setup_of class n) l (option_map (λ rank. record { rank = rank; key = key; item = kinds.Sending end })
+      o) (least_by (λ i. i.rank) (channel_items (setup_of class n) (unsilenced l) ch))
+  due_sending m key ch at end active e same client o due owes =
+      let its = active_call class n l m key end ch at active in
+      due_sent (setup_of class n) l key ch at end its.call o owes its.latest_is its.active
+      (due its.call.looks (subst (λ (f : EndsState). StandsEnd f end its.call.looks) (sym same) its.stands)
+      ∙ ap (λ (b : Bool). call_due b its.call.looks) client)
 
--- its call would die then
-pub death_active : (class : List ℕ → Class) (n : NodeState) (l : Looks) → Mirrors class n l → (key : ℕ) (ch : Channel)
-    → IsChannel l key ch → (end : ℕ) → IsActiveAt n key end → (e : EndsState) → e ≡ n.ends → (dies : ℕ)
-    → ((k : CallLooks) → StandsEnd e end k → dies ≡ k.heard + SILENCE_MS) → Some dies ≡ death_of (latest l ch)
-death_active class n l m key ch at end active e same dies is =
-    let its = active_call class n l m key end ch at active in
-    ap (λ (d : ℕ). Some d)
-    (is its.call.looks (subst (λ (f : EndsState). StandsEnd f end its.call.looks) (sym same) its.stands))
-    ∙ sym (ap death_of its.latest_is
-    ∙ ap (λ (b : Bool). if b then Some (its.call.looks.heard + SILENCE_MS) else None) its.active)
+  -- its call would die then
+  pub death_active : Mirrors class n l → (key : ℕ) (ch : Channel) → IsChannel l key ch → (end : ℕ)
+      → IsActiveAt n key end → (e : EndsState) → e ≡ n.ends → (dies : ℕ)
+      → ((k : CallLooks) → StandsEnd e end k → dies ≡ k.heard + SILENCE_MS) → Some dies ≡ death_of (latest l ch)
+  death_active m key ch at end active e same dies is =
+      let its = active_call class n l m key end ch at active in
+      ap (λ (d : ℕ). Some d)
+      (is its.call.looks (subst (λ (f : EndsState). StandsEnd f end its.call.looks) (sym same) its.stands))
+      ∙ sym (ap death_of its.latest_is
+      ∙ ap (λ (b : Bool). if b then Some (its.call.looks.heard + SILENCE_MS) else None) its.active)

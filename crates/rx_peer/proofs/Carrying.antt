@@ -75,24 +75,24 @@ same_other roles.Served roles.Served is = refl
 same_other roles.Caller roles.Served is = absurd cc
 same_other roles.Served roles.Caller is = absurd cc
 
--- what was given at the address of a peer was given by this peer, by the half that gives to the one that it is for
-half_gave : (peers : List PeerNode) (j : ℕ) (q : PeerNode) (h : List Noted) (r : Role) (to : Host) (bytes : List ℕ)
-    (m : Message)
-    → ArePeers peers → AreApart peers → AreLegal peers h → peer_at peers j ≡ Some q → reading_of bytes ≡ Ok m
-    → half_of bytes ≡ other r → GaveAs peers q.host to bytes h → Gave to bytes (half r j h)
-half_gave peers j q h r to bytes m are apart legal there reads is gave =
-    let n = found-and (peer_at peers gave.number) (λ p. p.host ≡ q.host) gave.sender in
-    let number : gave.number ≡ j =
-    if-some (peer_at peers j) q (λ o. n.0.host ≡ o.host → gave.number ≡ j) there
-    (if-some (peer_at peers gave.number) n.0 (λ p. IfSome (peer_at peers j)
-    (λ o. p.host ≡ o.host → gave.number ≡ j)) n.1 (apart gave.number j)) n.2 in
-    let told : half_of bytes ≡ other gave.role =
-    gave_other gave.role n.0 (half gave.role gave.number h) to bytes m
-    (if-some (peer_at peers gave.number) n.0 IsPeer n.1 (are gave.number))
-    (if-some (peer_at peers gave.number) n.0 (λ p. Legal (setup_at gave.role p) (half gave.role gave.number h)) n.1
-    (legal gave.number gave.role)) gave.gave reads in
-    subst (λ (k : ℕ). Gave to bytes (half r k h)) number
-    (subst (λ (o : Role). Gave to bytes (half o gave.number h)) (same_other gave.role r (sym told ∙ is)) gave.gave)
+module _ (peers : List PeerNode) (j : ℕ) (q : PeerNode) (h : List Noted) (r : Role) (to : Host) (bytes : List ℕ)
+    (m : Message) where
+  -- what was given at the address of a peer was given by this peer, by the half that gives to the one that it is for
+  half_gave : ArePeers peers → AreApart peers → AreLegal peers h → peer_at peers j ≡ Some q → reading_of bytes ≡ Ok m
+      → half_of bytes ≡ other r → GaveAs peers q.host to bytes h → Gave to bytes (half r j h)
+  half_gave are apart legal there reads is gave =
+      let n = found-and (peer_at peers gave.number) (λ p. p.host ≡ q.host) gave.sender in
+      let number : gave.number ≡ j =
+      if-some (peer_at peers j) q (λ o. n.0.host ≡ o.host → gave.number ≡ j) there
+      (if-some (peer_at peers gave.number) n.0 (λ p. IfSome (peer_at peers j)
+      (λ o. p.host ≡ o.host → gave.number ≡ j)) n.1 (apart gave.number j)) n.2 in
+      let told : half_of bytes ≡ other gave.role =
+      gave_other gave.role n.0 (half gave.role gave.number h) to bytes m
+      (if-some (peer_at peers gave.number) n.0 IsPeer n.1 (are gave.number))
+      (if-some (peer_at peers gave.number) n.0 (λ p. Legal (setup_at gave.role p) (half gave.role gave.number h)) n.1
+      (legal gave.number gave.role)) gave.gave reads in
+      subst (λ (k : ℕ). Gave to bytes (half r k h)) number
+      (subst (λ (o : Role). Gave to bytes (half o gave.number h)) (same_other gave.role r (sym told ∙ is)) gave.gave)
 
 -- ---- one connection
 

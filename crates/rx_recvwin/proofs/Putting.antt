@@ -68,47 +68,48 @@ put_seen old got hs i slot last bytes t holds fits =
 
 -- ---- the window with it
 
-pub tied_put : (width used front held lead j : ℕ) (hs : List (Option KeptPacket)) (h : KeptPacket) →
-    IsTied width used front held hs → j < length hs → place_at hs j ≡ None → h.size ≤ PAYLOAD_BYTES →
-    suc (used + j) < 2 ^ 32 - 1 → lead ≡ leading (set hs j (Some h)) →
-    IsTied width used (used + lead) (held + 1) (set hs j (Some h))
-tied_put width used front held lead j hs h tied lt none small fits is =
-    let count = count_put hs j h lt none in
-    record {
-      least = tied.least;
-      most = tied.most;
-      seqs = fits_put used hs j (Some h) tied.seqs fits;
-      sizes = sized_put hs j h tied.sizes small;
-      upto = ap (λ n. used + n) is;
-      count = omega (arith, tied.count, count);
-    }
+module _ (width used front held lead j : ℕ) (hs : List (Option KeptPacket)) (h : KeptPacket) where
+  pub tied_put : IsTied width used front held hs → j < length hs → place_at hs j ≡ None → h.size ≤ PAYLOAD_BYTES
+      → suc (used + j) < 2 ^ 32 - 1 → lead ≡ leading (set hs j (Some h))
+      → IsTied width used (used + lead) (held + 1) (set hs j (Some h))
+  tied_put tied lt none small fits is =
+      let count = count_put hs j h lt none in
+      record {
+        least = tied.least;
+        most = tied.most;
+        seqs = fits_put used hs j (Some h) tied.seqs fits;
+        sizes = sized_put hs j h tied.sizes small;
+        upto = ap (λ n. used + n) is;
+        count = omega (arith, tied.count, count);
+      }
 
 -- the window after a packet was put into a place
 abbrev pub with_place : RecvWindow → ℕ → ℕ → KeptPacket → Option ℕ → ℕ → RecvWindow
 with_place w seq j h latest most =
     record w { places = set w.places j (Some h); last = latest; greatest = most; previous = seq }
 
-pub put_window : (old got new : Slots) (w : RecvWindow) (seq slot j : ℕ) (bytes : List ℕ) (last : Bool)
-    (latest : Option ℕ) (most : ℕ) → new ≡ written got slot bytes → Takes old got slot → Holds old (slots_in w.places) →
-    length bytes ≤ PAYLOAD_BYTES → j ≡ seq - suc w.used → latest ≡ cond last (Some seq) w.last →
-    most ≡ max w.greatest seq →
-    window_of new (with_place w seq j (packet_in slot bytes last) latest most)
-    ≡ after_put (as_packet seq bytes last) (window_of old w)
-put_window old got new w seq slot j bytes last latest most is t holds small at l g =
-    let h = packet_in slot bytes last in
-    let piece : Piece = record { payload = bytes; last = last } in
-    let ahead : map (seen_at new) (set w.places j (Some h))
-    ≡ set (map (seen_at old) w.places) (seq - suc w.used) (Some piece) = (
-    ap (λ (pool : Slots). map (seen_at pool) (set w.places j (Some h))) is
-    ∙ put_seen old got w.places j slot last bytes t holds small
-    ∙ ap (λ k. set (map (seen_at old) w.places) k (Some piece)) at) in
-    λ i. record {
-      width = w.width;
-      used = w.used;
-      offset = w.offset;
-      ahead = ahead i;
-      last = l i;
-      greatest = g i;
-      ended = w.ended;
-      previous = seq;
-    }
+module _ (old got new : Slots) (w : RecvWindow) (seq slot j : ℕ) (bytes : List ℕ) (last : Bool) (latest : Option ℕ)
+    (most : ℕ) where
+  pub put_window : new ≡ written got slot bytes → Takes old got slot → Holds old (slots_in w.places)
+      → length bytes ≤ PAYLOAD_BYTES → j ≡ seq - suc w.used → latest ≡ cond last (Some seq) w.last
+      → most ≡ max w.greatest seq
+      → window_of new (with_place w seq j (packet_in slot bytes last) latest most) ≡ after_put
+      (as_packet seq bytes last) (window_of old w)
+  put_window is t holds small at l g =
+      let h = packet_in slot bytes last in
+      let piece : Piece = record { payload = bytes; last = last } in
+      let ahead : map (seen_at new) (set w.places j (Some h))
+      ≡ set (map (seen_at old) w.places) (seq - suc w.used) (Some piece) = (
+      ap (λ (pool : Slots). map (seen_at pool) (set w.places j (Some h))) is
+      ∙ put_seen old got w.places j slot last bytes t holds small
+      ∙ ap (λ k. set (map (seen_at old) w.places) k (Some piece)) at) in
+      λ i. record {
+        width = w.width;
+        used = w.used;
+        offset = w.offset;
+        ahead = ahead i;
+        last = l i;
+        greatest = g i;
+        ended = w.ended;
+        previous = seq;
+      }

@@ -65,36 +65,36 @@ read_near w d bytes s fits left =
       previous = near.previous;
     }
 
-pub first_read : (w new : Window) (d : Received) (n : ℕ) (from old to : List ℕ) → 0 < length old →
-    length to ≡ length old → from ≡ drop w.offset (payload_of (place_at w.ahead 0)) → n
-    ≡ min (length old) (length from) →
-    take n to ≡ take (length old) from →
-    ((d : Received) → Near (record w { offset = w.offset + n }) d → StandsFor new d) → StandsFor w d →
-    FirstRead new d n to
-first_read w new d n from old to room wide is count bytes settled s =
-    let near = s.near in
-    let first = first_is w d near in
-    let here : from ≡ drop w.offset (payload_of (packet_at d.kept (suc w.used))) = (
-    is ∙ ap (λ o. drop w.offset (payload_of o)) first) in
-    let more = first_unread w d near in
-    let whole : unread_of d ≡ from ++ more.0 = more.1 ∙ ap (λ xs. xs ++ more.0) (sym here) in
-    let size : length (unread_of d) ≡ length from + length more.0 = ap length whole ∙ length-append from more.0 in
-    let part : n ≤ length from = omega (arith, count) in
-    let within : n ≤ length (unread_of d) = omega (arith, part, size) in
-    let same : length from ≡ length (drop w.offset (payload_of (packet_at d.kept (suc w.used)))) = ap length here in
-    let fits : n ≤ length to = omega (arith, count, wide) in
-    let given : length (take n to) ≡ n = length-take-le n to fits in
-    let after = read_near w d (take n to) s (omega (arith, part, same, given)) (omega (arith, within, given)) in
-    record {
-      some = record {
-        stands = settled (read_more (take n to) d)
-            (subst (λ m. Near (record w { offset = w.offset + m }) (read_more (take n to) d)) given after);
-        bytes = bytes ∙ fitting from (length old) n count ∙ sym (ap (take n) whole ∙ take-append-le n from more.0 part);
-        most = within;
-        fits = fits;
-      };
-      none = λ e. first_empty w d s (omega (arith, e, count, same, room));
-    }
+module _ (w new : Window) (d : Received) (n : ℕ) (from old to : List ℕ) where
+  pub first_read : 0 < length old → length to ≡ length old → from ≡ drop w.offset (payload_of (place_at w.ahead 0))
+      → n ≡ min (length old) (length from) → take n to ≡ take (length old) from
+      → ((d : Received) → Near (record w { offset = w.offset + n }) d → StandsFor new d) → StandsFor w d
+      → FirstRead new d n to
+  first_read room wide is count bytes settled s =
+      let near = s.near in
+      let first = first_is w d near in
+      let here : from ≡ drop w.offset (payload_of (packet_at d.kept (suc w.used))) = (
+      is ∙ ap (λ o. drop w.offset (payload_of o)) first) in
+      let more = first_unread w d near in
+      let whole : unread_of d ≡ from ++ more.0 = more.1 ∙ ap (λ xs. xs ++ more.0) (sym here) in
+      let size : length (unread_of d) ≡ length from + length more.0 = ap length whole ∙ length-append from more.0 in
+      let part : n ≤ length from = omega (arith, count) in
+      let within : n ≤ length (unread_of d) = omega (arith, part, size) in
+      let same : length from ≡ length (drop w.offset (payload_of (packet_at d.kept (suc w.used)))) = ap length here in
+      let fits : n ≤ length to = omega (arith, count, wide) in
+      let given : length (take n to) ≡ n = length-take-le n to fits in
+      let after = read_near w d (take n to) s (omega (arith, part, same, given)) (omega (arith, within, given)) in
+      record {
+        some = record {
+          stands = settled (read_more (take n to) d)
+              (subst (λ m. Near (record w { offset = w.offset + m }) (read_more (take n to) d)) given after);
+          bytes = bytes ∙ fitting from (length old) n count
+              ∙ sym (ap (take n) whole ∙ take-append-le n from more.0 part);
+          most = within;
+          fits = fits;
+        };
+        none = λ e. first_empty w d s (omega (arith, e, count, same, room));
+      }
 
 -- where nothing of the first packet is unread, none is given, and the window stays what it was
 pub first_none : (w : Window) (d : Received) (from old to : List ℕ) → 0 < length old →

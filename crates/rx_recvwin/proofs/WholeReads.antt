@@ -58,21 +58,21 @@ some_next w new d at n to given rest size is so_far next =
       fits = omega (arith, both, room);
     }
 
-pub some_end : (w new : Window) (d : Received) (room at n : ℕ) (to given rest : List ℕ) → at < room → n ≡ 0 →
-    length given ≡ at → given ≡ take at to → SomeRead w d at to → FirstRead new (read_more (take at to) d) n rest →
-    AllRead new d room at (given ++ rest)
-some_end w new d room at n to given rest less e size is so_far next =
-    let front : length (take at to) ≡ at = sym (ap length is) ∙ size in
-    let behind : unread_of (read_more (take at to) d) ≡ drop at (unread_of d) = (
-    unread_behind d (take at to) ∙ ap (λ m. drop m (unread_of d)) front) in
-    let left : length (drop at (unread_of d)) ≡ 0 = ap length (sym behind ∙ next.none e) in
-    let before = so_far.most in
-    let upto : length (unread_of d) ≤ at = omega (arith, left, length-drop at (unread_of d)) in
-    let some = some_next w new d at n to given rest size is so_far next in
-    record {
-      some = subst (λ m. SomeRead new d m (given ++ rest)) (omega (arith, e)) some;
-      count = omega (arith, upto, before, less);
-    }
+module _ (w new : Window) (d : Received) (room at n : ℕ) (to given rest : List ℕ) where
+  pub some_end : at < room → n ≡ 0 → length given ≡ at → given ≡ take at to → SomeRead w d at to
+      → FirstRead new (read_more (take at to) d) n rest → AllRead new d room at (given ++ rest)
+  some_end less e size is so_far next =
+      let front : length (take at to) ≡ at = sym (ap length is) ∙ size in
+      let behind : unread_of (read_more (take at to) d) ≡ drop at (unread_of d) = (
+      unread_behind d (take at to) ∙ ap (λ m. drop m (unread_of d)) front) in
+      let left : length (drop at (unread_of d)) ≡ 0 = ap length (sym behind ∙ next.none e) in
+      let before = so_far.most in
+      let upto : length (unread_of d) ≤ at = omega (arith, left, length-drop at (unread_of d)) in
+      let some = some_next w new d at n to given rest size is so_far next in
+      record {
+        some = subst (λ m. SomeRead new d m (given ++ rest)) (omega (arith, e)) some;
+        count = omega (arith, upto, before, less);
+      }
 
 pub some_all : (w : Window) (d : Received) (room at : ℕ) (to : List ℕ) → room ≤ at → at ≤ room → SomeRead w d at to →
     AllRead w d room at to

@@ -299,39 +299,37 @@ module _ (x : Ends) (answer : Option (List ℕ)) (ls : Looks) (cs : List Invoked
 
 -- ---- the turn of the one caller
 
-pub says_turn : (x : Ends) (answer : Option (List ℕ)) (ls : Looks) (js : List JobState) (now given used call line a : ℕ)
-    (k : CallLooks) (rest : List ℕ) (phase : Phase) (s t : Stage) → CanSay a k
-    → Two x ls (node_of x (answering_link x answer given used) [] now lives.Calling k)
-    (caller_at call line (caller_with x rest false [] phase) ∷ []) js s
-    → Made turns_all s t
-    → (w : CallerState) × (u : Stage)
-    × Said x answer ls (caller_at call line (caller_with x rest false [] phase) ∷ []) js now given used a k rest w u
-    × (t ≡ record u { callers = caller_at call line w ∷ [] })
-says_turn x answer ls js now given used call line a k rest phase s t can two made =
-    let m = call_to x ls (node_of x (answering_link x answer given used) [] now lives.Calling k) js call line
-    (caller_with x rest false [] phase) s t two
-    made in (
-      m.view,
-      m.stage,
-      says_out x answer ls (caller_at call line (caller_with x rest false [] phase) ∷ []) js now given used
-          (length rest) a k rest
-          s m.stage m.view (omega arith) can (two, m.calls),
-      m.then_,
-    )
+module _ (x : Ends) (answer : Option (List ℕ)) (ls : Looks) (js : List JobState) (now given used call line : ℕ) where
+  pub says_turn : (a : ℕ) (k : CallLooks) (rest : List ℕ) (phase : Phase) (s t : Stage) → CanSay a k
+      → Two x ls (node_of x (answering_link x answer given used) [] now lives.Calling k)
+      (caller_at call line (caller_with x rest false [] phase) ∷ []) js s
+      → Made turns_all s t
+      → (w : CallerState) × (u : Stage) × Said x answer ls (caller_at call line (caller_with x rest false [] phase) ∷
+      []) js now given used a k rest w u × (t ≡ record u { callers = caller_at call line w ∷ [] })
+  says_turn a k rest phase s t can two made =
+      let m = call_to x ls (node_of x (answering_link x answer given used) [] now lives.Calling k) js call line
+      (caller_with x rest false [] phase) s t two
+      made in (
+        m.view,
+        m.stage,
+        says_out x answer ls (caller_at call line (caller_with x rest false [] phase) ∷ []) js now given used
+            (length rest) a k rest
+            s m.stage m.view (omega arith) can (two, m.calls),
+        m.then_,
+      )
 
--- one that shut and reads nothing
-pub waits_turn : (x : Ends) (answer : Option (List ℕ)) (ls : Looks) (js : List JobState) (now given used call line : ℕ)
-    (k : CallLooks) (phase : Phase) (s t : Stage) → k.received ≡ nothing_received
-    → Two x ls (node_of x (answering_link x answer given used) [] now lives.Calling k)
-    (caller_at call line (caller_with x [] true [] phase) ∷ []) js s
-    → Made turns_all s t
-    → Two x ls (node_of x (answering_link x answer given used) [] now lives.Calling k)
-    (caller_at call line (caller_with x [] true [] phases.Resting) ∷ []) js t
-waits_turn x answer ls js now given used call line k phase s t quiet two made =
-    let lc : Looks = node_of x (answering_link x answer given used) [] now lives.Calling k in
-    let cs : List InvokedState = caller_at call line (caller_with x [] true [] phase) ∷ [] in
-    let m = call_to x ls lc js call line (caller_with x [] true [] phase) s t two made in
-    let r = reads_none x answer ls cs js now given used k [] true phases.Offering s m.stage m.view quiet refl
-    (two, m.calls) in
-    two_callers x ls lc cs (caller_at call line (caller_with x [] true [] phases.Resting) ∷ []) js m.stage t
-    (m.then_ ∙ ap (λ (v : CallerState). record m.stage { callers = caller_at call line v ∷ [] }) r.0) r.1
+  -- one that shut and reads nothing
+  pub waits_turn : (k : CallLooks) (phase : Phase) (s t : Stage) → k.received ≡ nothing_received
+      → Two x ls (node_of x (answering_link x answer given used) [] now lives.Calling k)
+      (caller_at call line (caller_with x [] true [] phase) ∷ []) js s
+      → Made turns_all s t
+      → Two x ls (node_of x (answering_link x answer given used) [] now lives.Calling k)
+      (caller_at call line (caller_with x [] true [] phases.Resting) ∷ []) js t
+  waits_turn k phase s t quiet two made =
+      let lc : Looks = node_of x (answering_link x answer given used) [] now lives.Calling k in
+      let cs : List InvokedState = caller_at call line (caller_with x [] true [] phase) ∷ [] in
+      let m = call_to x ls lc js call line (caller_with x [] true [] phase) s t two made in
+      let r = reads_none x answer ls cs js now given used k [] true phases.Offering s m.stage m.view quiet refl
+      (two, m.calls) in
+      two_callers x ls lc cs (caller_at call line (caller_with x [] true [] phases.Resting) ∷ []) js m.stage t
+      (m.then_ ∙ ap (λ (v : CallerState). record m.stage { callers = caller_at call line v ∷ [] }) r.0) r.1

@@ -119,39 +119,42 @@ reads_still now k =
     })
     (le-ltb (used_of k.received) (used_of k.received) (omega arith))
 
-pub turn_still : (x : Ends) (g : Handlers) (lc : Looks) (cs : List InvokedState) (now given used : ℕ) (k : CallLooks)
-    (kept : List ℕ) (s t : Stage) → unread_of k.received ≡ [] → is_complete k.received ≡ false
-    → Two x (server_at x given used now lives.Accepted k) lc cs (record (begun (the_call x)) { request = kept } ∷ []) s
-    → Made (dispatches g) s t
-    → Two x (server_at x given used now lives.Accepted k) lc cs (record (begun (the_call x)) { request = kept } ∷ []) t
-turn_still x g lc cs now given used k kept s t none part two made =
-    let c : CallName = the_call x in
-    let job : JobState = record (begun (the_call x)) { request = kept } in
-    let js : List JobState = job ∷ [] in
-    let ls : Looks = server_at x given used now lives.Accepted k in
-    let d = dispatch_to g s t made in
-    let from : Serves g (accepts js) s d.view d.stage = subst
-    (λ (ks : List JobState). Serves g (accepts ks) s d.view d.stage) two.jobs d.serves in
-    let e = subst (λ (got : Option CallName). Serves_ x g ls lc cs js (accepts js)
-    (events.Accepted got) d.view d.stage) (server_accepts_none x now used given lives.Accepted k refl)
-    (serves_accept x g ls lc cs js (accepts js) d.view s d.stage two refl from) in
-    let v : Turning = serves [] (record { job = job; phase = phases.Moves }) [] in
-    let read : Event = events.HasRead c 4096 (readers.Server served.NotYet) [] in
-    let is : events.HasRead c 4096 (readers.Server (served_read (call_at ls c) 4096).0)
-    (served_read (call_at ls c) 4096).1 ≡ read =
-    ap (λ (o : Option CallRecord). events.HasRead c 4096 (readers.Server (served_read o 4096).0)
-    (served_read o 4096).1) (call_is x (from_server x given used) (c ∷ []) now lives.Accepted k)
-    ∙ ap (λ (r : CallRead × List ℕ). events.HasRead c 4096 (readers.Server (served_read_by lives.Accepted r).0)
-    (served_read_by lives.Accepted r).1)
-    (ap (λ (u : List ℕ). read_from 4096 u (is_complete k.received)) none ∙ ap (read_from 4096 []) part) in
-    let f = subst (λ (h : Event). Serves_ x g ls lc cs js v h d.view d.stage) is
-    (serves_read x g ls lc cs js v d.view e.stage d.stage c e.two refl e.goes) in
-    let two1 : Two x ls lc cs js f.stage = two_as x (after (server_setup x) read ls) lc ls lc cs js f.stage f.stage
-    (server_read x (c ∷ []) now used given 4096 k served.NotYet [] ∙ ap (server_at x given used now lives.Accepted)
-    (reads_still now k)) refl refl f.two in
-    let o = serves_over g (over js) d.view f.stage d.stage refl f.goes in
-    two_jobs x ls lc cs js js d.stage t (d.then_ ∙ ap (λ (w : Turning). record d.stage { jobs = jobs_left w }) o.0)
-    (two_as x ls lc ls lc cs js f.stage d.stage refl refl (sym o.1) two1)
+module _ (x : Ends) (g : Handlers) (lc : Looks) (cs : List InvokedState) (now given used : ℕ) (k : CallLooks)
+    (kept : List ℕ) (s t : Stage) where
+  pub turn_still : unread_of k.received ≡ [] → is_complete k.received ≡ false
+      → Two x (server_at x given used now lives.Accepted k) lc cs (record (begun (the_call x)) { request = kept } ∷ [])
+      s
+      → Made (dispatches g) s t
+      → Two x (server_at x given used now lives.Accepted k) lc cs (record (begun (the_call x)) { request = kept } ∷ [])
+      t
+  turn_still none part two made =
+      let c : CallName = the_call x in
+      let job : JobState = record (begun (the_call x)) { request = kept } in
+      let js : List JobState = job ∷ [] in
+      let ls : Looks = server_at x given used now lives.Accepted k in
+      let d = dispatch_to g s t made in
+      let from : Serves g (accepts js) s d.view d.stage = subst
+      (λ (ks : List JobState). Serves g (accepts ks) s d.view d.stage) two.jobs d.serves in
+      let e = subst (λ (got : Option CallName). Serves_ x g ls lc cs js (accepts js)
+      (events.Accepted got) d.view d.stage) (server_accepts_none x now used given lives.Accepted k refl)
+      (serves_accept x g ls lc cs js (accepts js) d.view s d.stage two refl from) in
+      let v : Turning = serves [] (record { job = job; phase = phases.Moves }) [] in
+      let read : Event = events.HasRead c 4096 (readers.Server served.NotYet) [] in
+      let is : events.HasRead c 4096 (readers.Server (served_read (call_at ls c) 4096).0)
+      (served_read (call_at ls c) 4096).1 ≡ read =
+      ap (λ (o : Option CallRecord). events.HasRead c 4096 (readers.Server (served_read o 4096).0)
+      (served_read o 4096).1) (call_is x (from_server x given used) (c ∷ []) now lives.Accepted k)
+      ∙ ap (λ (r : CallRead × List ℕ). events.HasRead c 4096 (readers.Server (served_read_by lives.Accepted r).0)
+      (served_read_by lives.Accepted r).1)
+      (ap (λ (u : List ℕ). read_from 4096 u (is_complete k.received)) none ∙ ap (read_from 4096 []) part) in
+      let f = subst (λ (h : Event). Serves_ x g ls lc cs js v h d.view d.stage) is
+      (serves_read x g ls lc cs js v d.view e.stage d.stage c e.two refl e.goes) in
+      let two1 : Two x ls lc cs js f.stage = two_as x (after (server_setup x) read ls) lc ls lc cs js f.stage f.stage
+      (server_read x (c ∷ []) now used given 4096 k served.NotYet [] ∙ ap (server_at x given used now lives.Accepted)
+      (reads_still now k)) refl refl f.two in
+      let o = serves_over g (over js) d.view f.stage d.stage refl f.goes in
+      two_jobs x ls lc cs js js d.stage t (d.then_ ∙ ap (λ (w : Turning). record d.stage { jobs = jobs_left w }) o.0)
+      (two_as x ls lc ls lc cs js f.stage d.stage refl refl (sym o.1) two1)
 
 -- ---- a dispatcher without work
 

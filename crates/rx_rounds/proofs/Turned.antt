@@ -42,74 +42,69 @@ pub record Serves_ (x : Ends) (g : Handlers) (ls lc : Looks) (cs : List InvokedS
   pub two : Two x (after (server_setup x) e ls) lc cs js stage
   pub goes : Serves g ((dispatching g).heard v e) stage w t
 
-serves_by : (x : Ends) (g : Handlers) (ls lc : Looks) (cs : List InvokedState) (js : List JobState) (v w : Turning)
-    (s t : Stage) (a : Ask) (e : Event)
-    → Two x ls lc cs js s → (dispatching g).asks v ≡ Some a
-    → ((f : Event) → IsCall a f → Allowed (server_setup x) ls f → f ≡ e)
-    → Serves g v s w t → Serves_ x g ls lc cs js v e w t
-serves_by x g ls lc cs js v w s t a e two asked is turn =
-    let n = turn_goes (dispatching g) 0 v w a s t turn.0 asked turn.1 in
-    let both = at_server x ls lc cs js s ((dispatching g).is a) n.event two n.allowed in
-    let same : n.event ≡ e = is n.event both.0 both.1 in
-    record {
-      stage = with_event 0 e s;
-      two = two_server x ls lc cs js s e two;
-      goes = (
-        n.more,
-        subst (λ (f : Event). Turn (dispatching g) 0 ((dispatching g).heard v f)
-            (with_event 0 f s) n.more (To (w, t))) same n.rest,
-      );
-    }
+module _ (x : Ends) (g : Handlers) (ls lc : Looks) (cs : List InvokedState) (js : List JobState) (v w : Turning)
+    (s t : Stage) where
+  serves_by : (a : Ask) (e : Event) → Two x ls lc cs js s → (dispatching g).asks v ≡ Some a
+      → ((f : Event) → IsCall a f → Allowed (server_setup x) ls f → f ≡ e) → Serves g v s w t
+      → Serves_ x g ls lc cs js v e w t
+  serves_by a e two asked is turn =
+      let n = turn_goes (dispatching g) 0 v w a s t turn.0 asked turn.1 in
+      let both = at_server x ls lc cs js s ((dispatching g).is a) n.event two n.allowed in
+      let same : n.event ≡ e = is n.event both.0 both.1 in
+      record {
+        stage = with_event 0 e s;
+        two = two_server x ls lc cs js s e two;
+        goes = (
+          n.more,
+          subst (λ (f : Event). Turn (dispatching g) 0 ((dispatching g).heard v f)
+              (with_event 0 f s) n.more (To (w, t))) same n.rest,
+        );
+      }
 
--- it accepts
-pub serves_accept : (x : Ends) (g : Handlers) (ls lc : Looks) (cs : List InvokedState) (js : List JobState)
-    (v w : Turning) (s t : Stage)
-    → Two x ls lc cs js s → (dispatching g).asks v ≡ Some asks.accept → Serves g v s w t
-    → Serves_ x g ls lc cs js v (events.Accepted (accept_answer (server_setup x) ls)) w t
-serves_accept x g ls lc cs js v w s t two asked turn =
-    serves_by x g ls lc cs js v w s t asks.accept (events.Accepted (accept_answer (server_setup x) ls)) two asked
-    (λ f is allowed. is.1 ∙ ap (λ (got : Option CallName). events.Accepted got)
-    (subst (λ (h : Event). Allowed (server_setup x) ls h) is.1 allowed)) turn
+  -- it accepts
+  pub serves_accept : Two x ls lc cs js s → (dispatching g).asks v ≡ Some asks.accept → Serves g v s w t
+      → Serves_ x g ls lc cs js v (events.Accepted (accept_answer (server_setup x) ls)) w t
+  serves_accept two asked turn =
+      serves_by asks.accept (events.Accepted (accept_answer (server_setup x) ls)) two asked
+      (λ f is allowed. is.1 ∙ ap (λ (got : Option CallName). events.Accepted got)
+      (subst (λ (h : Event). Allowed (server_setup x) ls h) is.1 allowed)) turn
 
--- it reads
-pub serves_read : (x : Ends) (g : Handlers) (ls lc : Looks) (cs : List InvokedState) (js : List JobState)
-    (v w : Turning) (s t : Stage) (c : CallName)
-    → Two x ls lc cs js s → (dispatching g).asks v ≡ Some (asks.read c) → Serves g v s w t
-    → Serves_ x g ls lc cs js v (events.HasRead c OFFER_BYTES
-    (readers.Server (served_read (call_at ls c) OFFER_BYTES).0) (served_read (call_at ls c) OFFER_BYTES).1) w t
-serves_read x g ls lc cs js v w s t c two asked turn =
-    serves_by x g ls lc cs js v w s t (asks.read c)
-    (events.HasRead c OFFER_BYTES (readers.Server (served_read (call_at ls c) OFFER_BYTES).0)
-    (served_read (call_at ls c) OFFER_BYTES).1) two asked
-    (λ f is allowed. is.2 ∙ ap (λ (r : ServeRead × List ℕ). events.HasRead c OFFER_BYTES (readers.Server r.0) r.1)
-    (subst (λ (h : Event). Allowed (server_setup x) ls h) is.2 allowed).1) turn
+  -- it reads
+  pub serves_read : (c : CallName) → Two x ls lc cs js s → (dispatching g).asks v ≡ Some (asks.read c)
+      → Serves g v s w t
+      → Serves_ x g ls lc cs js v (events.HasRead c OFFER_BYTES
+      (readers.Server (served_read (call_at ls c) OFFER_BYTES).0) (served_read (call_at ls c) OFFER_BYTES).1) w t
+  serves_read c two asked turn =
+      serves_by (asks.read c)
+      (events.HasRead c OFFER_BYTES (readers.Server (served_read (call_at ls c) OFFER_BYTES).0)
+      (served_read (call_at ls c) OFFER_BYTES).1) two asked
+      (λ f is allowed. is.2 ∙ ap (λ (r : ServeRead × List ℕ). events.HasRead c OFFER_BYTES (readers.Server r.0) r.1)
+      (subst (λ (h : Event). Allowed (server_setup x) ls h) is.2 allowed).1) turn
 
--- it writes
-pub serves_write : (x : Ends) (g : Handlers) (ls lc : Looks) (cs : List InvokedState) (js : List JobState)
-    (v w : Turning) (s t : Stage) (c : CallName) (offer : List ℕ)
-    → Two x ls lc cs js s → (dispatching g).asks v ≡ Some (asks.write c offer) → Serves g v s w t
-    → Serves_ x g ls lc cs js v (events.Wrote c (length offer)
-    (writers.Server (served_write (server_setup x) ls (call_at ls c) (length offer)))
-    (accepted offer (served_write (server_setup x) ls (call_at ls c) (length offer)))) w t
-serves_write x g ls lc cs js v w s t c offer two asked turn =
-    serves_by x g ls lc cs js v w s t (asks.write c offer)
-    (events.Wrote c (length offer) (writers.Server
-    (served_write (server_setup x) ls (call_at ls c) (length offer)))
-    (accepted offer (served_write (server_setup x) ls (call_at ls c) (length offer)))) two asked
-    (λ f is allowed. is.1 ∙ ap (λ (got : Result ℕ ServeRefused). events.Wrote c (length offer) (writers.Server got)
-    (accepted offer got))
-    (subst (λ (h : Event). Allowed (server_setup x) ls h) is.1 allowed).0) turn
+  -- it writes
+  pub serves_write : (c : CallName) (offer : List ℕ) → Two x ls lc cs js s
+      → (dispatching g).asks v ≡ Some (asks.write c offer) → Serves g v s w t
+      → Serves_ x g ls lc cs js v
+      (events.Wrote c (length offer) (writers.Server (served_write (server_setup x) ls (call_at ls c)
+      (length offer))) (accepted offer (served_write (server_setup x) ls (call_at ls c) (length offer)))) w t
+  serves_write c offer two asked turn =
+      serves_by (asks.write c offer)
+      (events.Wrote c (length offer) (writers.Server
+      (served_write (server_setup x) ls (call_at ls c) (length offer)))
+      (accepted offer (served_write (server_setup x) ls (call_at ls c) (length offer)))) two asked
+      (λ f is allowed. is.1 ∙ ap (λ (got : Result ℕ ServeRefused). events.Wrote c (length offer) (writers.Server got)
+      (accepted offer got))
+      (subst (λ (h : Event). Allowed (server_setup x) ls h) is.1 allowed).0) turn
 
--- it finishes
-pub serves_finish : (x : Ends) (g : Handlers) (ls lc : Looks) (cs : List InvokedState) (js : List JobState)
-    (v w : Turning) (s t : Stage) (c : CallName) (code : ℤ)
-    → Two x ls lc cs js s → (dispatching g).asks v ≡ Some (asks.finish c code) → Serves g v s w t
-    → Serves_ x g ls lc cs js v (events.Finished c code (served_finish (call_at ls c) code)) w t
-serves_finish x g ls lc cs js v w s t c code two asked turn =
-    serves_by x g ls lc cs js v w s t (asks.finish c code)
-    (events.Finished c code (served_finish (call_at ls c) code)) two asked
-    (λ f is allowed. is.1 ∙ ap (λ (got : Result (Unit {0}) ServeRefused). events.Finished c code got)
-    (subst (λ (h : Event). Allowed (server_setup x) ls h) is.1 allowed).1) turn
+  -- it finishes
+  pub serves_finish : (c : CallName) (code : ℤ) → Two x ls lc cs js s
+      → (dispatching g).asks v ≡ Some (asks.finish c code) → Serves g v s w t
+      → Serves_ x g ls lc cs js v (events.Finished c code (served_finish (call_at ls c) code)) w t
+  serves_finish c code two asked turn =
+      serves_by (asks.finish c code)
+      (events.Finished c code (served_finish (call_at ls c) code)) two asked
+      (λ f is allowed. is.1 ∙ ap (λ (got : Result (Unit {0}) ServeRefused). events.Finished c code got)
+      (subst (λ (h : Event). Allowed (server_setup x) ls h) is.1 allowed).1) turn
 
 -- it is over
 pub serves_over : (g : Handlers) (v w : Turning) (s t : Stage) → (dispatching g).asks v ≡ None → Serves g v s w t
@@ -127,24 +122,24 @@ pub record Calls_ (x : Ends) (limit : ℕ) (ls lc : Looks) (cs : List InvokedSta
   pub two : Two x ls (after (client_setup x) e lc) cs js stage
   pub goes : Calls limit ((calling limit).heard v e) stage w t
 
-calls_by : (x : Ends) (limit : ℕ) (ls lc : Looks) (cs : List InvokedState) (js : List JobState) (v w : CallerState)
-    (s t : Stage) (a : Asking) (e : Event)
-    → Two x ls lc cs js s → (calling limit).asks v ≡ Some a
-    → ((f : Event) → IsAsked a f → Allowed (client_setup x) lc f → f ≡ e)
-    → Calls limit v s w t → Calls_ x limit ls lc cs js v e w t
-calls_by x limit ls lc cs js v w s t a e two asked is turn =
-    let n = turn_goes (calling limit) 1 v w a s t turn.0 asked turn.1 in
-    let both = at_client x ls lc cs js s ((calling limit).is a) n.event two n.allowed in
-    let same : n.event ≡ e = is n.event both.0 both.1 in
-    record {
-      stage = with_event 1 e s;
-      two = two_client x ls lc cs js s e two;
-      goes = (
-        n.more,
-        subst (λ (f : Event). Turn (calling limit) 1 ((calling limit).heard v f)
-            (with_event 1 f s) n.more (To (w, t))) same n.rest,
-      );
-    }
+module _ (x : Ends) (limit : ℕ) (ls lc : Looks) (cs : List InvokedState) (js : List JobState) (v w : CallerState)
+    (s t : Stage) (a : Asking) (e : Event) where
+  calls_by : Two x ls lc cs js s → (calling limit).asks v ≡ Some a
+      → ((f : Event) → IsAsked a f → Allowed (client_setup x) lc f → f ≡ e) → Calls limit v s w t
+      → Calls_ x limit ls lc cs js v e w t
+  calls_by two asked is turn =
+      let n = turn_goes (calling limit) 1 v w a s t turn.0 asked turn.1 in
+      let both = at_client x ls lc cs js s ((calling limit).is a) n.event two n.allowed in
+      let same : n.event ≡ e = is n.event both.0 both.1 in
+      record {
+        stage = with_event 1 e s;
+        two = two_client x ls lc cs js s e two;
+        goes = (
+          n.more,
+          subst (λ (f : Event). Turn (calling limit) 1 ((calling limit).heard v f)
+              (with_event 1 f s) n.more (To (w, t))) same n.rest,
+        );
+      }
 
 module _ (x : Ends) (lc : Looks) (c : CallName) where
   -- what an offer is answered

@@ -129,82 +129,80 @@ more given = record { again = true; given = given }
 abbrev pub Polls : ℕ → Host → List Datagram → Stage → Polling → Stage → Type 0
 Polls node from given s w t = (es : List Noted) × Turn (polling from) node (more given) s es (To (w, t))
 
--- where nothing is due, they are over
-pub server_polls_none : (x : Ends) (ls lc : Looks) (cs : List InvokedState) (js : List JobState) (s t : Stage)
-    (from : Host) (given : List Datagram) (w : Polling)
-    → Two x ls lc cs js s → poll_answer (server_setup x) ls ≡ None → Polls 0 from given s w t
-    → (w.given ≡ given) × Two x (after (server_setup x) (events.Polled None) ls) lc cs js t
-server_polls_none x ls lc cs js s t from given w two none turn =
-    let g = turn_goes (polling from) 0 (more given) w tt s t turn.0 refl turn.1 in
-    let is : g.event ≡ events.Polled None = server_polled x ls lc cs js s g.event two g.allowed
-    ∙ ap (λ (got : Option (Host × List ℕ)). events.Polled got) none in
-    let rest : Turn (polling from) 0 (record { again = false; given = given }) (with_event 0 (events.Polled None) s)
-    g.more (To (w, t)) =
-    subst (λ (e : Event). Turn (polling from) 0 ((polling from).heard (more given) e) (with_event 0 e s) g.more
-    (To (w, t))) is g.rest in
-    let over = turn_over (polling from) 0 (record { again = false; given = given }) w
-    (with_event 0 (events.Polled None) s) t g.more refl rest in (
-      ap (λ (v : Polling). v.given) over.0,
-      subst (λ (u : Stage). Two x (after (server_setup x) (events.Polled None) ls) lc cs js u) (sym over.1)
-          (two_server x ls lc cs js s (events.Polled None) two),
-    )
+module _ (x : Ends) (ls lc : Looks) (cs : List InvokedState) (js : List JobState) (s t : Stage) (from : Host)
+    (given : List Datagram) (w : Polling) where
+  -- where nothing is due, they are over
+  pub server_polls_none : Two x ls lc cs js s → poll_answer (server_setup x) ls ≡ None → Polls 0 from given s w t
+      → (w.given ≡ given) × Two x (after (server_setup x) (events.Polled None) ls) lc cs js t
+  server_polls_none two none turn =
+      let g = turn_goes (polling from) 0 (more given) w tt s t turn.0 refl turn.1 in
+      let is : g.event ≡ events.Polled None = server_polled x ls lc cs js s g.event two g.allowed
+      ∙ ap (λ (got : Option (Host × List ℕ)). events.Polled got) none in
+      let rest : Turn (polling from) 0 (record { again = false; given = given }) (with_event 0 (events.Polled None) s)
+      g.more (To (w, t)) =
+      subst (λ (e : Event). Turn (polling from) 0 ((polling from).heard (more given) e) (with_event 0 e s) g.more
+      (To (w, t))) is g.rest in
+      let over = turn_over (polling from) 0 (record { again = false; given = given }) w
+      (with_event 0 (events.Polled None) s) t g.more refl rest in (
+        ap (λ (v : Polling). v.given) over.0,
+        subst (λ (u : Stage). Two x (after (server_setup x) (events.Polled None) ls) lc cs js u) (sym over.1)
+            (two_server x ls lc cs js s (events.Polled None) two),
+      )
 
-pub client_polls_none : (x : Ends) (ls lc : Looks) (cs : List InvokedState) (js : List JobState) (s t : Stage)
-    (from : Host) (given : List Datagram) (w : Polling)
-    → Two x ls lc cs js s → poll_answer (client_setup x) lc ≡ None → Polls 1 from given s w t
-    → (w.given ≡ given) × Two x ls (after (client_setup x) (events.Polled None) lc) cs js t
-client_polls_none x ls lc cs js s t from given w two none turn =
-    let g = turn_goes (polling from) 1 (more given) w tt s t turn.0 refl turn.1 in
-    let is : g.event ≡ events.Polled None = client_polled x ls lc cs js s g.event two g.allowed
-    ∙ ap (λ (got : Option (Host × List ℕ)). events.Polled got) none in
-    let rest : Turn (polling from) 1 (record { again = false; given = given }) (with_event 1 (events.Polled None) s)
-    g.more (To (w, t)) =
-    subst (λ (e : Event). Turn (polling from) 1 ((polling from).heard (more given) e) (with_event 1 e s) g.more
-    (To (w, t))) is g.rest in
-    let over = turn_over (polling from) 1 (record { again = false; given = given }) w
-    (with_event 1 (events.Polled None) s) t g.more refl rest in (
-      ap (λ (v : Polling). v.given) over.0,
-      subst (λ (u : Stage). Two x ls (after (client_setup x) (events.Polled None) lc) cs js u) (sym over.1)
-          (two_client x ls lc cs js s (events.Polled None) two),
-    )
+  pub client_polls_none : Two x ls lc cs js s → poll_answer (client_setup x) lc ≡ None → Polls 1 from given s w t
+      → (w.given ≡ given) × Two x ls (after (client_setup x) (events.Polled None) lc) cs js t
+  client_polls_none two none turn =
+      let g = turn_goes (polling from) 1 (more given) w tt s t turn.0 refl turn.1 in
+      let is : g.event ≡ events.Polled None = client_polled x ls lc cs js s g.event two g.allowed
+      ∙ ap (λ (got : Option (Host × List ℕ)). events.Polled got) none in
+      let rest : Turn (polling from) 1 (record { again = false; given = given }) (with_event 1 (events.Polled None) s)
+      g.more (To (w, t)) =
+      subst (λ (e : Event). Turn (polling from) 1 ((polling from).heard (more given) e) (with_event 1 e s) g.more
+      (To (w, t))) is g.rest in
+      let over = turn_over (polling from) 1 (record { again = false; given = given }) w
+      (with_event 1 (events.Polled None) s) t g.more refl rest in (
+        ap (λ (v : Polling). v.given) over.0,
+        subst (λ (u : Stage). Two x ls (after (client_setup x) (events.Polled None) lc) cs js u) (sym over.1)
+            (two_client x ls lc cs js s (events.Polled None) two),
+      )
 
 abbrev pub sent : Host → Host → List ℕ → Datagram
 sent from to bytes = record { from = from; to = to; bytes = bytes }
 
--- where something is, it is given, and they go on
-pub server_polls_some : (x : Ends) (ls lc : Looks) (cs : List InvokedState) (js : List JobState) (s t : Stage)
-    (from to : Host) (bytes : List ℕ) (given : List Datagram) (w : Polling)
-    → Two x ls lc cs js s → poll_answer (server_setup x) ls ≡ Some (to, bytes) → Polls 0 from given s w t
-    → (u : Stage) × Two x (after (server_setup x) (events.Polled (Some (to, bytes))) ls) lc cs js u × Polls 0 from
-    (given ++ sent from to bytes ∷ []) u w t
-server_polls_some x ls lc cs js s t from to bytes given w two some turn =
-    let g = turn_goes (polling from) 0 (more given) w tt s t turn.0 refl turn.1 in
-    let is : g.event ≡ events.Polled (Some (to, bytes)) = server_polled x ls lc cs js s g.event two g.allowed
-    ∙ ap (λ (got : Option (Host × List ℕ)). events.Polled got) some in
-    let rest = subst (λ (e : Event). Turn (polling from) 0 ((polling from).heard (more given) e)
-    (with_event 0 e s) g.more (To (w, t))) is g.rest in (
-      with_event 0 (events.Polled (Some (to, bytes))) s,
-      two_server x ls lc cs js s (events.Polled (Some (to, bytes)))
-          two,
-      (g.more, rest),
-    )
+module _ (x : Ends) (ls lc : Looks) (cs : List InvokedState) (js : List JobState) (s t : Stage) (from to : Host)
+    (bytes : List ℕ) (given : List Datagram) (w : Polling) where
+  -- where something is, it is given, and they go on
+  pub server_polls_some : Two x ls lc cs js s → poll_answer (server_setup x) ls ≡ Some (to, bytes)
+      → Polls 0 from given s w t
+      → (u : Stage) × Two x (after (server_setup x) (events.Polled (Some (to, bytes))) ls) lc cs js u
+      × Polls 0 from (given ++ sent from to bytes ∷ []) u w t
+  server_polls_some two some turn =
+      let g = turn_goes (polling from) 0 (more given) w tt s t turn.0 refl turn.1 in
+      let is : g.event ≡ events.Polled (Some (to, bytes)) = server_polled x ls lc cs js s g.event two g.allowed
+      ∙ ap (λ (got : Option (Host × List ℕ)). events.Polled got) some in
+      let rest = subst (λ (e : Event). Turn (polling from) 0 ((polling from).heard (more given) e)
+      (with_event 0 e s) g.more (To (w, t))) is g.rest in (
+        with_event 0 (events.Polled (Some (to, bytes))) s,
+        two_server x ls lc cs js s (events.Polled (Some (to, bytes)))
+            two,
+        (g.more, rest),
+      )
 
-pub client_polls_some : (x : Ends) (ls lc : Looks) (cs : List InvokedState) (js : List JobState) (s t : Stage)
-    (from to : Host) (bytes : List ℕ) (given : List Datagram) (w : Polling)
-    → Two x ls lc cs js s → poll_answer (client_setup x) lc ≡ Some (to, bytes) → Polls 1 from given s w t
-    → (u : Stage) × Two x ls (after (client_setup x) (events.Polled (Some (to, bytes))) lc) cs js u × Polls 1 from
-    (given ++ sent from to bytes ∷ []) u w t
-client_polls_some x ls lc cs js s t from to bytes given w two some turn =
-    let g = turn_goes (polling from) 1 (more given) w tt s t turn.0 refl turn.1 in
-    let is : g.event ≡ events.Polled (Some (to, bytes)) = client_polled x ls lc cs js s g.event two g.allowed
-    ∙ ap (λ (got : Option (Host × List ℕ)). events.Polled got) some in
-    let rest = subst (λ (e : Event). Turn (polling from) 1 ((polling from).heard (more given) e)
-    (with_event 1 e s) g.more (To (w, t))) is g.rest in (
-      with_event 1 (events.Polled (Some (to, bytes))) s,
-      two_client x ls lc cs js s (events.Polled (Some (to, bytes)))
-          two,
-      (g.more, rest),
-    )
+  pub client_polls_some : Two x ls lc cs js s → poll_answer (client_setup x) lc ≡ Some (to, bytes)
+      → Polls 1 from given s w t
+      → (u : Stage) × Two x ls (after (client_setup x) (events.Polled (Some (to, bytes))) lc) cs js u
+      × Polls 1 from (given ++ sent from to bytes ∷ []) u w t
+  client_polls_some two some turn =
+      let g = turn_goes (polling from) 1 (more given) w tt s t turn.0 refl turn.1 in
+      let is : g.event ≡ events.Polled (Some (to, bytes)) = client_polled x ls lc cs js s g.event two g.allowed
+      ∙ ap (λ (got : Option (Host × List ℕ)). events.Polled got) some in
+      let rest = subst (λ (e : Event). Turn (polling from) 1 ((polling from).heard (more given) e)
+      (with_event 1 e s) g.more (To (w, t))) is g.rest in (
+        with_event 1 (events.Polled (Some (to, bytes))) s,
+        two_client x ls lc cs js s (events.Polled (Some (to, bytes)))
+            two,
+        (g.more, rest),
+      )
 
 -- ---- all polls of a round
 
@@ -308,73 +306,71 @@ for_is : (d : Datagram) (s : Stage) (node : ℕ) (at : Host) (b : Bool) → host
     → same_host d.to at ≡ b → is_for d s node ≡ b
 for_is d s node at b there same = ap (λ (o : Option Host). unwrap_or (option_map (same_host d.to) o) false) there ∙ same
 
--- a datagram for the server is taken there alone
-pub delivered_server : (x : Ends) (ls lc : Looks) (cs : List InvokedState) (js : List JobState) (s t : Stage)
-    (from : Host) (bytes : List ℕ) (es : List Noted)
-    → AreApart x → Two x ls lc cs js s → delivers (sent from x.server bytes) s es (To t)
-    → Two x (after (server_setup x) (events.Taken from bytes (took_of (server_setup x) ls from bytes)) ls) lc cs js t
-delivered_server x ls lc cs js s t from bytes es apart two made =
-    let d : Datagram = sent from x.server bytes in
-    let order : all_nodes s ≡ 0 ∷ 1 ∷ [] = ap (λ (ns : List Node). below (length ns)) two.nodes in
-    let all : each (comes_to d) (0 ∷ 1 ∷ []) s es (To t) = subst (λ (ns : List ℕ). each (comes_to d) ns s es (To t))
-    order made in
-    let b = then_to (comes_to d 0 s) (each (comes_to d) (1 ∷ [])) es t all in
-    let here : event 0 (IsTaken from bytes) s b.front (To b.between) =
-    subst (λ (c : Bool). by_test c (event 0 (IsTaken from bytes) s) (ends (To s)) b.front (To b.between))
-    (for_is d s 0 x.server true (host_server x ls lc cs js s two) (host_itself x.server)) b.made in
-    let h = event_to 0 (IsTaken from bytes) s b.between b.front here in
-    let is = server_taken x ls lc cs js s from bytes h.event two h.allowed in
-    let e : Event = events.Taken from bytes (took_of (server_setup x) ls from bytes) in
-    let behind : b.between ≡ with_event 0 e s = h.then_ ∙ ap (λ (f : Event). with_event 0 f s) is in
-    let next : Two x (after (server_setup x) e ls) lc cs js b.between = subst
-    (λ (u : Stage). Two x (after (server_setup x) e ls) lc cs js u) (sym behind)
-    (two_server x ls lc cs js s e two) in
-    let c = then_to (comes_to d 1 b.between) (each (comes_to d) []) b.rest t b.goes in
-    let there : ends (To b.between) c.front (To c.between) =
-    subst (λ (c1 : Bool). by_test c1 (event 1 (IsTaken from bytes) b.between) (ends (To b.between)) c.front
-    (To c.between))
-    (for_is d b.between 1 x.client false (host_client x (after (server_setup x) e ls) lc cs js b.between next)
-    apart.1) c.made in
-    let same : t ≡ b.between = ends_to c.between t c.rest c.goes ∙ ends_to b.between c.between c.front there in
-    subst (λ (u : Stage). Two x (after (server_setup x) e ls) lc cs js u) (sym same) next
+module _ (x : Ends) (ls lc : Looks) (cs : List InvokedState) (js : List JobState) (s t : Stage) (from : Host)
+    (bytes : List ℕ) (es : List Noted) where
+  -- a datagram for the server is taken there alone
+  pub delivered_server : AreApart x → Two x ls lc cs js s → delivers (sent from x.server bytes) s es (To t)
+      → Two x (after (server_setup x) (events.Taken from bytes (took_of (server_setup x) ls from bytes)) ls) lc cs js t
+  delivered_server apart two made =
+      let d : Datagram = sent from x.server bytes in
+      let order : all_nodes s ≡ 0 ∷ 1 ∷ [] = ap (λ (ns : List Node). below (length ns)) two.nodes in
+      let all : each (comes_to d) (0 ∷ 1 ∷ []) s es (To t) = subst (λ (ns : List ℕ). each (comes_to d) ns s es (To t))
+      order made in
+      let b = then_to (comes_to d 0 s) (each (comes_to d) (1 ∷ [])) es t all in
+      let here : event 0 (IsTaken from bytes) s b.front (To b.between) =
+      subst (λ (c : Bool). by_test c (event 0 (IsTaken from bytes) s) (ends (To s)) b.front (To b.between))
+      (for_is d s 0 x.server true (host_server x ls lc cs js s two) (host_itself x.server)) b.made in
+      let h = event_to 0 (IsTaken from bytes) s b.between b.front here in
+      let is = server_taken x ls lc cs js s from bytes h.event two h.allowed in
+      let e : Event = events.Taken from bytes (took_of (server_setup x) ls from bytes) in
+      let behind : b.between ≡ with_event 0 e s = h.then_ ∙ ap (λ (f : Event). with_event 0 f s) is in
+      let next : Two x (after (server_setup x) e ls) lc cs js b.between = subst
+      (λ (u : Stage). Two x (after (server_setup x) e ls) lc cs js u) (sym behind)
+      (two_server x ls lc cs js s e two) in
+      let c = then_to (comes_to d 1 b.between) (each (comes_to d) []) b.rest t b.goes in
+      let there : ends (To b.between) c.front (To c.between) =
+      subst (λ (c1 : Bool). by_test c1 (event 1 (IsTaken from bytes) b.between) (ends (To b.between)) c.front
+      (To c.between))
+      (for_is d b.between 1 x.client false (host_client x (after (server_setup x) e ls) lc cs js b.between next)
+      apart.1) c.made in
+      let same : t ≡ b.between = ends_to c.between t c.rest c.goes ∙ ends_to b.between c.between c.front there in
+      subst (λ (u : Stage). Two x (after (server_setup x) e ls) lc cs js u) (sym same) next
 
--- and one for the client at the client alone
-pub delivered_client : (x : Ends) (ls lc : Looks) (cs : List InvokedState) (js : List JobState) (s t : Stage)
-    (from : Host) (bytes : List ℕ) (es : List Noted)
-    → AreApart x → Two x ls lc cs js s → delivers (sent from x.client bytes) s es (To t)
-    → Two x ls (after (client_setup x) (events.Taken from bytes (took_of (client_setup x) lc from bytes)) lc) cs js t
-delivered_client x ls lc cs js s t from bytes es apart two made =
-    let d : Datagram = sent from x.client bytes in
-    let order : all_nodes s ≡ 0 ∷ 1 ∷ [] = ap (λ (ns : List Node). below (length ns)) two.nodes in
-    let all : each (comes_to d) (0 ∷ 1 ∷ []) s es (To t) = subst (λ (ns : List ℕ). each (comes_to d) ns s es (To t))
-    order made in
-    let b = then_to (comes_to d 0 s) (each (comes_to d) (1 ∷ [])) es t all in
-    let here : ends (To s) b.front (To b.between) =
-    subst (λ (c : Bool). by_test c (event 0 (IsTaken from bytes) s) (ends (To s)) b.front (To b.between))
-    (for_is d s 0 x.server false (host_server x ls lc cs js s two) apart.0) b.made in
-    let still : b.between ≡ s = ends_to s b.between b.front here in
-    let mid : Two x ls lc cs js b.between = subst (λ (u : Stage). Two x ls lc cs js u) (sym still) two in
-    let c = then_to (comes_to d 1 b.between) (each (comes_to d) []) b.rest t b.goes in
-    let there : event 1 (IsTaken from bytes) b.between c.front (To c.between) =
-    subst (λ (c1 : Bool). by_test c1 (event 1 (IsTaken from bytes) b.between) (ends (To b.between)) c.front
-    (To c.between))
-    (for_is d b.between 1 x.client true (host_client x ls lc cs js b.between mid) (host_itself x.client)) c.made in
-    let h = event_to 1 (IsTaken from bytes) b.between c.between c.front there in
-    let is = client_taken x ls lc cs js b.between from bytes h.event mid h.allowed in
-    let e : Event = events.Taken from bytes (took_of (client_setup x) lc from bytes) in
-    let same : t ≡ with_event 1 e b.between = ends_to c.between t c.rest c.goes ∙ h.then_
-    ∙ ap (λ (f : Event). with_event 1 f b.between) is in
-    subst (λ (u : Stage). Two x ls (after (client_setup x) e lc) cs js u) (sym same)
-    (two_client x ls lc cs js b.between e mid)
+  -- and one for the client at the client alone
+  pub delivered_client : AreApart x → Two x ls lc cs js s → delivers (sent from x.client bytes) s es (To t)
+      → Two x ls (after (client_setup x) (events.Taken from bytes (took_of (client_setup x) lc from bytes)) lc) cs js t
+  delivered_client apart two made =
+      let d : Datagram = sent from x.client bytes in
+      let order : all_nodes s ≡ 0 ∷ 1 ∷ [] = ap (λ (ns : List Node). below (length ns)) two.nodes in
+      let all : each (comes_to d) (0 ∷ 1 ∷ []) s es (To t) = subst (λ (ns : List ℕ). each (comes_to d) ns s es (To t))
+      order made in
+      let b = then_to (comes_to d 0 s) (each (comes_to d) (1 ∷ [])) es t all in
+      let here : ends (To s) b.front (To b.between) =
+      subst (λ (c : Bool). by_test c (event 0 (IsTaken from bytes) s) (ends (To s)) b.front (To b.between))
+      (for_is d s 0 x.server false (host_server x ls lc cs js s two) apart.0) b.made in
+      let still : b.between ≡ s = ends_to s b.between b.front here in
+      let mid : Two x ls lc cs js b.between = subst (λ (u : Stage). Two x ls lc cs js u) (sym still) two in
+      let c = then_to (comes_to d 1 b.between) (each (comes_to d) []) b.rest t b.goes in
+      let there : event 1 (IsTaken from bytes) b.between c.front (To c.between) =
+      subst (λ (c1 : Bool). by_test c1 (event 1 (IsTaken from bytes) b.between) (ends (To b.between)) c.front
+      (To c.between))
+      (for_is d b.between 1 x.client true (host_client x ls lc cs js b.between mid) (host_itself x.client)) c.made in
+      let h = event_to 1 (IsTaken from bytes) b.between c.between c.front there in
+      let is = client_taken x ls lc cs js b.between from bytes h.event mid h.allowed in
+      let e : Event = events.Taken from bytes (took_of (client_setup x) lc from bytes) in
+      let same : t ≡ with_event 1 e b.between = ends_to c.between t c.rest c.goes ∙ h.then_
+      ∙ ap (λ (f : Event). with_event 1 f b.between) is in
+      subst (λ (u : Stage). Two x ls (after (client_setup x) e lc) cs js u) (sym same)
+      (two_client x ls lc cs js b.between e mid)
 
 -- ---- from one to another
 
-pub two_as : (x : Ends) (ls lc ls2 lc2 : Looks) (cs : List InvokedState) (js : List JobState) (s t : Stage)
-    → ls ≡ ls2 → lc ≡ lc2 → s ≡ t → Two x ls lc cs js s → Two x ls2 lc2 cs js t
-two_as x ls lc ls2 lc2 cs js s t server client stage two =
-    subst (λ (l : Looks). Two x l lc2 cs js t) server
-    (subst (λ (l : Looks). Two x ls l cs js t) client
-    (subst (λ (u : Stage). Two x ls lc cs js u) stage two))
+module _ (x : Ends) (ls lc ls2 lc2 : Looks) (cs : List InvokedState) (js : List JobState) (s t : Stage) where
+  pub two_as : ls ≡ ls2 → lc ≡ lc2 → s ≡ t → Two x ls lc cs js s → Two x ls2 lc2 cs js t
+  two_as server client stage two =
+      subst (λ (l : Looks). Two x l lc2 cs js t) server
+      (subst (λ (l : Looks). Two x ls l cs js t) client
+      (subst (λ (u : Stage). Two x ls lc cs js u) stage two))
 
 pub two_jobs : (x : Ends) (ls lc : Looks) (cs : List InvokedState) (js ks : List JobState) (s t : Stage)
     → t ≡ record s { jobs = ks }

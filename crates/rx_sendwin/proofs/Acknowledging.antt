@@ -39,28 +39,28 @@ pub dropped_giving : (hs : List HeldPiece) (n i : ℕ) → giving_in (drop n hs)
 dropped_giving hs n i =
     ap (λ xs. get_or xs i None) (sym (drop-map giving_at n hs)) ∙ get_or-drop n (map giving_at hs) i None
 
--- what is left of the pieces stands for what is left of the stream
-pub dropped_stands : (old new : Slots) (w : SendWindow) (s : Sent) (acked n peer : ℕ) (soft : List Bool)
-    (pieces : List HeldPiece) (marks : ℕ → Bool) (told : ℕ) → StandsSent old w s → w.acked + n ≡ acked →
-    new.bytes ≡ old.bytes → pieces ≡ drop n w.pieces →
-    ((i : ℕ) → get_or soft i false ≡ marks (suc (acked + i))) → peer ≡ told →
-    StandsSent new (record w { acked = acked; soft = soft; peer_window = peer; pieces = pieces })
-    (record s { acked = acked; soft = marks; peer_window = told })
-dropped_stands old new w s acked n peer soft pieces marks told st at same is soft_is peer_is =
-    record {
-      total = st.total;
-      shut = st.shut;
-      acked = refl;
-      given = st.given;
-      soft = soft_is;
-      peer = peer_is;
-      pieces = λ i. ap (λ hs. payload_in new hs i) is ∙ dropped_seen old new w.pieces n i same ∙ st.pieces (n + i)
-          ∙ ap (λ k. payload_at s.said (suc k)) (omega (arith, at));
-      givings = λ i. ap (λ hs. giving_in hs i) is ∙ dropped_giving w.pieces n i ∙ st.givings (n + i)
-          ∙ ap (λ k. last_giving s.givings (suc k)) (omega (arith, at));
-      orders = st.orders;
-      since = st.since;
-    }
+module _ (old new : Slots) (w : SendWindow) (s : Sent) (acked n peer : ℕ) (soft : List Bool) (pieces : List HeldPiece)
+    (marks : ℕ → Bool) (told : ℕ) where
+  -- what is left of the pieces stands for what is left of the stream
+  pub dropped_stands : StandsSent old w s → w.acked + n ≡ acked → new.bytes ≡ old.bytes → pieces ≡ drop n w.pieces
+      → ((i : ℕ) → get_or soft i false ≡ marks (suc (acked + i))) → peer ≡ told
+      → StandsSent new (record w { acked = acked; soft = soft; peer_window = peer; pieces = pieces })
+      (record s { acked = acked; soft = marks; peer_window = told })
+  dropped_stands st at same is soft_is peer_is =
+      record {
+        total = st.total;
+        shut = st.shut;
+        acked = refl;
+        given = st.given;
+        soft = soft_is;
+        peer = peer_is;
+        pieces = λ i. ap (λ hs. payload_in new hs i) is ∙ dropped_seen old new w.pieces n i same ∙ st.pieces (n + i)
+            ∙ ap (λ k. payload_at s.said (suc k)) (omega (arith, at));
+        givings = λ i. ap (λ hs. giving_in hs i) is ∙ dropped_giving w.pieces n i ∙ st.givings (n + i)
+            ∙ ap (λ k. last_giving s.givings (suc k)) (omega (arith, at));
+        orders = st.orders;
+        since = st.since;
+      }
 
 -- ---- an ACK
 
@@ -97,20 +97,20 @@ stale_newly s now first marks lt =
     λ i. record { count = sym (newly_same test n) i; sample = sym top i }) in
     nothing ∙ sym (ap (λ (t : Sent). news now s test (is_acked t) n) (stale_ack s first marks None lt))
 
-pub fresh_newly : (pool : Slots) (w : SendWindow) (s : Sent) (now first count : ℕ) (marks : List Bool)
-    (sample : Option ℕ) → StandsSent pool w s → 0 < first → w.acked ≤ first - 1 →
-    count ≡ newly_by (is_acked_by w.acked w.soft) (is_acked_by (first - 1) marks) w.given →
-    sample ≡ trip_at now s.givings (highest_by (is_acked_by w.acked w.soft) (is_acked_by (first - 1) marks) w.given) →
-    ◌≡◌ {A = rules.Newly} (record { count = count; sample = sample }) (newly_of now first marks s)
-fresh_newly pool w s now first count marks sample st some le is trip =
-    let acked = st.acked in
-    let fresh = fresh_ack s first marks None (omega (arith, le, acked)) in
-    let after = acked_by first marks None s in
-    let before_is = known_is pool w s st in
-    let after_is = known_of (first - 1) marks after refl (λ i. marked_at first marks i some) in
-    (λ i. record { count = is i; sample = trip i })
-    ∙ (λ i. news now s (before_is i) (after_is i) (st.given i))
-    ∙ sym (ap (λ (t : Sent). news now s (is_acked s) (is_acked t) (given_of s)) fresh)
+module _ (pool : Slots) (w : SendWindow) (s : Sent) (now first count : ℕ) (marks : List Bool) (sample : Option ℕ) where
+  pub fresh_newly : StandsSent pool w s → 0 < first → w.acked ≤ first - 1
+      → count ≡ newly_by (is_acked_by w.acked w.soft) (is_acked_by (first - 1) marks) w.given
+      → sample ≡ trip_at now s.givings (highest_by (is_acked_by w.acked w.soft) (is_acked_by (first - 1) marks) w.given)
+      → ◌≡◌ {A = rules.Newly} (record { count = count; sample = sample }) (newly_of now first marks s)
+  fresh_newly st some le is trip =
+      let acked = st.acked in
+      let fresh = fresh_ack s first marks None (omega (arith, le, acked)) in
+      let after = acked_by first marks None s in
+      let before_is = known_is pool w s st in
+      let after_is = known_of (first - 1) marks after refl (λ i. marked_at first marks i some) in
+      (λ i. record { count = is i; sample = trip i })
+      ∙ (λ i. news now s (before_is i) (after_is i) (st.given i))
+      ∙ sym (ap (λ (t : Sent). news now s (is_acked s) (is_acked t) (given_of s)) fresh)
 
 -- marks past a window stand for nothing that was given
 pub marks_alike : (w : SendWindow) (low flight first : ℕ) (marks soft : List Bool) → IsTied w low flight →
@@ -128,61 +128,63 @@ marks_alike w low flight first marks soft tied valid le is =
     (λ i past. past_quiet marks first w.given i sense.past
     (omega (arith, past, some, held, few, most, given, counted, le)))
 
-pub ack_stands : (old new : Slots) (w : SendWindow) (s : Sent) (first peer : ℕ) (marks soft : List Bool)
-    (window : Option ℕ) (pieces : List HeldPiece) → StandsSent old w s → 0 < first → w.acked ≤ first - 1 →
-    new.bytes ≡ old.bytes → pieces ≡ drop (first - 1 - w.acked) w.pieces →
-    ((i : ℕ) → get_or soft i false ≡ get_or marks i false) → peer ≡ with_window window w.peer_window →
-    StandsSent new (record w { acked = first - 1; soft = soft; peer_window = peer; pieces = pieces })
-    (after_ack first marks window s)
-ack_stands old new w s first peer marks soft window pieces st some le same is soft_is peer_is =
-    let acked = st.acked in
-    let after : SendWindow = record w { acked = first - 1; soft = soft; peer_window = peer; pieces = pieces } in
-    subst (λ (t : Sent). StandsSent new after t) (sym (fresh_ack s first marks window (omega (arith, le, acked))))
-    (dropped_stands old new w s (first - 1) (first - 1 - w.acked) peer soft pieces (is_marked first marks)
-    (with_window window s.peer_window) st (omega (arith, le)) same is (λ i. soft_is i ∙ marked_at first marks i some)
-    (peer_is ∙ ap (with_window window) st.peer))
+module _ (old new : Slots) (w : SendWindow) (s : Sent) (first peer : ℕ) (marks soft : List Bool) (window : Option ℕ)
+    (pieces : List HeldPiece) where
+  pub ack_stands : StandsSent old w s → 0 < first → w.acked ≤ first - 1 → new.bytes ≡ old.bytes
+      → pieces ≡ drop (first - 1 - w.acked) w.pieces → ((i : ℕ) → get_or soft i false ≡ get_or marks i false)
+      → peer ≡ with_window window w.peer_window
+      → StandsSent new (record w { acked = first - 1; soft = soft; peer_window = peer; pieces = pieces })
+      (after_ack first marks window s)
+  ack_stands st some le same is soft_is peer_is =
+      let acked = st.acked in
+      let after : SendWindow = record w { acked = first - 1; soft = soft; peer_window = peer; pieces = pieces } in
+      subst (λ (t : Sent). StandsSent new after t) (sym (fresh_ack s first marks window (omega (arith, le, acked))))
+      (dropped_stands old new w s (first - 1) (first - 1 - w.acked) peer soft pieces (is_marked first marks)
+      (with_window window s.peer_window) st (omega (arith, le)) same is (λ i. soft_is i ∙ marked_at first marks i some)
+      (peer_is ∙ ap (with_window window) st.peer))
 
-pub ack_tied : (w : SendWindow) (low flight first : ℕ) (marks soft : List Bool) (pieces : List HeldPiece)
-    (low2 flight2 peer : ℕ) → IsTied w low flight → is_valid_ack w.given first marks ≡ true → w.acked ≤ first - 1 →
-    pieces ≡ drop (first - 1 - w.acked) w.pieces → soft ≡ take (min (length marks) MAX_WINDOW) marks →
-    low2 ≡ leading_marks soft → flight2 ≡ flight_by (is_acked_by (first - 1) marks) w.given → peer ≤ MAX_WINDOW →
-    (0 < length (drop (first - 1 - w.acked) w.pieces) →
-    last_size (drop (first - 1 - w.acked) w.pieces) ≡ last_size w.pieces) →
-    IsTied (record w { acked = first - 1; soft = soft; peer_window = peer; pieces = pieces }) low2 flight2
-ack_tied w low flight first marks soft pieces low2 flight2 peer tied valid le is soft_is low_is flight_is peer_most
-    last =
-    let n = first - 1 - w.acked in
-    let sense = makes_sense w.given first marks valid in
-    let some = sense.some in
-    let upto = sense.upto in
-    let alike = marks_alike w low flight first marks soft tied valid le soft_is in
-    let few : length soft ≡ min (length marks) MAX_WINDOW = (
-    ap length soft_is ∙ length-take-le (min (length marks) MAX_WINDOW) marks (omega arith)) in
-    let held = tied.held in
-    let given_most = tied.given_most in
-    let counted : counting_by w.total w.shut ≤ pieces_by w.total w.shut = counting_most w.total w.shut in
-    let size : length pieces ≡ length w.pieces - n = ap length is ∙ length-drop n w.pieces in
-    let within = tied.within in
-    record {
-      least = tied.least;
-      most = tied.most;
-      held = omega (arith, held, size, le, upto, given_most, counted);
-      within = omega (arith, within, size);
-      filling = λ lt. (
-          let there : 0 < length (drop n w.pieces) = subst (λ hs. 0 < length hs) is lt in
-          let before = tied.filling (omega (arith, lt, size)) in
-          let same : last_size pieces ≡ last_size w.pieces = ap last_size is ∙ last there in
-          omega (arith, before, same, size, le, lt, held));
-      fits = tied.fits;
-      given_most = tied.given_most;
-      acked_most = upto;
-      quiet = λ i past. alike i ∙ past_quiet marks first w.given i sense.past (omega (arith, past, some));
-      lowest = low_is;
-      in_flight = flight_is ∙ ap (λ known. flight_by known w.given) (sym (known_alike (first - 1) soft marks alike));
-      sized = subst AllSized (sym is) (sized_drop n w.pieces tied.sized);
-      timed = subst AllTimed (sym is) (timed_drop n w.pieces tied.timed);
-      marks = omega (arith, few);
-      peer = peer_most;
-      orders = tied.orders;
-      since = tied.since;
-    }
+module _ (w : SendWindow) (low flight first : ℕ) (marks soft : List Bool) (pieces : List HeldPiece)
+    (low2 flight2 peer : ℕ) where
+  pub ack_tied : IsTied w low flight → is_valid_ack w.given first marks ≡ true → w.acked ≤ first - 1
+      → pieces ≡ drop (first - 1 - w.acked) w.pieces → soft ≡ take (min (length marks) MAX_WINDOW) marks
+      → low2 ≡ leading_marks soft → flight2 ≡ flight_by (is_acked_by (first - 1) marks) w.given → peer ≤ MAX_WINDOW
+      → (0 < length (drop (first - 1 - w.acked) w.pieces)
+      → last_size (drop (first - 1 - w.acked) w.pieces) ≡ last_size w.pieces)
+      → IsTied (record w { acked = first - 1; soft = soft; peer_window = peer; pieces = pieces }) low2 flight2
+  ack_tied tied valid le is soft_is low_is flight_is peer_most
+      last =
+      let n = first - 1 - w.acked in
+      let sense = makes_sense w.given first marks valid in
+      let some = sense.some in
+      let upto = sense.upto in
+      let alike = marks_alike w low flight first marks soft tied valid le soft_is in
+      let few : length soft ≡ min (length marks) MAX_WINDOW = (
+      ap length soft_is ∙ length-take-le (min (length marks) MAX_WINDOW) marks (omega arith)) in
+      let held = tied.held in
+      let given_most = tied.given_most in
+      let counted : counting_by w.total w.shut ≤ pieces_by w.total w.shut = counting_most w.total w.shut in
+      let size : length pieces ≡ length w.pieces - n = ap length is ∙ length-drop n w.pieces in
+      let within = tied.within in
+      record {
+        least = tied.least;
+        most = tied.most;
+        held = omega (arith, held, size, le, upto, given_most, counted);
+        within = omega (arith, within, size);
+        filling = λ lt. (
+            let there : 0 < length (drop n w.pieces) = subst (λ hs. 0 < length hs) is lt in
+            let before = tied.filling (omega (arith, lt, size)) in
+            let same : last_size pieces ≡ last_size w.pieces = ap last_size is ∙ last there in
+            omega (arith, before, same, size, le, lt, held));
+        fits = tied.fits;
+        given_most = tied.given_most;
+        acked_most = upto;
+        quiet = λ i past. alike i ∙ past_quiet marks first w.given i sense.past (omega (arith, past, some));
+        lowest = low_is;
+        in_flight = flight_is ∙ ap (λ known. flight_by known w.given) (sym (known_alike (first - 1) soft marks alike));
+        sized = subst AllSized (sym is) (sized_drop n w.pieces tied.sized);
+        timed = subst AllTimed (sym is) (timed_drop n w.pieces tied.timed);
+        marks = omega (arith, few);
+        peer = peer_most;
+        orders = tied.orders;
+        since = tied.since;
+      }

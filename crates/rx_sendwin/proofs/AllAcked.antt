@@ -43,19 +43,21 @@ all_tied w low flight soft pieces tied all soft_is is =
       since = tied.since;
     }
 
-pub all_stands : (old new : Slots) (w : SendWindow) (s : Sent) (low flight : ℕ) (soft : List Bool)
-    (pieces : List HeldPiece) → StandsSent old w s → IsTied w low flight → w.given ≡ pieces_by w.total w.shut →
-    new.bytes ≡ old.bytes → soft ≡ [] → pieces ≡ drop (length w.pieces) w.pieces →
-    StandsSent new (record w { acked = w.given; soft = soft; pieces = pieces }) (after_all s)
-all_stands old new w s low flight soft pieces st tied all same soft_is is =
-    let held = tied.held in
-    let least = tied.acked_most in
-    let quiet : (i : ℕ) → get_or soft i false ≡ s.soft (suc (w.given + i)) = (λ i.
-    let j = w.given - w.acked + i in
-    let at : w.acked + j ≡ w.given + i = omega (arith, least) in
-    ap (λ ms. get_or ms i false) soft_is ∙ sym (tied.quiet j (omega (arith, least))) ∙ st.soft j
-    ∙ ap (λ k. s.soft (suc k)) at) in
-    let after : SendWindow = record w { acked = w.given; soft = soft; pieces = pieces } in
-    subst (λ (k : ℕ). StandsSent new after (record s { acked = k })) (all ∙ pieces_is old w s st)
-    (dropped_stands old new w s w.given (length w.pieces) w.peer_window soft pieces s.soft s.peer_window st
-    (omega (arith, held, all)) same is quiet st.peer)
+module _ (old new : Slots) (w : SendWindow) (s : Sent) (low flight : ℕ) (soft : List Bool) (pieces : List HeldPiece)
+  where
+    pub all_stands : StandsSent old w s → IsTied w low flight → w.given ≡ pieces_by w.total w.shut
+        → new.bytes ≡ old.bytes
+        → soft ≡ [] → pieces ≡ drop (length w.pieces) w.pieces
+        → StandsSent new (record w { acked = w.given; soft = soft; pieces = pieces }) (after_all s)
+    all_stands st tied all same soft_is is =
+        let held = tied.held in
+        let least = tied.acked_most in
+        let quiet : (i : ℕ) → get_or soft i false ≡ s.soft (suc (w.given + i)) = (λ i.
+        let j = w.given - w.acked + i in
+        let at : w.acked + j ≡ w.given + i = omega (arith, least) in
+        ap (λ ms. get_or ms i false) soft_is ∙ sym (tied.quiet j (omega (arith, least))) ∙ st.soft j
+        ∙ ap (λ k. s.soft (suc k)) at) in
+        let after : SendWindow = record w { acked = w.given; soft = soft; pieces = pieces } in
+        subst (λ (k : ℕ). StandsSent new after (record s { acked = k })) (all ∙ pieces_is old w s st)
+        (dropped_stands old new w s w.given (length w.pieces) w.peer_window soft pieces s.soft s.peer_window st
+        (omega (arith, held, all)) same is quiet st.peer)

@@ -133,41 +133,40 @@ pub marked_here : (acked k : ℕ) (soft : List Bool) (b : Bool) → acked < k �
     (not (is_acked_by acked soft k) && b) ≡ false
 marked_here acked k soft b lt mark = λ i. not (acked_at acked soft k true lt mark i) && b
 
--- the counts of those past it, where it is marked, or isn't
-pub counts_here : (acked given k : ℕ) (soft : List Bool) (order : ℕ → ℕ) (latest next : Latest) →
-    0 < k → k ≤ given → get_or soft (k - suc acked) false ≡ true →
-    ((o n : ℕ) → Counts latest o n → o < order (k - suc acked) → Counts next o (suc n)) →
-    ((o n : ℕ) → Counts latest o n → order (k - suc acked) ≤ o → Counts next o n) → (o : ℕ) →
-    Counts latest o (marked_past acked given soft order k o) →
-    Counts next o (marked_past acked given soft order (k - 1) o)
-counts_here acked given k soft order latest next lt le mark above below o counts =
-    let test = is_marked_past acked soft order o in
-    let grows = count_grows test k given le in
-    elim (cases_lt o (order (k - suc acked))) as (λ _. Counts next o (marked_past acked given soft order (k - 1) o)) [
-      | inl less ↦ (
-          let yes : nat_lt o (order (k - suc acked)) ≡ true = grind (arith, nat_tests, less) in
-          let step = count_step test k true lt (λ i. mark i && yes i) in
-          let is : suc (marked_past acked given soft order k o) ≡ marked_past acked given soft order (k - 1) o = (
-          omega (arith, step, grows)) in
-          subst (Counts next o) is (above o (marked_past acked given soft order k o) counts less))
-      | inr upto ↦ (
-          let no : nat_lt o (order (k - suc acked)) ≡ false = grind (arith, nat_tests, upto) in
-          let step = count_step test k false lt (λ i. mark i && no i) in
-          let is : marked_past acked given soft order k o ≡ marked_past acked given soft order (k - 1) o = (
-          omega (arith, step, grows)) in
-          subst (Counts next o) is (below o (marked_past acked given soft order k o) counts upto))
-    ]
+module _ (acked given k : ℕ) (soft : List Bool) (order : ℕ → ℕ) (latest : Latest) where
+  -- the counts of those past it, where it is marked, or isn't
+  pub counts_here : (next : Latest) → 0 < k → k ≤ given → get_or soft (k - suc acked) false ≡ true
+      → ((o n : ℕ) → Counts latest o n → o < order (k - suc acked) → Counts next o (suc n))
+      → ((o n : ℕ) → Counts latest o n → order (k - suc acked) ≤ o → Counts next o n) → (o : ℕ)
+      → Counts latest o (marked_past acked given soft order k o)
+      → Counts next o (marked_past acked given soft order (k - 1) o)
+  counts_here next lt le mark above below o counts =
+      let test = is_marked_past acked soft order o in
+      let grows = count_grows test k given le in
+      elim (cases_lt o (order (k - suc acked))) as (λ _. Counts next o (marked_past acked given soft order (k - 1) o)) [
+        | inl less ↦ (
+            let yes : nat_lt o (order (k - suc acked)) ≡ true = grind (arith, nat_tests, less) in
+            let step = count_step test k true lt (λ i. mark i && yes i) in
+            let is : suc (marked_past acked given soft order k o) ≡ marked_past acked given soft order (k - 1) o = (
+            omega (arith, step, grows)) in
+            subst (Counts next o) is (above o (marked_past acked given soft order k o) counts less))
+        | inr upto ↦ (
+            let no : nat_lt o (order (k - suc acked)) ≡ false = grind (arith, nat_tests, upto) in
+            let step = count_step test k false lt (λ i. mark i && no i) in
+            let is : marked_past acked given soft order k o ≡ marked_past acked given soft order (k - 1) o = (
+            omega (arith, step, grows)) in
+            subst (Counts next o) is (below o (marked_past acked given soft order k o) counts upto))
+      ]
 
-pub counts_unmarked : (acked given k : ℕ) (soft : List Bool) (order : ℕ → ℕ) (latest : Latest) →
-    0 < k → k ≤ given → get_or soft (k - suc acked) false ≡ false → (o : ℕ) →
-    Counts latest o (marked_past acked given soft order k o) →
-    Counts latest o (marked_past acked given soft order (k - 1) o)
-counts_unmarked acked given k soft order latest lt le mark o counts =
-    let test = is_marked_past acked soft order o in
-    let step = count_step test k false lt (λ i. mark i && nat_lt o (order (k - suc acked))) in
-    let is : marked_past acked given soft order k o ≡ marked_past acked given soft order (k - 1) o = (
-    omega (arith, step)) in
-    subst (Counts latest o) is counts
+  pub counts_unmarked : 0 < k → k ≤ given → get_or soft (k - suc acked) false ≡ false → (o : ℕ)
+      → Counts latest o (marked_past acked given soft order k o)
+      → Counts latest o (marked_past acked given soft order (k - 1) o)
+  counts_unmarked lt le mark o counts =
+      let test = is_marked_past acked soft order o in
+      let step = count_step test k false lt (λ i. mark i && nat_lt o (order (k - suc acked))) in
+      let is : marked_past acked given soft order k o ≡ marked_past acked given soft order (k - 1) o = (
+      omega (arith, step)) in
+      subst (Counts latest o) is counts
 
 pub counts_none : (latest : Latest) (o n : ℕ) → latest.first ≡ 0 → latest.second ≡ 0 → latest.third ≡ 0 → n ≡ 0 →
     Counts latest o n
@@ -206,41 +205,40 @@ looks_none acked given since soft order lost latest le is one two three =
       counts = λ o. counts_none latest o (marked_past acked given soft order given o) one two three (omega arith);
     })
 
-pub looks_same : (acked given since : ℕ) (soft : List Bool) (order : ℕ → ℕ) (k : ℕ) (lost now : Lost)
-    (latest next : Latest) → now ≡ lost → next ≡ latest → LooksPast acked given since soft order k lost latest →
-    LooksPast acked given since soft order k now next
-looks_same acked given since soft order k lost now latest next is next_is so =
-    subst (λ (l : Lost). LooksPast acked given since soft order k l next) (sym is)
-    (subst (LooksPast acked given since soft order k lost) (sym next_is) so)
+module _ (acked given since : ℕ) (soft : List Bool) (order : ℕ → ℕ) (k : ℕ) (lost : Lost) where
+  pub looks_same : (now : Lost) (latest next : Latest) → now ≡ lost → next ≡ latest
+      → LooksPast acked given since soft order k lost latest → LooksPast acked given since soft order k now next
+  looks_same now latest next is next_is so =
+      subst (λ (l : Lost). LooksPast acked given since soft order k l next) (sym is)
+      (subst (LooksPast acked given since soft order k lost) (sym next_is) so)
 
--- a piece that is marked
-pub looks_marked : (acked given since : ℕ) (soft : List Bool) (order : ℕ → ℕ) (k : ℕ) (lost : Lost)
-    (latest next : Latest) → LooksPast acked given since soft order k lost latest → acked < k →
-    get_or soft (k - suc acked) false ≡ true →
-    ((o n : ℕ) → Counts latest o n → o < order (k - suc acked) → Counts next o (suc n)) →
-    ((o n : ℕ) → Counts latest o n → order (k - suc acked) ≤ o → Counts next o n) →
-    LooksPast acked given since soft order (k - 1) lost next
-looks_marked acked given since soft order k lost latest next so lt mark above below =
-    let some : 0 < k = omega (arith, lt) in
-    let most = so.most in
-    let few = so.few in
-    let way = so.under_way in
-    let overtaken = is_overtaken_by acked soft order given in
-    let late = is_late_by acked soft order since in
-    let on_way = is_under_way_by acked soft order since in
-    let count = (
-    count_step on_way k false some (marked_here acked k soft (nat_lt since (order (k - suc acked))) lt mark)) in
-    record {
-      least = omega (arith, lt);
-      most = omega (arith, most);
-      few = omega (arith, few);
-      overtaken = lowest_down overtaken k given false lost.overtaken lost.overtaken so.overtaken some most
-          (marked_here acked k soft (nat_le 3 (count_to (overtakes_by acked soft order k) given)) lt mark) refl;
-      late = lowest_down late k given false lost.late lost.late so.late some most
-          (marked_here acked k soft (nat_le (order (k - suc acked)) since) lt mark) refl;
-      under_way = omega (arith, way, count);
-      counts = λ o. counts_here acked given k soft order latest next some most mark above below o (so.counts o);
-    }
+  -- a piece that is marked
+  pub looks_marked : (latest next : Latest) → LooksPast acked given since soft order k lost latest → acked < k
+      → get_or soft (k - suc acked) false ≡ true
+      → ((o n : ℕ) → Counts latest o n → o < order (k - suc acked) → Counts next o (suc n))
+      → ((o n : ℕ) → Counts latest o n → order (k - suc acked) ≤ o → Counts next o n)
+      → LooksPast acked given since soft order (k - 1) lost next
+  looks_marked latest next so lt mark above below =
+      let some : 0 < k = omega (arith, lt) in
+      let most = so.most in
+      let few = so.few in
+      let way = so.under_way in
+      let overtaken = is_overtaken_by acked soft order given in
+      let late = is_late_by acked soft order since in
+      let on_way = is_under_way_by acked soft order since in
+      let count = (
+      count_step on_way k false some (marked_here acked k soft (nat_lt since (order (k - suc acked))) lt mark)) in
+      record {
+        least = omega (arith, lt);
+        most = omega (arith, most);
+        few = omega (arith, few);
+        overtaken = lowest_down overtaken k given false lost.overtaken lost.overtaken so.overtaken some most
+            (marked_here acked k soft (nat_le 3 (count_to (overtakes_by acked soft order k) given)) lt mark) refl;
+        late = lowest_down late k given false lost.late lost.late so.late some most
+            (marked_here acked k soft (nat_le (order (k - suc acked)) since) lt mark) refl;
+        under_way = omega (arith, way, count);
+        counts = λ o. counts_here acked given k soft order latest next some most mark above below o (so.counts o);
+      }
 
 way_on : (b : Bool) (n a c : ℕ) → n + cond (not b) (suc c) c ≡ a → cond b n (n + 1) + c ≡ a
 way_on true n a c is = is
@@ -253,38 +251,40 @@ way_few false n k given le lt = omega (arith, le, lt)
 not_late : (o since : ℕ) → nat_lt since o ≡ not (nat_le o since)
 not_late o since = grind (arith, nat_tests)
 
--- one that isn't
-pub looks_unmarked : (acked given since : ℕ) (soft : List Bool) (order : ℕ → ℕ) (k : ℕ) (lost next : Lost)
-    (latest : Latest) → LooksPast acked given since soft order k lost latest → acked < k →
-    get_or soft (k - suc acked) false ≡ false →
-    next.overtaken ≡ cond (nat_lt (order (k - suc acked)) latest.third) (Some k) lost.overtaken →
-    next.late ≡ cond (nat_le (order (k - suc acked)) since) (Some k) lost.late →
-    next.under_way ≡ cond (nat_le (order (k - suc acked)) since) lost.under_way (lost.under_way + 1) →
-    LooksPast acked given since soft order (k - 1) next latest
-looks_unmarked acked given since soft order k lost next latest so lt mark overtaken_is late_is way_is =
-    let some : 0 < k = omega (arith, lt) in
-    let most = so.most in
-    let way = so.under_way in
-    let o = order (k - suc acked) in
-    let overtaken = is_overtaken_by acked soft order given in
-    let late = is_late_by acked soft order since in
-    let on_way = is_under_way_by acked soft order since in
-    let count = (
-    count_step on_way k (not (nat_le o since)) some
-    (under_way_here acked k since soft order lt mark ∙ not_late o since)) in
-    record {
-      least = omega (arith, lt);
-      most = omega (arith, most);
-      few = subst (λ n. n + (k - 1) ≤ given) (sym way_is) (way_few (nat_le o since) lost.under_way k given so.few some);
-      overtaken = lowest_down overtaken k given (nat_lt o latest.third) lost.overtaken next.overtaken so.overtaken some
-          most (overtaken_here acked given k soft order latest lt most mark (so.counts o)) overtaken_is;
-      late = lowest_down late k given (nat_le o since) lost.late next.late so.late some most
-          (late_here acked k since soft order lt mark) late_is;
-      under_way = ap (λ n. n + count_to on_way (k - 1)) way_is
-          ∙ way_on (nat_le o since) lost.under_way (count_to on_way given) (count_to on_way (k - 1))
-          (ap (λ n. lost.under_way + n) (sym count) ∙ way);
-      counts = λ q. counts_unmarked acked given k soft order latest some most mark q (so.counts q);
-    }
+module _ (acked given since : ℕ) (soft : List Bool) (order : ℕ → ℕ) (k : ℕ) (lost next : Lost) (latest : Latest) where
+  -- one that isn't
+  pub looks_unmarked : LooksPast acked given since soft order k lost latest → acked < k
+      → get_or soft (k - suc acked) false ≡ false
+      → next.overtaken ≡ cond (nat_lt (order (k - suc acked)) latest.third) (Some k) lost.overtaken
+      → next.late ≡ cond (nat_le (order (k - suc acked)) since) (Some k) lost.late
+      → next.under_way ≡ cond (nat_le (order (k - suc acked)) since) lost.under_way (lost.under_way + 1)
+      → LooksPast acked given since soft order (k - 1) next latest
+  looks_unmarked so lt mark overtaken_is late_is way_is =
+      let some : 0 < k = omega (arith, lt) in
+      let most = so.most in
+      let way = so.under_way in
+      let o = order (k - suc acked) in
+      let overtaken = is_overtaken_by acked soft order given in
+      let late = is_late_by acked soft order since in
+      let on_way = is_under_way_by acked soft order since in
+      let count = (
+      count_step on_way k (not (nat_le o since)) some
+      (under_way_here acked k since soft order lt mark ∙ not_late o since)) in
+      record {
+        least = omega (arith, lt);
+        most = omega (arith, most);
+        few = subst (λ n. n + (k - 1) ≤ given) (sym way_is)
+            (way_few (nat_le o since) lost.under_way k given so.few some);
+        overtaken = lowest_down overtaken k given (nat_lt o latest.third) lost.overtaken next.overtaken so.overtaken
+            some
+            most (overtaken_here acked given k soft order latest lt most mark (so.counts o)) overtaken_is;
+        late = lowest_down late k given (nat_le o since) lost.late next.late so.late some most
+            (late_here acked k since soft order lt mark) late_is;
+        under_way = ap (λ n. n + count_to on_way (k - 1)) way_is
+            ∙ way_on (nat_le o since) lost.under_way (count_to on_way given) (count_to on_way (k - 1))
+            (ap (λ n. lost.under_way + n) (sym count) ∙ way);
+        counts = λ q. counts_unmarked acked given k soft order latest some most mark q (so.counts q);
+      }
 
 pub under_acked : (acked since : ℕ) (soft : List Bool) (order : ℕ → ℕ) →
     count_to (is_under_way_by acked soft order since) acked ≡ 0

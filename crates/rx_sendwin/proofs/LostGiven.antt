@@ -90,50 +90,52 @@ own_count acked given soft order =
 
 -- ---- the next piece is given
 
-pub lost_next : (acked given since : ℕ) (soft : List Bool) (old new : ℕ → ℕ) (lost next : Lost) → acked ≤ given →
-    get_or soft (given - acked) false ≡ false → ((i : ℕ) → (i ≡ given - acked → ⊥) → new i ≡ old i) →
-    since < new (given - acked) → AreLost acked given since soft old lost →
-    next ≡ record lost { under_way = lost.under_way + 1 } → AreLost acked (suc given) since soft new next
-lost_next acked given since soft old new lost next le quiet same later are is =
-    let at : suc given - suc acked ≡ given - acked = omega arith in
-    let apart : (k : ℕ) → acked < k → k ≤ given → k - suc acked ≡ given - acked → ⊥ = (
-    λ k lt upto e. omega (arith, lt, upto, e)) in
-    let none : get_or soft (suc given - suc acked) false ≡ false = ap (λ m. get_or soft m false) at ∙ quiet in
-    let fresh : is_acked_by acked soft (suc given) ≡ false = (
-    acked_at acked soft (suc given) false (omega (arith, le)) none) in
-    let order_is : new (suc given - suc acked) ≡ new (given - acked) = ap new at in
-    let not_late : nat_le (new (suc given - suc acked)) since ≡ false = grind (arith, nat_tests, later, order_is) in
-    let on_way : nat_lt since (new (suc given - suc acked)) ≡ true = grind (arith, nat_tests, later, order_is) in
-    let way_old = is_under_way_by acked soft old since in
-    let way_new = is_under_way_by acked soft new since in
-    let way : count_to way_new given ≡ count_to way_old given = (
-    count_same way_new way_old given (λ k lt upto. elim (cases_lt acked k) as (λ _. way_new k ≡ way_old k) [
-      | inl more ↦ ap (λ n. not (is_acked_by acked soft k) && nat_lt since n) (same (k - suc acked) (apart k more upto))
-      | inr low ↦ (
-          let known = known_low acked soft k low in
-          ap (λ b. not b && nat_lt since (new (k - suc acked))) known
-          ∙ sym (ap (λ b. not b && nat_lt since (old (k - suc acked))) known))
-    ])) in
-    let last : way_new (suc given) ≡ true = (λ i. not (fresh i) && on_way i) in
-    let counted : count_to way_new (suc given) ≡ suc (count_to way_new given) = (
-    ap (λ b. cond b (suc (count_to way_new given)) (count_to way_new given)) last) in
-    let before = are.under_way in
-    subst (AreLost acked (suc given) since soft new) (sym is) (record {
-      overtaken = lowest_up (is_overtaken_by acked soft old given) (is_overtaken_by acked soft new (suc given)) acked
-          given lost.overtaken
-          (λ k lt upto. ap (λ n. not (is_acked_by acked soft k) && nat_le 3 n)
-          (count_last acked given k soft old new lt upto quiet same))
-          (and_false (not (is_acked_by acked soft (suc given)))
-          (nat_le 3 (count_to (overtakes_by acked soft new (suc given)) (suc given)))
-          (ap (nat_le 3) (own_count acked given soft new)))
-          are.overtaken;
-      late = lowest_up (is_late_by acked soft old since) (is_late_by acked soft new since) acked given lost.late
-          (λ k lt upto. ap (λ n. not (is_acked_by acked soft k) && nat_le n since)
-          (same (k - suc acked) (apart k lt upto)))
-          (and_false (not (is_acked_by acked soft (suc given))) (nat_le (new (suc given - suc acked)) since) not_late)
-          are.late;
-      under_way = omega (arith, before, way, counted);
-    })
+module _ (acked given since : ℕ) (soft : List Bool) (old new : ℕ → ℕ) (lost next : Lost) where
+  pub lost_next : acked ≤ given → get_or soft (given - acked) false ≡ false
+      → ((i : ℕ) → (i ≡ given - acked → ⊥) → new i ≡ old i) → since < new (given - acked)
+      → AreLost acked given since soft old lost → next ≡ record lost { under_way = lost.under_way + 1 }
+      → AreLost acked (suc given) since soft new next
+  lost_next le quiet same later are is =
+      let at : suc given - suc acked ≡ given - acked = omega arith in
+      let apart : (k : ℕ) → acked < k → k ≤ given → k - suc acked ≡ given - acked → ⊥ = (
+      λ k lt upto e. omega (arith, lt, upto, e)) in
+      let none : get_or soft (suc given - suc acked) false ≡ false = ap (λ m. get_or soft m false) at ∙ quiet in
+      let fresh : is_acked_by acked soft (suc given) ≡ false = (
+      acked_at acked soft (suc given) false (omega (arith, le)) none) in
+      let order_is : new (suc given - suc acked) ≡ new (given - acked) = ap new at in
+      let not_late : nat_le (new (suc given - suc acked)) since ≡ false = grind (arith, nat_tests, later, order_is) in
+      let on_way : nat_lt since (new (suc given - suc acked)) ≡ true = grind (arith, nat_tests, later, order_is) in
+      let way_old = is_under_way_by acked soft old since in
+      let way_new = is_under_way_by acked soft new since in
+      let way : count_to way_new given ≡ count_to way_old given = (
+      count_same way_new way_old given (λ k lt upto. elim (cases_lt acked k) as (λ _. way_new k ≡ way_old k) [
+        | inl more ↦ ap (λ n. not (is_acked_by acked soft k) && nat_lt since n)
+            (same (k - suc acked) (apart k more upto))
+        | inr low ↦ (
+            let known = known_low acked soft k low in
+            ap (λ b. not b && nat_lt since (new (k - suc acked))) known
+            ∙ sym (ap (λ b. not b && nat_lt since (old (k - suc acked))) known))
+      ])) in
+      let last : way_new (suc given) ≡ true = (λ i. not (fresh i) && on_way i) in
+      let counted : count_to way_new (suc given) ≡ suc (count_to way_new given) = (
+      ap (λ b. cond b (suc (count_to way_new given)) (count_to way_new given)) last) in
+      let before = are.under_way in
+      subst (AreLost acked (suc given) since soft new) (sym is) (record {
+        overtaken = lowest_up (is_overtaken_by acked soft old given) (is_overtaken_by acked soft new (suc given)) acked
+            given lost.overtaken
+            (λ k lt upto. ap (λ n. not (is_acked_by acked soft k) && nat_le 3 n)
+            (count_last acked given k soft old new lt upto quiet same))
+            (and_false (not (is_acked_by acked soft (suc given)))
+            (nat_le 3 (count_to (overtakes_by acked soft new (suc given)) (suc given)))
+            (ap (nat_le 3) (own_count acked given soft new)))
+            are.overtaken;
+        late = lowest_up (is_late_by acked soft old since) (is_late_by acked soft new since) acked given lost.late
+            (λ k lt upto. ap (λ n. not (is_acked_by acked soft k) && nat_le n since)
+            (same (k - suc acked) (apart k lt upto)))
+            (and_false (not (is_acked_by acked soft (suc given))) (nat_le (new (suc given - suc acked)) since) not_late)
+            are.late;
+        under_way = omega (arith, before, way, counted);
+      })
 
 -- the orders behind a giving
 pub order_other : (hs : List HeldPiece) (place : ℕ) (g : HeldPiece) (i : ℕ) → (i ≡ place → ⊥) →

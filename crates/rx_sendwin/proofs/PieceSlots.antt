@@ -42,27 +42,27 @@ push_keeps old got new hs after h bytes is pushed t holds fits =
     subst (λ (pool : Slots). Keeps old pool held (slots_in after)) (sym is)
     (subst (λ ss. Keeps old (written got h.slot 0 bytes) held ss) (sym is_after) ordered)
 
-pub push_seen : (old got new : Slots) (hs after : List HeldPiece) (slot : ℕ) (given : Option LastGiving)
-    (bytes : List ℕ) →
-    new ≡ written got slot 0 bytes → after ≡ hs ++ record { slot = slot; size = length bytes; given = given } ∷ [] →
-    Takes old got slot → Holds old (slots_in hs) → length bytes ≤ PAYLOAD_BYTES
-    → map (seen_at new) after ≡ map (seen_at old) hs ++ bytes ∷ []
-push_seen old got new hs after slot given bytes is pushed t holds fits =
-    let h : HeldPiece = record { slot = slot; size = length bytes; given = given } in
-    let next = written got slot 0 bytes in
-    let room = t.of.size in
-    let apart = (keeps_got old got slot (slots_in hs) t holds).holds.apart.0 in
-    let same : (s : ℕ) → has s (slots_in hs) ≡ true → bytes_at next s ≡ bytes_at old s =
-    (λ s y. get_or-set_other got.bytes slot s (overwrite (bytes_at got slot) 0 bytes) []
-    (two s slot (slots_in hs) y apart) ∙ ap (λ (bs : List (List ℕ)). get_or bs s []) t.bytes) in
-    let own : bytes_at next slot ≡ overwrite (bytes_at got slot) 0 bytes = (
-    get_or-set_same got.bytes slot (overwrite (bytes_at got slot) 0 bytes) [] t.of.within) in
-    let front : take (length bytes) (bytes_at next slot) ≡ bytes = (
-    ap (take (length bytes)) own ∙ ap (λ n. take n (overwrite (bytes_at got slot) 0 bytes)) (omega arith)
-    ∙ take-overwrite (bytes_at got slot) 0 bytes (omega arith)) in
-    (λ i. map (seen_at (is i)) (pushed i))
-    ∙ map_push (seen_at next) hs h
-    ∙ (λ i. seen_same old next hs same i ++ front i ∷ [])
+module _ (old got new : Slots) (hs after : List HeldPiece) (slot : ℕ) (given : Option LastGiving) (bytes : List ℕ) where
+  pub push_seen : new ≡ written got slot 0 bytes
+      → after ≡ hs ++ record { slot = slot; size = length bytes; given = given } ∷ [] → Takes old got slot
+      → Holds old (slots_in hs) → length bytes ≤ PAYLOAD_BYTES
+      → map (seen_at new) after ≡ map (seen_at old) hs ++ bytes ∷ []
+  push_seen is pushed t holds fits =
+      let h : HeldPiece = record { slot = slot; size = length bytes; given = given } in
+      let next = written got slot 0 bytes in
+      let room = t.of.size in
+      let apart = (keeps_got old got slot (slots_in hs) t holds).holds.apart.0 in
+      let same : (s : ℕ) → has s (slots_in hs) ≡ true → bytes_at next s ≡ bytes_at old s =
+      (λ s y. get_or-set_other got.bytes slot s (overwrite (bytes_at got slot) 0 bytes) []
+      (two s slot (slots_in hs) y apart) ∙ ap (λ (bs : List (List ℕ)). get_or bs s []) t.bytes) in
+      let own : bytes_at next slot ≡ overwrite (bytes_at got slot) 0 bytes = (
+      get_or-set_same got.bytes slot (overwrite (bytes_at got slot) 0 bytes) [] t.of.within) in
+      let front : take (length bytes) (bytes_at next slot) ≡ bytes = (
+      ap (take (length bytes)) own ∙ ap (λ n. take n (overwrite (bytes_at got slot) 0 bytes)) (omega arith)
+      ∙ take-overwrite (bytes_at got slot) 0 bytes (omega arith)) in
+      (λ i. map (seen_at (is i)) (pushed i))
+      ∙ map_push (seen_at next) hs h
+      ∙ (λ i. seen_same old next hs same i ++ front i ∷ [])
 
 -- ---- the last piece is filled
 
@@ -104,19 +104,19 @@ fill_seen pool (k ∷ hs) (suc i) at h g bytes e lt same grown is sized holds fi
     (λ e. two h.slot k.slot (slots_in hs) there holds.apart.0 (sym e))) in
     λ j. take k.size (here j) ∷ rest j
 
-pub fill_keeps : (pool new : Slots) (hs after : List HeldPiece) (i at : ℕ) (h g : HeldPiece) (bytes : List ℕ) →
-    new ≡ written pool h.slot at bytes → after ≡ set hs i g → h ≡ get_or hs i h → i < length hs → g.slot ≡ h.slot →
-    Holds pool (slots_in hs) → at + length bytes ≤ PAYLOAD_BYTES
-    → Keeps pool new (slots_in hs) (slots_in after)
-fill_keeps pool new hs after i at h g bytes is made e lt same holds fits =
-    let there = has_at hs i h e lt in
-    let room = (holds.of h.slot there).size in
-    let wide : length (overwrite (bytes_at pool h.slot) at bytes) ≡ 1444 = (
-    length-overwrite (bytes_at pool h.slot) at bytes (omega (arith, fits, room)) ∙ room) in
-    let kept = keeps_put pool h.slot (overwrite (bytes_at pool h.slot) at bytes) (slots_in hs) wide there holds in
-    let slots : slots_in after ≡ slots_in hs = ap slots_in made ∙ slots_set hs i h g e lt same in
-    subst (λ (p : Slots). Keeps pool p (slots_in hs) (slots_in after)) (sym is)
-    (subst (λ ss. Keeps pool (written pool h.slot at bytes) (slots_in hs) ss) (sym slots) kept)
+module _ (pool new : Slots) (hs after : List HeldPiece) (i at : ℕ) (h g : HeldPiece) (bytes : List ℕ) where
+  pub fill_keeps : new ≡ written pool h.slot at bytes → after ≡ set hs i g → h ≡ get_or hs i h → i < length hs
+      → g.slot ≡ h.slot → Holds pool (slots_in hs) → at + length bytes ≤ PAYLOAD_BYTES
+      → Keeps pool new (slots_in hs) (slots_in after)
+  fill_keeps is made e lt same holds fits =
+      let there = has_at hs i h e lt in
+      let room = (holds.of h.slot there).size in
+      let wide : length (overwrite (bytes_at pool h.slot) at bytes) ≡ 1444 = (
+      length-overwrite (bytes_at pool h.slot) at bytes (omega (arith, fits, room)) ∙ room) in
+      let kept = keeps_put pool h.slot (overwrite (bytes_at pool h.slot) at bytes) (slots_in hs) wide there holds in
+      let slots : slots_in after ≡ slots_in hs = ap slots_in made ∙ slots_set hs i h g e lt same in
+      subst (λ (p : Slots). Keeps pool p (slots_in hs) (slots_in after)) (sym is)
+      (subst (λ ss. Keeps pool (written pool h.slot at bytes) (slots_in hs) ss) (sym slots) kept)
 
 -- ---- the first piece is given up
 

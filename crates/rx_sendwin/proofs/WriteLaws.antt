@@ -15,53 +15,52 @@ use Rattle.rx_sendwin.proofs.Payloads.{pushed, filled, none_behind, take_join}
 
 -- ---- bytes are accepted
 
-pub push_stands : (old new : Slots) (w : SendWindow) (s : Sent) (chunk : List ℕ) (pieces : List HeldPiece) →
-    StandsSent old w s → map (seen_at new) pieces ≡ map (seen_at old) w.pieces ++ chunk ∷ [] →
-    map giving_at pieces ≡ map giving_at w.pieces ++ None ∷ [] → w.total ≡ 1412 * (w.acked + length w.pieces) →
-    length chunk ≤ 1412 →
-    StandsSent new (record w { total = w.total + length chunk; pieces = pieces }) (after_write chunk s)
-push_stands old new w s chunk pieces st seen givings full fits =
-    let size : length (map (seen_at old) w.pieces) ≡ length w.pieces = length-map w.pieces (seen_at old) in
-    let total = st.total in
-    record {
-      total = ap (λ n. n + length chunk) st.total ∙ sym (length-append s.said chunk);
-      shut = st.shut;
-      acked = st.acked;
-      given = st.given;
-      soft = st.soft;
-      peer = st.peer;
-      pieces =
-          pushed (map (seen_at old) w.pieces) (map (seen_at new) pieces) s.said chunk w.acked seen
-          (omega (arith, total, full, size)) fits st.pieces;
-      givings = λ i. none_behind (map giving_at w.pieces) (map giving_at pieces) i givings ∙ st.givings i;
-      orders = st.orders;
-      since = st.since;
-    }
+module _ (old new : Slots) (w : SendWindow) (s : Sent) (chunk : List ℕ) (pieces : List HeldPiece) where
+  pub push_stands : StandsSent old w s → map (seen_at new) pieces ≡ map (seen_at old) w.pieces ++ chunk ∷ []
+      → map giving_at pieces ≡ map giving_at w.pieces ++ None ∷ [] → w.total ≡ 1412 * (w.acked + length w.pieces)
+      → length chunk ≤ 1412
+      → StandsSent new (record w { total = w.total + length chunk; pieces = pieces }) (after_write chunk s)
+  push_stands st seen givings full fits =
+      let size : length (map (seen_at old) w.pieces) ≡ length w.pieces = length-map w.pieces (seen_at old) in
+      let total = st.total in
+      record {
+        total = ap (λ n. n + length chunk) st.total ∙ sym (length-append s.said chunk);
+        shut = st.shut;
+        acked = st.acked;
+        given = st.given;
+        soft = st.soft;
+        peer = st.peer;
+        pieces =
+            pushed (map (seen_at old) w.pieces) (map (seen_at new) pieces) s.said chunk w.acked seen
+            (omega (arith, total, full, size)) fits st.pieces;
+        givings = λ i. none_behind (map giving_at w.pieces) (map giving_at pieces) i givings ∙ st.givings i;
+        orders = st.orders;
+        since = st.since;
+      }
 
-pub fill_stands : (old new : Slots) (w : SendWindow) (s : Sent) (chunk : List ℕ) (pieces : List HeldPiece) (place : ℕ) →
-    StandsSent old w s →
-    map (seen_at new) pieces
-    ≡ set (map (seen_at old) w.pieces) place (get_or (map (seen_at old) w.pieces) place [] ++ chunk) →
-    map giving_at pieces ≡ map giving_at w.pieces → place < length w.pieces → 1412 * (w.acked + place) ≤ w.total →
-    w.total + length chunk ≤ 1412 * suc (w.acked + place) →
-    StandsSent new (record w { total = w.total + length chunk; pieces = pieces }) (after_write chunk s)
-fill_stands old new w s chunk pieces place st seen givings within from fits =
-    let size : length (map (seen_at old) w.pieces) ≡ length w.pieces = length-map w.pieces (seen_at old) in
-    let total = st.total in
-    record {
-      total = ap (λ n. n + length chunk) st.total ∙ sym (length-append s.said chunk);
-      shut = st.shut;
-      acked = st.acked;
-      given = st.given;
-      soft = st.soft;
-      peer = st.peer;
-      pieces =
-          filled (map (seen_at old) w.pieces) (map (seen_at new) pieces) s.said chunk w.acked place seen
-          (omega (arith, within, size)) (omega (arith, from, total)) (omega (arith, fits, total)) st.pieces;
-      givings = λ i. ap (λ xs. get_or xs i None) givings ∙ st.givings i;
-      orders = st.orders;
-      since = st.since;
-    }
+  pub fill_stands : (place : ℕ) → StandsSent old w s
+      → map (seen_at new) pieces ≡ set (map (seen_at old) w.pieces) place
+      (get_or (map (seen_at old) w.pieces) place [] ++ chunk)
+      → map giving_at pieces ≡ map giving_at w.pieces → place < length w.pieces → 1412 * (w.acked + place) ≤ w.total
+      → w.total + length chunk ≤ 1412 * suc (w.acked + place)
+      → StandsSent new (record w { total = w.total + length chunk; pieces = pieces }) (after_write chunk s)
+  fill_stands place st seen givings within from fits =
+      let size : length (map (seen_at old) w.pieces) ≡ length w.pieces = length-map w.pieces (seen_at old) in
+      let total = st.total in
+      record {
+        total = ap (λ n. n + length chunk) st.total ∙ sym (length-append s.said chunk);
+        shut = st.shut;
+        acked = st.acked;
+        given = st.given;
+        soft = st.soft;
+        peer = st.peer;
+        pieces =
+            filled (map (seen_at old) w.pieces) (map (seen_at new) pieces) s.said chunk w.acked place seen
+            (omega (arith, within, size)) (omega (arith, from, total)) (omega (arith, fits, total)) st.pieces;
+        givings = λ i. ap (λ xs. get_or xs i None) givings ∙ st.givings i;
+        orders = st.orders;
+        since = st.since;
+      }
 
 pub write_start : (pool : Slots) (w : SendWindow) (s : Sent) (bytes : List ℕ) → StandsSent pool w s →
     StandsSent pool w (after_write (take 0 bytes) s)
@@ -78,9 +77,10 @@ write_next pool new s bytes rest chunk at n from is st =
     subst (λ said. StandsSent pool new (record s { said = said }))
     (append_assoc s.said (take at bytes) chunk ∙ ap (λ bs. s.said ++ bs) parts) st
 
--- a slot is free where a new piece is opened
-pub one_more : (total at room more free0 free held0 held acked count : ℕ) → more ≤ free0 →
-    free + held ≡ free0 + held0 → acked + held0 ≡ opened total → acked + held ≡ opened (total + at) →
-    opened (total + room) ≤ opened total + more → at < count → count ≤ room → (total + at) % 1412 ≡ 0 → 0 < free
-one_more total at room more free0 free held0 held acked count enough kept before now opens lt le full =
-    omega (arith, enough, kept, before, now, opens, lt, le, full)
+module _ (total at room more free0 free held0 held acked count : ℕ) where
+  -- a slot is free where a new piece is opened
+  pub one_more : more ≤ free0 → free + held ≡ free0 + held0 → acked + held0 ≡ opened total
+      → acked + held ≡ opened (total + at) → opened (total + room) ≤ opened total + more → at < count → count ≤ room
+      → (total + at) % 1412 ≡ 0 → 0 < free
+  one_more enough kept before now opens lt le full =
+      omega (arith, enough, kept, before, now, opens, lt, le, full)

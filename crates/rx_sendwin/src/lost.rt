@@ -117,8 +117,8 @@ pub fn lost_among(
     lost
 }
 
-/// What `lost_among` answers: with no look through the pieces where none is acknowledged, and each is known to be on its
-/// way (`all`).
+/// What `lost_among` answers, with no look through the pieces where none is acknowledged and each is known to be on
+/// its way (`all`).
 pub fn lost_behind(
     all: bool,
     acked: u32,

@@ -51,26 +51,27 @@ pub may_finish : (l : Looks) (c : CallName) (key : ℕ) (code : ℤ) → (f : Is
 may_finish l c key code f full =
     sym (finish_of l c key code f ∙ ap (λ (b : Bool). served_by lives.Accepted b tt) full)
 
--- what it answers then
-pub finish_answers : (class : List ℕ → Class) (old new : ServerState) (c : CallName) (key : ℕ) (code : ℤ) → IsCode code
-    → IsServerOf old.node.kind old.service → setup_of class new.node ≡ setup_of class old.node
-    → ((l : Looks) → Serves class old l → IsFound l c key lives.Accepted)
-    → ((l : Looks) → Serves class old l → (f : IsFound l c key lives.Accepted)
-    → (f.call.looks.received.ended || not (is_zero code)) ≡ true)
-    → (told : ℤ) → told ≡ code
-    → ((l : Looks) (d : CallName) → Serves class old l → IsFound l d key lives.Accepted
-    → finished_well ≡ served_finish (call_at l d) told → Serves class new (finish_done d told finished_well l))
-    → Answered class old new (events.Finished c code finished_well)
-finish_answers class old new c key code fits server same found full told is steps =
-    answered_by class old new (events.Finished c code finished_well) same
-    (λ h stands. (
-    let l : Looks = looks (setup_of class old.node) h in
-    let f = found l stands.serves in
-    let may = may_finish l c key code f (full l stands.serves f) in (
-      served_allows old class l (events.Finished c code finished_well) server (fits, may),
-      subst (λ (z : ℤ). Serves class new (finish_done c z finished_well l)) is
-          (steps l c stands.serves f (subst (λ (z : ℤ). finished_well ≡ served_finish (call_at l c) z) (sym is) may)),
-    )))
+module _ (class : List ℕ → Class) (old new : ServerState) (c : CallName) (key : ℕ) (code : ℤ) where
+  -- what it answers then
+  pub finish_answers : IsCode code → IsServerOf old.node.kind old.service
+      → setup_of class new.node ≡ setup_of class old.node
+      → ((l : Looks) → Serves class old l → IsFound l c key lives.Accepted)
+      → ((l : Looks) → Serves class old l → (f : IsFound l c key lives.Accepted)
+      → (f.call.looks.received.ended || not (is_zero code)) ≡ true)
+      → (told : ℤ) → told ≡ code
+      → ((l : Looks) (d : CallName) → Serves class old l → IsFound l d key lives.Accepted
+      → finished_well ≡ served_finish (call_at l d) told → Serves class new (finish_done d told finished_well l))
+      → Answered class old new (events.Finished c code finished_well)
+  finish_answers fits server same found full told is steps =
+      answered_by class old new (events.Finished c code finished_well) same
+      (λ h stands. (
+      let l : Looks = looks (setup_of class old.node) h in
+      let f = found l stands.serves in
+      let may = may_finish l c key code f (full l stands.serves f) in (
+        served_allows old class l (events.Finished c code finished_well) server (fits, may),
+        subst (λ (z : ℤ). Serves class new (finish_done c z finished_well l)) is
+            (steps l c stands.serves f (subst (λ (z : ℤ). finished_well ≡ served_finish (call_at l c) z) (sym is) may)),
+      )))
 
 module _ (class : List ℕ → Class) (sv : ServerState) (c : CallName) (key : ℕ) (code : ℤ) (fits : IsCode code) where
   -- ---- of one whose request wasn't read to its end

@@ -215,25 +215,26 @@ ready_place b q p l m place order keeps own falls stands =
         let before = falls k ne waiting admitted in
         keeps k (was before.0 before.1))
 
--- the calls of a connection that isn't the one whose client is proved may be given to a handler where they might before
-pub falls_proved : (b : Bool) (l m : Looks) (c : CallName) (key : ℕ) (change : ConnLooks → ConnLooks)
-    → Dims l m → m.conns ≡ map (conn_if (connection_of c) change) l.conns → (s : Setup) → Orderly s l
-    → IsChannel l key (channel_of c) → (k : ℕ) → (k / 4) ≢ (key / 4) → FallsAt b l m k
-falls_proved b l m c key change dims conns s o at k apart waiting admitted =
-    (let before = waited l m dims k waiting in
-    let own = waits_there l k before in
-    let r : ConnLooks = own.0 in
-    let named : at.conn.connection ≡ connection_of c = sym (ap (λ (d : Channel). d.connection) at.is) in
-    let other : same_connection r.connection (connection_of c) ≡ false =
-    refuted (same_connection r.connection (connection_of c))
-    (λ same. apart (place_is l.conns (k / 4) (key / 4) r at.conn o.conns.differ own.1 at.there
-    (subst (λ (x : Connection). same_connection r.connection x ≡ true) (sym named) same))) in
-    let there : slice_get m.conns (k / 4) ≡ Some r =
-    ap (λ (rs : List ConnLooks). slice_get rs (k / 4)) conns
-    ∙ slice_get-map (conn_if (connection_of c) change) l.conns (k / 4)
-    ∙ ap (λ (q : Option ConnLooks). option_map (conn_if (connection_of c) change) q) own.1
-    ∙ ap (λ (t : Bool). Some (if t then change r else r)) other in
-    (before, admits_there b l k r own.1 ∙ sym (admits_there b m k r there) ∙ admitted))
+module _ (b : Bool) (l m : Looks) (c : CallName) (key : ℕ) (change : ConnLooks → ConnLooks) where
+  -- the calls of a connection that isn't the one whose client is proved may be given to a handler where they might
+  -- before
+  pub falls_proved : Dims l m → m.conns ≡ map (conn_if (connection_of c) change) l.conns → (s : Setup) → Orderly s l
+      → IsChannel l key (channel_of c) → (k : ℕ) → (k / 4) ≢ (key / 4) → FallsAt b l m k
+  falls_proved dims conns s o at k apart waiting admitted =
+      (let before = waited l m dims k waiting in
+      let own = waits_there l k before in
+      let r : ConnLooks = own.0 in
+      let named : at.conn.connection ≡ connection_of c = sym (ap (λ (d : Channel). d.connection) at.is) in
+      let other : same_connection r.connection (connection_of c) ≡ false =
+      refuted (same_connection r.connection (connection_of c))
+      (λ same. apart (place_is l.conns (k / 4) (key / 4) r at.conn o.conns.differ own.1 at.there
+      (subst (λ (x : Connection). same_connection r.connection x ≡ true) (sym named) same))) in
+      let there : slice_get m.conns (k / 4) ≡ Some r =
+      ap (λ (rs : List ConnLooks). slice_get rs (k / 4)) conns
+      ∙ slice_get-map (conn_if (connection_of c) change) l.conns (k / 4)
+      ∙ ap (λ (q : Option ConnLooks). option_map (conn_if (connection_of c) change) q) own.1
+      ∙ ap (λ (t : Bool). Some (if t then change r else r)) other in
+      (before, admits_there b l k r own.1 ∙ sym (admits_there b m k r there) ∙ admitted))
 
 -- ---- the first that may be accepted
 

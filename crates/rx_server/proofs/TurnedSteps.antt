@@ -57,18 +57,17 @@ serves_life class sv new l c f falls role mirrors serves =
     serves_quiet class sv new l (on_life c f l) role (dims_life c f l falls)
     (record { firsts = refl; entered = refl; proved = refl }) mirrors serves
 
--- there is no place for its connection
-pub takes_full : (class : List ℕ → Class) (old new : ServerState) (l : Looks) (c : CallName) (m : Message) (row : Took)
-    → IsServer old.node.kind → m.number ≡ c.number → RowIs (setup_of class old.node) l c m row
-    → (row ≡ tooks.Strange → ⊥) → HasNoPlace (setup_of class old.node) l (connection_of c) → new ≡ old
-    → Serves class old l
-    → Takes class old new l c m tooks.Full
-takes_full class old new l c m row server number rows other none same serves =
-    record {
-      answered = row_no_place (setup_of class old.node) l c m row number rows server other none.unknown none.full;
-      serves = subst (λ (sv : ServerState). Serves class sv (used (connection_of c) l)) (sym same)
-          (serves_unused class old l (connection_of c) (is_none _ none.unknown) serves);
-    }
+module _ (class : List ℕ → Class) (old new : ServerState) (l : Looks) (c : CallName) (m : Message) (row : Took) where
+  -- there is no place for its connection
+  pub takes_full : IsServer old.node.kind → m.number ≡ c.number → RowIs (setup_of class old.node) l c m row
+      → (row ≡ tooks.Strange → ⊥) → HasNoPlace (setup_of class old.node) l (connection_of c) → new ≡ old
+      → Serves class old l → Takes class old new l c m tooks.Full
+  takes_full server number rows other none same serves =
+      record {
+        answered = row_no_place (setup_of class old.node) l c m row number rows server other none.unknown none.full;
+        serves = subst (λ (sv : ServerState). Serves class sv (used (connection_of c) l)) (sym same)
+            (serves_unused class old l (connection_of c) (is_none _ none.unknown) serves);
+      }
 
 -- ---- rows that reach no call
 

@@ -89,45 +89,43 @@ start_is n w ns service kept one none =
     ∙ ap (λ js. record (begun n) { nodes = nodes_of ns; jobs = js }) (sym none)
     ∙ ap (λ (v : WorldState). record (stage_of v []) { jobs = jobs_of w }) (sym kept)
 
--- it was made
-pub server_begun : (host : Host) (service : ℕ) (limits : Limits) (key : Option (List ℕ)) (nonce : ℕ) (class : Class)
-    (ns : NodesState) (w : WorldState) → has_slots limits 0 ≡ true → class ≡ class_of key → Standing ns []
-    → nodes_of ns ≡ record {
-      host = host;
-      setup = unprompted (Server service nonce) limits class;
-    } ∷ []
-    → w ≡ started ns service w.dispatcher → jobs_of w ≡ []
-    → IsBegun (begins (lines.Server host service limits key nonce))
-    (Ok (record { world = w; late = false; slots = limits.slots }))
-server_begun host service limits key nonce class ns w room keyed standing one kept none = (
-  begun n,
-  begun_so host service limits key nonce room,
-  record { stage = shown; late = refl; place = refl },
-  λ early. (counted, (let within = slots_within limits 0 room in omega (arith, within))),
-)
-  where
-    n : Node
-    n = server_node host service limits key nonce
+module _ (host : Host) (service : ℕ) (limits : Limits) (key : Option (List ℕ)) (nonce : ℕ) (class : Class)
+    (ns : NodesState) (w : WorldState) where
+  -- it was made
+  pub server_begun : has_slots limits 0 ≡ true → class ≡ class_of key → Standing ns []
+      → nodes_of ns ≡ record { host = host; setup = unprompted (Server service nonce) limits class } ∷ []
+      → w ≡ started ns service w.dispatcher → jobs_of w ≡ []
+      → IsBegun (begins (lines.Server host service limits key nonce))
+      (Ok (record { world = w; late = false; slots = limits.slots }))
+  server_begun room keyed standing one kept none = (
+    begun n,
+    begun_so host service limits key nonce room,
+    record { stage = shown; late = refl; place = refl },
+    λ early. (counted, (let within = slots_within limits 0 room in omega (arith, within))),
+  )
+    where
+      n : Node
+      n = server_node host service limits key nonce
 
-    alone : nodes_of ns ≡ n ∷ []
-    alone = one ∙ ap (λ c. record {
-      host = host;
-      setup = unprompted (Server service nonce) limits c;
-    } ∷ []) keyed
+      alone : nodes_of ns ≡ n ∷ []
+      alone = one ∙ ap (λ c. record {
+        host = host;
+        setup = unprompted (Server service nonce) limits c;
+      } ∷ []) keyed
 
-    shown : Shows w (begun n)
-    shown =
-        record {
-          is = start_is n w ns service kept alone none;
-          standing = subst (λ (v : WorldState). Standing v.nodes []) (sym kept) standing;
-          service = ap (λ (v : WorldState). v.service) kept;
-          of_nodes = tt;
-          few = omega arith;
-        }
+      shown : Shows w (begun n)
+      shown =
+          record {
+            is = start_is n w ns service kept alone none;
+            standing = subst (λ (v : WorldState). Standing v.nodes []) (sym kept) standing;
+            service = ap (λ (v : WorldState). v.service) kept;
+            of_nodes = tt;
+            few = omega arith;
+          }
 
-    counted : limits.slots ≡ slots_of (nodes_of w.nodes)
-    counted =
-        sym (ap slots_of (ap (λ (v : WorldState). nodes_of v.nodes) kept ∙ alone) ∙ grind arith)
+      counted : limits.slots ≡ slots_of (nodes_of w.nodes)
+      counted =
+          sym (ap slots_of (ap (λ (v : WorldState). nodes_of v.nodes) kept ∙ alone) ∙ grind arith)
 
 -- ---- a client
 

@@ -113,16 +113,16 @@ clock_refused w i node now m t parts there is back =
     (subst (λ k. now < k) (is ∙ ap (λ (v : WorldState). moment_of v.nodes node) parts) back))
     (λ s shown. ran_refused (Shows w) causes.ClockBack t)
 
--- it is set on
-pub clock_made : (w i new : WorldState) (node now m : ℕ) (stop : Option Stop) (a b : Told) → i ≡ w
-    → IsNodeThere w.nodes node → m ≡ moment_of i.nodes node → m ≤ now
-    → Plays (event node (IsClocked now)) w new stop a b → Plays (clocks now node) w new stop a b
-clock_made w i new node now m stop a b parts there is on plays =
-    where_fails (λ s. nat_lt now (moment node s.history)) (λ s. ends (Refused causes.ClockBack))
-    (event node (IsClocked now)) w new stop a b
-    (λ s shown. clock_on w s node now shown there
-    (subst (λ k. k ≤ now) (is ∙ ap (λ (v : WorldState). moment_of v.nodes node) parts) on))
-    plays
+module _ (w i new : WorldState) (node now m : ℕ) (stop : Option Stop) (a b : Told) where
+  -- it is set on
+  pub clock_made : i ≡ w → IsNodeThere w.nodes node → m ≡ moment_of i.nodes node → m ≤ now
+      → Plays (event node (IsClocked now)) w new stop a b → Plays (clocks now node) w new stop a b
+  clock_made parts there is on plays =
+      where_fails (λ s. nat_lt now (moment node s.history)) (λ s. ends (Refused causes.ClockBack))
+      (event node (IsClocked now)) w new stop a b
+      (λ s shown. clock_on w s node now shown there
+      (subst (λ k. k ≤ now) (is ∙ ap (λ (v : WorldState). moment_of v.nodes node) parts) on))
+      plays
 
 -- no clock is set where one is later
 pub clocks_refused : (w i : WorldState) (now : ℕ) (later : Bool) (t : Told) → i ≡ w
@@ -151,37 +151,36 @@ clocks_made w i new now later stop a b parts is fails plays =
 abbrev pub sets : ℕ → ℕ → Stage → Part Stage
 sets now node = event node (IsClocked now)
 
--- clocks that were set before the run ended in that of a client
-pub clocks_stop : (now k : ℕ) (w m new : WorldState) (stop : Stop) (a b c : Told) → 1 ≤ k
-    → k < suc (length w.nodes.clients) → Plays (each (sets now) (drop 1 (below k))) w m None a b
-    → Plays (sets now k) m new (Some stop) b c → Plays (sets_clocks now) w new (Some stop) a c
-clocks_stop now k w m new stop a b c some less so_far last s shown =
-    (let r : AroundClient k (clients_first s) = around_client w s k shown some less in
-    subst (λ ns. Ran (each (sets now) ns s) (Shows new) (Some stop) a c) (sym r.are)
-    (each_stops (sets now) (drop 1 (below k)) r.more k w m new stop a b c so_far last s shown))
+module _ (now k : ℕ) (w m new : WorldState) where
+  -- clocks that were set before the run ended in that of a client
+  pub clocks_stop : (stop : Stop) (a b c : Told) → 1 ≤ k → k < suc (length w.nodes.clients)
+      → Plays (each (sets now) (drop 1 (below k))) w m None a b → Plays (sets now k) m new (Some stop) b c
+      → Plays (sets_clocks now) w new (Some stop) a c
+  clocks_stop stop a b c some less so_far last s shown =
+      (let r : AroundClient k (clients_first s) = around_client w s k shown some less in
+      subst (λ ns. Ran (each (sets now) ns s) (Shows new) (Some stop) a c) (sym r.are)
+      (each_stops (sets now) (drop 1 (below k)) r.more k w m new stop a b c so_far last s shown))
 
--- the same from what the method answers
-pub clocks_stop_as : (now k : ℕ) (w m new : WorldState) (r : Result (Unit {0}) Stop) (stop : Stop) (a b c : Told)
-    → IsErr r × IsErrAnd r (λ x. x ≡ stop) → 1 ≤ k → k < suc (length w.nodes.clients)
-    → Plays (each (sets now) (drop 1 (below k))) w m None a b → Plays (sets now k) m new (Some stop) b c
-    → Plays (sets_clocks now) w new (stop_of r) a c
-clocks_stop_as now k w m new r stop a b c was some less so_far last =
-    subst (λ o. Plays (sets_clocks now) w new o a c) (sym (stop_is r stop was))
-    (clocks_stop now k w m new stop a b c some less so_far last)
+  -- the same from what the method answers
+  pub clocks_stop_as : (r : Result (Unit {0}) Stop) (stop : Stop) (a b c : Told) → IsErr r × IsErrAnd r (λ x. x ≡ stop)
+      → 1 ≤ k → k < suc (length w.nodes.clients) → Plays (each (sets now) (drop 1 (below k))) w m None a b
+      → Plays (sets now k) m new (Some stop) b c → Plays (sets_clocks now) w new (stop_of r) a c
+  clocks_stop_as r stop a b c was some less so_far last =
+      subst (λ o. Plays (sets_clocks now) w new o a c) (sym (stop_is r stop was))
+      (clocks_stop stop a b c some less so_far last)
 
--- those of all clients were set, and then the server's
-pub clocks_all_set : (now k : ℕ) (w m new : WorldState) (stop : Option Stop) (a b c : Told)
-    → k ≡ suc (length w.nodes.clients) → Plays (each (sets now) (drop 1 (below k))) w m None a b
-    → Plays (sets now 0) m new stop b c → Plays (sets_clocks now) w new stop a c
-clocks_all_set now k w m new stop a b c all so_far last s shown =
-    subst (λ ns. Ran (each (sets now) ns s) (Shows new) stop a c)
-    (ap (λ n. drop 1 (below n) ++ 0 ∷ []) all ∙ sym (clients_shown w s shown))
-    (each_one (sets now) (drop 1 (below k)) 0 w m new stop a b c so_far last s shown)
+  -- those of all clients were set, and then the server's
+  pub clocks_all_set : (stop : Option Stop) (a b c : Told) → k ≡ suc (length w.nodes.clients)
+      → Plays (each (sets now) (drop 1 (below k))) w m None a b → Plays (sets now 0) m new stop b c
+      → Plays (sets_clocks now) w new stop a c
+  clocks_all_set stop a b c all so_far last s shown =
+      subst (λ ns. Ran (each (sets now) ns s) (Shows new) stop a c)
+      (ap (λ n. drop 1 (below n) ++ 0 ∷ []) all ∙ sym (clients_shown w s shown))
+      (each_one (sets now) (drop 1 (below k)) 0 w m new stop a b c so_far last s shown)
 
--- one client's more
-pub clocks_more : (now k : ℕ) (w m new : WorldState) (a b c : Told) → 1 ≤ k
-    → Plays (each (sets now) (drop 1 (below k))) w m None a b → Plays (sets now k) m new None b c
-    → Plays (each (sets now) (drop 1 (below (k + 1)))) w new None a c
-clocks_more now k w m new a b c some so_far next =
-    subst (λ ns. Plays (each (sets now) ns) w new None a c) (sym (clients_one k some))
-    (each_one (sets now) (drop 1 (below k)) k w m new None a b c so_far next)
+  -- one client's more
+  pub clocks_more : (a b c : Told) → 1 ≤ k → Plays (each (sets now) (drop 1 (below k))) w m None a b
+      → Plays (sets now k) m new None b c → Plays (each (sets now) (drop 1 (below (k + 1)))) w new None a c
+  clocks_more a b c some so_far next =
+      subst (λ ns. Plays (each (sets now) ns) w new None a c) (sym (clients_one k some))
+      (each_one (sets now) (drop 1 (below k)) k w m new None a b c so_far next)

@@ -50,21 +50,22 @@ pub nodes_none : {X : Type 0} (part : X → Stage → Part Stage) (n : NodesStat
 nodes_none part n t w is =
     subst (λ m. Plays (each part []) w (record w { nodes = m }) None t t) is (each_none part w t)
 
--- one more
-pub nodes_one : {X : Type 0} (part : X → Stage → Part Stage) (xs : List X) (x : X) (old m new : NodesState)
-    (stop : Option Stop) (a b c : Told) → PlaysNodes (each part xs) old m None a b → PlaysNodes (part x) m new stop b c
-    → PlaysNodes (each part (xs ++ x ∷ [])) old new stop a c
-nodes_one part xs x old m new stop a b c f g w is =
-    each_one part xs x w (record w { nodes = m }) (record w { nodes = new }) stop a b c (f w is)
-    (g (record w { nodes = m }) refl)
+module _ {X : Type 0} (part : X → Stage → Part Stage) (xs : List X) where
+  -- one more
+  pub nodes_one : (x : X) (old m new : NodesState) (stop : Option Stop) (a b c : Told)
+      → PlaysNodes (each part xs) old m None a b → PlaysNodes (part x) m new stop b c
+      → PlaysNodes (each part (xs ++ x ∷ [])) old new stop a c
+  nodes_one x old m new stop a b c f g w is =
+      each_one part xs x w (record w { nodes = m }) (record w { nodes = new }) stop a b c (f w is)
+      (g (record w { nodes = m }) refl)
 
--- one more that ended the run, whatever was to come
-pub nodes_stops : {X : Type 0} (part : X → Stage → Part Stage) (xs more : List X) (x : X) (old m new : NodesState)
-    (stop : Stop) (a b c : Told) → PlaysNodes (each part xs) old m None a b
-    → PlaysNodes (part x) m new (Some stop) b c → PlaysNodes (each part (xs ++ x ∷ more)) old new (Some stop) a c
-nodes_stops part xs more x old m new stop a b c f g w is =
-    each_stops part xs more x w (record w { nodes = m }) (record w { nodes = new }) stop a b c (f w is)
-    (g (record w { nodes = m }) refl)
+  -- one more that ended the run, whatever was to come
+  pub nodes_stops : (more : List X) (x : X) (old m new : NodesState) (stop : Stop) (a b c : Told)
+      → PlaysNodes (each part xs) old m None a b → PlaysNodes (part x) m new (Some stop) b c
+      → PlaysNodes (each part (xs ++ x ∷ more)) old new (Some stop) a c
+  nodes_stops more x old m new stop a b c f g w is =
+      each_stops part xs more x w (record w { nodes = m }) (record w { nodes = new }) stop a b c (f w is)
+      (g (record w { nodes = m }) refl)
 
 -- ---- a run may be cut off first
 
@@ -126,18 +127,18 @@ delivers_all d old new stop a b plays w is s shown =
     (sym (all_shown d w s shown ∙ ap (λ (m : NodesState). below (suc (length m.clients))) is))
     (plays w is s shown)
 
--- deliveries to nodes before the run ended in one
-pub delivers_stop_as : (d : Datagram) (k : ℕ) (old m new : NodesState) (r : Result (Unit {0}) Stop) (stop : Stop)
-    (a b c : Told) → IsErr r × IsErrAnd r (λ x. x ≡ stop) → k < suc (length old.clients)
-    → PlaysNodes (each (comes_to d) (below k)) old m None a b → PlaysNodes (comes_to d k) m new (Some stop) b c
-    → PlaysNodes (delivers d) old new (stop_of r) a c
-delivers_stop_as d k old m new r stop a b c was less so_far last =
-    (let at : Around k (suc (length old.clients)) = around k (suc (length old.clients)) less in
-    delivers_all d old new (stop_of r) a c
-    (subst (λ o. PlaysNodes (each (comes_to d) (below (suc (length old.clients)))) old new o a c) (sym (stop_is r
-    stop was))
-    (subst (λ ns. PlaysNodes (each (comes_to d) ns) old new (Some stop) a c) (sym at.are)
-    (nodes_stops (comes_to d) (below k) at.more k old m new stop a b c so_far last))))
+module _ (d : Datagram) (k : ℕ) (old m new : NodesState) (r : Result (Unit {0}) Stop) (stop : Stop) (a b c : Told) where
+  -- deliveries to nodes before the run ended in one
+  pub delivers_stop_as : IsErr r × IsErrAnd r (λ x. x ≡ stop) → k < suc (length old.clients)
+      → PlaysNodes (each (comes_to d) (below k)) old m None a b → PlaysNodes (comes_to d k) m new (Some stop) b c
+      → PlaysNodes (delivers d) old new (stop_of r) a c
+  delivers_stop_as was less so_far last =
+      (let at : Around k (suc (length old.clients)) = around k (suc (length old.clients)) less in
+      delivers_all d old new (stop_of r) a c
+      (subst (λ o. PlaysNodes (each (comes_to d) (below (suc (length old.clients)))) old new o a c) (sym (stop_is r
+      stop was))
+      (subst (λ ns. PlaysNodes (each (comes_to d) ns) old new (Some stop) a c) (sym at.are)
+      (nodes_stops (comes_to d) (below k) at.more k old m new stop a b c so_far last))))
 
 -- one node more
 pub delivers_more : (d : Datagram) (k : ℕ) (old m new : NodesState) (a b c : Told)
@@ -149,13 +150,14 @@ delivers_more d k old m new a b c so_far next =
 
 -- ---- one datagram after another
 
--- one more
-pub all_more : {X : Type 0} (part : X → Stage → Part Stage) (xs : List X) (k : ℕ) (x : X) (old m new : NodesState)
-    (a b c : Told) → k < length xs → x ≡ get_or xs k x → PlaysNodes (each part (take k xs)) old m None a b
-    → PlaysNodes (part x) m new None b c → PlaysNodes (each part (take (k + 1) xs)) old new None a c
-all_more part xs k x old m new a b c less is so_far next =
-    subst (λ ys. PlaysNodes (each part ys) old new None a c) (sym (front_more xs k x less is))
-    (nodes_one part (take k xs) x old m new None a b c so_far next)
+module _ {X : Type 0} (part : X → Stage → Part Stage) (xs : List X) (k : ℕ) where
+  -- one more
+  pub all_more : (x : X) (old m new : NodesState) (a b c : Told) → k < length xs → x ≡ get_or xs k x
+      → PlaysNodes (each part (take k xs)) old m None a b → PlaysNodes (part x) m new None b c
+      → PlaysNodes (each part (take (k + 1) xs)) old new None a c
+  all_more x old m new a b c less is so_far next =
+      subst (λ ys. PlaysNodes (each part ys) old new None a c) (sym (front_more xs k x less is))
+      (nodes_one part (take k xs) x old m new None a b c so_far next)
 
 -- one that ended the run
 pub all_stop_as : {X : Type 0} (part : X → Stage → Part Stage) (xs : List X) (k : ℕ) (x : X) (old m new : NodesState)
@@ -177,14 +179,16 @@ not_here i d node n host here t parts at is other there =
     not_for d node n t there
     (ap (λ (x : Datagram). same_host x.to (host_of n node)) (sym parts) ∙ ap (same_host i.to) (sym at) ∙ sym is ∙ other)
 
--- one that is
-pub comes_here : (i d : Datagram) (node : ℕ) (n new : NodesState) (host : Host) (here : Bool) (stop : Option Stop)
-    (a b : Told) → i ≡ d → host ≡ host_of n node → here ≡ same_host i.to host → here ≡ true → IsNodeThere n node
-    → PlaysNodes (event node (IsTaken i.from i.bytes)) n new stop a b → PlaysNodes (comes_to d node) n new stop a b
-comes_here i d node n new host here stop a b parts at is same there plays =
-    comes_for d node n new stop a b there
-    (ap (λ (x : Datagram). same_host x.to (host_of n node)) (sym parts) ∙ ap (same_host i.to) (sym at) ∙ sym is ∙ same)
-    (subst (λ (x : Datagram). PlaysNodes (event node (IsTaken x.from x.bytes)) n new stop a b) parts plays)
+module _ (i d : Datagram) (node : ℕ) (n new : NodesState) (host : Host) (here : Bool) (stop : Option Stop) (a b : Told)
+  where
+    -- one that is
+    pub comes_here : i ≡ d → host ≡ host_of n node → here ≡ same_host i.to host → here ≡ true → IsNodeThere n node
+        → PlaysNodes (event node (IsTaken i.from i.bytes)) n new stop a b → PlaysNodes (comes_to d node) n new stop a b
+    comes_here parts at is same there plays =
+        comes_for d node n new stop a b there
+        (ap (λ (x : Datagram). same_host x.to (host_of n node)) (sym parts) ∙ ap (same_host i.to) (sym at) ∙ sym is
+        ∙ same)
+        (subst (λ (x : Datagram). PlaysNodes (event node (IsTaken x.from x.bytes)) n new stop a b) parts plays)
 
 -- each node was passed
 pub delivers_done : (d : Datagram) (k : ℕ) (old new : NodesState) (a b : Told) → k ≡ suc (length old.clients)

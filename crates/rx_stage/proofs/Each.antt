@@ -58,58 +58,60 @@ nothing_told a b (gains_none x) = refl
 
 -- ---- more of them
 
--- more behind those that were made
-pub each_then : {A X : Type 0} (part : X → A → Part A) (xs more : List X) (s : A) (shows after : A → Type 0)
-    (stop : Option Stop) (a b c : Told) → Ran (each part xs s) shows None a b
-    → ((t : A) → shows t → Ran (each part more t) after stop b c) → Ran (each part (xs ++ more) s) after stop a c
-each_then {A} {X} part xs more s shows after stop a b c r next = of xs s a (whole (each part xs s) shows a b r)
-  where
-    -- with the first one's events
-    behind : (y : X) (ys : List X) (s : A) (a : Told) (es : List Noted) (came : Came A) → part y s es came
-        → (rest : List Noted) (t : A) → goes_on (each part ys) came rest (To t) → shows t → Gains a b (es ++ rest)
-        → ((m : A) (at : Told) → Whole (each part ys m) shows at b → Ran (each part (ys ++ more) m) after stop at c)
-        → Ran (Then (part y s) (each part (ys ++ more))) after stop a c
-    behind y ys s a es (To m) made rest t goes there told onward =
-        (let parts : Split plan_telling a b es rest = split a b es rest told in
-        both (part y s) (each part (ys ++ more)) after stop a parts.between c es m made parts.first
-        (onward m parts.between (record { events = rest; to = t; made = goes; there = there; told = parts.then_rest })))
-    behind y ys s a es (Refused why) made rest t (none, inl same) there told onward = elim (is_to t (Refused why) same)
-        [ ]
-    behind y ys s a es (Refused why) made rest t (none, inr same) there told onward = elim (is_to t Cut same) [ ]
-    behind y ys s a es Cut made rest t (none, inl same) there told onward = elim (is_to t Cut same) [ ]
-    behind y ys s a es Cut made rest t (none, inr same) there told onward = elim (is_to t Cut same) [ ]
-    behind y ys s a es Endless made rest t (none, inl same) there told onward = elim (is_to t Endless same) [ ]
-    behind y ys s a es Endless made rest t (none, inr same) there told onward = elim (is_to t Cut same) [ ]
+module _ {A X : Type 0} (part : X → A → Part A) (xs : List X) where
+  -- more behind those that were made
+  pub each_then : (more : List X) (s : A) (shows after : A → Type 0) (stop : Option Stop) (a b c : Told)
+      → Ran (each part xs s) shows None a b → ((t : A) → shows t → Ran (each part more t) after stop b c)
+      → Ran (each part (xs ++ more) s) after stop a c
+  each_then more s shows after stop a b c r next = of xs s a (whole (each part xs s) shows a b r)
+    where
+      -- with the first one's events
+      behind : (y : X) (ys : List X) (s : A) (a : Told) (es : List Noted) (came : Came A) → part y s es came
+          → (rest : List Noted) (t : A) → goes_on (each part ys) came rest (To t) → shows t → Gains a b (es ++ rest)
+          → ((m : A) (at : Told) → Whole (each part ys m) shows at b → Ran (each part (ys ++ more) m) after stop at c)
+          → Ran (Then (part y s) (each part (ys ++ more))) after stop a c
+      behind y ys s a es (To m) made rest t goes there told onward =
+          (let parts : Split plan_telling a b es rest = split a b es rest told in
+          both (part y s) (each part (ys ++ more)) after stop a parts.between c es m made parts.first
+          (onward m parts.between
+          (record { events = rest; to = t; made = goes; there = there; told = parts.then_rest })))
+      behind y ys s a es (Refused why) made rest t (none, inl same) there told onward = elim
+          (is_to t (Refused why) same)
+          [ ]
+      behind y ys s a es (Refused why) made rest t (none, inr same) there told onward = elim (is_to t Cut same) [ ]
+      behind y ys s a es Cut made rest t (none, inl same) there told onward = elim (is_to t Cut same) [ ]
+      behind y ys s a es Cut made rest t (none, inr same) there told onward = elim (is_to t Cut same) [ ]
+      behind y ys s a es Endless made rest t (none, inl same) there told onward = elim (is_to t Endless same) [ ]
+      behind y ys s a es Endless made rest t (none, inr same) there told onward = elim (is_to t Cut same) [ ]
 
-    -- behind none
-    first : (s : A) (a : Told) (es : List Noted) (t : A) → es ≡ [] → (◌≡◌ {A = Came A} (To t) (To s))
-        ⊎ (◌≡◌ {A = Came A} (To t) Cut)
-        → shows t → Gains a b es → Ran (each part more s) after stop a c
-    first s a es t none (inr same) there told = elim (is_to t Cut same) [ ]
-    first s a es t none (inl same) there told =
-        subst (λ k. Ran (each part more s) after stop k c)
-        (sym (nothing_told a b (subst (Gains a b) none told)))
-        (subst (λ u. Ran (each part more u) after stop b c) (ap (to_or s) same) (next t there))
+      -- behind none
+      first : (s : A) (a : Told) (es : List Noted) (t : A) → es ≡ [] → (◌≡◌ {A = Came A} (To t) (To s))
+          ⊎ (◌≡◌ {A = Came A} (To t) Cut)
+          → shows t → Gains a b es → Ran (each part more s) after stop a c
+      first s a es t none (inr same) there told = elim (is_to t Cut same) [ ]
+      first s a es t none (inl same) there told =
+          subst (λ k. Ran (each part more s) after stop k c)
+          (sym (nothing_told a b (subst (Gains a b) none told)))
+          (subst (λ u. Ran (each part more u) after stop b c) (ap (to_or s) same) (next t there))
 
-    of : (xs : List X) (s : A) (a : Told) → Whole (each part xs s) shows a b
-        → Ran (each part (xs ++ more) s) after stop a c
-    of [] s a w = first s a w.events w.to w.made.0 w.made.1 w.there w.told
-    of (y ∷ ys) s a w =
-        behind y ys s a w.made.front w.made.came w.made.made w.made.rest w.to w.made.goes w.there
-        (subst (Gains a b) w.made.are w.told) (λ m at v. of ys m at v)
+      of : (xs : List X) (s : A) (a : Told) → Whole (each part xs s) shows a b
+          → Ran (each part (xs ++ more) s) after stop a c
+      of [] s a w = first s a w.events w.to w.made.0 w.made.1 w.there w.told
+      of (y ∷ ys) s a w =
+          behind y ys s a w.made.front w.made.came w.made.made w.made.rest w.to w.made.goes w.there
+          (subst (Gains a b) w.made.are w.told) (λ m at v. of ys m at v)
 
--- one more behind those that were made
-pub each_more : {A X : Type 0} (part : X → A → Part A) (xs : List X) (x : X) (s : A) (shows after : A → Type 0)
-    (stop : Option Stop) (a b c : Told) → Ran (each part xs s) shows None a b
-    → ((t : A) → shows t → Ran (part x t) after stop b c) → Ran (each part (xs ++ x ∷ []) s) after stop a c
-each_more part xs x s shows after stop a b c r next =
-    each_then part xs (x ∷ []) s shows after stop a b c r (λ t there. ran_last (part x t) after stop b c (next t there))
+  -- one more behind those that were made
+  pub each_more : (x : X) (s : A) (shows after : A → Type 0) (stop : Option Stop) (a b c : Told)
+      → Ran (each part xs s) shows None a b → ((t : A) → shows t → Ran (part x t) after stop b c)
+      → Ran (each part (xs ++ x ∷ []) s) after stop a c
+  each_more x s shows after stop a b c r next =
+      each_then (x ∷ []) s shows after stop a b c r (λ t there. ran_last (part x t) after stop b c (next t there))
 
--- one more that ended the run, whatever was to come
-pub each_ended : {A X : Type 0} (part : X → A → Part A) (xs more : List X) (x : X) (s : A)
-    (shows after : A → Type 0) (stop : Stop) (a b c : Told) → Ran (each part xs s) shows None a b
-    → ((t : A) → shows t → Ran (part x t) after (Some stop) b c)
-    → Ran (each part (xs ++ x ∷ more) s) after (Some stop) a c
-each_ended part xs more x s shows after stop a b c r next =
-    each_then part xs (x ∷ more) s shows after (Some stop) a b c r
-    (λ t there. ran_stops (part x t) (each part more) after after stop b c (next t there))
+  -- one more that ended the run, whatever was to come
+  pub each_ended : (more : List X) (x : X) (s : A) (shows after : A → Type 0) (stop : Stop) (a b c : Told)
+      → Ran (each part xs s) shows None a b → ((t : A) → shows t → Ran (part x t) after (Some stop) b c)
+      → Ran (each part (xs ++ x ∷ more) s) after (Some stop) a c
+  each_ended more x s shows after stop a b c r next =
+      each_then (x ∷ more) s shows after (Some stop) a b c r
+      (λ t there. ran_stops (part x t) (each part more) after after stop b c (next t there))

@@ -22,12 +22,13 @@ use Rattle.rx_stage.proofs.Delivering.{delivers_cut, front_around}
 use Rattle.rx_stage.proofs.Each.{each_then}
 use Rattle.rx_stage.proofs.Making.{stop_is}
 
--- what is made of some before it is made of others
-pub both_play : {X : Type 0} (part : X → Stage → Part Stage) (xs more : List X) (w m new : WorldState)
-    (stop : Option Stop) (a b c : Told) → Plays (each part xs) w m None a b → Plays (each part more) m new stop b c
-    → Plays (each part (xs ++ more)) w new stop a c
-both_play part xs more w m new stop a b c first next s shown =
-    each_then part xs more s (Shows m) (Shows new) stop a b c (first s shown) next
+module _ {X : Type 0} (part : X → Stage → Part Stage) (xs : List X) where
+  -- what is made of some before it is made of others
+  pub both_play : (more : List X) (w m new : WorldState) (stop : Option Stop) (a b c : Told)
+      → Plays (each part xs) w m None a b → Plays (each part more) m new stop b c
+      → Plays (each part (xs ++ more)) w new stop a c
+  both_play more w m new stop a b c first next s shown =
+      each_then part xs more s (Shows m) (Shows new) stop a b c (first s shown) next
 
 -- ---- what ended the run
 
@@ -170,40 +171,38 @@ tallied_both : (xs more : List (Datagram × Fate)) (t : Tally) → tallied (xs +
 tallied_both [] more t = refl
 tallied_both (x ∷ xs) more t = tallied_both xs more (with_fate x.1 t)
 
--- with it
-pub tally_more : (g now next : Lcg) (ds : List Datagram) (d : Datagram) (word : ℕ) (f : Fate) (first was more : Tally)
-    → now ≡ drawn g ds → (word, next) ≡ pcg32 now → f ≡ fate_of word → was ≡ tallied (fated g ds) first
-    → more ≡ with_fate f was → more ≡ tallied (fated g (ds ++ d ∷ [])) first
-tally_more g now next ds d word f first was more at step is before put =
-    put
-    ∙ ap (with_fate f) before
-    ∙ ap (λ x. with_fate x (tallied (fated g ds) first)) (met g now next ds word f at step is)
-    ∙ sym (tallied_both (fated g ds) (fated (drawn g ds) (d ∷ [])) first)
-    ∙ ap (λ xs. tallied xs first) (sym (fated_both g ds (d ∷ [])))
+module _ (g now next : Lcg) (ds : List Datagram) (d : Datagram) (word : ℕ) (f : Fate) where
+  -- with it
+  pub tally_more : (first was more : Tally) → now ≡ drawn g ds → (word, next) ≡ pcg32 now → f ≡ fate_of word
+      → was ≡ tallied (fated g ds) first → more ≡ with_fate f was → more ≡ tallied (fated g (ds ++ d ∷ [])) first
+  tally_more first was more at step is before put =
+      put
+      ∙ ap (with_fate f) before
+      ∙ ap (λ x. with_fate x (tallied (fated g ds) first)) (met g now next ds word f at step is)
+      ∙ sym (tallied_both (fated g ds) (fated (drawn g ds) (d ∷ [])) first)
+      ∙ ap (λ xs. tallied xs first) (sym (fated_both g ds (d ∷ [])))
 
--- what is held behind it
-pub held_more : (g now next : Lcg) (ds : List Datagram) (d : Datagram) (word : ℕ) (f : Fate)
-    (first held more : List Datagram) → now ≡ drawn g ds → (word, next) ≡ pcg32 now → f ≡ fate_of word
-    → held ≡ first ++ gathered stays (fated g ds) → more ≡ held ++ stays (d, f)
-    → more ≡ first ++ gathered stays (fated g (ds ++ d ∷ []))
-held_more g now next ds d word f first held more at step is before put =
-    put
-    ∙ ap (λ xs. xs ++ stays (d, f)) before
-    ∙ ap (λ x. first ++ gathered stays (fated g ds) ++ stays (d, x)) (met g now next ds word f at step is)
-    ∙ append_assoc first (gathered stays (fated g ds)) (stays (d, fate_of (pcg32 (drawn g ds)).0))
-    ∙ ap (λ xs. first ++ xs) (sym (gathered_more stays g ds d))
+  -- what is held behind it
+  pub held_more : (first held more : List Datagram) → now ≡ drawn g ds → (word, next) ≡ pcg32 now → f ≡ fate_of word
+      → held ≡ first ++ gathered stays (fated g ds) → more ≡ held ++ stays (d, f)
+      → more ≡ first ++ gathered stays (fated g (ds ++ d ∷ []))
+  held_more first held more at step is before put =
+      put
+      ∙ ap (λ xs. xs ++ stays (d, f)) before
+      ∙ ap (λ x. first ++ gathered stays (fated g ds) ++ stays (d, x)) (met g now next ds word f at step is)
+      ∙ append_assoc first (gathered stays (fated g ds)) (stays (d, fate_of (pcg32 (drawn g ds)).0))
+      ∙ ap (λ xs. first ++ xs) (sym (gathered_more stays g ds d))
 
--- what came is delivered
-pub comes_more : (g now next : Lcg) (ds : List Datagram) (d : Datagram) (word : ℕ) (f : Fate) (w m new : WorldState)
-    (a b c : Told) → now ≡ drawn g ds → (word, next) ≡ pcg32 now → f ≡ fate_of word
-    → Plays (each delivers (gathered comes (fated g ds))) w m None a b
-    → Plays (each delivers (comes (d, f))) m new None b c
-    → Plays (each delivers (gathered comes (fated g (ds ++ d ∷ [])))) w new None a c
-comes_more g now next ds d word f w m new a b c at step is before plays =
-    subst (λ xs. Plays (each delivers xs) w new None a c) (sym (gathered_more comes g ds d))
-    (both_play delivers (gathered comes (fated g ds)) (comes (d, fate_of (pcg32 (drawn g ds)).0)) w m new None a b c
-    before
-    (subst (λ x. Plays (each delivers (comes (d, x))) m new None b c) (met g now next ds word f at step is) plays))
+  -- what came is delivered
+  pub comes_more : (w m new : WorldState) (a b c : Told) → now ≡ drawn g ds → (word, next) ≡ pcg32 now
+      → f ≡ fate_of word → Plays (each delivers (gathered comes (fated g ds))) w m None a b
+      → Plays (each delivers (comes (d, f))) m new None b c
+      → Plays (each delivers (gathered comes (fated g (ds ++ d ∷ [])))) w new None a c
+  comes_more w m new a b c at step is before plays =
+      subst (λ xs. Plays (each delivers xs) w new None a c) (sym (gathered_more comes g ds d))
+      (both_play delivers (gathered comes (fated g ds)) (comes (d, fate_of (pcg32 (drawn g ds)).0)) w m new None a b c
+      before
+      (subst (λ x. Plays (each delivers (comes (d, x))) m new None b c) (met g now next ds word f at step is) plays))
 
 -- what was yielded of a list, what is yielded next, and what is left
 pub turn_around : {X : Type 0} (all ys : List X) (x : X) → map (λ y. y) ys ≡ take (length ys) all
@@ -212,23 +211,23 @@ turn_around all ys x far at =
     front_around all (length ys) x at.0 at.1
     ∙ ap (λ zs. zs ++ x ∷ drop (suc (length ys)) all) (sym far ∙ map-id ys)
 
--- the run ended as it met its fate
-pub comes_ended : (g now next : Lcg) (all ds more : List Datagram) (d : Datagram) (word : ℕ) (f : Fate)
-    (w m new : WorldState) (r : Result (Unit {0}) Stop) (stop : Stop) (a b c : Told) → all ≡ ds ++ d ∷ more
-    → now ≡ drawn g ds → (word, next) ≡ pcg32 now → f ≡ fate_of word
-    → Plays (each delivers (gathered comes (fated g ds))) w m None a b
-    → Plays (each delivers (comes (d, f))) m new (Some stop) b c → IsErr r × IsErrAnd r (λ why. why ≡ stop)
-    → Plays (each delivers (gathered comes (fated g all))) w new (stop_of r) a c
-comes_ended g now next all ds more d word f w m new r stop a b c whole at step is before plays err =
-    subst (λ o. Plays (each delivers (gathered comes (fated g all))) w new o a c) (sym (stop_is r stop err))
-    (subst (λ xs. Plays (each delivers xs) w new (Some stop) a c)
-    (sym (ap (λ xs. gathered comes (fated g xs)) whole ∙ gathered_of comes g ds (d ∷ more)))
-    (both_play delivers (gathered comes (fated g ds)) (gathered comes (fated (drawn g ds) (d ∷ more))) w m new
-    (Some stop) a b c before
-    (front_stops delivers delivers_cut (comes (d, fate_of (pcg32 (drawn g ds)).0))
-    (gathered comes (fated (pcg32 (drawn g ds)).1 more)) m new stop b c
-    (subst (λ x. Plays (each delivers (comes (d, x))) m new (Some stop) b c) (met g now next ds word f at step is)
-    plays))))
+module _ (g now next : Lcg) (all ds more : List Datagram) (d : Datagram) (word : ℕ) (f : Fate) (w m new : WorldState)
+    (r : Result (Unit {0}) Stop) (stop : Stop) (a b c : Told) where
+  -- the run ended as it met its fate
+  pub comes_ended : all ≡ ds ++ d ∷ more → now ≡ drawn g ds → (word, next) ≡ pcg32 now → f ≡ fate_of word
+      → Plays (each delivers (gathered comes (fated g ds))) w m None a b
+      → Plays (each delivers (comes (d, f))) m new (Some stop) b c → IsErr r × IsErrAnd r (λ why. why ≡ stop)
+      → Plays (each delivers (gathered comes (fated g all))) w new (stop_of r) a c
+  comes_ended whole at step is before plays err =
+      subst (λ o. Plays (each delivers (gathered comes (fated g all))) w new o a c) (sym (stop_is r stop err))
+      (subst (λ xs. Plays (each delivers xs) w new (Some stop) a c)
+      (sym (ap (λ xs. gathered comes (fated g xs)) whole ∙ gathered_of comes g ds (d ∷ more)))
+      (both_play delivers (gathered comes (fated g ds)) (gathered comes (fated (drawn g ds) (d ∷ more))) w m new
+      (Some stop) a b c before
+      (front_stops delivers delivers_cut (comes (d, fate_of (pcg32 (drawn g ds)).0))
+      (gathered comes (fated (pcg32 (drawn g ds)).1 more)) m new stop b c
+      (subst (λ x. Plays (each delivers (comes (d, x))) m new (Some stop) b c) (met g now next ds word f at step is)
+      plays))))
 
 -- ---- all were yielded
 

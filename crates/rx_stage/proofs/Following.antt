@@ -53,17 +53,17 @@ pub on_none : {A X : Type 0} (part : X → A → Part A) (shows : A → Type 0) 
     → PlaysOn (each part []) shows shows None t t
 on_none part shows t x was = ran_to shows x t was
 
-pub on_one : {A X : Type 0} (part : X → A → Part A) (xs : List X) (x : X) (old mid new : A
-    → Type 0) (stop : Option Stop)
-    (a b c : Told) → PlaysOn (each part xs) old mid None a b → PlaysOn (part x) mid new stop b c
-    → PlaysOn (each part (xs ++ x ∷ [])) old new stop a c
-on_one part xs x old mid new stop a b c f g s was = each_more part xs x s mid new stop a b c (f s was) g
+module _ {A X : Type 0} (part : X → A → Part A) (xs : List X) where
+  pub on_one : (x : X) (old mid new : A → Type 0) (stop : Option Stop) (a b c : Told)
+      → PlaysOn (each part xs) old mid None a b → PlaysOn (part x) mid new stop b c
+      → PlaysOn (each part (xs ++ x ∷ [])) old new stop a c
+  on_one x old mid new stop a b c f g s was = each_more part xs x s mid new stop a b c (f s was) g
 
-pub on_stops : {A X : Type 0} (part : X → A → Part A) (xs more : List X) (x : X) (old mid new : A → Type 0)
-    (stop : Stop) (a b c : Told) → PlaysOn (each part xs) old mid None a b → PlaysOn (part x) mid new (Some stop) b c
-    → PlaysOn (each part (xs ++ x ∷ more)) old new (Some stop) a c
-on_stops part xs more x old mid new stop a b c f g s was =
-    each_ended part xs more x s mid new stop a b c (f s was) g
+  pub on_stops : (more : List X) (x : X) (old mid new : A → Type 0) (stop : Stop) (a b c : Told)
+      → PlaysOn (each part xs) old mid None a b → PlaysOn (part x) mid new (Some stop) b c
+      → PlaysOn (each part (xs ++ x ∷ more)) old new (Some stop) a c
+  on_stops more x old mid new stop a b c f g s was =
+      each_ended part xs more x s mid new stop a b c (f s was) g
 
 -- a list that the beginning says
 pub on_listed : {A X : Type 0} (part : X → A → Part A) (list : A → List X) (xs : List X) (old new : A → Type 0)

@@ -66,20 +66,21 @@ pub packet_lacks : (w : WorldState) (k : ℕ) (stop : Stop)
     → Found (numbered s.packets k) causes.NoPacket (Err stop)
 packet_lacks w k stop (none, why) s shown = (ap (λ ps. numbered ps k) (packets_shown w s shown) ∙ none, why)
 
--- the part behind the first
-pub joins_behind : (first last from to : ℕ) (w new : WorldState) (stop : Option Stop) (a b : Told) → from + 1 ≡ first
-    → to + 1 ≡ last → from < length w.packets → to < length w.packets
-    → Plays (joins_to (from + 1) (to + 1)) w new stop a b → Plays (jumbo_line first last) w new stop a b
-joins_behind first last from to w new stop a b is_from is_to there_from there_to plays =
-    (let x : At w.packets first = place_found w.packets from first there_from is_from in
-    let y : At w.packets last = place_found w.packets to last there_to is_to in
-    found_goes causes.NoPacket (λ _. at_packet last (λ _. joins_to first last)) (λ (s : Stage). numbered s.packets
-    first) x.it w new
-    stop a b (λ s shown. ap (λ ps. numbered ps first) (packets_shown w s shown) ∙ x.is)
-    (found_goes causes.NoPacket (λ _. joins_to first last) (λ (s : Stage). numbered s.packets last) y.it w new stop a b
-    (λ s shown. ap (λ ps. numbered ps last) (packets_shown w s shown) ∙ y.is)
-    (subst (λ f. Plays (joins_to f last) w new stop a b) is_from
-    (subst (λ l. Plays (joins_to (from + 1) l) w new stop a b) is_to plays))))
+module _ (first last from to : ℕ) (w new : WorldState) (stop : Option Stop) (a b : Told) where
+  -- the part behind the first
+  pub joins_behind : from + 1 ≡ first → to + 1 ≡ last → from < length w.packets → to < length w.packets
+      → Plays (joins_to (from + 1) (to + 1)) w new stop a b → Plays (jumbo_line first last) w new stop a b
+  joins_behind is_from is_to there_from there_to plays =
+      (let x : At w.packets first = place_found w.packets from first there_from is_from in
+      let y : At w.packets last = place_found w.packets to last there_to is_to in
+      found_goes causes.NoPacket (λ _. at_packet last (λ _. joins_to first last)) (λ (s : Stage). numbered s.packets
+      first) x.it w new
+      stop a b (λ s shown. ap (λ ps. numbered ps first) (packets_shown w s shown) ∙ x.is)
+      (found_goes causes.NoPacket (λ _. joins_to first last) (λ (s : Stage). numbered s.packets last) y.it w new stop a
+      b
+      (λ s shown. ap (λ ps. numbered ps last) (packets_shown w s shown) ∙ y.is)
+      (subst (λ f. Plays (joins_to f last) w new stop a b) is_from
+      (subst (λ l. Plays (joins_to (from + 1) l) w new stop a b) is_to plays))))
 
 -- the second isn't there
 pub second_lacks : (first last from : ℕ) (w new : WorldState) (r : Result (Unit {0}) Stop) (stop : Stop) (t : Told)

@@ -151,29 +151,30 @@ called_comes j m t node calls e b parts shown kept =
     ran_to (Shows (record j { calls = calls })) (with_called node e t) b
     (shown_called j t node calls e (subst (λ v. Shows v t) (sym parts) shown) kept)
 
--- behind the call of an invoke
-pub invoked_comes : (j m new : WorldState) (t : Stage) (node line : ℕ) (bytes : List ℕ) (calls : List ClientCall)
-    (e : Event) (r : Result (Unit {0}) Stop) (b : Told) → j ≡ m → Shows m t
-    → calls ≡ with_some j.calls (option_map (λ c. record { node = node; name = c }) (name_called e))
-    → OnOk r (new ≡ keeps_caller node line bytes (name_called e) (record j { calls = calls }))
-    → IfErr r (λ stop. stop ≡ stops.OutOfMemory)
-    → Ran (ends (To (with_caller node line bytes (name_called e) (with_called node e t)))) (Shows new) (stop_of r) b b
-invoked_comes j m new t node line bytes calls e (Ok x) b parts shown kept caller wanting =
-    ran_to (Shows new) (with_caller node line bytes (name_called e) (with_called node e t)) b
-    (subst (λ v. Shows v (with_caller node line bytes (name_called e) (with_called node e t))) (sym caller)
-    (shown_caller (record j { calls = calls }) (with_called node e t) node line bytes (name_called e)
-    (shown_called j t node calls e (subst (λ v. Shows v t) (sym parts) shown) kept)))
-invoked_comes j m new t node line bytes calls e (Err stop) b parts shown kept caller wanting =
-    subst (λ why. Ran (ends (To (with_caller node line bytes (name_called e) (with_called node e t)))) (Shows new)
-    (Some why) b b) (sym wanting)
-    (ran_wants (Shows new) (To (with_caller node line bytes (name_called e) (with_called node e t))) b)
+module _ (j m new : WorldState) (t : Stage) (node line : ℕ) (bytes : List ℕ) (calls : List ClientCall) (e : Event) where
+  -- behind the call of an invoke
+  pub invoked_comes : (r : Result (Unit {0}) Stop) (b : Told) → j ≡ m → Shows m t
+      → calls ≡ with_some j.calls (option_map (λ c. record { node = node; name = c }) (name_called e))
+      → OnOk r (new ≡ keeps_caller node line bytes (name_called e) (record j { calls = calls }))
+      → IfErr r (λ stop. stop ≡ stops.OutOfMemory)
+      → Ran (ends (To (with_caller node line bytes (name_called e) (with_called node e t)))) (Shows new) (stop_of r) b b
+  invoked_comes (Ok x) b parts shown kept caller wanting =
+      ran_to (Shows new) (with_caller node line bytes (name_called e) (with_called node e t)) b
+      (subst (λ v. Shows v (with_caller node line bytes (name_called e) (with_called node e t))) (sym caller)
+      (shown_caller (record j { calls = calls }) (with_called node e t) node line bytes (name_called e)
+      (shown_called j t node calls e (subst (λ v. Shows v t) (sym parts) shown) kept)))
+  invoked_comes (Err stop) b parts shown kept caller wanting =
+      subst (λ why. Ran (ends (To (with_caller node line bytes (name_called e) (with_called node e t)))) (Shows new)
+      (Some why) b b) (sym wanting)
+      (ran_wants (Shows new) (To (with_caller node line bytes (name_called e) (with_called node e t))) b)
 
--- behind a poll
-pub polled_comes : (w i j m : WorldState) (s t : Stage) (node : ℕ) (from : Host) (e : Event) (packets : List Datagram)
-    (stop : Option Stop) (b : Told) → i ≡ w → from ≡ host_of i.nodes node → Shows w s → IsNodeThere w.nodes node
-    → j ≡ m → Shows m t → KeepsPacket (packet_given from e) j.packets packets stop
-    → Ran (ends (with_packet (given_packet (host_at s node) e) t)) (Shows (record j { packets = packets })) stop b b
-polled_comes w i j m s t node from e packets stop b before host shown there parts after kept =
-    subst (λ o. Ran (ends (with_packet (given_packet o e) t)) (Shows (record j { packets = packets })) stop b b)
-    (ap Some (host ∙ ap (λ (v : WorldState). host_of v.nodes node) before) ∙ sym (host_shown w s node shown there))
-    (packet_comes j t (packet_given from e) packets stop b (subst (λ v. Shows v t) (sym parts) after) kept)
+module _ (w i j m : WorldState) (s t : Stage) (node : ℕ) (from : Host) (e : Event) (packets : List Datagram)
+    (stop : Option Stop) (b : Told) where
+  -- behind a poll
+  pub polled_comes : i ≡ w → from ≡ host_of i.nodes node → Shows w s → IsNodeThere w.nodes node → j ≡ m → Shows m t
+      → KeepsPacket (packet_given from e) j.packets packets stop
+      → Ran (ends (with_packet (given_packet (host_at s node) e) t)) (Shows (record j { packets = packets })) stop b b
+  polled_comes before host shown there parts after kept =
+      subst (λ o. Ran (ends (with_packet (given_packet o e) t)) (Shows (record j { packets = packets })) stop b b)
+      (ap Some (host ∙ ap (λ (v : WorldState). host_of v.nodes node) before) ∙ sym (host_shown w s node shown there))
+      (packet_comes j t (packet_given from e) packets stop b (subst (λ v. Shows v t) (sym parts) after) kept)

@@ -67,48 +67,49 @@ behind_more g ls l p shows after a b c before made =
           told = gains_both before.told w.told;
         }
 
--- one that ended the run, whatever was to come
-pub behind_ended : (g : Handlers) (ls more : List Numbered) (l : Numbered) (p : Progress)
-    (shows after : Progress → Type 0) (last : Stage → Type 0) (stop : Stop) (a b c : Told) → Behind g ls p shows a b
-    → ((q : Progress) → shows q → Ran (next_part g l.what q) after (Some stop) b c)
-    → Made g (ls ++ l ∷ more) p last (Err (ended_at l.line stop)) a c
-behind_ended g ls more l p shows after last stop a b c before made =
-    of stop (made before.to before.there)
-  where
-    from : (es : List Noted) (came : Came Progress) (why : Stop) → next_part g l.what before.to es came
-        → Fits after came (Some why) b c es → Made g (ls ++ l ∷ more) p last (Err (ended_at l.line why)) a c
-    from es came why made (fits_refused cause old new them told) =
-        record {
-          events = before.events ++ es;
-          went = RefusedAt l.line cause;
-          goes = before.onward (l ∷ more) es (RefusedAt l.line cause) (refused l more before.to es cause made);
-          ends = (refl, refl, gains_both before.told told);
-        }
-    from es came why made (fits_wants old new them told) =
-        record {
-          events = before.events ++ es;
-          went = CutOff;
-          goes = before.onward (l ∷ more) es CutOff (cut l more before.to es made);
-          ends = wants_behind before.told told;
-        }
-    from es came why made (fits_fails old new them told) =
-        record {
-          events = before.events ++ es;
-          went = CutOff;
-          goes = before.onward (l ∷ more) es CutOff (cut l more before.to es made);
-          ends = fails_behind before.told told;
-        }
-    from es came why made (fits_endless old new them told) =
-        record {
-          events = before.events ++ es;
-          went = EndlessIn;
-          goes = before.onward (l ∷ more) es EndlessIn (endless l more before.to es made);
-          ends = gains_both before.told told;
-        }
+module _ (g : Handlers) (ls more : List Numbered) (l : Numbered) (p : Progress) (shows after : Progress → Type 0)
+    (last : Stage → Type 0) (stop : Stop) (a b c : Told) where
+  -- one that ended the run, whatever was to come
+  pub behind_ended : Behind g ls p shows a b
+      → ((q : Progress) → shows q → Ran (next_part g l.what q) after (Some stop) b c)
+      → Made g (ls ++ l ∷ more) p last (Err (ended_at l.line stop)) a c
+  behind_ended before made =
+      of stop (made before.to before.there)
+    where
+      from : (es : List Noted) (came : Came Progress) (why : Stop) → next_part g l.what before.to es came
+          → Fits after came (Some why) b c es → Made g (ls ++ l ∷ more) p last (Err (ended_at l.line why)) a c
+      from es came why made (fits_refused cause old new them told) =
+          record {
+            events = before.events ++ es;
+            went = RefusedAt l.line cause;
+            goes = before.onward (l ∷ more) es (RefusedAt l.line cause) (refused l more before.to es cause made);
+            ends = (refl, refl, gains_both before.told told);
+          }
+      from es came why made (fits_wants old new them told) =
+          record {
+            events = before.events ++ es;
+            went = CutOff;
+            goes = before.onward (l ∷ more) es CutOff (cut l more before.to es made);
+            ends = wants_behind before.told told;
+          }
+      from es came why made (fits_fails old new them told) =
+          record {
+            events = before.events ++ es;
+            went = CutOff;
+            goes = before.onward (l ∷ more) es CutOff (cut l more before.to es made);
+            ends = fails_behind before.told told;
+          }
+      from es came why made (fits_endless old new them told) =
+          record {
+            events = before.events ++ es;
+            went = EndlessIn;
+            goes = before.onward (l ∷ more) es EndlessIn (endless l more before.to es made);
+            ends = gains_both before.told told;
+          }
 
-    of : (why : Stop) → Ran (next_part g l.what before.to) after (Some why) b c
-        → Made g (ls ++ l ∷ more) p last (Err (ended_at l.line why)) a c
-    of why r = from r.events r.came why r.made r.fits
+      of : (why : Stop) → Ran (next_part g l.what before.to) after (Some why) b c
+          → Made g (ls ++ l ∷ more) p last (Err (ended_at l.line why)) a c
+      of why r = from r.events r.came why r.made r.fits
 
 -- all of them
 pub behind_all : (g : Handlers) (ls : List Numbered) (p : Progress) (r : Running) (place : ℕ) (a b : Told)

@@ -31,16 +31,16 @@ use Rattle.rx_stage.proofs.Stepping.{event_plays, made_here, shown_behind}
 
 -- ---- an event, and what a run comes to by it
 
--- a call was made, and the run ended as it was told
-pub event_ends : (w : WorldState) (nodes : NodesState) (new : WorldState) (node : ℕ) (is : Stage → Event → Type 0)
-    (came : Stage → Event → Stage → Came Stage) (e : Event) (stop : Stop) (a b : Told) → Makes w.nodes nodes node e
-    → ((s : Stage) → Shows w s → is s e) → IsTold (Some stop) a b (noted node e)
-    → Plays (λ s. event_with node (is s) (came s) s) w new (Some stop) a b
-event_ends w nodes new node is came e stop a b made asked told s shown =
-    ran_stops (One node (IsAllowedNext s node (is s))) (λ x. ends (came s x (with_event node x s))) (λ x. x ≡ e)
-    (Shows new) stop a b
-    (ran_one node (IsAllowedNext s node (is s)) e (Some stop) a b
-    (made_here w s nodes node (is s) e shown made (asked s shown)) told)
+module _ (w : WorldState) (nodes : NodesState) (new : WorldState) (node : ℕ) (is : Stage → Event → Type 0)
+    (came : Stage → Event → Stage → Came Stage) (e : Event) (stop : Stop) (a b : Told) where
+  -- a call was made, and the run ended as it was told
+  pub event_ends : Makes w.nodes nodes node e → ((s : Stage) → Shows w s → is s e)
+      → IsTold (Some stop) a b (noted node e) → Plays (λ s. event_with node (is s) (came s) s) w new (Some stop) a b
+  event_ends made asked told s shown =
+      ran_stops (One node (IsAllowedNext s node (is s))) (λ x. ends (came s x (with_event node x s))) (λ x. x ≡ e)
+      (Shows new) stop a b
+      (ran_one node (IsAllowedNext s node (is s)) e (Some stop) a b
+      (made_here w s nodes node (is s) e shown made (asked s shown)) told)
 
 -- memory was wanted before the call
 pub event_lacks : (w new : WorldState) (node : ℕ) (is : Stage → Event → Type 0)
@@ -51,20 +51,21 @@ event_lacks w new node is came stop t wants s shown =
     (ran_stops (One node (IsAllowedNext s node (is s))) (λ x. ends (came s x (with_event node x s))) (λ x. ⊥)
     (Shows new) stops.OutOfMemory t t (ran_none node (IsAllowedNext s node (is s)) (λ x. ⊥) t))
 
--- a call was made and told, and then this was come to
-pub event_comes : (w : WorldState) (nodes : NodesState) (new : WorldState) (node : ℕ) (is : Stage → Event → Type 0)
-    (came : Stage → Event → Stage → Came Stage) (e : Event) (stop : Option Stop) (a b : Told)
-    → Makes w.nodes nodes node e → IsNodeThere w.nodes node → ((s : Stage) → Shows w s → is s e)
-    → IsTold None a b (noted node e)
-    → ((s t : Stage) → Shows w s → Shows (record w { nodes = nodes }) t → Ran (ends (came s e t)) (Shows new) stop b b)
-    → Plays (λ s. event_with node (is s) (came s) s) w new stop a b
-event_comes w nodes new node is came e stop a b made there asked told next s shown =
-    ran_then (One node (IsAllowedNext s node (is s))) (λ x. ends (came s x (with_event node x s))) (λ x. x ≡ e)
-    (Shows new) stop a b b
-    (ran_one node (IsAllowedNext s node (is s)) e None a b
-    (made_here w s nodes node (is s) e shown made (asked s shown)) told)
-    (λ x same. subst (λ y. Ran (ends (came s y (with_event node y s))) (Shows new) stop b b) (sym same)
-    (next s (with_event node e s) shown (shown_behind w s nodes node e shown made there)))
+module _ (w : WorldState) (nodes : NodesState) (new : WorldState) (node : ℕ) (is : Stage → Event → Type 0)
+    (came : Stage → Event → Stage → Came Stage) (e : Event) (stop : Option Stop) (a b : Told) where
+  -- a call was made and told, and then this was come to
+  pub event_comes : Makes w.nodes nodes node e → IsNodeThere w.nodes node → ((s : Stage) → Shows w s → is s e)
+      → IsTold None a b (noted node e)
+      → ((s t : Stage) → Shows w s → Shows (record w { nodes = nodes }) t
+      → Ran (ends (came s e t)) (Shows new) stop b b)
+      → Plays (λ s. event_with node (is s) (came s) s) w new stop a b
+  event_comes made there asked told next s shown =
+      ran_then (One node (IsAllowedNext s node (is s))) (λ x. ends (came s x (with_event node x s))) (λ x. x ≡ e)
+      (Shows new) stop a b b
+      (ran_one node (IsAllowedNext s node (is s)) e None a b
+      (made_here w s nodes node (is s) e shown made (asked s shown)) told)
+      (λ x same. subst (λ y. Ran (ends (came s y (with_event node y s))) (Shows new) stop b b) (sym same)
+      (next s (with_event node e s) shown (shown_behind w s nodes node e shown made there)))
 
 -- ---- what a line names
 
@@ -156,17 +157,18 @@ cut_as part w new r stop t was wants cut =
 
 -- ---- methods
 
--- a call was made and told, from the parts of what a run keeps
-pub event_told : (node : ℕ) (is : Stage → Event → Type 0) (e : Event) (i w new : WorldState) (nodes : NodesState)
-    (stop : Option Stop) (a b : Told) → i ≡ w → new ≡ record i { nodes = nodes } → Makes i.nodes nodes node e
-    → IsNodeThere w.nodes node → ((s : Stage) → Shows w s → is s e) → IsTold stop a b (noted node e)
-    → Plays (λ s. event node (is s) s) w new stop a b
-event_told node is e i w new nodes stop a b parts same made there asked told s shown =
-    subst (λ v. Ran (event node (is s) s) (Shows v) stop a b)
-    (ap (λ (v : WorldState). record v { nodes = nodes }) (sym parts) ∙ sym same)
-    (event_plays w nodes node (is s) e stop a b (subst (λ (v : WorldState). Makes v.nodes nodes node e) parts made)
-    there
-    (asked s shown) told s shown)
+module _ (node : ℕ) (is : Stage → Event → Type 0) (e : Event) (i w new : WorldState) (nodes : NodesState)
+    (stop : Option Stop) (a b : Told) where
+  -- a call was made and told, from the parts of what a run keeps
+  pub event_told : i ≡ w → new ≡ record i { nodes = nodes } → Makes i.nodes nodes node e → IsNodeThere w.nodes node
+      → ((s : Stage) → Shows w s → is s e) → IsTold stop a b (noted node e)
+      → Plays (λ s. event node (is s) s) w new stop a b
+  event_told parts same made there asked told s shown =
+      subst (λ v. Ran (event node (is s) s) (Shows v) stop a b)
+      (ap (λ (v : WorldState). record v { nodes = nodes }) (sym parts) ∙ sym same)
+      (event_plays w nodes node (is s) e stop a b (subst (λ (v : WorldState). Makes v.nodes nodes node e) parts made)
+      there
+      (asked s shown) told s shown)
 
 -- the client of a connection, as the law of its event says
 pub linked_shown : (i w : WorldState) (to : Host) (first : ℕ) (e : Event) → i ≡ w → to ≡ host_of i.nodes 0
@@ -178,49 +180,54 @@ linked_shown i w to first e parts is linked s shown = (
   subst (λ sv. IsLinked to sv first e) (ap (λ (v : WorldState). v.service) parts ∙ shown.service) linked,
 )
 
--- a connection was made and told
-pub link_told : (node : ℕ) (to : Host) (first : ℕ) (e : Event) (i w new : WorldState) (nodes : NodesState)
-    (stop : Option Stop) (a b : Told) → i ≡ w → new ≡ record i { nodes = nodes } → Makes i.nodes nodes node e
-    → IsNodeThere w.nodes node → to ≡ host_of i.nodes 0 → IsLinked to i.service first e
-    → IsTold stop a b (noted node e) → Plays (connects first node) w new stop a b
-link_told node to first e i w new nodes stop a b parts same made there host linked told =
-    event_told node
-    (λ s x. (h : Host) × (host_at s 0 ≡ Some h) × IsLinked h (service_of (slice_get s.nodes 0)) first x) e i w new nodes
-    stop a b parts same made there (linked_shown i w to first e parts host linked) told
+module _ (node : ℕ) (to : Host) (first : ℕ) (e : Event) (i w new : WorldState) (nodes : NodesState) (stop : Option Stop)
+    (a b : Told) where
+  -- a connection was made and told
+  pub link_told : i ≡ w → new ≡ record i { nodes = nodes } → Makes i.nodes nodes node e → IsNodeThere w.nodes node
+      → to ≡ host_of i.nodes 0 → IsLinked to i.service first e → IsTold stop a b (noted node e)
+      → Plays (connects first node) w new stop a b
+  link_told parts same made there host linked told =
+      event_told node
+      (λ s x. (h : Host) × (host_at s 0 ≡ Some h) × IsLinked h (service_of (slice_get s.nodes 0)) first x) e i w new
+      nodes
+      stop a b parts same made there (linked_shown i w to first e parts host linked) told
 
--- a call was made, and the run ended as it was told
-pub event_stopped : (node : ℕ) (is : Stage → Event → Type 0) (came : Stage → Event → Stage → Came Stage) (e : Event)
-    (i w new : WorldState) (nodes : NodesState) (r : Result (Unit {0}) Stop) (stop : Stop) (a b : Told) → i ≡ w
-    → Makes i.nodes nodes node e → ((s : Stage) → Shows w s → is s e) → IsTold (Some stop) a b (noted node e)
-    → IsErr r × IsErrAnd r (λ x. x ≡ stop) → Plays (λ s. event_with node (is s) (came s) s) w new (stop_of r) a b
-event_stopped node is came e i w new nodes r stop a b parts made asked told was =
-    subst (λ o. Plays (λ s. event_with node (is s) (came s) s) w new o a b) (sym (stop_is r stop was))
-    (event_ends w nodes new node is came e stop a b (subst (λ (v : WorldState). Makes v.nodes nodes node e) parts made)
-    asked told)
+module _ (node : ℕ) (is : Stage → Event → Type 0) (came : Stage → Event → Stage → Came Stage) (e : Event)
+    (i w new : WorldState) (nodes : NodesState) (r : Result (Unit {0}) Stop) (stop : Stop) (a b : Told) where
+  -- a call was made, and the run ended as it was told
+  pub event_stopped : i ≡ w → Makes i.nodes nodes node e → ((s : Stage) → Shows w s → is s e)
+      → IsTold (Some stop) a b (noted node e) → IsErr r × IsErrAnd r (λ x. x ≡ stop)
+      → Plays (λ s. event_with node (is s) (came s) s) w new (stop_of r) a b
+  event_stopped parts made asked told was =
+      subst (λ o. Plays (λ s. event_with node (is s) (came s) s) w new o a b) (sym (stop_is r stop was))
+      (event_ends w nodes new node is came e stop a b
+      (subst (λ (v : WorldState). Makes v.nodes nodes node e) parts made)
+      asked told)
 
--- a call was made and told, and then this was come to
-pub event_kept : (node : ℕ) (is : Stage → Event → Type 0) (came : Stage → Event → Stage → Came Stage) (e : Event)
-    (i w m new : WorldState) (nodes : NodesState) (stop : Option Stop) (a b : Told) → i ≡ w
-    → m ≡ record i { nodes = nodes } → Makes i.nodes nodes node e → IsNodeThere w.nodes node
-    → ((s : Stage) → Shows w s → is s e) → IsTold None a b (noted node e)
-    → ((s t : Stage) → Shows w s → Shows m t → Ran (ends (came s e t)) (Shows new) stop b b)
-    → Plays (λ s. event_with node (is s) (came s) s) w new stop a b
-event_kept node is came e i w m new nodes stop a b parts same made there asked told next =
-    event_comes w nodes new node is came e stop a b (subst (λ (v : WorldState). Makes v.nodes nodes node e) parts made)
-    there asked told
-    (λ s t shown after. next s t shown (subst (λ v. Shows v t)
-    (ap (λ (v : WorldState). record v { nodes = nodes }) (sym parts) ∙ sym same) after))
+module _ (node : ℕ) (is : Stage → Event → Type 0) (came : Stage → Event → Stage → Came Stage) (e : Event)
+    (i w m new : WorldState) (nodes : NodesState) (stop : Option Stop) (a b : Told) where
+  -- a call was made and told, and then this was come to
+  pub event_kept : i ≡ w → m ≡ record i { nodes = nodes } → Makes i.nodes nodes node e → IsNodeThere w.nodes node
+      → ((s : Stage) → Shows w s → is s e) → IsTold None a b (noted node e)
+      → ((s t : Stage) → Shows w s → Shows m t → Ran (ends (came s e t)) (Shows new) stop b b)
+      → Plays (λ s. event_with node (is s) (came s) s) w new stop a b
+  event_kept parts same made there asked told next =
+      event_comes w nodes new node is came e stop a b
+      (subst (λ (v : WorldState). Makes v.nodes nodes node e) parts made)
+      there asked told
+      (λ s t shown after. next s t shown (subst (λ v. Shows v t)
+      (ap (λ (v : WorldState). record v { nodes = nodes }) (sym parts) ∙ sym same) after))
 
--- a call was made and told, and then memory was wanted
-pub event_unkept : (node : ℕ) (is : Stage → Event → Type 0) (came : Stage → Event → Stage → Came Stage) (e : Event)
-    (i w new : WorldState) (nodes : NodesState) (r : Result (Unit {0}) Stop) (a b : Told) → i ≡ w
-    → Makes i.nodes nodes node e → IsNodeThere w.nodes node → ((s : Stage) → Shows w s → is s e)
-    → IsTold None a b (noted node e) → IsErr r × IsErrAnd r (λ stop. stop ≡ stops.OutOfMemory)
-    → Plays (λ s. event_with node (is s) (came s) s) w new (stop_of r) a b
-event_unkept node is came e i w new nodes r a b parts made there asked told was =
-    subst (λ o. Plays (λ s. event_with node (is s) (came s) s) w new o a b) (sym (stop_is r stops.OutOfMemory was))
-    (event_kept node is came e i w (record i { nodes = nodes }) new nodes (Some stops.OutOfMemory) a b parts refl made
-    there asked told (λ s t shown after. ran_wants (Shows new) (came s e t) b))
+module _ (node : ℕ) (is : Stage → Event → Type 0) (came : Stage → Event → Stage → Came Stage) (e : Event)
+    (i w new : WorldState) (nodes : NodesState) (r : Result (Unit {0}) Stop) (a b : Told) where
+  -- a call was made and told, and then memory was wanted
+  pub event_unkept : i ≡ w → Makes i.nodes nodes node e → IsNodeThere w.nodes node → ((s : Stage) → Shows w s → is s e)
+      → IsTold None a b (noted node e) → IsErr r × IsErrAnd r (λ stop. stop ≡ stops.OutOfMemory)
+      → Plays (λ s. event_with node (is s) (came s) s) w new (stop_of r) a b
+  event_unkept parts made there asked told was =
+      subst (λ o. Plays (λ s. event_with node (is s) (came s) s) w new o a b) (sym (stop_is r stops.OutOfMemory was))
+      (event_kept node is came e i w (record i { nodes = nodes }) new nodes (Some stops.OutOfMemory) a b parts refl made
+      there asked told (λ s t shown after. ran_wants (Shows new) (came s e t) b))
 
 -- memory was wanted before the call
 pub event_lacks_as : (node : ℕ) (is : Stage → Event → Type 0) (came : Stage → Event → Stage → Came Stage)

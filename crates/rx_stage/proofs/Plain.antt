@@ -153,43 +153,43 @@ Becomes {A} {B} shows part after ss (Ended wire_failed) = ⊥
 Becomes {A} {B} shows part after ss Cut = part (events_of ss) Cut
 Becomes {A} {B} shows part after ss Endless = part (events_of ss) Endless
 
--- what was made of the one and told was made of the other
-pub ran_plan : {A B : Type 0} (first : run_parts.Part Step Fault A) (shows : A → Type 0) (part : Part B)
-    (after : B → Type 0) (stop : Option DriveStop) (result : Option Stop) (a b : tells.Told)
-    → result ≡ option_map plan_stop stop
-    → ((ss : List Step) (came : Came Fault A) → first ss came → Becomes shows part after ss came)
-    → ran.Ran event_line first shows stop a b → Ran part after result (plain a) (plain b)
-ran_plan {A} {B} first shows part after stop result a b ends becomes r =
-    subst (λ (o : Option Stop). Ran part after o (plain a) (plain b)) (sym ends)
-    (of r.steps r.came stop r.fits (becomes r.steps r.came r.made))
-  where
-    cut : (ss : List Step) (why : Stop) → part (events_of ss) Cut
-        → Fits after Cut (Some why) (plain a) (plain b) (events_of ss) → Ran part after (Some why) (plain a) (plain b)
-    cut ss why made fits = record { events = events_of ss; came = Cut; made = made; fits = fits }
+module _ {A B : Type 0} (first : run_parts.Part Step Fault A) (shows : A → Type 0) (part : Part B) where
+  -- what was made of the one and told was made of the other
+  pub ran_plan : (after : B → Type 0) (stop : Option DriveStop) (result : Option Stop) (a b : tells.Told)
+      → result ≡ option_map plan_stop stop
+      → ((ss : List Step) (came : Came Fault A) → first ss came → Becomes shows part after ss came)
+      → ran.Ran event_line first shows stop a b → Ran part after result (plain a) (plain b)
+  ran_plan after stop result a b ends becomes r =
+      subst (λ (o : Option Stop). Ran part after o (plain a) (plain b)) (sym ends)
+      (of r.steps r.came stop r.fits (becomes r.steps r.came r.made))
+    where
+      cut : (ss : List Step) (why : Stop) → part (events_of ss) Cut
+          → Fits after Cut (Some why) (plain a) (plain b) (events_of ss) → Ran part after (Some why) (plain a) (plain b)
+      cut ss why made fits = record { events = events_of ss; came = Cut; made = made; fits = fits }
 
-    to : (ss : List Step) → ((x : B) × part (events_of ss) (To x) × after x) → run.Gains (telling event_line) a b ss
-        → Ran part after None (plain a) (plain b)
-    to ss (x, made, there) told =
-        record {
-          events = events_of ss;
-          came = To x;
-          made = made;
-          fits = fits_to x (plain a) (plain b) (events_of ss) there (gains_plain a b ss told);
-        }
+      to : (ss : List Step) → ((x : B) × part (events_of ss) (To x) × after x) → run.Gains (telling event_line) a b ss
+          → Ran part after None (plain a) (plain b)
+      to ss (x, made, there) told =
+          record {
+            events = events_of ss;
+            came = To x;
+            made = made;
+            fits = fits_to x (plain a) (plain b) (events_of ss) there (gains_plain a b ss told);
+          }
 
-    of : (ss : List Step) (came : Came Fault A) (how : Option DriveStop) → ran.Fits event_line shows came how a b ss
-        → Becomes shows part after ss came → Ran part after (option_map plan_stop how) (plain a) (plain b)
-    of ss came how (ran.fits_to u old new ss2 there told) so = to ss (so there) told
-    of ss came how (ran.fits_failed old mid new ss2 told breaks) so = absurd so
-    of ss came how (ran.fits_wants old new ss2 told) so =
-        cut ss stops.OutOfMemory so
-        (fits_wants (plain a) (plain b) (events_of ss) (wants_then (gains_plain a b ss told)))
-    of ss came how (ran.fits_last why old new ss2 last) so =
-        cut ss (plan_stop why) so (last_plain after why a b ss last)
-    of ss came how (ran.fits_endless old new ss2 told) so =
-        record {
-          events = events_of ss;
-          came = Endless;
-          made = so;
-          fits = fits_endless (plain a) (plain b) (events_of ss) (gains_plain a b ss told);
-        }
+      of : (ss : List Step) (came : Came Fault A) (how : Option DriveStop) → ran.Fits event_line shows came how a b ss
+          → Becomes shows part after ss came → Ran part after (option_map plan_stop how) (plain a) (plain b)
+      of ss came how (ran.fits_to u old new ss2 there told) so = to ss (so there) told
+      of ss came how (ran.fits_failed old mid new ss2 told breaks) so = absurd so
+      of ss came how (ran.fits_wants old new ss2 told) so =
+          cut ss stops.OutOfMemory so
+          (fits_wants (plain a) (plain b) (events_of ss) (wants_then (gains_plain a b ss told)))
+      of ss came how (ran.fits_last why old new ss2 last) so =
+          cut ss (plan_stop why) so (last_plain after why a b ss last)
+      of ss came how (ran.fits_endless old new ss2 told) so =
+          record {
+            events = events_of ss;
+            came = Endless;
+            made = so;
+            fits = fits_endless (plain a) (plain b) (events_of ss) (gains_plain a b ss told);
+          }

@@ -36,16 +36,16 @@ pub each_none : {X : Type 0} (part : X → Stage → Part Stage) (w : WorldState
     → Plays (each part []) w w None t t
 each_none part w t s shown = ran_to (Shows w) s t shown
 
--- one more
-pub each_one : {X : Type 0} (part : X → Stage → Part Stage) (xs : List X) (x : X) (w m new : WorldState)
-    (stop : Option Stop) (a b c : Told) → Plays (each part xs) w m None a b → Plays (part x) m new stop b c
-    → Plays (each part (xs ++ x ∷ [])) w new stop a c
-each_one part xs x w m new stop a b c f g s shown =
-    each_more part xs x s (Shows m) (Shows new) stop a b c (f s shown) g
+module _ {X : Type 0} (part : X → Stage → Part Stage) (xs : List X) where
+  -- one more
+  pub each_one : (x : X) (w m new : WorldState) (stop : Option Stop) (a b c : Told) → Plays (each part xs) w m None a b
+      → Plays (part x) m new stop b c → Plays (each part (xs ++ x ∷ [])) w new stop a c
+  each_one x w m new stop a b c f g s shown =
+      each_more part xs x s (Shows m) (Shows new) stop a b c (f s shown) g
 
--- one more that ended the run, whatever was to come
-pub each_stops : {X : Type 0} (part : X → Stage → Part Stage) (xs more : List X) (x : X) (w m new : WorldState)
-    (stop : Stop) (a b c : Told) → Plays (each part xs) w m None a b → Plays (part x) m new (Some stop) b c
-    → Plays (each part (xs ++ x ∷ more)) w new (Some stop) a c
-each_stops part xs more x w m new stop a b c f g s shown =
-    each_ended part xs more x s (Shows m) (Shows new) stop a b c (f s shown) g
+  -- one more that ended the run, whatever was to come
+  pub each_stops : (more : List X) (x : X) (w m new : WorldState) (stop : Stop) (a b c : Told)
+      → Plays (each part xs) w m None a b → Plays (part x) m new (Some stop) b c
+      → Plays (each part (xs ++ x ∷ more)) w new (Some stop) a c
+  each_stops more x w m new stop a b c f g s shown =
+      each_ended part xs more x s (Shows m) (Shows new) stop a b c (f s shown) g

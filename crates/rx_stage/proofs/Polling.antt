@@ -41,14 +41,15 @@ polls_play w node from given more new stop a b there host turn p shown =
     (sym shown.1) (turn w refl p.stage shown.0))
     (λ r known. (known.1, ap (λ (v : Polling). v.given) known.0)))
 
--- all polls of a node were made, of whose state the code keeps this
-pub out_plays : (old new : WorldState) (node : ℕ) (from : Host) (given more : List Datagram) (stop : Option Stop)
-    (a b : Told) → IsNodeThere old.nodes node → from ≡ host_of old.nodes node
-    → PlaysTurn (polling from) node (more_from given) (ended_with more) old.nodes new.nodes stop a b
-    → new ≡ record old { nodes = new.nodes } → PlaysGiven (polls_out node) old given new more stop a b
-out_plays old new node from given more stop a b there host turn same =
-    subst (λ (u : WorldState). PlaysGiven (polls_out node) old given u more stop a b) (sym same)
-    (polls_play old node from given more new.nodes stop a b there host turn)
+module _ (old new : WorldState) (node : ℕ) (from : Host) (given more : List Datagram) (stop : Option Stop) (a b : Told)
+  where
+    -- all polls of a node were made, of whose state the code keeps this
+    pub out_plays : IsNodeThere old.nodes node → from ≡ host_of old.nodes node
+        → PlaysTurn (polling from) node (more_from given) (ended_with more) old.nodes new.nodes stop a b
+        → new ≡ record old { nodes = new.nodes } → PlaysGiven (polls_out node) old given new more stop a b
+    out_plays there host turn same =
+        subst (λ (u : WorldState). PlaysGiven (polls_out node) old given u more stop a b) (sym same)
+        (polls_play old node from given more new.nodes stop a b there host turn)
 
 -- the same nodes, and the same is told, as the code has them
 pub turn_seen : {View Ask : Type 0} (p : Program View Ask) (node : ℕ) (v w : View) (i old new : NodesState)

@@ -83,12 +83,12 @@ puts_stopped outcomes.OutOfMemory a b c xs ys more first second =
       faults = second.faults ∙ first.faults;
     }
 
--- one that ended the run, whatever was to come
-pub puts_ended : (made r : Result (Unit {0}) Outcome) (outcome : Outcome) (a b c : Told) (xs ys more : List ℕ)
-    → PutsAll a b xs → made ≡ Err outcome → IsErr r × IsErrAnd r (λ o. o ≡ outcome) → PutsBy made b c ys
-    → PutsBy r a c ((xs ++ ys) ++ more)
-puts_ended made r outcome a b c xs ys more first is was second =
-    (let given = err_from_is_err_and r was.1 in
-    subst (λ x. PutsBy x a c ((xs ++ ys) ++ more)) (sym given.1)
-    (subst (λ o. PutsBy (Err o) a c ((xs ++ ys) ++ more)) (sym given.2)
-    (puts_stopped outcome a b c xs ys more first (subst (λ x. PutsBy x b c ys) is second))))
+module _ (made r : Result (Unit {0}) Outcome) (outcome : Outcome) (a b c : Told) (xs ys more : List ℕ) where
+  -- one that ended the run, whatever was to come
+  pub puts_ended : PutsAll a b xs → made ≡ Err outcome → IsErr r × IsErrAnd r (λ o. o ≡ outcome) → PutsBy made b c ys
+      → PutsBy r a c ((xs ++ ys) ++ more)
+  puts_ended first is was second =
+      (let given = err_from_is_err_and r was.1 in
+      subst (λ x. PutsBy x a c ((xs ++ ys) ++ more)) (sym given.1)
+      (subst (λ o. PutsBy (Err o) a c ((xs ++ ys) ++ more)) (sym given.2)
+      (puts_stopped outcome a b c xs ys more first (subst (λ x. PutsBy x b c ys) is second))))

@@ -46,28 +46,28 @@ client_more part k old mid new a b c some before next =
     subst (λ xs. PlaysOn (each part xs) old new None a c) (sym (others_more k some))
     (on_one part (drop 1 (below k)) k old mid new None a b c before next)
 
--- the run ended at a client's
-pub client_ended : {A : Type 0} (part : ℕ → A → Part A) (list : A → List ℕ) (k n : ℕ) (old mid new : A → Type 0)
-    (r : Result (Unit {0}) Stop) (stop : Stop) (a b c : Told) → 1 ≤ k → k < n
-    → ((x : A) → old x → list x ≡ drop 1 (below n) ++ 0 ∷ []) → PlaysOn (each part (drop 1 (below k))) old mid None a b
-    → PlaysOn (part k) mid new (Some stop) b c → IsErr r × IsErrAnd r (λ why. why ≡ stop)
-    → PlaysOn (λ x. each part (list x) x) old new (stop_of r) a c
-client_ended part list k n old mid new r stop a b c some low listed before next err =
-    (let here : At (drop 1 (below n) ++ 0 ∷ []) (drop 1 (below k)) k = others_at k n some low in
-    subst (λ o. PlaysOn (λ x. each part (list x) x) old new o a c) (sym (stop_is r stop err))
-    (on_listed part list (drop 1 (below n) ++ 0 ∷ []) old new (Some stop) a c listed
-    (subst (λ xs. PlaysOn (each part xs) old new (Some stop) a c) (sym here.are)
-    (on_stops part (drop 1 (below k)) here.more k old mid new stop a b c before next))))
+module _ {A : Type 0} (part : ℕ → A → Part A) (list : A → List ℕ) (k n : ℕ) (old mid new : A → Type 0) where
+  -- the run ended at a client's
+  pub client_ended : (r : Result (Unit {0}) Stop) (stop : Stop) (a b c : Told) → 1 ≤ k → k < n
+      → ((x : A) → old x → list x ≡ drop 1 (below n) ++ 0 ∷ [])
+      → PlaysOn (each part (drop 1 (below k))) old mid None a b → PlaysOn (part k) mid new (Some stop) b c
+      → IsErr r × IsErrAnd r (λ why. why ≡ stop) → PlaysOn (λ x. each part (list x) x) old new (stop_of r) a c
+  client_ended r stop a b c some low listed before next err =
+      (let here : At (drop 1 (below n) ++ 0 ∷ []) (drop 1 (below k)) k = others_at k n some low in
+      subst (λ o. PlaysOn (λ x. each part (list x) x) old new o a c) (sym (stop_is r stop err))
+      (on_listed part list (drop 1 (below n) ++ 0 ∷ []) old new (Some stop) a c listed
+      (subst (λ xs. PlaysOn (each part xs) old new (Some stop) a c) (sym here.are)
+      (on_stops part (drop 1 (below k)) here.more k old mid new stop a b c before next))))
 
--- the server's
-pub server_last : {A : Type 0} (part : ℕ → A → Part A) (list : A → List ℕ) (k n : ℕ) (old mid new : A → Type 0)
-    (stop : Option Stop) (a b c : Told) → k ≡ n → ((x : A) → old x → list x ≡ drop 1 (below n) ++ 0 ∷ [])
-    → PlaysOn (each part (drop 1 (below k))) old mid None a b → PlaysOn (part 0) mid new stop b c
-    → PlaysOn (λ x. each part (list x) x) old new stop a c
-server_last part list k n old mid new stop a b c same listed before next =
-    on_listed part list (drop 1 (below n) ++ 0 ∷ []) old new stop a c listed
-    (on_one part (drop 1 (below n)) 0 old mid new stop a b c
-    (subst (λ j. PlaysOn (each part (drop 1 (below j))) old mid None a b) same before) next)
+  -- the server's
+  pub server_last : (stop : Option Stop) (a b c : Told) → k ≡ n
+      → ((x : A) → old x → list x ≡ drop 1 (below n) ++ 0 ∷ [])
+      → PlaysOn (each part (drop 1 (below k))) old mid None a b → PlaysOn (part 0) mid new stop b c
+      → PlaysOn (λ x. each part (list x) x) old new stop a c
+  server_last stop a b c same listed before next =
+      on_listed part list (drop 1 (below n) ++ 0 ∷ []) old new stop a c listed
+      (on_one part (drop 1 (below n)) 0 old mid new stop a b c
+      (subst (λ j. PlaysOn (each part (drop 1 (below j))) old mid None a b) same before) next)
 
 -- the list of polls and of clocks
 pub given_listed : (w : WorldState) (given : List Datagram) (n : ℕ) (p : Polled) → n ≡ length w.nodes.clients + 1
@@ -82,13 +82,13 @@ move_same : (w : WorldState) (s : Stage) (node time now : ℕ) → Shows w s →
 move_same w s node time now shown there is =
     is ∙ ap (λ m. m + time) (moment_is w.nodes s.history node shown.standing there)
 
--- a clock was set on
-pub move_plays : (w old new : WorldState) (node time now : ℕ) (stop : Option Stop) (a b : Told) → w ≡ old
-    → IsNodeThere old.nodes node → now ≡ moment_of old.nodes node + time
-    → Plays (event node (IsClocked now)) old new stop a b → Plays (moves_on time node) old new stop a b
-move_plays w old new node time now stop a b is there at plays s shown =
-    subst (λ m. Ran (event node (IsClocked m) s) (Shows new) stop a b) (move_same old s node time now shown there at)
-    (plays s shown)
+module _ (w old new : WorldState) (node time now : ℕ) (stop : Option Stop) (a b : Told) where
+  -- a clock was set on
+  pub move_plays : w ≡ old → IsNodeThere old.nodes node → now ≡ moment_of old.nodes node + time
+      → Plays (event node (IsClocked now)) old new stop a b → Plays (moves_on time node) old new stop a b
+  move_plays is there at plays s shown =
+      subst (λ m. Ran (event node (IsClocked m) s) (Shows new) stop a b) (move_same old s node time now shown there at)
+      (plays s shown)
 
 -- a list has a number of at least the limit less this time, where its latest is
 reach_more : (limit time m k : ℕ)
@@ -235,55 +235,57 @@ polled_then next w m new given stop a b c polled rest s shown =
 abbrev pub behind : Handlers → List Datagram → Stage → Part Stage
 behind g given s = Then (each delivers given s) (λ t. Then (turns g t) (settles (length given == 0)))
 
--- the run ended in its polls
-pub round_polls : (g : Handlers) (w m new : WorldState) (first given : List Datagram) (r : Result (Unit {0}) Stop)
-    (stop : Stop) (a b : Told) → first ≡ []
-    → PlaysGiven (λ p. each polls_out (clients_first p.stage) p) w first m given (Some stop) a b
-    → IsErr r × IsErrAnd r (λ why. why ≡ stop) → Plays (round g) w new (stop_of r) a b
-round_polls g w m new first given r stop a b none polled err s shown =
-    subst (λ o. Ran (round g s) (Shows new) o a b) (sym (stop_is r stop err))
-    (ran_stops (polls s) (λ p. behind g p.given p.stage) (ShowsGiven m given) (Shows new) stop a b
-    (subst (λ ds. PlaysGiven (λ p. each polls_out (clients_first p.stage) p) w ds m given (Some stop) a b) none polled
-    (record { stage = s; given = [] }) (shown, refl)))
+module _ (g : Handlers) (w m new : WorldState) (first given : List Datagram) (r : Result (Unit {0}) Stop) (stop : Stop)
+    (a b : Told) where
+  -- the run ended in its polls
+  pub round_polls : first ≡ []
+      → PlaysGiven (λ p. each polls_out (clients_first p.stage) p) w first m given (Some stop) a b
+      → IsErr r × IsErrAnd r (λ why. why ≡ stop) → Plays (round g) w new (stop_of r) a b
+  round_polls none polled err s shown =
+      subst (λ o. Ran (round g s) (Shows new) o a b) (sym (stop_is r stop err))
+      (ran_stops (polls s) (λ p. behind g p.given p.stage) (ShowsGiven m given) (Shows new) stop a b
+      (subst (λ ds. PlaysGiven (λ p. each polls_out (clients_first p.stage) p) w ds m given (Some stop) a b) none polled
+      (record { stage = s; given = [] }) (shown, refl)))
 
--- in its deliveries
-pub round_delivers : (g : Handlers) (w m n new : WorldState) (first given : List Datagram) (r : Result (Unit {0}) Stop)
-    (stop : Stop) (a b c : Told) → first ≡ []
-    → PlaysGiven (λ p. each polls_out (clients_first p.stage) p) w first m given None a b
-    → Plays (each delivers given) m n (Some stop) b c → IsErr r × IsErrAnd r (λ why. why ≡ stop)
-    → Plays (round g) w new (stop_of r) a c
-round_delivers g w m n new first given r stop a b c none polled delivered err =
-    subst (λ o. Plays (round g) w new o a c) (sym (stop_is r stop err))
-    (polled_then (behind g) w m new given (Some stop) a b c
-    (subst (λ ds. PlaysGiven (λ p. each polls_out (clients_first p.stage) p) w ds m given None a b) none polled)
-    (plays_stops (each delivers given) (λ t. Then (turns g t) (settles (length given == 0))) m n new stop b c
-    delivered))
+module _ (g : Handlers) (w m n new : WorldState) (first given : List Datagram) (r : Result (Unit {0}) Stop)
+    (stop : Stop) (a b c : Told) where
+  -- in its deliveries
+  pub round_delivers : first ≡ [] → PlaysGiven (λ p. each polls_out (clients_first p.stage) p) w first m given None a b
+      → Plays (each delivers given) m n (Some stop) b c → IsErr r × IsErrAnd r (λ why. why ≡ stop)
+      → Plays (round g) w new (stop_of r) a c
+  round_delivers none polled delivered err =
+      subst (λ o. Plays (round g) w new o a c) (sym (stop_is r stop err))
+      (polled_then (behind g) w m new given (Some stop) a b c
+      (subst (λ ds. PlaysGiven (λ p. each polls_out (clients_first p.stage) p) w ds m given None a b) none polled)
+      (plays_stops (each delivers given) (λ t. Then (turns g t) (settles (length given == 0))) m n new stop b c
+      delivered))
 
--- in its turns
-pub round_turns : (g : Handlers) (w m n o new : WorldState) (first given : List Datagram) (r : Result (Unit {0}) Stop)
-    (stop : Stop) (a b c d : Told) → first ≡ []
-    → PlaysGiven (λ p. each polls_out (clients_first p.stage) p) w first m given None a b
-    → Plays (each delivers given) m n None b c → Plays (turns g) n o (Some stop) c d
-    → IsErr r × IsErrAnd r (λ why. why ≡ stop) → Plays (round g) w new (stop_of r) a d
-round_turns g w m n o new first given r stop a b c d none polled delivered turned err =
-    subst (λ x. Plays (round g) w new x a d) (sym (stop_is r stop err))
-    (polled_then (behind g) w m new given (Some stop) a b d
-    (subst (λ ds. PlaysGiven (λ p. each polls_out (clients_first p.stage) p) w ds m given None a b) none polled)
-    (plays_then (each delivers given) (λ t. Then (turns g t) (settles (length given == 0))) m n new (Some stop) b c d
-    delivered (plays_stops (turns g) (settles (length given == 0)) n o new stop c d turned)))
+module _ (g : Handlers) (w m n o new : WorldState) (first given : List Datagram) (r : Result (Unit {0}) Stop)
+    (stop : Stop) (a b c d : Told) where
+  -- in its turns
+  pub round_turns : first ≡ [] → PlaysGiven (λ p. each polls_out (clients_first p.stage) p) w first m given None a b
+      → Plays (each delivers given) m n None b c → Plays (turns g) n o (Some stop) c d
+      → IsErr r × IsErrAnd r (λ why. why ≡ stop) → Plays (round g) w new (stop_of r) a d
+  round_turns none polled delivered turned err =
+      subst (λ x. Plays (round g) w new x a d) (sym (stop_is r stop err))
+      (polled_then (behind g) w m new given (Some stop) a b d
+      (subst (λ ds. PlaysGiven (λ p. each polls_out (clients_first p.stage) p) w ds m given None a b) none polled)
+      (plays_then (each delivers given) (λ t. Then (turns g t) (settles (length given == 0))) m n new (Some stop) b c d
+      delivered (plays_stops (turns g) (settles (length given == 0)) n o new stop c d turned)))
 
--- it came to its end
-pub round_settles : (g : Handlers) (w m n o new : WorldState) (first given : List Datagram) (quiet : Bool)
-    (stop : Option Stop) (a b c d e : Told) → first ≡ [] → quiet ≡ (length given == 0)
-    → PlaysGiven (λ p. each polls_out (clients_first p.stage) p) w first m given None a b
-    → Plays (each delivers given) m n None b c → Plays (turns g) n o None c d → Plays (settles quiet) o new stop d e
-    → Plays (round g) w new stop a e
-round_settles g w m n o new first given quiet stop a b c d e none is polled delivered turned settled =
-    polled_then (behind g) w m new given stop a b e
-    (subst (λ ds. PlaysGiven (λ p. each polls_out (clients_first p.stage) p) w ds m given None a b) none polled)
-    (plays_then (each delivers given) (λ t. Then (turns g t) (settles (length given == 0))) m n new stop b c e
-    delivered (plays_then (turns g) (settles (length given == 0)) n o new stop c d e turned
-    (subst (λ q. Plays (settles q) o new stop d e) is settled)))
+module _ (g : Handlers) (w m n o new : WorldState) (first given : List Datagram) (quiet : Bool) (stop : Option Stop)
+    (a b c d e : Told) where
+  -- it came to its end
+  pub round_settles : first ≡ [] → quiet ≡ (length given == 0)
+      → PlaysGiven (λ p. each polls_out (clients_first p.stage) p) w first m given None a b
+      → Plays (each delivers given) m n None b c → Plays (turns g) n o None c d → Plays (settles quiet) o new stop d e
+      → Plays (round g) w new stop a e
+  round_settles none is polled delivered turned settled =
+      polled_then (behind g) w m new given stop a b e
+      (subst (λ ds. PlaysGiven (λ p. each polls_out (clients_first p.stage) p) w ds m given None a b) none polled)
+      (plays_then (each delivers given) (λ t. Then (turns g t) (settles (length given == 0))) m n new stop b c e
+      delivered (plays_then (turns g) (settles (length given == 0)) n o new stop c d e turned
+      (subst (λ q. Plays (settles q) o new stop d e) is settled)))
 
 -- ---- rounds
 
@@ -293,25 +295,26 @@ pub lives_shown : (w : WorldState) (s : Stage) (lives : Bool) → Shows w s
 lives_shown w s lives shown exact =
     ap (λ ns. any_lives ns s.history) (nodes_shown w s shown) ∙ sym (exact s.history shown.standing)
 
--- the rounds that are left, one of which was made
-rounds_more : (g : Handlers) (n : ℕ) (i w m new : WorldState) (lives : Bool) (stop : Option Stop) (a b c : Told) → i ≡ w
-    → ((h : List Noted) → Standing i.nodes h → lives ≡ any_lives (nodes_of i.nodes) h) → lives ≡ true
-    → Plays (round g) w m None a b → Plays (rounds g n) m new stop b c → Plays (rounds g (suc n)) w new stop a c
-rounds_more g n i w m new lives stop a b c is exact yet made rest =
-    where_holds (λ s. any_lives s.nodes s.history) (λ s. Then (round g s) (rounds g n)) (λ s. ends (To s)) w new stop
-    a c
-    (λ s shown. lives_shown i s lives (subst (λ (u : WorldState). Shows u s) (sym is) shown) exact ∙ yet)
-    (plays_then (round g) (rounds g n) w m new stop a b c made rest)
+module _ (g : Handlers) (n : ℕ) (i w m new : WorldState) (lives : Bool) where
+  -- the rounds that are left, one of which was made
+  rounds_more : (stop : Option Stop) (a b c : Told) → i ≡ w
+      → ((h : List Noted) → Standing i.nodes h → lives ≡ any_lives (nodes_of i.nodes) h) → lives ≡ true
+      → Plays (round g) w m None a b → Plays (rounds g n) m new stop b c → Plays (rounds g (suc n)) w new stop a c
+  rounds_more stop a b c is exact yet made rest =
+      where_holds (λ s. any_lives s.nodes s.history) (λ s. Then (round g s) (rounds g n)) (λ s. ends (To s)) w new stop
+      a c
+      (λ s shown. lives_shown i s lives (subst (λ (u : WorldState). Shows u s) (sym is) shown) exact ∙ yet)
+      (plays_then (round g) (rounds g n) w m new stop a b c made rest)
 
--- the run ended in one
-rounds_stop : (g : Handlers) (n : ℕ) (i w m new : WorldState) (lives : Bool) (stop : Stop) (a b : Told) → i ≡ w
-    → ((h : List Noted) → Standing i.nodes h → lives ≡ any_lives (nodes_of i.nodes) h) → lives ≡ true
-    → Plays (round g) w m (Some stop) a b → Plays (rounds g (suc n)) w new (Some stop) a b
-rounds_stop g n i w m new lives stop a b is exact yet made =
-    where_holds (λ s. any_lives s.nodes s.history) (λ s. Then (round g s) (rounds g n)) (λ s. ends (To s)) w new
-    (Some stop)
-    a b (λ s shown. lives_shown i s lives (subst (λ (u : WorldState). Shows u s) (sym is) shown) exact ∙ yet)
-    (plays_stops (round g) (rounds g n) w m new stop a b made)
+  -- the run ended in one
+  rounds_stop : (stop : Stop) (a b : Told) → i ≡ w
+      → ((h : List Noted) → Standing i.nodes h → lives ≡ any_lives (nodes_of i.nodes) h) → lives ≡ true
+      → Plays (round g) w m (Some stop) a b → Plays (rounds g (suc n)) w new (Some stop) a b
+  rounds_stop stop a b is exact yet made =
+      where_holds (λ s. any_lives s.nodes s.history) (λ s. Then (round g s) (rounds g n)) (λ s. ends (To s)) w new
+      (Some stop)
+      a b (λ s shown. lives_shown i s lives (subst (λ (u : WorldState). Shows u s) (sym is) shown) exact ∙ yet)
+      (plays_stops (round g) (rounds g n) w m new stop a b made)
 
 -- none lives
 rounds_over : (g : Handlers) (n : ℕ) (i w : WorldState) (lives : Bool) (t : Told) → i ≡ w
@@ -327,34 +330,35 @@ rounds_over g (suc n) i w lives t is exact over =
 pub less_one : (count k : ℕ) → k < count → count - k ≡ suc (count - (k + 1))
 less_one count k low = omega arith
 
--- one round more
-pub onward_more : (g : Handlers) (count k : ℕ) (i w0 w m : WorldState) (lives : Bool) (a b c : Told) → k < count → i ≡ w
-    → ((h : List Noted) → Standing i.nodes h → lives ≡ any_lives (nodes_of i.nodes) h) → lives ≡ true
-    → Plays (round g) w m None b c → Onward (rounds g count) (rounds g (count - k)) w0 w a b
-    → Onward (rounds g count) (rounds g (count - (k + 1))) w0 m a c
-onward_more g count k i w0 w m lives a b c low is exact yet made onward new stop e rest =
-    onward new stop e
-    (subst (λ n. Plays (rounds g n) w new stop b e) (sym (less_one count k low))
-    (rounds_more g (count - (k + 1)) i w m new lives stop b c e is exact yet made rest))
+module _ (g : Handlers) (count k : ℕ) (i w0 w m : WorldState) (lives : Bool) (a b c : Told) where
+  -- one round more
+  pub onward_more : k < count → i ≡ w → ((h : List Noted) → Standing i.nodes h → lives ≡ any_lives (nodes_of i.nodes) h)
+      → lives ≡ true → Plays (round g) w m None b c → Onward (rounds g count) (rounds g (count - k)) w0 w a b
+      → Onward (rounds g count) (rounds g (count - (k + 1))) w0 m a c
+  onward_more low is exact yet made onward new stop e rest =
+      onward new stop e
+      (subst (λ n. Plays (rounds g n) w new stop b e) (sym (less_one count k low))
+      (rounds_more g (count - (k + 1)) i w m new lives stop b c e is exact yet made rest))
 
--- the run ended in a round
-pub onward_stops : (g : Handlers) (count k : ℕ) (i w0 w m new : WorldState) (lives : Bool) (r : Result (Unit {0}) Stop)
-    (stop : Stop) (a b c : Told) → k < count → i ≡ w
-    → ((h : List Noted) → Standing i.nodes h → lives ≡ any_lives (nodes_of i.nodes) h) → lives ≡ true
-    → Plays (round g) w m (Some stop) b c → IsErr r × IsErrAnd r (λ why. why ≡ stop)
-    → Onward (rounds g count) (rounds g (count - k)) w0 w a b → Plays (rounds g count) w0 new (stop_of r) a c
-onward_stops g count k i w0 w m new lives r stop a b c low is exact yet made err onward =
-    subst (λ o. Plays (rounds g count) w0 new o a c) (sym (stop_is r stop err))
-    (onward new (Some stop) c
-    (subst (λ n. Plays (rounds g n) w new (Some stop) b c) (sym (less_one count k low))
-    (rounds_stop g (count - (k + 1)) i w m new lives stop b c is exact yet made)))
+module _ (g : Handlers) (count k : ℕ) (i w0 w m new : WorldState) (lives : Bool) (r : Result (Unit {0}) Stop)
+    (stop : Stop) (a b c : Told) where
+  -- the run ended in a round
+  pub onward_stops : k < count → i ≡ w
+      → ((h : List Noted) → Standing i.nodes h → lives ≡ any_lives (nodes_of i.nodes) h) → lives ≡ true
+      → Plays (round g) w m (Some stop) b c → IsErr r × IsErrAnd r (λ why. why ≡ stop)
+      → Onward (rounds g count) (rounds g (count - k)) w0 w a b → Plays (rounds g count) w0 new (stop_of r) a c
+  onward_stops low is exact yet made err onward =
+      subst (λ o. Plays (rounds g count) w0 new o a c) (sym (stop_is r stop err))
+      (onward new (Some stop) c
+      (subst (λ n. Plays (rounds g n) w new (Some stop) b c) (sym (less_one count k low))
+      (rounds_stop g (count - (k + 1)) i w m new lives stop b c is exact yet made)))
 
--- none lives any more
-pub onward_over : (g : Handlers) (count k : ℕ) (i w0 w : WorldState) (lives : Bool) (a b : Told) → i ≡ w
-    → ((h : List Noted) → Standing i.nodes h → lives ≡ any_lives (nodes_of i.nodes) h) → lives ≡ false
-    → Onward (rounds g count) (rounds g (count - k)) w0 w a b → Plays (rounds g count) w0 w None a b
-onward_over g count k i w0 w lives a b is exact over onward =
-    onward w None b (rounds_over g (count - k) i w lives b is exact over)
+module _ (g : Handlers) (count k : ℕ) (i w0 w : WorldState) (lives : Bool) (a b : Told) where
+  -- none lives any more
+  pub onward_over : i ≡ w → ((h : List Noted) → Standing i.nodes h → lives ≡ any_lives (nodes_of i.nodes) h)
+      → lives ≡ false → Onward (rounds g count) (rounds g (count - k)) w0 w a b → Plays (rounds g count) w0 w None a b
+  onward_over is exact over onward =
+      onward w None b (rounds_over g (count - k) i w lives b is exact over)
 
 -- all were made
 pub onward_all : (g : Handlers) (count k : ℕ) (w0 w : WorldState) (a b : Told) → count ≤ k

@@ -49,64 +49,72 @@ fits_behind shows a b c es more stop came told (fits_fails old new them rest) =
 fits_behind shows a b c es more stop came told (fits_endless old new them rest) =
     fits_endless a c (es ++ more) (gains_both told rest)
 
--- events, what was come to by them and the next part are both parts
-pub both : {A B : Type 0} (first : Part A) (next : A → Part B) (after : B → Type 0) (stop : Option Stop) (a b c : Told)
-    (es : List Noted) (x : A) → first es (To x) → Gains a b es → Ran (next x) after stop b c
-    → Ran (Then first next) after stop a c
-both first next after stop a b c es x made told m =
-    record {
-      events = es ++ m.events;
-      came = m.came;
-      made = record { front = es; rest = m.events; are = refl; came = To x; made = made; goes = m.made };
-      fits = fits_behind after a b c es m.events stop m.came told m.fits;
-    }
+module _ {A B : Type 0} (first : Part A) (next : A → Part B) where
+  -- events, what was come to by them and the next part are both parts
+  pub both : (after : B → Type 0) (stop : Option Stop) (a b c : Told) (es : List Noted) (x : A) → first es (To x)
+      → Gains a b es → Ran (next x) after stop b c → Ran (Then first next) after stop a c
+  both after stop a b c es x made told m =
+      record {
+        events = es ++ m.events;
+        came = m.came;
+        made = record { front = es; rest = m.events; are = refl; came = To x; made = made; goes = m.made };
+        fits = fits_behind after a b c es m.events stop m.came told m.fits;
+      }
 
--- the first was made whole, and the next one then
-pub ran_then : {A B : Type 0} (first : Part A) (next : A → Part B) (shows : A → Type 0) (after : B → Type 0)
-    (stop : Option Stop) (a b c : Told) → Ran first shows None a b
-    → ((x : A) → shows x → Ran (next x) after stop b c) → Ran (Then first next) after stop a c
-ran_then {A} {B} first next shows after stop a b c r more = of r.events r.came r.made r.fits
-  where
-    of : (es : List Noted) (came : Came A) → first es came → Fits shows came None a b es
-        → Ran (Then first next) after stop a c
-    of es came made (fits_to x old new them there told) =
-        both first next after stop a b c es x made told (more x there)
+  -- the first was made whole, and the next one then
+  pub ran_then : (shows : A → Type 0) (after : B → Type 0) (stop : Option Stop) (a b c : Told)
+      → Ran first shows None a b → ((x : A) → shows x → Ran (next x) after stop b c)
+      → Ran (Then first next) after stop a c
+  ran_then shows after stop a b c r more = of r.events r.came r.made r.fits
+    where
+      of : (es : List Noted) (came : Came A) → first es came → Fits shows came None a b es
+          → Ran (Then first next) after stop a c
+      of es came made (fits_to x old new them there told) =
+          both after stop a b c es x made told (more x there)
 
--- the first ended the run
-pub ran_stops : {A B : Type 0} (first : Part A) (next : A → Part B) (shows : A → Type 0) (after : B → Type 0)
-    (stop : Stop) (a b : Told) → Ran first shows (Some stop) a b → Ran (Then first next) after (Some stop) a b
-ran_stops {A} {B} first next shows after stop a b r = of r.events r.came stop r.made r.fits
-  where
-    cut : (es : List Noted) (why : Stop) → first es Cut → Fits after Cut (Some why) a b (es ++ [])
-        → Ran (Then first next) after (Some why) a b
-    cut es why made fits =
-        record {
-          events = es ++ [];
-          came = Cut;
-          made = record { front = es; rest = []; are = refl; came = Cut; made = made; goes = (refl, inl refl) };
-          fits = fits;
-        }
+  -- the first ended the run
+  pub ran_stops : (shows : A → Type 0) (after : B → Type 0) (stop : Stop) (a b : Told) → Ran first shows (Some stop) a b
+      → Ran (Then first next) after (Some stop) a b
+  ran_stops shows after stop a b r = of r.events r.came stop r.made r.fits
+    where
+      cut : (es : List Noted) (why : Stop) → first es Cut → Fits after Cut (Some why) a b (es ++ [])
+          → Ran (Then first next) after (Some why) a b
+      cut es why made fits =
+          record {
+            events = es ++ [];
+            came = Cut;
+            made = record { front = es; rest = []; are = refl; came = Cut; made = made; goes = (refl, inl refl) };
+            fits = fits;
+          }
 
-    of : (es : List Noted) (came : Came A) (why : Stop) → first es came → Fits shows came (Some why) a b es
-        → Ran (Then first next) after (Some why) a b
-    of es came stop made (fits_refused why old new them told) =
-        record {
-          events = es ++ [];
-          came = Refused why;
-          made = record { front = es; rest = []; are = refl; came = Refused why; made = made; goes = (refl, inl refl) };
-          fits = fits_refused why a b (es ++ []) (gains_both told (gains_none b));
-        }
-    of es came stop made (fits_wants old new them told) =
-        cut es stops.OutOfMemory made (fits_wants a b (es ++ []) (rw (append-nil es) told))
-    of es came stop made (fits_fails old new them told) =
-        cut es stops.SinkFault made (fits_fails a b (es ++ []) (rw (append-nil es) told))
-    of es came stop made (fits_endless old new them told) =
-        record {
-          events = es ++ [];
-          came = Endless;
-          made = record { front = es; rest = []; are = refl; came = Endless; made = made; goes = (refl, inl refl) };
-          fits = fits_endless a b (es ++ []) (gains_both told (gains_none b));
-        }
+      of : (es : List Noted) (came : Came A) (why : Stop) → first es came → Fits shows came (Some why) a b es
+          → Ran (Then first next) after (Some why) a b
+      of es came stop made (fits_refused why old new them told) =
+          record {
+            events = es ++ [];
+            came = Refused why;
+            made = record {
+              front = es;
+              rest = [];
+              are = refl;
+              came = Refused why;
+              made = made;
+              goes =
+                  (refl, inl refl);
+            };
+            fits = fits_refused why a b (es ++ []) (gains_both told (gains_none b));
+          }
+      of es came stop made (fits_wants old new them told) =
+          cut es stops.OutOfMemory made (fits_wants a b (es ++ []) (rw (append-nil es) told))
+      of es came stop made (fits_fails old new them told) =
+          cut es stops.SinkFault made (fits_fails a b (es ++ []) (rw (append-nil es) told))
+      of es came stop made (fits_endless old new them told) =
+          record {
+            events = es ++ [];
+            came = Endless;
+            made = record { front = es; rest = []; are = refl; came = Endless; made = made; goes = (refl, inl refl) };
+            fits = fits_endless a b (es ++ []) (gains_both told (gains_none b));
+          }
 
 -- ---- one event
 

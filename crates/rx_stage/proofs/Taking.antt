@@ -203,58 +203,58 @@ takes_reach setup node from (b ∷ bs) s h ss came at r =
     (λ t u es c behind made. takes_reach setup node from bs (record s { history = t }) u es c
     (at_behind setup node s h t u at behind) made) r
 
--- what was driven at the node was played, as far as nodes go
-nodes_driven : (first : List Event → Handed) (part : Stage → Part Stage) (old new : NodesState) (node : ℕ)
-    (setup : Setup) (stood stands : List Event → Type 0) (stop : Option DriveStop) (result : Option Stop)
-    (a b : tells.Told) → result ≡ option_map plan_stop stop
-    → ((s : Stage) (h : List Event) (ss : List Step) (came : Came Fault (List Event)) → IsAt setup node s h
-    → first h ss came → Reaches node s (part s) ss came)
-    → Lent old new node setup stood stands
-    → ((h : List Event) → stood h → ran.Ran event_line (first h) stands stop a b)
-    → PlaysNodes part old new result (plain a) (plain b)
-nodes_driven first part old new node setup stood stands stop result a b ends reaches lent driven m is s shown =
-    ran_plan (first (side node s.history)) stands (part s) (Shows (record m { nodes = new })) stop result a b ends
-    (λ ss came made. of ss came (reaches s (side node s.history) ss came
-    (at_lent m new node setup stood stands here s shown) made))
-    (driven (side node s.history) (here.before s.history shown.standing))
-  where
-    here : Lent m.nodes new node setup stood stands
-    here = lent_shown old new node setup stood stands m is lent
+module _ (first : List Event → Handed) (part : Stage → Part Stage) (old new : NodesState) (node : ℕ) (setup : Setup)
+    (stood stands : List Event → Type 0) (stop : Option DriveStop) (result : Option Stop) (a b : tells.Told) where
+  -- what was driven at the node was played, as far as nodes go
+  nodes_driven : result ≡ option_map plan_stop stop
+      → ((s : Stage) (h : List Event) (ss : List Step) (came : Came Fault (List Event)) → IsAt setup node s h
+      → first h ss came → Reaches node s (part s) ss came)
+      → Lent old new node setup stood stands
+      → ((h : List Event) → stood h → ran.Ran event_line (first h) stands stop a b)
+      → PlaysNodes part old new result (plain a) (plain b)
+  nodes_driven ends reaches lent driven m is s shown =
+      ran_plan (first (side node s.history)) stands (part s) (Shows (record m { nodes = new })) stop result a b ends
+      (λ ss came made. of ss came (reaches s (side node s.history) ss came
+      (at_lent m new node setup stood stands here s shown) made))
+      (driven (side node s.history) (here.before s.history shown.standing))
+    where
+      here : Lent m.nodes new node setup stood stands
+      here = lent_shown old new node setup stood stands m is lent
 
-    of : (ss : List Step) (came : Came Fault (List Event)) → Reaches node s (part s) ss came
-        → Becomes stands (part s) (Shows (record m { nodes = new })) ss came
-    of ss (To u) (t, made, behind) = λ there. (
-      record s { history = t },
-      made,
-      shown_lent m new node setup stood stands here s shown t u behind there,
-    )
-    of ss (Ended wants_memory) none = absurd none
-    of ss (Ended wire_failed) none = none
-    of ss Cut made = made
-    of ss Endless made = made
+      of : (ss : List Step) (came : Came Fault (List Event)) → Reaches node s (part s) ss came
+          → Becomes stands (part s) (Shows (record m { nodes = new })) ss came
+      of ss (To u) (t, made, behind) = λ there. (
+        record s { history = t },
+        made,
+        shown_lent m new node setup stood stands here s shown t u behind there,
+      )
+      of ss (Ended wants_memory) none = absurd none
+      of ss (Ended wire_failed) none = none
+      of ss Cut made = made
+      of ss Endless made = made
 
--- one event of it
-pub event_driven : (is_it : Event → Type 0) (old new : NodesState) (node : ℕ) (setup : Setup)
-    (stood stands : List Event → Type 0) (stop : Option DriveStop) (result : Option Stop) (a b : tells.Told)
-    → result ≡ option_map plan_stop stop → Lent old new node setup stood stands
-    → ((h : List Event) → stood h
-    → ran.Ran event_line (handed.event (node_stages setup) node is_it h) stands stop a b)
-    → PlaysNodes (event node is_it) old new result (plain a) (plain b)
-event_driven is_it old new node setup stood stands stop result a b ends lent driven =
-    nodes_driven (handed.event (node_stages setup) node is_it) (event node is_it) old new node setup stood stands stop
-    result a b ends (λ s h ss came at made. event_reaches setup node is_it s h ss came at made) lent driven
+module _ (is_it : Event → Type 0) (old new : NodesState) (node : ℕ) (setup : Setup) (stood stands : List Event → Type 0)
+    (stop : Option DriveStop) (result : Option Stop) (a b : tells.Told) where
+  -- one event of it
+  pub event_driven : result ≡ option_map plan_stop stop → Lent old new node setup stood stands
+      → ((h : List Event) → stood h
+      → ran.Ran event_line (handed.event (node_stages setup) node is_it h) stands stop a b)
+      → PlaysNodes (event node is_it) old new result (plain a) (plain b)
+  event_driven ends lent driven =
+      nodes_driven (handed.event (node_stages setup) node is_it) (event node is_it) old new node setup stood stands stop
+      result a b ends (λ s h ss came at made. event_reaches setup node is_it s h ss came at made) lent driven
 
--- datagrams that it takes
-pub takes_driven : (from : Host) (bs : List (List ℕ)) (old new : NodesState) (node : ℕ) (setup : Setup)
-    (stood stands : List Event → Type 0) (stop : Option DriveStop) (result : Option Stop) (a b : tells.Told)
-    → result ≡ option_map plan_stop stop → Lent old new node setup stood stands
-    → ((h : List Event) → stood h
-    → ran.Ran event_line (handed.takes_all (node_stages setup) node from bs h) stands stop a b)
-    → PlaysNodes (each (λ x. event node (IsTaken from x)) bs) old new result (plain a) (plain b)
-takes_driven from bs old new node setup stood stands stop result a b ends lent driven =
-    nodes_driven (handed.takes_all (node_stages setup) node from bs) (each (λ x. event node (IsTaken from x)) bs)
-    old new node setup stood stands stop result a b ends
-    (λ s h ss came at made. takes_reach setup node from bs s h ss came at made) lent driven
+module _ (from : Host) (bs : List (List ℕ)) (old new : NodesState) (node : ℕ) (setup : Setup)
+    (stood stands : List Event → Type 0) (stop : Option DriveStop) (result : Option Stop) (a b : tells.Told) where
+  -- datagrams that it takes
+  pub takes_driven : result ≡ option_map plan_stop stop → Lent old new node setup stood stands
+      → ((h : List Event) → stood h
+      → ran.Ran event_line (handed.takes_all (node_stages setup) node from bs h) stands stop a b)
+      → PlaysNodes (each (λ x. event node (IsTaken from x)) bs) old new result (plain a) (plain b)
+  takes_driven ends lent driven =
+      nodes_driven (handed.takes_all (node_stages setup) node from bs) (each (λ x. event node (IsTaken from x)) bs)
+      old new node setup stood stands stop result a b ends
+      (λ s h ss came at made. takes_reach setup node from bs s h ss came at made) lent driven
 
 -- ---- methods
 
@@ -264,13 +264,13 @@ pub nodes_seen : (part : Stage → Part Stage) (old new : NodesState) (stop : Op
 nodes_seen part old new stop a b c same plays =
     subst (λ (t : Told). PlaysNodes part old new stop a t) (sym same) plays
 
--- these bytes are taken, and the same is told, as the code has them
-pub bytes_taken : (node : ℕ) (from : Host) (xs ys : List ℕ) (old new : NodesState) (stop : Option Stop) (a b c : Told)
-    → xs ≡ ys → c ≡ b → PlaysNodes (event node (IsTaken from xs)) old new stop a b
-    → PlaysNodes (event node (IsTaken from ys)) old new stop a c
-bytes_taken node from xs ys old new stop a b c same told plays =
-    nodes_seen (event node (IsTaken from ys)) old new stop a b c told
-    (subst (λ bs. PlaysNodes (event node (IsTaken from bs)) old new stop a b) same plays)
+module _ (node : ℕ) (from : Host) (xs ys : List ℕ) (old new : NodesState) (stop : Option Stop) (a b c : Told) where
+  -- these bytes are taken, and the same is told, as the code has them
+  pub bytes_taken : xs ≡ ys → c ≡ b → PlaysNodes (event node (IsTaken from xs)) old new stop a b
+      → PlaysNodes (event node (IsTaken from ys)) old new stop a c
+  bytes_taken same told plays =
+      nodes_seen (event node (IsTaken from ys)) old new stop a b c told
+      (subst (λ bs. PlaysNodes (event node (IsTaken from bs)) old new stop a b) same plays)
 
 -- what a journal and a sink tell that were given back
 pub told_seen : {B O : Type 0} (noted : B → Option (List Noted)) (put : O → Option (List ℕ)) (faults : O → ℕ)

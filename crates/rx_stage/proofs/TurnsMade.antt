@@ -127,26 +127,28 @@ at_place : (w : WorldState) (place : ℕ) (i : InvokedState) (s : Stage) → sli
     → slice_get s.callers place ≡ Some i
 at_place w place i s there shown = ap (λ cs. slice_get cs place) (callers_shown w s shown) ∙ there
 
--- a turn of the caller at a place, where its client is there
-pub caller_plays : (w old : WorldState) (place : ℕ) (i : InvokedState) (now : CallerState) (nodes : NodesState)
-    (callers : List InvokedState) (stop : Option Stop) (a b : Told) → w ≡ old → slice_get w.callers place ≡ Some i
-    → callers ≡ set w.callers place (record i { caller = now }) → IsClientThere w.nodes i.node
-    → PlaysTurn (calling REPLY_BYTES) i.node (caller_begun i.caller) now w.nodes nodes stop a b
-    → Plays (turns_at place) old (record w { nodes = nodes; callers = callers }) stop a b
-caller_plays w old place i now nodes callers stop a b is at same there turn =
-    subst (λ (u : WorldState). Plays (turns_at place) u (record w { nodes = nodes; callers = callers }) stop a b) is of
-  where
-    of : Plays (turns_at place) w (record w { nodes = nodes; callers = callers }) stop a b
-    of s shown =
-        subst (λ o. Ran (turns_where place o s) (Shows (record w { nodes = nodes; callers = callers })) stop a b)
-        (sym (at_place w place i s at shown))
-        (subst (λ x. Ran (by_test x (turns_of place i s) (ends (To s)))
-        (Shows (record w { nodes = nodes; callers = callers })) stop a b)
-        (sym (client_test i.node (length s.nodes) there.0
-        (let long : length s.nodes ≡ length w.nodes.clients + 1 = length_shown w s (length w.nodes.clients + 1) shown
-        refl in
-        omega (arith, there.1, long))))
-        (called w place i now nodes callers stop a b same turn s shown))
+module _ (w old : WorldState) (place : ℕ) (i : InvokedState) (now : CallerState) (nodes : NodesState)
+    (callers : List InvokedState) (stop : Option Stop) (a b : Told) where
+  -- a turn of the caller at a place, where its client is there
+  pub caller_plays : w ≡ old → slice_get w.callers place ≡ Some i
+      → callers ≡ set w.callers place (record i { caller = now }) → IsClientThere w.nodes i.node
+      → PlaysTurn (calling REPLY_BYTES) i.node (caller_begun i.caller) now w.nodes nodes stop a b
+      → Plays (turns_at place) old (record w { nodes = nodes; callers = callers }) stop a b
+  caller_plays is at same there turn =
+      subst (λ (u : WorldState). Plays (turns_at place) u (record w { nodes = nodes; callers = callers }) stop a b) is
+      of
+    where
+      of : Plays (turns_at place) w (record w { nodes = nodes; callers = callers }) stop a b
+      of s shown =
+          subst (λ o. Ran (turns_where place o s) (Shows (record w { nodes = nodes; callers = callers })) stop a b)
+          (sym (at_place w place i s at shown))
+          (subst (λ x. Ran (by_test x (turns_of place i s) (ends (To s)))
+          (Shows (record w { nodes = nodes; callers = callers })) stop a b)
+          (sym (client_test i.node (length s.nodes) there.0
+          (let long : length s.nodes ≡ length w.nodes.clients + 1 = length_shown w s (length w.nodes.clients + 1) shown
+          refl in
+          omega (arith, there.1, long))))
+          (called w place i now nodes callers stop a b same turn s shown))
 
 -- its client isn't there: nothing is made
 pub caller_rests : (w : WorldState) (place : ℕ) (i : InvokedState) (t : Told) → slice_get w.callers place ≡ Some i
@@ -168,24 +170,25 @@ seen_at : (callers : List InvokedState) (place : ℕ) (i seen : InvokedState) �
     → i ≡ get_or callers place i → slice_get callers place ≡ Some seen
 seen_at callers place i seen low is read = read_some callers place i low read ∙ ap Some (sym is)
 
--- a caller's turn is made, of which the code read the client before
-pub caller_made : (w old : WorldState) (place : ℕ) (i read j written : InvokedState) (now : CallerState)
-    (nodes : NodesState) (callers : List InvokedState) (stop : Option Stop) (a b : Told) → w ≡ old
-    → place < length old.callers → read ≡ i → i ≡ get_or w.callers place i → written ≡ j
-    → j ≡ get_or w.callers place j → read.node ≢ 0 → read.node ≤ length w.nodes.clients
-    → callers ≡ set w.callers place (record written { caller = now })
-    → PlaysTurn (calling REPLY_BYTES) read.node (caller_begun written.caller) now w.nodes nodes stop a b
-    → Plays (turns_at place) old (record w { nodes = nodes; callers = callers }) stop a b
-caller_made w old place i read j written now nodes callers stop a b is low sees reads shows writes some within same
-    turn =
-    (let here : place < length w.callers = subst (λ (u : WorldState). place < length u.callers) (sym is) low in
-    let first : slice_get w.callers place ≡ Some read = seen_at w.callers place i read here sees reads in
-    let next : slice_get w.callers place ≡ Some written = seen_at w.callers place j written here shows writes in
-    let one : read ≡ written = some_same read written (sym first ∙ next) in
-    caller_plays w old place written now nodes callers stop a b is next same
-    (subst (λ (x : InvokedState). IsClientThere w.nodes x.node) one (omega (arith, some), within))
-    (subst (λ (x : InvokedState). PlaysTurn (calling REPLY_BYTES) x.node (caller_begun written.caller) now w.nodes nodes
-    stop a b) one turn))
+module _ (w old : WorldState) (place : ℕ) (i read j written : InvokedState) (now : CallerState) (nodes : NodesState)
+    (callers : List InvokedState) (stop : Option Stop) (a b : Told) where
+  -- a caller's turn is made, of which the code read the client before
+  pub caller_made : w ≡ old → place < length old.callers → read ≡ i → i ≡ get_or w.callers place i → written ≡ j
+      → j ≡ get_or w.callers place j → read.node ≢ 0 → read.node ≤ length w.nodes.clients
+      → callers ≡ set w.callers place (record written { caller = now })
+      → PlaysTurn (calling REPLY_BYTES) read.node (caller_begun written.caller) now w.nodes nodes stop a b
+      → Plays (turns_at place) old (record w { nodes = nodes; callers = callers }) stop a b
+  caller_made is low sees reads shows writes some within same
+      turn =
+      (let here : place < length w.callers = subst (λ (u : WorldState). place < length u.callers) (sym is) low in
+      let first : slice_get w.callers place ≡ Some read = seen_at w.callers place i read here sees reads in
+      let next : slice_get w.callers place ≡ Some written = seen_at w.callers place j written here shows writes in
+      let one : read ≡ written = some_same read written (sym first ∙ next) in
+      caller_plays w old place written now nodes callers stop a b is next same
+      (subst (λ (x : InvokedState). IsClientThere w.nodes x.node) one (omega (arith, some), within))
+      (subst (λ (x : InvokedState). PlaysTurn (calling REPLY_BYTES) x.node (caller_begun written.caller) now w.nodes
+      nodes
+      stop a b) one turn))
 
 -- no turn of it is made
 pub caller_unmade : (w old : WorldState) (place : ℕ) (i read : InvokedState) (t : Told) → w ≡ old
@@ -218,15 +221,15 @@ other_rests node place w i t at other s shown =
     (sym (ap (is_of node) (at_place w place i s at shown)
     ∙ (let k : (i.node == node) ≡ false = grind (arith, nat_tests, other) in k))) (ran_to (Shows w) s t shown)
 
--- the same of what the code read
-pub own_made : (node place : ℕ) (w old new : WorldState) (i read : InvokedState) (stop : Option Stop) (a b : Told)
-    → w ≡ old → place < length old.callers → read ≡ i → i ≡ get_or w.callers place i → read.node ≡ node
-    → Plays (turns_at place) old new stop a b → Plays (turns_for node place) old new stop a b
-own_made node place w old new i read stop a b is low sees reads own plays =
-    own_plays node place old new read stop a b
-    (subst (λ (u : WorldState). slice_get u.callers place ≡ Some read) is
-    (seen_at w.callers place i read (subst (λ (u : WorldState). place < length u.callers) (sym is) low) sees reads))
-    own plays
+module _ (node place : ℕ) (w old new : WorldState) (i read : InvokedState) (stop : Option Stop) (a b : Told) where
+  -- the same of what the code read
+  pub own_made : w ≡ old → place < length old.callers → read ≡ i → i ≡ get_or w.callers place i → read.node ≡ node
+      → Plays (turns_at place) old new stop a b → Plays (turns_for node place) old new stop a b
+  own_made is low sees reads own plays =
+      own_plays node place old new read stop a b
+      (subst (λ (u : WorldState). slice_get u.callers place ≡ Some read) is
+      (seen_at w.callers place i read (subst (λ (u : WorldState). place < length u.callers) (sym is) low) sees reads))
+      own plays
 
 pub other_unmade : (node place : ℕ) (w old : WorldState) (i read : InvokedState) (t : Told) → w ≡ old
     → place < length old.callers → read ≡ i → i ≡ get_or w.callers place i → read.node ≢ node

@@ -36,77 +36,79 @@ pub less_key : (index less : List (Key × ℕ)) (key other : Key) → key ≡ ot
     → (k : Key) → place_under less k ≡ cond (same_key other k) None (place_under index k)
 less_key index less key other is less_is k = less_is k ∙ ap (λ a. cond (same_key a k) None (place_under index k)) is
 
--- a connection is entered in the next place
-pub kept-push : (cs new_cs : List Conn) (ss new_ss : List Seat) (index new : List (Key × ℕ)) (complete took : Bool)
-    (room : ℕ) (c : Conn) (y : Connection) (t : Records) → record { room = room; conns = joined cs ss } ≡ t
-    → place_of t y ≡ None → IsKept cs ss index complete room → length cs < room
-    → new_cs ≡ cs ++ c ∷ [] → new_ss ≡ ss ++ fresh_seats
-    → name_in c ≡ y → IsAsked index (key_of y) (length cs) took new → IsKept new_cs new_ss new (complete && took) room
-kept-push cs new_cs ss new_ss index new complete took room c y t is absent kept less cs_is ss_is name asks =
-    let xs = map name_in cs in
-    let none : place xs y ≡ None = sym (place_is cs ss room t y is) ∙ absent in
-    let ys : map name_in new_cs ≡ xs ++ y ∷ [] =
-    ap (map name_in) cs_is ∙ map-append name_in cs (c ∷ []) ∙ ap (λ z. xs ++ z ∷ []) name in
-    let at : IsAsked index (key_of y) (length xs) took new =
-    subst (λ n. IsAsked index (key_of y) n took new) (sym (length-map cs name_in)) asks in
-    record {
-      fits = omega (arith, ap length cs_is, length-append cs (c ∷ []));
-      narrow = kept.narrow;
-      seated = omega (
-        arith,
-        kept.seated,
-        ap length cs_is,
-        length-append cs (c ∷ []),
-        ap length ss_is,
-        length-append ss fresh_seats,
-      );
-      distinct = subst IsDistinct (sym ys)
-          (distinct-put xs (xs ++ y ∷ []) (length xs) y kept.distinct none (put-push xs y));
-      indexed = subst (λ zs. IsIndex zs new (complete && took)) (sym ys)
-          (indexed-put xs (xs ++ y ∷ []) index new complete took (length xs) y
-          (but_past xs index complete kept.indexed) none (put-push xs y) at);
-    }
+module _ (cs new_cs : List Conn) (ss new_ss : List Seat) (index new : List (Key × ℕ)) (complete took : Bool) (room : ℕ)
+    (c : Conn) (y : Connection) (t : Records) where
+  -- a connection is entered in the next place
+  pub kept-push : record { room = room; conns = joined cs ss } ≡ t → place_of t y ≡ None
+      → IsKept cs ss index complete room → length cs < room → new_cs ≡ cs ++ c ∷ [] → new_ss ≡ ss ++ fresh_seats
+      → name_in c ≡ y → IsAsked index (key_of y) (length cs) took new → IsKept new_cs new_ss new (complete && took) room
+  kept-push is absent kept less cs_is ss_is name asks =
+      let xs = map name_in cs in
+      let none : place xs y ≡ None = sym (place_is cs ss room t y is) ∙ absent in
+      let ys : map name_in new_cs ≡ xs ++ y ∷ [] =
+      ap (map name_in) cs_is ∙ map-append name_in cs (c ∷ []) ∙ ap (λ z. xs ++ z ∷ []) name in
+      let at : IsAsked index (key_of y) (length xs) took new =
+      subst (λ n. IsAsked index (key_of y) n took new) (sym (length-map cs name_in)) asks in
+      record {
+        fits = omega (arith, ap length cs_is, length-append cs (c ∷ []));
+        narrow = kept.narrow;
+        seated = omega (
+          arith,
+          kept.seated,
+          ap length cs_is,
+          length-append cs (c ∷ []),
+          ap length ss_is,
+          length-append ss fresh_seats,
+        );
+        distinct = subst IsDistinct (sym ys)
+            (distinct-put xs (xs ++ y ∷ []) (length xs) y kept.distinct none (put-push xs y));
+        indexed = subst (λ zs. IsIndex zs new (complete && took)) (sym ys)
+            (indexed-put xs (xs ++ y ∷ []) index new complete took (length xs) y
+            (but_past xs index complete kept.indexed) none (put-push xs y) at);
+      }
 
--- the records of a table that a connection is entered in
-pub records-push : (cs new_cs : List Conn) (ss new_ss : List Seat) (room nonce now : ℕ) (c : Conn) (y : Connection)
-    (t : Records)
-    → record { room = room; conns = joined cs ss } ≡ t → length ss ≡ 4 * length cs → new_cs ≡ cs ++ c ∷ []
-    → new_ss ≡ ss ++ fresh_seats → record_of c fresh_seats ≡ fresh_record y nonce now
-    → ◌≡◌ {A = Records} (record { room = room; conns = joined new_cs new_ss })
-    (record t { conns = t.conns ++ fresh_record y nonce now ∷ [] })
-records-push cs new_cs ss new_ss room nonce now c y t is seated cs_is ss_is fresh =
-    let conns : joined new_cs new_ss ≡ joined cs ss ++ fresh_record y nonce now ∷ [] =
-    ap (λ zs. joined zs new_ss) cs_is ∙ ap (joined (cs ++ c ∷ [])) ss_is ∙ joined-push cs ss c fresh_seats seated refl
-    ∙ ap (λ r. joined cs ss ++ r ∷ []) fresh in
-    ap (λ (rs : List ConnRecord). let r : Records = record { room = room; conns = rs } in r) conns
-    ∙ ap (λ (r : Records). let new : Records = record r { conns = r.conns ++ fresh_record y nonce now ∷ [] } in new) is
+module _ (cs new_cs : List Conn) (ss new_ss : List Seat) (room nonce now : ℕ) (c : Conn) (y : Connection) (t : Records)
+  where
+    -- the records of a table that a connection is entered in
+    pub records-push : record { room = room; conns = joined cs ss } ≡ t → length ss ≡ 4 * length cs
+        → new_cs ≡ cs ++ c ∷ [] → new_ss ≡ ss ++ fresh_seats → record_of c fresh_seats ≡ fresh_record y nonce now
+        → ◌≡◌ {A = Records} (record { room = room; conns = joined new_cs new_ss })
+        (record t { conns = t.conns ++ fresh_record y nonce now ∷ [] })
+    records-push is seated cs_is ss_is fresh =
+        let conns : joined new_cs new_ss ≡ joined cs ss ++ fresh_record y nonce now ∷ [] =
+        ap (λ zs. joined zs new_ss) cs_is ∙ ap (joined (cs ++ c ∷ [])) ss_is
+        ∙ joined-push cs ss c fresh_seats seated refl
+        ∙ ap (λ r. joined cs ss ++ r ∷ []) fresh in
+        ap (λ (rs : List ConnRecord). let r : Records = record { room = room; conns = rs } in r) conns
+        ∙ ap (λ (r : Records). let new : Records = record r { conns = r.conns ++ fresh_record y nonce now ∷ [] } in new)
+        is
 
--- a connection is entered in the place of another
-pub kept-replace : (cs new_cs : List Conn) (ss new_ss : List Seat) (index less new : List (Key × ℕ))
-    (complete took : Bool)
-    (room p : ℕ) (old c : Conn) (y : Connection) (t : Records) → record { room = room; conns = joined cs ss } ≡ t
-    → place_of t y ≡ None → IsKept cs ss index complete room → p < length cs → old ≡ get_or cs p old
-    → ((k : Key) → place_under less k ≡ cond (same_key (key_of (name_in old)) k) None (place_under index k))
-    → new_cs ≡ set cs p c → length new_ss ≡ length ss → name_in c ≡ y → IsAsked less (key_of y) p took new
-    → IsKept new_cs new_ss new (complete && took) room
-kept-replace cs new_cs ss new_ss index less new complete took room p old c y t is absent kept within read less_is cs_is
-    size name asks =
-    let xs = map name_in cs in
-    let none : place xs y ≡ None = sym (place_is cs ss room t y is) ∙ absent in
-    let ys : map name_in new_cs ≡ set xs p y =
-    ap (map name_in) cs_is ∙ map-set name_in cs p c ∙ ap (set xs p) name in
-    let put = put-set xs p y (omega (arith, length-map cs name_in)) in
-    let at : slice_get xs p ≡ Some (name_in old) =
-    slice_get-map name_in cs p ∙ ap (option_map name_in) (slice_get_read cs (length cs) p old refl within read) in
-    record {
-      fits = omega (arith, kept.fits, ap length cs_is, length-set cs p c);
-      narrow = kept.narrow;
-      seated = omega (arith, kept.seated, ap length cs_is, length-set cs p c, size);
-      distinct = subst IsDistinct (sym ys) (distinct-put xs (set xs p y) p y kept.distinct none put);
-      indexed = subst (λ zs. IsIndex zs new (complete && took)) (sym ys)
-          (indexed-put xs (set xs p y) less new complete took p y
-          (but_forgotten xs index less complete p (name_in old) kept.indexed kept.distinct at less_is) none put asks);
-    }
+module _ (cs new_cs : List Conn) (ss new_ss : List Seat) (index less new : List (Key × ℕ)) (complete took : Bool)
+    (room p : ℕ) (old c : Conn) (y : Connection) (t : Records) where
+  -- a connection is entered in the place of another
+  pub kept-replace : record { room = room; conns = joined cs ss } ≡ t → place_of t y ≡ None
+      → IsKept cs ss index complete room → p < length cs → old ≡ get_or cs p old
+      → ((k : Key) → place_under less k ≡ cond (same_key (key_of (name_in old)) k) None (place_under index k))
+      → new_cs ≡ set cs p c → length new_ss ≡ length ss → name_in c ≡ y → IsAsked less (key_of y) p took new
+      → IsKept new_cs new_ss new (complete && took) room
+  kept-replace is absent kept within read less_is cs_is
+      size name asks =
+      let xs = map name_in cs in
+      let none : place xs y ≡ None = sym (place_is cs ss room t y is) ∙ absent in
+      let ys : map name_in new_cs ≡ set xs p y =
+      ap (map name_in) cs_is ∙ map-set name_in cs p c ∙ ap (set xs p) name in
+      let put = put-set xs p y (omega (arith, length-map cs name_in)) in
+      let at : slice_get xs p ≡ Some (name_in old) =
+      slice_get-map name_in cs p ∙ ap (option_map name_in) (slice_get_read cs (length cs) p old refl within read) in
+      record {
+        fits = omega (arith, kept.fits, ap length cs_is, length-set cs p c);
+        narrow = kept.narrow;
+        seated = omega (arith, kept.seated, ap length cs_is, length-set cs p c, size);
+        distinct = subst IsDistinct (sym ys) (distinct-put xs (set xs p y) p y kept.distinct none put);
+        indexed = subst (λ zs. IsIndex zs new (complete && took)) (sym ys)
+            (indexed-put xs (set xs p y) less new complete took p y
+            (but_forgotten xs index less complete p (name_in old) kept.indexed kept.distinct at less_is) none put asks);
+      }
 
 -- the seats of a place, after they were renewed
 abbrev pub renewed : List Seat → ℕ → List Seat
@@ -124,21 +126,20 @@ seats_renewed ss seen new len first all size within is =
     let same : length new ≡ len = ap length now ∙ length-renewed ss first within ∙ sym size in
     take_at new (drop (length new) ss) len same ∙ now
 
--- the records of a table in which a connection took the place of another
-pub records-replace : (cs : List Conn) (ss new_ss : List Seat) (room p nonce now : ℕ) (c : Conn) (y : Connection)
-    (t : Records)
-    → record { room = room; conns = joined cs ss } ≡ t → p * 4 + 4 ≤ length ss → new_ss ≡ renewed ss (p * 4)
-    → record_of c fresh_seats ≡ fresh_record y nonce now
-    → ◌≡◌ {A = Records} (record { room = room; conns = joined (set cs p c) new_ss })
-    (on_place p (λ r. fresh_record y nonce now) t)
-records-replace cs ss new_ss room p nonce now c y t is within ss_is fresh =
-    let first : p * 4 ≡ 4 * p = omega arith in
-    let rs = joined cs ss in
-    let conns : joined (set cs p c) new_ss ≡ changed_at p (λ r. fresh_record y nonce now) rs =
-    joined-set cs new_ss p c
-    ∙ ap (λ us. changed_at p (λ r. record_of c r.seats) (joined cs us)) (ss_is ∙ ap (renewed ss) first)
-    ∙ ap (changed_at p (λ r. record_of c r.seats)) (joined-renew cs ss p fresh_seats (omega arith) refl)
-    ∙ changed_at-twice p (λ r. record_of c r.seats) (λ r. record r { seats = fresh_seats }) rs
-    ∙ changed_at-same p (λ r. record_of c fresh_seats) (λ r. fresh_record y nonce now) rs (λ r at. fresh) in
-    ap (λ (qs : List ConnRecord). let r : Records = record { room = room; conns = qs } in r) conns
-    ∙ ap (on_place p (λ r. fresh_record y nonce now)) is
+module _ (cs : List Conn) (ss new_ss : List Seat) (room p nonce now : ℕ) (c : Conn) (y : Connection) (t : Records) where
+  -- the records of a table in which a connection took the place of another
+  pub records-replace : record { room = room; conns = joined cs ss } ≡ t → p * 4 + 4 ≤ length ss
+      → new_ss ≡ renewed ss (p * 4) → record_of c fresh_seats ≡ fresh_record y nonce now
+      → ◌≡◌ {A = Records} (record { room = room; conns = joined (set cs p c) new_ss })
+      (on_place p (λ r. fresh_record y nonce now) t)
+  records-replace is within ss_is fresh =
+      let first : p * 4 ≡ 4 * p = omega arith in
+      let rs = joined cs ss in
+      let conns : joined (set cs p c) new_ss ≡ changed_at p (λ r. fresh_record y nonce now) rs =
+      joined-set cs new_ss p c
+      ∙ ap (λ us. changed_at p (λ r. record_of c r.seats) (joined cs us)) (ss_is ∙ ap (renewed ss) first)
+      ∙ ap (changed_at p (λ r. record_of c r.seats)) (joined-renew cs ss p fresh_seats (omega arith) refl)
+      ∙ changed_at-twice p (λ r. record_of c r.seats) (λ r. record r { seats = fresh_seats }) rs
+      ∙ changed_at-same p (λ r. record_of c fresh_seats) (λ r. fresh_record y nonce now) rs (λ r at. fresh) in
+      ap (λ (qs : List ConnRecord). let r : Records = record { room = room; conns = qs } in r) conns
+      ∙ ap (on_place p (λ r. fresh_record y nonce now)) is

@@ -102,14 +102,14 @@ pub found_is : (cs : List Conn) (ss : List Seat) (index : List (Key × ℕ)) (co
 found_is cs ss index complete room p t x is kept found =
     sym (place_is cs ss room t x is ∙ index_finds (map name_in cs) index complete x p kept.indexed kept.distinct found)
 
--- where it stands is its place
-pub stands_is : (cs seen : List Conn) (ss : List Seat) (index : List (Key × ℕ)) (complete : Bool) (room p : ℕ)
-    (t : Records) (x : Connection) → record { room = room; conns = joined cs ss } ≡ t
-    → IsKept cs ss index complete room → seen ≡ cs → option_map name_in (slice_get seen p) ≡ Some x
-    → Some p ≡ place_of t x
-stands_is cs seen ss index complete room p t x is kept all at =
-    let there = slice_get-map name_in cs p ∙ ap (λ xs. option_map name_in (slice_get xs p)) (sym all) ∙ at in
-    sym (place_is cs ss room t x is ∙ is_found (map name_in cs) x p kept.distinct there)
+module _ (cs seen : List Conn) (ss : List Seat) (index : List (Key × ℕ)) (complete : Bool) (room p : ℕ) (t : Records)
+    (x : Connection) where
+  -- where it stands is its place
+  pub stands_is : record { room = room; conns = joined cs ss } ≡ t → IsKept cs ss index complete room → seen ≡ cs
+      → option_map name_in (slice_get seen p) ≡ Some x → Some p ≡ place_of t x
+  stands_is is kept all at =
+      let there = slice_get-map name_in cs p ∙ ap (λ xs. option_map name_in (slice_get xs p)) (sym all) ∙ at in
+      sym (place_is cs ss room t x is ∙ is_found (map name_in cs) x p kept.distinct there)
 
 -- where a complete index has none, none is there
 pub lacked_is : (cs : List Conn) (ss : List Seat) (index : List (Key × ℕ)) (complete : Bool) (room : ℕ) (t : Records)

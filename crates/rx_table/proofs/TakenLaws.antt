@@ -159,19 +159,19 @@ comes-more n all left next m old s t is few before more =
     let most = one.most in
     (omega (arith, low, grows), omega (arith, high, most)))
 
--- one more goes aside
-pub goes-more : (n k size m old s t u : ℕ) → size ≡ k + 1 → m ≤ n
-    → ((d : ℕ) → 2 * n + 1 < 2 ^ (d + 1) → AtMost (k * (8 * d + 9)) old s) → AtMost 1 s t → AtMostForEntries m t u
-    → (d : ℕ) → 2 * n + 1 < 2 ^ (d + 1) → AtMost (size * (8 * d + 9)) old u
-goes-more n k size m old s t u is few before look clears =
-    λ d power. (
-    let was = before d power in
-    let one = clears d (omega (arith, few, power)) in
-    let low = was.grows in
-    let high = was.most in
-    let looks = look.grows in
-    let look_most = look.most in
-    let grows = one.grows in
-    let most = one.most in
-    subst (λ (j : ℕ). AtMost (j * (8 * d + 9)) old u) (sym is)
-    (record { grows = omega (arith, low, looks, grows); most = omega (arith, high, look_most, most) }))
+module _ (n k size m old s t u : ℕ) where
+  -- one more goes aside
+  pub goes-more : size ≡ k + 1 → m ≤ n → ((d : ℕ) → 2 * n + 1 < 2 ^ (d + 1) → AtMost (k * (8 * d + 9)) old s)
+      → AtMost 1 s t → AtMostForEntries m t u → (d : ℕ) → 2 * n + 1 < 2 ^ (d + 1) → AtMost (size * (8 * d + 9)) old u
+  goes-more is few before look clears =
+      λ d power. (
+      let was = before d power in
+      let one = clears d (omega (arith, few, power)) in
+      let low = was.grows in
+      let high = was.most in
+      let looks = look.grows in
+      let look_most = look.most in
+      let grows = one.grows in
+      let most = one.most in
+      subst (λ (j : ℕ). AtMost (j * (8 * d + 9)) old u) (sym is)
+      (record { grows = omega (arith, low, looks, grows); most = omega (arith, high, look_most, most) }))

@@ -232,17 +232,17 @@ held_most cs ss seen room now book uses t is all =
 
 -- ---- in the words of the calls
 
--- a connection came to the next place
-pub uses_entered : (book new : List (Option ℕ)) (cs new_cs : List Conn) (room place now : ℕ) (c : Conn)
-    → length cs < room → AreUses book cs room → place ≡ length cs → new ≡ slice_set book place (Some now)
-    → new_cs ≡ cs ++ c ∷ [] → c.last_use ≡ now → AreUses new new_cs room
-uses_entered book new cs new_cs room place now c within uses at new_is cs_is last =
-    let book_is : slice_set book (length cs) (Some c.last_use) ≡ new =
-    ap (λ (n : ℕ). slice_set book n (Some c.last_use)) (sym at)
-    ∙ ap (λ (u : ℕ). slice_set book place (Some u)) last ∙ sym new_is in
-    subst (λ (b : List (Option ℕ)). AreUses b new_cs room) book_is
-    (subst (λ (ds : List Conn). AreUses (slice_set book (length cs) (Some c.last_use)) ds room) (sym cs_is)
-    (uses_push book cs room c within uses))
+module _ (book new : List (Option ℕ)) (cs new_cs : List Conn) (room place now : ℕ) (c : Conn) where
+  -- a connection came to the next place
+  pub uses_entered : length cs < room → AreUses book cs room → place ≡ length cs → new ≡ slice_set book place (Some now)
+      → new_cs ≡ cs ++ c ∷ [] → c.last_use ≡ now → AreUses new new_cs room
+  uses_entered within uses at new_is cs_is last =
+      let book_is : slice_set book (length cs) (Some c.last_use) ≡ new =
+      ap (λ (n : ℕ). slice_set book n (Some c.last_use)) (sym at)
+      ∙ ap (λ (u : ℕ). slice_set book place (Some u)) last ∙ sym new_is in
+      subst (λ (b : List (Option ℕ)). AreUses b new_cs room) book_is
+      (subst (λ (ds : List Conn). AreUses (slice_set book (length cs) (Some c.last_use)) ds room) (sym cs_is)
+      (uses_push book cs room c within uses))
 
 -- a connection was used, or another came to its place
 pub uses_changed : (book new : List (Option ℕ)) (cs : List Conn) (room place now : ℕ) (c : Conn) → place < length cs

@@ -100,30 +100,31 @@ end_dead a reply (Some (ends.Dead silence)) before after n by = let is = by.0 in
 end_dead a reply (Some (ends.Cancelled code)) before after n by = let is = by.0 in absurd cc
 end_dead a reply None before after n by = absurd by
 
--- where `call` says that its call ended in silence, the silence was long
-long_by : (a : CallAsked) (w : Calling) (request secret : List ℕ) (result : Result CallEnd Stop) (before after : Told)
-    (first last : SinkTells) (n : ℕ) → CanCall w
-    → ((v : CallerState) → result ≡ Ok (call_ends.Ended v) → CallTold w request (chosen secret) v before after)
-    → EndsByCall a w.turns result (outcomes.Dead n) first last → SILENCE_MS ≤ n
-long_by a w request secret (Ok (call_ends.Ended v)) before after first last n can told by =
-    told_long w request secret v before after n can (told v refl) (end_dead a v.reply v.end first last n by)
-long_by a w request secret (Ok call_ends.TurnsSpent) before after first last n can told by =
-    let is = by.0 in absurd cc
-long_by a w request secret (Err stops.SinkFault) before after first last n can told by = absurd by
-long_by a w request secret (Err stops.Unformatted) before after first last n can told by = absurd by
-long_by a w request secret (Err stops.WireFault) before after first last n can told by = let is = by.0 in absurd cc
-long_by a w request secret (Err stops.OutOfMemory) before after first last n can told by =
-    let is = by.0 in absurd cc
-long_by a w request secret (Err stops.Unnoted) before after first last n can told by =
-    let is = by.0 in absurd cc
-long_by a w request secret (Err stops.Endless) before after first last n can told by =
-    let is = by.0 in absurd cc
+module _ (a : CallAsked) (w : Calling) (request secret : List ℕ) where
+  -- where `call` says that its call ended in silence, the silence was long
+  long_by : (result : Result CallEnd Stop) (before after : Told) (first last : SinkTells) (n : ℕ) → CanCall w
+      → ((v : CallerState) → result ≡ Ok (call_ends.Ended v) → CallTold w request (chosen secret) v before after)
+      → EndsByCall a w.turns result (outcomes.Dead n) first last → SILENCE_MS ≤ n
+  long_by (Ok (call_ends.Ended v)) before after first last n can told by =
+      told_long w request secret v before after n can (told v refl) (end_dead a v.reply v.end first last n by)
+  long_by (Ok call_ends.TurnsSpent) before after first last n can told by =
+      let is = by.0 in absurd cc
+  long_by (Err stops.SinkFault) before after first last n can told by = absurd by
+  long_by (Err stops.Unformatted) before after first last n can told by = absurd by
+  long_by (Err stops.WireFault) before after first last n can told by = let is = by.0 in absurd cc
+  long_by (Err stops.OutOfMemory) before after first last n can told by =
+      let is = by.0 in absurd cc
+  long_by (Err stops.Unnoted) before after first last n can told by =
+      let is = by.0 in absurd cc
+  long_by (Err stops.Endless) before after first last n can told by =
+      let is = by.0 in absurd cc
 
--- the same of its outcome
-pub call_long : (a : CallAsked) (w : Calling) (request secret : List ℕ) (result : Result CallEnd Stop)
-    (outcome : WireOutcome) (before after : Told) (first last : SinkTells) (n : ℕ) → CanCall w
-    → ((v : CallerState) → result ≡ Ok (call_ends.Ended v) → CallTold w request (chosen secret) v before after)
-    → EndsByCall a w.turns result outcome first last → outcome ≡ outcomes.Dead n → SILENCE_MS ≤ n
-call_long a w request secret result outcome before after first last n can told by is =
-    long_by a w request secret result before after first last n can told
-    (subst (λ (o : WireOutcome). EndsByCall a w.turns result o first last) is by)
+  -- the same of its outcome
+  pub call_long : (result : Result CallEnd Stop) (outcome : WireOutcome) (before after : Told) (first last : SinkTells)
+      (n : ℕ)
+      → CanCall w
+      → ((v : CallerState) → result ≡ Ok (call_ends.Ended v) → CallTold w request (chosen secret) v before after)
+      → EndsByCall a w.turns result outcome first last → outcome ≡ outcomes.Dead n → SILENCE_MS ≤ n
+  call_long result outcome before after first last n can told by is =
+      long_by result before after first last n can told
+      (subst (λ (o : WireOutcome). EndsByCall a w.turns result o first last) is by)

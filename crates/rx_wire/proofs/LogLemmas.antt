@@ -76,15 +76,15 @@ logged_of-snoc (first ∷ kept) one bytes more h count =
 abbrev pub logged_with : List Logged → ℕ → LogState
 logged_with log room = record { entries = log; room = room }
 
--- a log that an entry was added to, as a contract sees it
-pub log_after_push : (kept more_kept : List Kept) (bytes more_bytes given : List ℕ) (one : Kept) (room : ℕ)
-    (s : LogState)
-    → record { entries = logged_of kept bytes; room = room } ≡ s → kept_bytes kept ≡ length bytes
-    → length given ≡ kept_count one → more_kept ≡ kept ++ one ∷ [] → more_bytes ≡ bytes ++ given
-    → logged_with (logged_of more_kept more_bytes) room ≡ record s { entries = s.entries ++ kept_with one given ∷ [] }
-log_after_push kept more_kept bytes more_bytes given one room s view held count kept_is bytes_is =
-    let P : LogState → Type 0 = λ (s : LogState).
-    logged_with (logged_of more_kept more_bytes) room ≡ record s { entries = s.entries ++ kept_with one given ∷ [] } in
-    let entries : logged_of more_kept more_bytes ≡ logged_of kept bytes ++ kept_with one given ∷ [] =
-    rw (kept_is, bytes_is) (logged_of-snoc kept one bytes given held count) in
-    subst P view (ap (λ (log : List Logged). logged_with log room) entries)
+module _ (kept more_kept : List Kept) (bytes more_bytes given : List ℕ) (one : Kept) (room : ℕ) (s : LogState) where
+  -- a log that an entry was added to, as a contract sees it
+  pub log_after_push : record { entries = logged_of kept bytes; room = room } ≡ s → kept_bytes kept ≡ length bytes
+      → length given ≡ kept_count one → more_kept ≡ kept ++ one ∷ [] → more_bytes ≡ bytes ++ given
+      → logged_with (logged_of more_kept more_bytes) room ≡ record s { entries = s.entries ++ kept_with one given ∷ [] }
+  log_after_push view held count kept_is bytes_is =
+      let P : LogState → Type 0 = λ (s : LogState).
+      logged_with (logged_of more_kept more_bytes) room ≡ record s
+      { entries = s.entries ++ kept_with one given ∷ [] } in
+      let entries : logged_of more_kept more_bytes ≡ logged_of kept bytes ++ kept_with one given ∷ [] =
+      rw (kept_is, bytes_is) (logged_of-snoc kept one bytes given held count) in
+      subst P view (ap (λ (log : List Logged). logged_with log room) entries)

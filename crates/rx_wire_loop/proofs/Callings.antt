@@ -399,22 +399,20 @@ module _ (t : CallTerms) (v : CallerState) (p : Place) (n : ℕ) (w : CallerStat
 abbrev pub call_pass_by : Setup → ℕ → CallerState → Part CallerState
 call_pass_by s most v = pass (plays most calls) (takes s None) v
 
--- a pass of it under other names
-pub call_pass_at : (s t : Setup) (k most : ℕ) (v : CallerState) (s0 s1 : List Event → Type 0) (a b : Told)
-    (shows : CallerState → Type 0) (stop : Option Stop) → t ≡ s → k ≡ most
-    → Plays (change 1 t s0 s1 a b) (call_pass_by t k v) shows stop
-    → Plays (change 1 s s0 s1 a b) (call_pass_by s most v) shows stop
-call_pass_at s t k most v s0 s1 a b shows stop setup joins made =
-    subst (λ (u : Setup). Plays (change 1 u s0 s1 a b) (call_pass_by u most v) shows stop) setup
-    (subst (λ (m : ℕ). Plays (change 1 t s0 s1 a b) (call_pass_by t m v) shows stop) joins made)
+module _ (s t : Setup) (k most : ℕ) (v : CallerState) (s0 s1 : List Event → Type 0) (a b : Told)
+    (shows : CallerState → Type 0) (stop : Option Stop) where
+  -- a pass of it under other names
+  pub call_pass_at : t ≡ s → k ≡ most → Plays (change 1 t s0 s1 a b) (call_pass_by t k v) shows stop
+      → Plays (change 1 s s0 s1 a b) (call_pass_by s most v) shows stop
+  call_pass_at setup joins made =
+      subst (λ (u : Setup). Plays (change 1 u s0 s1 a b) (call_pass_by u most v) shows stop) setup
+      (subst (λ (m : ℕ). Plays (change 1 t s0 s1 a b) (call_pass_by t m v) shows stop) joins made)
 
-pub call_play_at : (s t : Setup) (k most : ℕ) (v : CallerState) (s0 s1 : List Event → Type 0) (a b : Told)
-    (shows : CallerState → Type 0) (stop : Option Stop) → t ≡ s → k ≡ most
-    → Plays (change 1 t s0 s1 a b) (plays k calls v) shows stop
-    → Plays (change 1 s s0 s1 a b) (plays most calls v) shows stop
-call_play_at s t k most v s0 s1 a b shows stop setup joins made =
-    subst (λ (u : Setup). Plays (change 1 u s0 s1 a b) (plays most calls v) shows stop) setup
-    (subst (λ (m : ℕ). Plays (change 1 t s0 s1 a b) (plays m calls v) shows stop) joins made)
+  pub call_play_at : t ≡ s → k ≡ most → Plays (change 1 t s0 s1 a b) (plays k calls v) shows stop
+      → Plays (change 1 s s0 s1 a b) (plays most calls v) shows stop
+  call_play_at setup joins made =
+      subst (λ (u : Setup). Plays (change 1 u s0 s1 a b) (plays most calls v) shows stop) setup
+      (subst (λ (m : ℕ). Plays (change 1 t s0 s1 a b) (plays m calls v) shows stop) joins made)
 
 -- what a call is made by, with names for its setup and what it joins
 abbrev pub call_terms_by : Setup → ℕ → ℕ → CallTerms

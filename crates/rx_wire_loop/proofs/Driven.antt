@@ -323,22 +323,21 @@ dispatching_still g (read c) e is m = ap (λ (x : Event). with_clock x m) is.2
 dispatching_still g (write c offer) e is m = ap (λ (x : Event). with_clock x m) is.1
 dispatching_still g (finish c code) e is m = ap (λ (x : Event). with_clock x m) is.1
 
--- what was driven of it
-pub dispatches_driven : (s : Setup) (g : Handlers) (jobs after : List JobState) (s0 s1 : List Event → Type 0)
-    (a b : Option (List Noted)) (k l : SinkTells) (wire : WireTells) (stop : Option Stop)
-    → ((h : List Event) → s0 h
-    → driven.Ran noted_line (turn (node_stages s) (dispatching g) (IsWanting g) 0 (accepts jobs) h)
-    (λ r. (r.0 ≡ over after) × s1 r.1) stop (outside a k) (outside b l))
-    → Plays (change 0 s s0 s1 (told a k wire) (told b l wire)) (dispatches g jobs) (λ js. js ≡ after) stop
-dispatches_driven s g jobs after s0 s1 a b k l wire stop ran =
-    plays_as 0 s s0 s1 (told a k wire) (told b l wire) (turns (dispatching g) (IsWanting g) (accepts jobs))
-    (dispatches g jobs) (λ w. after) (λ w. w ≡ over after) (λ js. js ≡ after) stop
-    (λ p es ls w is made. (
-      made.0,
-      record {
-        runs = subst (λ (t : Turning). Runs (dispatching g) (accepts jobs) es t) is made.1.runs;
-        over = refl;
-      },
-    )) (λ p es ls why made. made) (λ w is. refl)
-    (plays_turn (dispatching g) 0 s (IsWanting g) (accepts jobs) (over after) s0 s1 (outside a k) (outside b l) wire
-    (dispatching_still g) stop ran)
+module _ (s : Setup) (g : Handlers) (jobs after : List JobState) (s0 s1 : List Event → Type 0)
+    (a b : Option (List Noted)) (k l : SinkTells) (wire : WireTells) (stop : Option Stop) where
+  -- what was driven of it
+  pub dispatches_driven : ((h : List Event) → s0 h → driven.Ran noted_line (turn (node_stages s) (dispatching g)
+      (IsWanting g) 0 (accepts jobs) h) (λ r. (r.0 ≡ over after) × s1 r.1) stop (outside a k) (outside b l))
+      → Plays (change 0 s s0 s1 (told a k wire) (told b l wire)) (dispatches g jobs) (λ js. js ≡ after) stop
+  dispatches_driven ran =
+      plays_as 0 s s0 s1 (told a k wire) (told b l wire) (turns (dispatching g) (IsWanting g) (accepts jobs))
+      (dispatches g jobs) (λ w. after) (λ w. w ≡ over after) (λ js. js ≡ after) stop
+      (λ p es ls w is made. (
+        made.0,
+        record {
+          runs = subst (λ (t : Turning). Runs (dispatching g) (accepts jobs) es t) is made.1.runs;
+          over = refl;
+        },
+      )) (λ p es ls why made. made) (λ w is. refl)
+      (plays_turn (dispatching g) 0 s (IsWanting g) (accepts jobs) (over after) s0 s1 (outside a k) (outside b l) wire
+      (dispatching_still g) stop ran)

@@ -83,36 +83,37 @@ some_as_one : (to : Host) (bs : List (List ℕ)) → bs ≢ [] → (to, bs) ∷ 
 some_as_one to [] some = absurd (some refl)
 some_as_one to (b ∷ bs) some = refl
 
--- it was given, or the wire failed
-pub empties_given : (j new : JoinerState) (to : Host) (bytes : List ℕ) (first last : WireTells) (stop : Option Stop)
-    → to ≡ j.host → parts_of bytes ≡ j.datagrams → j.datagrams ≢ [] → new ≡ record j { datagrams = [] } → IsWithin j
-    → GivesOne first last (to, bytes) stop → Empties j new first last stop
-empties_given j new to bytes first last None host parts some is within gave =
-    record {
-      given = (to, bytes) ∷ [];
-      gave = (logged_one first.traffic last.traffic (GaveTo to bytes) gave.0, gave.1, gave.2);
-      rest = (
-        (λ i. (host i, parts i) ∷ []) ∙ some_as_one j.host j.datagrams some,
-        ap (λ (k : JoinerState). k.datagrams) is,
-      );
-      few = (rw parts within.few, tt);
-    }
-empties_given j new to bytes first last (Some stops.WireFault) host parts some is within gave =
-    record {
-      given = [];
-      gave = (
-        subst (λ (t : Option Traffic). HasLoggedAll first.traffic t []) (sym gave.0) (logged_none first.traffic),
-        gave.1,
-        gave.2,
-      );
-      rest = (refl, λ none. some (none_for j.host j.datagrams none));
-      few = tt;
-    }
-empties_given j new to bytes first last (Some stops.SinkFault) host parts some is within gave = absurd gave
-empties_given j new to bytes first last (Some stops.OutOfMemory) host parts some is within gave = absurd gave
-empties_given j new to bytes first last (Some stops.Unnoted) host parts some is within gave = absurd gave
-empties_given j new to bytes first last (Some stops.Endless) host parts some is within gave = absurd gave
-empties_given j new to bytes first last (Some stops.Unformatted) host parts some is within gave = absurd gave
+module _ (j new : JoinerState) (to : Host) (bytes : List ℕ) (first last : WireTells) where
+  -- it was given, or the wire failed
+  pub empties_given : (stop : Option Stop) → to ≡ j.host → parts_of bytes ≡ j.datagrams → j.datagrams ≢ []
+      → new ≡ record j { datagrams = [] } → IsWithin j → GivesOne first last (to, bytes) stop
+      → Empties j new first last stop
+  empties_given None host parts some is within gave =
+      record {
+        given = (to, bytes) ∷ [];
+        gave = (logged_one first.traffic last.traffic (GaveTo to bytes) gave.0, gave.1, gave.2);
+        rest = (
+          (λ i. (host i, parts i) ∷ []) ∙ some_as_one j.host j.datagrams some,
+          ap (λ (k : JoinerState). k.datagrams) is,
+        );
+        few = (rw parts within.few, tt);
+      }
+  empties_given (Some stops.WireFault) host parts some is within gave =
+      record {
+        given = [];
+        gave = (
+          subst (λ (t : Option Traffic). HasLoggedAll first.traffic t []) (sym gave.0) (logged_none first.traffic),
+          gave.1,
+          gave.2,
+        );
+        rest = (refl, λ none. some (none_for j.host j.datagrams none));
+        few = tt;
+      }
+  empties_given (Some stops.SinkFault) host parts some is within gave = absurd gave
+  empties_given (Some stops.OutOfMemory) host parts some is within gave = absurd gave
+  empties_given (Some stops.Unnoted) host parts some is within gave = absurd gave
+  empties_given (Some stops.Endless) host parts some is within gave = absurd gave
+  empties_given (Some stops.Unformatted) host parts some is within gave = absurd gave
 
 -- ---- one datagram more
 

@@ -32,15 +32,16 @@ use Rattle.rx_wire_loop.proofs.Running.{plays_at, plays_stops, plays_then, plays
 use Rattle.rx_wire_loop.proofs.Telling.{breaks_behind, fails_behind, gained_both, gains_both, gains_none}
 use Rattle.rx_wire_loop.proofs.Telling.{refuses_behind, wants_behind}
 
--- a last part, behind which something is known already
-pub plays_tail : {A : Type 0} (n : ℕ) (s : Setup) (s0 s1 : List Event → Type 0) (a b : Told) (part : Part (Unit {0}))
-    (shows : A → Type 0) (w : A) (stop : Option Stop) → shows w → Plays (change n s s0 s1 a b) part Anyhow stop
-    → Plays (change n s s0 s1 a b) (Then part (λ u. ends (To w))) shows stop
-plays_tail n s s0 s1 a b part shows w None there plays =
-    plays_then n s s0 s1 s1 a b b part (λ u. ends (To w)) Anyhow shows None plays
-    (λ u i. plays_to n s s1 b shows w there)
-plays_tail n s s0 s1 a b part shows w (Some stop) there plays =
-    plays_stops n s s0 s1 a b part (λ u. ends (To w)) Anyhow shows stop plays
+module _ {A : Type 0} (n : ℕ) (s : Setup) (s0 s1 : List Event → Type 0) (a b : Told) (part : Part (Unit {0}))
+    (shows : A → Type 0) where
+  -- a last part, behind which something is known already
+  pub plays_tail : (w : A) (stop : Option Stop) → shows w → Plays (change n s s0 s1 a b) part Anyhow stop
+      → Plays (change n s s0 s1 a b) (Then part (λ u. ends (To w))) shows stop
+  plays_tail w None there plays =
+      plays_then n s s0 s1 s1 a b b part (λ u. ends (To w)) Anyhow shows None plays
+      (λ u i. plays_to n s s1 b shows w there)
+  plays_tail w (Some stop) there plays =
+      plays_stops n s s0 s1 a b part (λ u. ends (To w)) Anyhow shows stop plays
 
 -- ---- a pass up to its take
 
@@ -333,31 +334,32 @@ module _ (t : Terms) (p : Place) (n : ℕ) (jobs next : List JobState) (s1 s2 : 
 
 -- ---- the same under other names
 
--- a polling of a node with another name for its number, its setup and what it joins
-pub polls_at : (n m : ℕ) (s t : Setup) (s0 s1 : List Event → Type 0) (a b : Told) (k most : ℕ) (stop : Option Stop)
-    → m ≡ n → t ≡ s → k ≡ most → Plays (change m t s0 s1 a b) (polls k) Anyhow stop
-    → Plays (change n s s0 s1 a b) (polls most) Anyhow stop
-polls_at n m s t s0 s1 a b k most stop number setup joins plays =
-    plays_at n m s t s0 s1 a b (polls most) Anyhow stop number setup
-    (subst (λ (x : ℕ). Plays (change m t s0 s1 a b) (polls x) Anyhow stop) joins plays)
+module _ (n m : ℕ) (s : Setup) where
+  -- a polling of a node with another name for its number, its setup and what it joins
+  pub polls_at : (t : Setup) (s0 s1 : List Event → Type 0) (a b : Told) (k most : ℕ) (stop : Option Stop) → m ≡ n
+      → t ≡ s → k ≡ most → Plays (change m t s0 s1 a b) (polls k) Anyhow stop
+      → Plays (change n s s0 s1 a b) (polls most) Anyhow stop
+  polls_at t s0 s1 a b k most stop number setup joins plays =
+      plays_at n m s t s0 s1 a b (polls most) Anyhow stop number setup
+      (subst (λ (x : ℕ). Plays (change m t s0 s1 a b) (polls x) Anyhow stop) joins plays)
 
--- a take up to a moment that is known
-pub takes_known : (n m : ℕ) (s : Setup) (s0 s1 : List Event → Type 0) (a b : Told) (until : ℕ) (end : Option ℕ)
-    (stop : Option Stop) → m ≡ n → ((h : List Event) → s0 h → until ≡ until_of s end h)
-    → Plays (change m s s0 s1 a b) (takes_until until) Anyhow stop
-    → Plays (change n s s0 s1 a b) (takes s end) Anyhow stop
-takes_known n m s s0 s1 a b until end stop number exact plays =
-    plays_at n m s s s0 s1 a b (takes s end) Anyhow stop number refl
-    (λ p at. (
-    let r : Ran (change m s s0 s1 a b) (takes_until until) Anyhow stop p = plays p at in
-    record {
-      events = r.events;
-      log = r.log;
-      came = r.came;
-      made = subst (λ (u : ℕ). takes_until u p r.events r.log r.came) (exact p.history at.standing) r.made;
-      legal = r.legal;
-      fits = r.fits;
-    }))
+  -- a take up to a moment that is known
+  pub takes_known : (s0 s1 : List Event → Type 0) (a b : Told) (until : ℕ) (end : Option ℕ) (stop : Option Stop) → m ≡ n
+      → ((h : List Event) → s0 h → until ≡ until_of s end h)
+      → Plays (change m s s0 s1 a b) (takes_until until) Anyhow stop
+      → Plays (change n s s0 s1 a b) (takes s end) Anyhow stop
+  takes_known s0 s1 a b until end stop number exact plays =
+      plays_at n m s s s0 s1 a b (takes s end) Anyhow stop number refl
+      (λ p at. (
+      let r : Ran (change m s s0 s1 a b) (takes_until until) Anyhow stop p = plays p at in
+      record {
+        events = r.events;
+        log = r.log;
+        came = r.came;
+        made = subst (λ (u : ℕ). takes_until u p r.events r.log r.came) (exact p.history at.standing) r.made;
+        legal = r.legal;
+        fits = r.fits;
+      }))
 
 -- a take of a node whose setup has another name
 pub takes_at : (n : ℕ) (s t : Setup) (s0 s1 : List Event → Type 0) (a b : Told) (end : Option ℕ) (stop : Option Stop)
@@ -375,29 +377,27 @@ abbrev pub pass_by : Interface → List Answering → Setup → ℕ → ℕ → 
 pass_by iface script s most end jobs =
     pass (plays most (dispatches (handlers_of iface script))) (takes s (Some end)) jobs
 
--- a pass of it under other names
-pub pass_at : (iface : Interface) (x y : List Answering) (s t : Setup) (k most end : ℕ) (jobs : List JobState)
-    (s0 s1 : List Event → Type 0) (a b : Told) (shows : List JobState → Type 0) (stop : Option Stop)
-    → x ≡ y → t ≡ s → k ≡ most
-    → Plays (change 0 t s0 s1 a b) (pass_by iface x t k end jobs) shows stop
-    → Plays (change 0 s s0 s1 a b) (pass_by iface y s most end jobs) shows stop
-pass_at iface x y s t k most end jobs s0 s1 a b shows stop script setup joins plays =
-    subst (λ (z : List Answering). Plays (change 0 s s0 s1 a b) (pass_by iface z s most end jobs) shows stop) script
-    (subst (λ (u : Setup). Plays (change 0 u s0 s1 a b) (pass_by iface x u most end jobs) shows stop) setup
-    (subst (λ (m : ℕ). Plays (change 0 t s0 s1 a b) (pass_by iface x t m end jobs) shows stop) joins plays))
+module _ (iface : Interface) (x y : List Answering) (s t : Setup) (k most end : ℕ) (jobs : List JobState)
+    (s0 s1 : List Event → Type 0) (a b : Told) (shows : List JobState → Type 0) (stop : Option Stop) where
+  -- a pass of it under other names
+  pub pass_at : x ≡ y → t ≡ s → k ≡ most → Plays (change 0 t s0 s1 a b) (pass_by iface x t k end jobs) shows stop
+      → Plays (change 0 s s0 s1 a b) (pass_by iface y s most end jobs) shows stop
+  pass_at script setup joins plays =
+      subst (λ (z : List Answering). Plays (change 0 s s0 s1 a b) (pass_by iface z s most end jobs) shows stop) script
+      (subst (λ (u : Setup). Plays (change 0 u s0 s1 a b) (pass_by iface x u most end jobs) shows stop) setup
+      (subst (λ (m : ℕ). Plays (change 0 t s0 s1 a b) (pass_by iface x t m end jobs) shows stop) joins plays))
 
 abbrev pub play_by : Interface → List Answering → ℕ → List JobState → Part (List JobState)
 play_by iface script most jobs = plays most (dispatches (handlers_of iface script)) jobs
 
-pub play_at : (iface : Interface) (x y : List Answering) (s t : Setup) (k most : ℕ) (jobs : List JobState)
-    (s0 s1 : List Event → Type 0) (a b : Told) (shows : List JobState → Type 0) (stop : Option Stop)
-    → x ≡ y → t ≡ s → k ≡ most
-    → Plays (change 0 t s0 s1 a b) (play_by iface x k jobs) shows stop
-    → Plays (change 0 s s0 s1 a b) (play_by iface y most jobs) shows stop
-play_at iface x y s t k most jobs s0 s1 a b shows stop script setup joins plays =
-    subst (λ (z : List Answering). Plays (change 0 s s0 s1 a b) (play_by iface z most jobs) shows stop) script
-    (subst (λ (u : Setup). Plays (change 0 u s0 s1 a b) (play_by iface x most jobs) shows stop) setup
-    (subst (λ (m : ℕ). Plays (change 0 t s0 s1 a b) (play_by iface x m jobs) shows stop) joins plays))
+module _ (iface : Interface) (x y : List Answering) (s t : Setup) (k most : ℕ) (jobs : List JobState)
+    (s0 s1 : List Event → Type 0) (a b : Told) (shows : List JobState → Type 0) (stop : Option Stop) where
+  pub play_at : x ≡ y → t ≡ s → k ≡ most → Plays (change 0 t s0 s1 a b) (play_by iface x k jobs) shows stop
+      → Plays (change 0 s s0 s1 a b) (play_by iface y most jobs) shows stop
+  play_at script setup joins plays =
+      subst (λ (z : List Answering). Plays (change 0 s s0 s1 a b) (play_by iface z most jobs) shows stop) script
+      (subst (λ (u : Setup). Plays (change 0 u s0 s1 a b) (play_by iface x most jobs) shows stop) setup
+      (subst (λ (m : ℕ). Plays (change 0 t s0 s1 a b) (play_by iface x m jobs) shows stop) joins plays))
 
 -- the setup of a server is the same: what it stands for is legal by it
 pub legal_as : (s t : Setup) (stands : List Event → Type 0) → t ≡ s → ((h : List Event) → stands h → Legal t h)

@@ -49,24 +49,21 @@ given_moment : (ds : List (Host × List ℕ)) (now : ℕ) → moment_after (gave
 given_moment [] now = refl
 given_moment (d ∷ ds) now = given_moment ds now
 
--- it gave none, and that was noted
-pub none_polled : (n : ℕ) (s : Setup) (s0 s1 : List Event → Type 0) (book after : Option (List Noted))
-    (sink : SinkTells)
-    (wire : WireTells) (j : JoinerState) → Answers s s0 s1 (events.Polled None)
-    → HasNoted book after (noted n (events.Polled None))
-    → Plays (change n s s0 s1 (told book sink wire) (told after sink wire)) (polls_once j j) (λ b. b ≡ false) None
-none_polled n s s0 s1 book after sink wire j answers one =
-    one_noted n s s0 s1 book after sink wire (events.Polled None) refl (polls_once j j) false (λ b. b ≡ false) answers
-    (λ p at. ((refl, refl, refl), at.later)) refl one
+module _ (n : ℕ) (s : Setup) (s0 s1 : List Event → Type 0) (book after : Option (List Noted)) (sink : SinkTells)
+    (wire : WireTells) (j : JoinerState) where
+  -- it gave none, and that was noted
+  pub none_polled : Answers s s0 s1 (events.Polled None) → HasNoted book after (noted n (events.Polled None))
+      → Plays (change n s s0 s1 (told book sink wire) (told after sink wire)) (polls_once j j) (λ b. b ≡ false) None
+  none_polled answers one =
+      one_noted n s s0 s1 book after sink wire (events.Polled None) refl (polls_once j j) false (λ b. b ≡ false) answers
+      (λ p at. ((refl, refl, refl), at.later)) refl one
 
-pub none_refused : (n : ℕ) (s : Setup) (s0 s1 : List Event → Type 0) (book after : Option (List Noted))
-    (sink : SinkTells) (wire : WireTells) (j k : JoinerState) (shows : Bool → Type 0)
-    → Answers s s0 s1 (events.Polled None) → after ≡ book
-    → Plays (change n s s0 s1 (told book sink wire) (told after sink wire)) (polls_once j k) shows
-    (Some stops.Unnoted)
-none_refused n s s0 s1 book after sink wire j k shows answers same =
-    one_refused n s s0 s1 book after sink wire (events.Polled None) refl (polls_once j k) shows answers
-    (λ p at. inl (refl, refl, refl)) same
+  pub none_refused : (k : JoinerState) (shows : Bool → Type 0) → Answers s s0 s1 (events.Polled None) → after ≡ book
+      → Plays (change n s s0 s1 (told book sink wire) (told after sink wire)) (polls_once j k) shows
+      (Some stops.Unnoted)
+  none_refused k shows answers same =
+      one_refused n s s0 s1 book after sink wire (events.Polled None) refl (polls_once j k) shows answers
+      (λ p at. inl (refl, refl, refl)) same
 
 module _ (n : ℕ) (s : Setup) (s0 s1 : List Event → Type 0) (book after : Option (List Noted)) (sink : SinkTells)
     (first last : WireTells) (j k : JoinerState) (d : Host × List ℕ) (answers : Answers s s0 s1
@@ -585,26 +582,26 @@ module _ (n : ℕ) (s : Setup) (s0 s1 s2 : List Event → Type 0) (a b c : Told)
 
 -- ---- one poll, by how it ended
 
--- it gave a datagram
-pub polled_on : (n : ℕ) (s : Setup) (s0 s1 : List Event → Type 0) (book after : Option (List Noted)) (sink : SinkTells)
-    (first last : WireTells) (j k : JoinerState) (d : Host × List ℕ) (result : Result Bool Stop)
-    → Answers s s0 s1 (events.Polled (Some d)) → PassesOn n j k book after d first last (stop_of result)
-    → IfOk result (λ b. b ≡ true)
-    → Plays (change n s s0 s1 (told book sink first) (told after sink last)) (polls_once j k)
-    (λ b. IfOk result (λ r. b ≡ r)) (stop_of result)
-polled_on n s s0 s1 book after sink first last j k d (Ok b) answers passed is =
-    plays_as n s s0 s1 (told book sink first) (told after sink last) (polls_once j k) (polls_once j k) (λ x. x)
-    (λ x. x ≡ true) (λ x. x ≡ b) None (λ q es ls x there made. made) (λ q es ls why made. made)
-    (λ x there. there ∙ sym is)
-    (one_passed n s s0 s1 book after sink first last j k d answers passed.0 passed.1)
-polled_on n s s0 s1 book after sink first last j k d (Err stops.Unnoted) answers passed is =
-    one_unnoted n s s0 s1 book after sink first last j k d answers (λ x. Unit {0}) passed.0 passed.1
-polled_on n s s0 s1 book after sink first last j k d (Err stops.WireFault) answers passed is =
-    one_failed n s s0 s1 book after sink first last j k d answers (λ x. Unit {0}) passed.0 passed.1
-polled_on n s s0 s1 book after sink first last j k d (Err stops.OutOfMemory) answers passed is = absurd passed
-polled_on n s s0 s1 book after sink first last j k d (Err stops.SinkFault) answers passed is = absurd passed
-polled_on n s s0 s1 book after sink first last j k d (Err stops.Endless) answers passed is = absurd passed
-polled_on n s s0 s1 book after sink first last j k d (Err stops.Unformatted) answers passed is = absurd passed
+module _ (n : ℕ) (s : Setup) (s0 s1 : List Event → Type 0) (book after : Option (List Noted)) (sink : SinkTells)
+    (first last : WireTells) (j k : JoinerState) (d : Host × List ℕ) where
+  -- it gave a datagram
+  pub polled_on : (result : Result Bool Stop) → Answers s s0 s1 (events.Polled (Some d))
+      → PassesOn n j k book after d first last (stop_of result) → IfOk result (λ b. b ≡ true)
+      → Plays (change n s s0 s1 (told book sink first) (told after sink last)) (polls_once j k)
+      (λ b. IfOk result (λ r. b ≡ r)) (stop_of result)
+  polled_on (Ok b) answers passed is =
+      plays_as n s s0 s1 (told book sink first) (told after sink last) (polls_once j k) (polls_once j k) (λ x. x)
+      (λ x. x ≡ true) (λ x. x ≡ b) None (λ q es ls x there made. made) (λ q es ls why made. made)
+      (λ x there. there ∙ sym is)
+      (one_passed n s s0 s1 book after sink first last j k d answers passed.0 passed.1)
+  polled_on (Err stops.Unnoted) answers passed is =
+      one_unnoted n s s0 s1 book after sink first last j k d answers (λ x. Unit {0}) passed.0 passed.1
+  polled_on (Err stops.WireFault) answers passed is =
+      one_failed n s s0 s1 book after sink first last j k d answers (λ x. Unit {0}) passed.0 passed.1
+  polled_on (Err stops.OutOfMemory) answers passed is = absurd passed
+  polled_on (Err stops.SinkFault) answers passed is = absurd passed
+  polled_on (Err stops.Endless) answers passed is = absurd passed
+  polled_on (Err stops.Unformatted) answers passed is = absurd passed
 
 -- a single datagram that is short enough
 pub single_in : (s : Setup) (s0 s1 : List Event → Type 0) (now : ℕ) (to : Host) (d b : List ℕ) → d ≡ b
@@ -613,48 +610,51 @@ pub single_in : (s : Setup) (s0 s1 : List Event → Type 0) (now : ℕ) (to : Ho
 single_in s s0 s1 now to d b same (h, there, low) law fits answers =
     rw same (single_polled s h to b fits (law h there) (answers h there).0)
 
--- it gave none
-pub none_on : (n : ℕ) (s : Setup) (s0 s1 : List Event → Type 0) (book after : Option (List Noted)) (sink : SinkTells)
-    (wire : WireTells) (j : JoinerState) (result : Result Bool Stop) → Answers s s0 s1 (events.Polled None)
-    → NotesOne n book after (events.Polled None) (stop_of result) → IfOk result (λ b. b ≡ false)
-    → Plays (change n s s0 s1 (told book sink wire) (told after sink wire)) (polls_once j j)
-    (λ b. IfOk result (λ r. b ≡ r)) (stop_of result)
-none_on n s s0 s1 book after sink wire j (Ok b) answers notes is =
-    plays_as n s s0 s1 (told book sink wire) (told after sink wire) (polls_once j j) (polls_once j j) (λ x. x)
-    (λ x. x ≡ false) (λ x. x ≡ b) None (λ q es ls x there made. made) (λ q es ls why made. made)
-    (λ x there. there ∙ sym is) (none_polled n s s0 s1 book after sink wire j answers notes)
-none_on n s s0 s1 book after sink wire j (Err stops.Unnoted) answers notes is =
-    none_refused n s s0 s1 book after sink wire j j (λ x. Unit {0}) answers notes
-none_on n s s0 s1 book after sink wire j (Err stops.OutOfMemory) answers notes is = absurd notes
-none_on n s s0 s1 book after sink wire j (Err stops.SinkFault) answers notes is = absurd notes
-none_on n s s0 s1 book after sink wire j (Err stops.WireFault) answers notes is = absurd notes
-none_on n s s0 s1 book after sink wire j (Err stops.Endless) answers notes is = absurd notes
-none_on n s s0 s1 book after sink wire j (Err stops.Unformatted) answers notes is = absurd notes
+module _ (n : ℕ) (s : Setup) (s0 s1 : List Event → Type 0) (book after : Option (List Noted)) (sink : SinkTells)
+    (wire : WireTells) (j : JoinerState) where
+  -- it gave none
+  pub none_on : (result : Result Bool Stop) → Answers s s0 s1 (events.Polled None)
+      → NotesOne n book after (events.Polled None) (stop_of result) → IfOk result (λ b. b ≡ false)
+      → Plays (change n s s0 s1 (told book sink wire) (told after sink wire)) (polls_once j j)
+      (λ b. IfOk result (λ r. b ≡ r)) (stop_of result)
+  none_on (Ok b) answers notes is =
+      plays_as n s s0 s1 (told book sink wire) (told after sink wire) (polls_once j j) (polls_once j j) (λ x. x)
+      (λ x. x ≡ false) (λ x. x ≡ b) None (λ q es ls x there made. made) (λ q es ls why made. made)
+      (λ x there. there ∙ sym is) (none_polled n s s0 s1 book after sink wire j answers notes)
+  none_on (Err stops.Unnoted) answers notes is =
+      none_refused n s s0 s1 book after sink wire j j (λ x. Unit {0}) answers notes
+  none_on (Err stops.OutOfMemory) answers notes is = absurd notes
+  none_on (Err stops.SinkFault) answers notes is = absurd notes
+  none_on (Err stops.WireFault) answers notes is = absurd notes
+  none_on (Err stops.Endless) answers notes is = absurd notes
+  none_on (Err stops.Unformatted) answers notes is = absurd notes
 
--- the same by the view of a node's ports, with the bytes that the poll wrote
-pub polled_in : (v : PortsState) (n : ℕ) (j : JoinerState) → record { node = n; joiner = j } ≡ v → (s : Setup)
+module _ (v : PortsState) (n : ℕ) (j : JoinerState) (is : record { node = n; joiner = j } ≡ v) (s : Setup)
     (s0 s1 : List Event → Type 0) (book after : Option (List Noted)) (sink : SinkTells) (first last : WireTells)
-    (k : JoinerState) (to : Host) (d b : List ℕ) (result : Result Bool Stop) → d ≡ b
-    → Answers s s0 s1 (events.Polled (Some (to, b))) → PassesOn n j k book after (to, d) first last (stop_of result)
-    → IfOk result (λ x. x ≡ true)
-    → Plays (change v.node s s0 s1 (told book sink first) (told after sink last)) (polls_once v.joiner k)
-    (λ x. IfOk result (λ r. x ≡ r)) (stop_of result)
-polled_in v n j is s s0 s1 book after sink first last k to d b result same answers passes holds =
-    subst (λ (w : PortsState). Plays (change w.node s s0 s1 (told book sink first) (told after sink last))
-    (polls_once w.joiner k) (λ x. IfOk result (λ r. x ≡ r)) (stop_of result)) is
-    (polled_on n s s0 s1 book after sink first last j k (to, d) result
-    (subst (λ (x : List ℕ). Answers s s0 s1 (events.Polled (Some (to, x)))) (sym same) answers) passes holds)
+    (k : JoinerState) (to : Host) (d b : List ℕ) (result : Result Bool Stop) where
+  -- the same by the view of a node's ports, with the bytes that the poll wrote
+  pub polled_in : d ≡ b → Answers s s0 s1 (events.Polled (Some (to, b)))
+      → PassesOn n j k book after (to, d) first last (stop_of result) → IfOk result (λ x. x ≡ true)
+      → Plays (change v.node s s0 s1 (told book sink first) (told after sink last)) (polls_once v.joiner k)
+      (λ x. IfOk result (λ r. x ≡ r)) (stop_of result)
+  polled_in same answers passes holds =
+      subst (λ (w : PortsState). Plays (change w.node s s0 s1 (told book sink first) (told after sink last))
+      (polls_once w.joiner k) (λ x. IfOk result (λ r. x ≡ r)) (stop_of result)) is
+      (polled_on n s s0 s1 book after sink first last j k (to, d) result
+      (subst (λ (x : List ℕ). Answers s s0 s1 (events.Polled (Some (to, x)))) (sym same) answers) passes holds)
 
-pub none_in : (v : PortsState) (n : ℕ) (j : JoinerState) → record { node = n; joiner = j } ≡ v → (s : Setup)
-    (s0 s1 : List Event → Type 0) (book after : Option (List Noted)) (sink : SinkTells) (wire : WireTells)
-    (result : Result Bool Stop) → Answers s s0 s1 (events.Polled None)
-    → NotesOne n book after (events.Polled None) (stop_of result) → IfOk result (λ b. b ≡ false)
-    → Plays (change v.node s s0 s1 (told book sink wire) (told after sink wire)) (polls_once v.joiner j)
-    (λ b. IfOk result (λ r. b ≡ r)) (stop_of result)
-none_in v n j is s s0 s1 book after sink wire result answers notes holds =
-    subst (λ (w : PortsState). Plays (change w.node s s0 s1 (told book sink wire) (told after sink wire))
-    (polls_once w.joiner j) (λ x. IfOk result (λ r. x ≡ r)) (stop_of result)) is
-    (none_on n s s0 s1 book after sink wire j result answers notes holds)
+module _ (v : PortsState) (n : ℕ) (j : JoinerState) where
+  pub none_in : record { node = n; joiner = j } ≡ v
+      → (s : Setup) (s0 s1 : List Event → Type 0) (book after : Option (List Noted)) (sink : SinkTells)
+      (wire : WireTells) (result : Result Bool Stop)
+      → Answers s s0 s1 (events.Polled None) → NotesOne n book after (events.Polled None) (stop_of result)
+      → IfOk result (λ b. b ≡ false)
+      → Plays (change v.node s s0 s1 (told book sink wire) (told after sink wire)) (polls_once v.joiner j)
+      (λ b. IfOk result (λ r. b ≡ r)) (stop_of result)
+  none_in is s s0 s1 book after sink wire result answers notes holds =
+      subst (λ (w : PortsState). Plays (change w.node s s0 s1 (told book sink wire) (told after sink wire))
+      (polls_once w.joiner j) (λ x. IfOk result (λ r. x ≡ r)) (stop_of result)) is
+      (none_on n s s0 s1 book after sink wire j result answers notes holds)
 
 -- ---- the loop, where its node and its setup have other names
 
@@ -677,22 +677,20 @@ module _ (n m : ℕ) (s t : Setup) (s0 s1 s2 : List Event → Type 0) (a b c : T
       polls_stopped n s s0 s1 s2 a b c most j k count is stop shows first
       (plays_at n m s t s1 s2 b c (polls_once j k) shows (Some stop) number setup second)
 
-pub polls_whole : (n m : ℕ) (s t : Setup) (s0 s1 s2 : List Event → Type 0) (a b : Told) (book : Option (List Noted))
-    (sink : SinkTells) (first last : WireTells) (most : ℕ) (j k l : JoinerState) (count : ℕ) → m ≡ n → t ≡ s
-    → j.most ≡ most
-    → k.most ≡ most → (again : Bool) → again ≡ false → (stop : Option Stop)
-    → Plays (change n s s0 s1 a b) (polls_so most j count) Anyhow None
-    → Plays (change m t s1 s2 b (told book sink first)) (polls_once j k) (λ r. r ≡ again) None
-    → Empties k l first last stop
-    → Plays (change n s s0 s2 a (told book sink last)) (polls most) Anyhow stop
-polls_whole n m s t s0 s1 s2 a b book sink first last most j k l count number setup was is again off stop so once
-    flush =
-    polls_flushed n s s0 s2 s2 a (told book sink first) (told book sink last) most k k count is stop
-    (polls_over n s s0 s1 s2 a b (told book sink first) most j k count was so
-    (plays_at n m s t s1 s2 b (told book sink first) (polls_once j k) (λ r. r ≡ false) None number setup
-    (subst (λ (x : Bool). Plays (change m t s1 s2 b (told book sink first)) (polls_once j k) (λ r. r ≡ x) None) off
-    once)))
-    (flush_plays n s s2 book sink first last k l stop flush)
+module _ (n m : ℕ) (s t : Setup) (s0 s1 s2 : List Event → Type 0) (a b : Told) (book : Option (List Noted))
+    (sink : SinkTells) (first last : WireTells) (most : ℕ) (j k l : JoinerState) (count : ℕ) where
+  pub polls_whole : m ≡ n → t ≡ s → j.most ≡ most → k.most ≡ most → (again : Bool) → again ≡ false
+      → (stop : Option Stop) → Plays (change n s s0 s1 a b) (polls_so most j count) Anyhow None
+      → Plays (change m t s1 s2 b (told book sink first)) (polls_once j k) (λ r. r ≡ again) None
+      → Empties k l first last stop → Plays (change n s s0 s2 a (told book sink last)) (polls most) Anyhow stop
+  polls_whole number setup was is again off stop so once
+      flush =
+      polls_flushed n s s0 s2 s2 a (told book sink first) (told book sink last) most k k count is stop
+      (polls_over n s s0 s1 s2 a b (told book sink first) most j k count was so
+      (plays_at n m s t s1 s2 b (told book sink first) (polls_once j k) (λ r. r ≡ false) None number setup
+      (subst (λ (x : Bool). Plays (change m t s1 s2 b (told book sink first)) (polls_once j k) (λ r. r ≡ x) None) off
+      once)))
+      (flush_plays n s s2 book sink first last k l stop flush)
 
 -- a buffer that was lent whole has what was put there
 pub restored : (n : ℕ) (xs ys : List ℕ) → length xs ≡ n → take n (xs ++ drop (length xs) ys) ≡ xs

@@ -106,14 +106,15 @@ nothing_came n s stands t p at =
       fits = (tt, gains_none n t, at);
     }
 
--- the clock was handed in, and what came was taken part by part, by a node whose setup has another name then
-pub came_taken : (n : ℕ) (s t : Setup) (s0 s1 s2 : List Event → Type 0) (a b c : Told) (from : Host) (bytes : List ℕ)
-    (stop : Option Stop) → t ≡ s → Plays (change n s s0 s1 a b) clocks Anything None
-    → Plays (change n t s1 s2 b c) (takes_parts from (parts_of bytes)) Anything stop
-    → Plays (change n s s0 s2 a c) (takes_came (Some (record { from = from; bytes = bytes }))) Anything stop
-came_taken n s t s0 s1 s2 a b c from bytes stop setup first second =
-    plays_then n s s0 s1 s2 a b c clocks (λ u. takes_parts from (parts_of bytes)) Anything Anything stop first
-    (λ u is. plays_at n n s t s1 s2 b c (takes_parts from (parts_of bytes)) Anything stop refl setup second)
+module _ (n : ℕ) (s t : Setup) (s0 s1 s2 : List Event → Type 0) (a b c : Told) (from : Host) (bytes : List ℕ)
+    (stop : Option Stop) where
+  -- the clock was handed in, and what came was taken part by part, by a node whose setup has another name then
+  pub came_taken : t ≡ s → Plays (change n s s0 s1 a b) clocks Anything None
+      → Plays (change n t s1 s2 b c) (takes_parts from (parts_of bytes)) Anything stop
+      → Plays (change n s s0 s2 a c) (takes_came (Some (record { from = from; bytes = bytes }))) Anything stop
+  came_taken setup first second =
+      plays_then n s s0 s1 s2 a b c clocks (λ u. takes_parts from (parts_of bytes)) Anything Anything stop first
+      (λ u is. plays_at n n s t s1 s2 b c (takes_parts from (parts_of bytes)) Anything stop refl setup second)
 
 -- passes ended at the clock
 pub came_clocked : (n : ℕ) (s : Setup) (s0 s1 : List Event → Type 0) (a b : Told) (from : Host) (bytes : List ℕ)
@@ -122,25 +123,28 @@ pub came_clocked : (n : ℕ) (s : Setup) (s0 s1 : List Event → Type 0) (a b : 
 came_clocked n s s0 s1 a b from bytes stop first =
     plays_stops n s s0 s1 a b clocks (λ u. takes_parts from (parts_of bytes)) Anything Anything stop first
 
--- what came was taken, by the view of a node's ports
-pub take_whole : (v : PortsState) (n : ℕ) (j : JoinerState) → record { node = n; joiner = j } ≡ v → (s : Setup)
-    (s0 s1 : List Event → Type 0) (a b c : Told) (until : ℕ) (came : Option Arrived) (stop : Option Stop)
-    → Plays (change n s s0 s0 a b) (waits until) (λ its. its ≡ came) None
-    → Plays (change n s s0 s1 b c) (takes_came came) Anything stop
-    → Plays (change v.node s s0 s1 a c) (takes_until until) Anything stop
-take_whole v n j is s s0 s1 a b c until came stop first second =
-    subst (λ (w : PortsState). Plays (change w.node s s0 s1 a c) (takes_until until) Anything stop) is
-    (plays_then n s s0 s0 s1 a b c (waits until) takes_came (λ its. its ≡ came) Anything stop first
-    (λ its same. subst (λ (o : Option Arrived). Plays (change n s s0 s1 b c) (takes_came o) Anything stop) (sym same)
-    second))
+module _ (v : PortsState) (n : ℕ) (j : JoinerState) where
+  -- what came was taken, by the view of a node's ports
+  pub take_whole : record { node = n; joiner = j } ≡ v
+      → (s : Setup) (s0 s1 : List Event → Type 0) (a b c : Told) (until : ℕ) (came : Option Arrived)
+      (stop : Option Stop)
+      → Plays (change n s s0 s0 a b) (waits until) (λ its. its ≡ came) None
+      → Plays (change n s s0 s1 b c) (takes_came came) Anything stop
+      → Plays (change v.node s s0 s1 a c) (takes_until until) Anything stop
+  take_whole is s s0 s1 a b c until came stop first second =
+      subst (λ (w : PortsState). Plays (change w.node s s0 s1 a c) (takes_until until) Anything stop) is
+      (plays_then n s s0 s0 s1 a b c (waits until) takes_came (λ its. its ≡ came) Anything stop first
+      (λ its same. subst (λ (o : Option Arrived). Plays (change n s s0 s1 b c) (takes_came o) Anything stop) (sym same)
+      second))
 
--- the same of what is known to have come
-pub take_brought : (v : PortsState) (n : ℕ) (j : JoinerState) → record { node = n; joiner = j } ≡ v → (s : Setup)
+module _ (v : PortsState) (n : ℕ) (j : JoinerState) (is : record { node = n; joiner = j } ≡ v) (s : Setup)
     (s0 s1 : List Event → Type 0) (a b c : Told) (until : ℕ) (came : Option Arrived) (from : Host) (bytes : List ℕ)
-    (stop : Option Stop) → came ≡ Some (record { from = from; bytes = bytes })
-    → Plays (change n s s0 s0 a b) (waits until) (λ its. its ≡ came) None
-    → Plays (change n s s0 s1 b c) (takes_came (Some (record { from = from; bytes = bytes }))) Anything stop
-    → Plays (change v.node s s0 s1 a c) (takes_until until) Anything stop
-take_brought v n j is s s0 s1 a b c until came from bytes stop brings first second =
-    take_whole v n j is s s0 s1 a b c until came stop first
-    (subst (λ (o : Option Arrived). Plays (change n s s0 s1 b c) (takes_came o) Anything stop) (sym brings) second)
+    (stop : Option Stop) where
+  -- the same of what is known to have come
+  pub take_brought : came ≡ Some (record { from = from; bytes = bytes })
+      → Plays (change n s s0 s0 a b) (waits until) (λ its. its ≡ came) None
+      → Plays (change n s s0 s1 b c) (takes_came (Some (record { from = from; bytes = bytes }))) Anything stop
+      → Plays (change v.node s s0 s1 a c) (takes_until until) Anything stop
+  take_brought brings first second =
+      take_whole v n j is s s0 s1 a b c until came stop first
+      (subst (λ (o : Option Arrived). Plays (change n s s0 s1 b c) (takes_came o) Anything stop) (sym brings) second)

@@ -93,18 +93,18 @@ front_from t ps seen f vs rest long fits found e =
       used_all = omega (arith, ap length spelled, length-append (request_spelling t f.1 vs) rest);
     }
 
-args_say : (t : Types) (ps : Procs) (seen : List ℕ) (waits : Bool) (f : ℕ × Procedure) (index : ℕ) (vs : Data)
-    (used : ℕ) (r : AtFront Data) → 4 ≤ length seen → IsBytes seen
-    → IsFound 0 (from_be_bytes w32 seen) ps f → read_stream t streams.Request f.1 (drop 4 seen) ≡ r
-    → args_answer f.0 (length seen) waits r ≡ whole index vs used
-    → IsFront t ps seen index vs used
-args_say t ps seen waits f index vs used (Ok x) long fits found read e =
-    let parts = whole_parts f.0 index x.0 vs (length seen - length x.1) used e in
-    rw (← parts.0, ← parts.1, ← parts.2) (front_from t ps seen f x.0 x.1 long fits found read)
-args_say t ps seen waits f index vs used (Err Deep) long fits found read e = absurd cc
-args_say t ps seen waits f index vs used (Err (Bad left why)) long fits found read e = absurd cc
-args_say t ps seen waits f index vs used (Err Short) long fits found read e =
-    absurd (never_waits waits _ index vs used e)
+module _ (t : Types) (ps : Procs) (seen : List ℕ) (waits : Bool) (f : ℕ × Procedure) (index : ℕ) (vs : Data) (used : ℕ)
+  where
+    args_say : (r : AtFront Data) → 4 ≤ length seen → IsBytes seen → IsFound 0 (from_be_bytes w32 seen) ps f
+        → read_stream t streams.Request f.1 (drop 4 seen) ≡ r
+        → args_answer f.0 (length seen) waits r ≡ whole index vs used → IsFront t ps seen index vs used
+    args_say (Ok x) long fits found read e =
+        let parts = whole_parts f.0 index x.0 vs (length seen - length x.1) used e in
+        rw (← parts.0, ← parts.1, ← parts.2) (front_from t ps seen f x.0 x.1 long fits found read)
+    args_say (Err Deep) long fits found read e = absurd cc
+    args_say (Err (Bad left why)) long fits found read e = absurd cc
+    args_say (Err Short) long fits found read e =
+        absurd (never_waits waits _ index vs used e)
 
 found_says : (t : Types) (ps : Procs) (seen : List ℕ) (waits : Bool) (index : ℕ) (vs : Data) (used : ℕ)
     (o : Option (ℕ × Procedure)) → 4 ≤ length seen → IsBytes seen

@@ -93,16 +93,16 @@ value_is (suc n) t k bytes = refl
 abbrev pub Again : {A : Type 0} → ℕ → ℕ → A → List ℕ → AtFront A → Type 0
 Again n deep x rest r = (deep ≤ n → r ≡ Ok (x, rest)) × (n < deep → r ≡ Err Deep)
 
-again_then : {A B : Type 0} (n d e : ℕ) (x : A) (after : List ℕ) (y : B) (rest : List ℕ) (r : AtFront A)
-    (f : A × List ℕ → AtFront B) → Again n d x after r → Again n e y rest (f (x, after))
-    → Again n (max d e) y rest (r >>= f)
-again_then n d e x after y rest r f p q = (
-  λ h. rw (p.0 (omega arith)) (q.0 (omega arith)),
-  λ h. elim (cases_lt n d) [
-    | inl lt ↦ rw (p.1 lt) refl
-    | inr le ↦ rw (p.0 le) (q.1 (omega arith))
-  ],
-)
+module _ {A B : Type 0} (n d e : ℕ) (x : A) (after : List ℕ) (y : B) (rest : List ℕ) (r : AtFront A) where
+  again_then : (f : A × List ℕ → AtFront B) → Again n d x after r → Again n e y rest (f (x, after))
+      → Again n (max d e) y rest (r >>= f)
+  again_then f p q = (
+    λ h. rw (p.0 (omega arith)) (q.0 (omega arith)),
+    λ h. elim (cases_lt n d) [
+      | inl lt ↦ rw (p.1 lt) refl
+      | inr le ↦ rw (p.0 le) (q.1 (omega arith))
+    ],
+  )
 
 again_as : {A B : Type 0} (n d : ℕ) (x : A) (g : A → B) (rest : List ℕ) (r : AtFront A) → Again n d x rest r
     → Again n d (g x) rest (r >>= λ a. Ok (g a.0, a.1))

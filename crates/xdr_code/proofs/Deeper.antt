@@ -34,15 +34,15 @@ deepens_as P Q (Err Deep) go h = go h
 deepens_as P Q (Err Short) go h = tt
 deepens_as P Q (Err (Bad left why)) go h = tt
 
--- what was read first is known to meet its spelling
-deepens_then : {A B : Type 0} (bytes : List ℕ) (first : A → List ℕ) (M : A → Type 0) (P Q : Type 0) (r : AtFront A)
-    (f : A × List ℕ → AtFront B) → Meets bytes first M r → Deepens P r → (P → Q)
-    → ((x : A) (rest : List ℕ) → bytes ≡ first x ++ rest → IsBytes rest → M x → Deepens Q (f (x, rest)))
-    → Deepens Q (r >>= f)
-deepens_then bytes first M P Q (Ok x) f meets h up go = go x.0 x.1 meets.0 meets.1 meets.2
-deepens_then bytes first M P Q (Err Deep) f meets h up go = up h
-deepens_then bytes first M P Q (Err Short) f meets h up go = tt
-deepens_then bytes first M P Q (Err (Bad left why)) f meets h up go = tt
+module _ {A B : Type 0} (bytes : List ℕ) (first : A → List ℕ) (M : A → Type 0) (P Q : Type 0) where
+  -- what was read first is known to meet its spelling
+  deepens_then : (r : AtFront A) (f : A × List ℕ → AtFront B) → Meets bytes first M r → Deepens P r → (P → Q)
+      → ((x : A) (rest : List ℕ) → bytes ≡ first x ++ rest → IsBytes rest → M x → Deepens Q (f (x, rest)))
+      → Deepens Q (r >>= f)
+  deepens_then (Ok x) f meets h up go = go x.0 x.1 meets.0 meets.1 meets.2
+  deepens_then (Err Deep) f meets h up go = up h
+  deepens_then (Err Short) f meets h up go = tt
+  deepens_then (Err (Bad left why)) f meets h up go = tt
 
 deepens_done : {A B : Type 0} (P : Type 0) (r : AtFront A) (g : A → B) → Deepens P r
     → Deepens P (r >>= λ a. Ok (g a.0, a.1))

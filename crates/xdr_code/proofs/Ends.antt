@@ -38,18 +38,19 @@ use Rattle.xdr_code.proofs.Numbers.{within32, within64, around_within, word32, f
 use Rattle.xdr_code.proofs.Reach.{IsBetween, exactly, of_one, of_enum}
 use Rattle.xdr_code.proofs.Found.{ReadMeets, FitsWithin, value_meets}
 
--- up: what was begun by x can be completed
-ends_then : {A B : Type 0} (bytes : List ℕ) (first : A → List ℕ) (M N : A → Type 0) (whole : B → List ℕ)
-    (Q : B → Type 0) (r : AtFront A) (f : A × List ℕ → AtFront B) → Meets bytes first M r → Ends bytes first N r
-    → ((x : A) → N x → (b : B) × (z : List ℕ) × Q b × (first x ++ z ≡ whole b))
-    → ((x : A) (rest : List ℕ) → bytes ≡ first x ++ rest → IsBytes rest → M x → Ends bytes whole Q (f (x, rest)))
-    → Ends bytes whole Q (r >>= f)
-ends_then bytes first M N whole Q (Ok x) f meets h up go = go x.0 x.1 meets.0 meets.1 meets.2
-ends_then bytes first M N whole Q (Err Deep) f meets h up go = tt
-ends_then bytes first M N whole Q (Err Short) f meets (x, y, p, e) up go =
-    let u = up x p in
-    (u.0, y ++ u.1, u.2, sym (append_assoc bytes y u.1) ∙ ap (λ (s : List ℕ). s ++ u.1) e ∙ u.3)
-ends_then bytes first M N whole Q (Err (Bad left why)) f meets h up go = tt
+module _ {A B : Type 0} (bytes : List ℕ) (first : A → List ℕ) (M N : A → Type 0) (whole : B → List ℕ) (Q : B → Type 0)
+  where
+    -- up: what was begun by x can be completed
+    ends_then : (r : AtFront A) (f : A × List ℕ → AtFront B) → Meets bytes first M r → Ends bytes first N r
+        → ((x : A) → N x → (b : B) × (z : List ℕ) × Q b × (first x ++ z ≡ whole b))
+        → ((x : A) (rest : List ℕ) → bytes ≡ first x ++ rest → IsBytes rest → M x → Ends bytes whole Q (f (x, rest)))
+        → Ends bytes whole Q (r >>= f)
+    ends_then (Ok x) f meets h up go = go x.0 x.1 meets.0 meets.1 meets.2
+    ends_then (Err Deep) f meets h up go = tt
+    ends_then (Err Short) f meets (x, y, p, e) up go =
+        let u = up x p in
+        (u.0, y ++ u.1, u.2, sym (append_assoc bytes y u.1) ∙ ap (λ (s : List ℕ). s ++ u.1) e ∙ u.3)
+    ends_then (Err (Bad left why)) f meets h up go = tt
 
 ends_as : {A B : Type 0} (bytes : List ℕ) (first : A → List ℕ) (M : A → Type 0) (whole : B → List ℕ) (Q : B → Type 0)
     (g : A → B) (r : AtFront A) → Ends bytes first M r → ((x : A) → M x → (first x ≡ whole (g x)) × Q (g x))
@@ -291,15 +292,16 @@ elements_end n t K read have meets ih k (suc m) bytes known fits =
     (elements_at read k m rest) is (elements_end n t K read have meets ih k m rest known rest_fits))
     (λ vs g. (refl, ((h.0, g.0), ap suc g.1))))
 
-optional_ends : (t : Types) (K : Kind → Type 0) (read : Read) → ReadEnds t K read → (k of : Kind)
-    → head_of t k ≡ is_maybe of → K of → (c : ℕ) (bytes rest : List ℕ) → bytes ≡ word c ++ rest → IsBytes rest → c ≤ 1
-    → Ends bytes (spelling t k) (Fits t k) (optional_at read of (c, rest))
-optional_ends t K read ih k of e known zero bytes rest is fits le = tt
-optional_ends t K read ih k of e known (suc zero) bytes rest is fits le =
-    ends_as bytes (λ d. word 1 ++ spelling t of d) (Fits t of) (spelling t k) (Fits t k) some (read of rest)
-    (ends_behind bytes (word 1) rest (spelling t of) (Fits t of) (read of rest) is (ih of rest known fits))
-    (λ d h. (rw e refl, rw e h))
-optional_ends t K read ih k of e known (suc (suc c)) bytes rest is fits le = absurd (omega arith)
+module _ (t : Types) (K : Kind → Type 0) (read : Read) where
+  optional_ends : ReadEnds t K read → (k of : Kind) → head_of t k ≡ is_maybe of → K of → (c : ℕ) (bytes rest : List ℕ)
+      → bytes ≡ word c ++ rest → IsBytes rest → c ≤ 1
+      → Ends bytes (spelling t k) (Fits t k) (optional_at read of (c, rest))
+  optional_ends ih k of e known zero bytes rest is fits le = tt
+  optional_ends ih k of e known (suc zero) bytes rest is fits le =
+      ends_as bytes (λ d. word 1 ++ spelling t of d) (Fits t of) (spelling t k) (Fits t k) some (read of rest)
+      (ends_behind bytes (word 1) rest (spelling t of) (Fits t of) (read of rest) is (ih of rest known fits))
+      (λ d h. (rw e refl, rw e h))
+  optional_ends ih k of e known (suc (suc c)) bytes rest is fits le = absurd (omega arith)
 
 maybe_filled : (t : Types) (K : Kind → Type 0) → HaveValues t K → (k of : Kind) → head_of t k ≡ is_maybe of → K of
     → (c : ℕ) → c ≤ 1 → (b : Datum) × (z : List ℕ) × Fits t k b × (word c ++ z ≡ spelling t k b)
@@ -308,68 +310,70 @@ maybe_filled t K have k of e known (suc zero) le = let v = have.value of known i
     (some v.0, spelling t of v.0, rw e v.1, rw e refl)
 maybe_filled t K have k of e known (suc (suc c)) le = absurd (omega arith)
 
-arm_ends : (t : Types) (K : Kind → Type 0) (read : Read) → ReadEnds t K read
-    → (k : Kind) (tag : Tag) (cs : List Choice) → head_of t k ≡ is_union tag cs → (d : Datum) → TagFits tag d
-    → ((c : Choice) → arm_of (tag_number d) cs ≡ Some c → K (arm_kind c))
-    → (o : Option Choice) → arm_of (tag_number d) cs ≡ o → (bytes rest : List ℕ) → bytes ≡ tag_spelling d ++ rest
-    → IsBytes rest → TagHasArm tag cs d → Ends bytes (spelling t k) (Fits t k) (arm_at read o (d, rest))
-arm_ends t K read ih k tag cs e d fits known None has bytes rest is rest_fits h = absurd (cc (has, h.1.1))
-arm_ends t K read ih k tag cs e d fits known (Some c) has bytes rest is rest_fits h =
-    ends_as bytes (λ v. tag_spelling d ++ spelling t (arm_kind c) v) (Fits t (arm_kind c)) (spelling t k) (Fits t k)
-    (union d) (read (arm_kind c) rest)
-    (ends_behind bytes (tag_spelling d) rest (spelling t (arm_kind c)) (Fits t (arm_kind c)) (read (arm_kind c) rest)
-    is (ih (arm_kind c) rest (known c has) rest_fits))
-    (λ v g. (rw (e, has) refl, rw (e, has) (fits, g)))
+module _ (t : Types) (K : Kind → Type 0) (read : Read) (ih : ReadEnds t K read) (k : Kind) (tag : Tag)
+    (cs : List Choice) where
+  arm_ends : head_of t k ≡ is_union tag cs → (d : Datum) → TagFits tag d
+      → ((c : Choice) → arm_of (tag_number d) cs ≡ Some c → K (arm_kind c)) → (o : Option Choice)
+      → arm_of (tag_number d) cs ≡ o → (bytes rest : List ℕ) → bytes ≡ tag_spelling d ++ rest → IsBytes rest
+      → TagHasArm tag cs d → Ends bytes (spelling t k) (Fits t k) (arm_at read o (d, rest))
+  arm_ends e d fits known None has bytes rest is rest_fits h = absurd (cc (has, h.1.1))
+  arm_ends e d fits known (Some c) has bytes rest is rest_fits h =
+      ends_as bytes (λ v. tag_spelling d ++ spelling t (arm_kind c) v) (Fits t (arm_kind c)) (spelling t k) (Fits t k)
+      (union d) (read (arm_kind c) rest)
+      (ends_behind bytes (tag_spelling d) rest (spelling t (arm_kind c)) (Fits t (arm_kind c)) (read (arm_kind c) rest)
+      is (ih (arm_kind c) rest (known c has) rest_fits))
+      (λ v g. (rw (e, has) refl, rw (e, has) (fits, g)))
 
-head_ends : (n : ℕ) (t : Types) (K : Kind → Type 0) (read : Read) → HaveValues t K → ReadMeets n t read
-    → ReadEnds t K read → (k : Kind) (h : Head) → head_of t k ≡ h → PartsHave K h → (bytes : List ℕ) → IsBytes bytes
-    → Ends bytes (spelling t k) (Fits t k) (head_at t (Some read) h bytes)
-unfolding head_at
-head_ends n t K read have meets ih k (is_basic b) e known bytes fits = basic_ends t k b e bytes fits
-head_ends n t K read have meets ih k (is_enum ms) e known bytes fits = enum_ends t k ms e known bytes fits
-head_ends n t K read have meets ih k is_unknown e known bytes fits = absurd known
-head_ends n t K read have meets ih k (is_union tag cs) e known bytes fits =
-    ends_then bytes tag_spelling (TagHasArm tag cs) (TagHasArm tag cs) (spelling t k) (Fits t k) (tag_at tag cs bytes)
-    (chosen_at read cs) (tag_meets tag cs bytes fits) (tag_ends K tag cs known bytes fits)
-    (λ d h. let c : Choice = h.1.0 in let v = have.value (arm_kind c) (known.arms (tag_number d) c h.1.1) in
-    (union d v.0, spelling t (arm_kind c) v.0, rw (e, h.1.1) (h.0, v.1), rw (e, h.1.1) refl))
-    (λ d rest is rest_fits h. arm_ends t K read ih k tag cs e d h.0 (λ c has. known.arms (tag_number d) c has)
-    (arm_of (tag_number d) cs) refl bytes rest is rest_fits h)
-head_ends n t K read have meets ih k (is_struct ps) e known bytes fits =
-    ends_as bytes (parts_spelling t ps) (PartsFit t ps) (spelling t k) (Fits t k) items (parts_at read ps bytes)
-    (parts_end n t K read have meets ih ps bytes known fits) (λ vs h. (rw e refl, rw e h))
-head_ends n t K read have meets ih k (is_array of m) e known bytes fits =
-    ends_as bytes (all_spelling t of) (λ vs. AllFit t of vs × (count vs ≡ m)) (spelling t k) (Fits t k) items
-    (elements_at read of m bytes) (elements_end n t K read have meets ih of m bytes known fits)
-    (λ vs h. (rw e refl, rw e (h.1, h.0)))
-head_ends n t K read have meets ih k (is_array_up_to of m) e known bytes fits =
-    ends_then bytes word (λ c. (c ≤ list_limit t of m) × (c < 2 ^ 32)) (λ c. (c ≤ list_limit t of m) × (c < 2 ^ 32))
-    (spelling t k) (Fits t k) (limited_at (list_limit t of m) whys.Length bytes)
-    (λ c. elements_at read of c.0 c.1 >>= λ vs. Ok (items vs.0, vs.1))
-    (limited_meets (list_limit t of m) whys.Length bytes fits)
-    (limited_ends (list_limit t of m) whys.Length bytes fits)
-    (λ c h. let vs = fill_elements t K have of c known in (
-      items vs.0,
-      all_spelling t of vs.0,
-      rw e (omega (arith, vs.2, h), omega (arith, vs.2, h), vs.1),
-      rw e
-          (ap (λ (x : ℕ). word x ++ all_spelling t of vs.0) (sym vs.2)),
-    ))
-    (λ c rest is rest_fits h. ends_as bytes (λ vs. word c ++ all_spelling t of vs)
-    (λ vs. AllFit t of vs × (count vs ≡ c)) (spelling t k) (Fits t k) items (elements_at read of c rest)
-    (ends_behind bytes (word c) rest (all_spelling t of) (λ vs. AllFit t of vs × (count vs ≡ c))
-    (elements_at read of c rest) is (elements_end n t K read have meets ih of c rest known rest_fits))
-    (λ vs g. (
-      rw e (ap (λ (x : ℕ). word x ++ all_spelling t of vs) (sym g.1)),
-      rw e
-          (omega (arith, g.1, h), omega (arith, g.1, h), g.0),
-    )))
-head_ends n t K read have meets ih k (is_maybe of) e known bytes fits =
-    ends_then bytes word (λ c. (c ≤ 1) × (c < 2 ^ 32)) (λ c. (c ≤ 1) × (c < 2 ^ 32)) (spelling t k) (Fits t k)
-    (limited_at 1 whys.Bool bytes) (optional_at read of) (limited_meets 1 whys.Bool bytes fits)
-    (limited_ends 1 whys.Bool bytes fits)
-    (λ c h. maybe_filled t K have k of e known c h.0)
-    (λ c rest is rest_fits h. optional_ends t K read ih k of e known c bytes rest is rest_fits h.0)
+module _ (n : ℕ) (t : Types) (K : Kind → Type 0) (read : Read) where
+  head_ends : HaveValues t K → ReadMeets n t read → ReadEnds t K read → (k : Kind) (h : Head) → head_of t k ≡ h
+      → PartsHave K h → (bytes : List ℕ) → IsBytes bytes
+      → Ends bytes (spelling t k) (Fits t k) (head_at t (Some read) h bytes)
+  unfolding head_at
+  head_ends have meets ih k (is_basic b) e known bytes fits = basic_ends t k b e bytes fits
+  head_ends have meets ih k (is_enum ms) e known bytes fits = enum_ends t k ms e known bytes fits
+  head_ends have meets ih k is_unknown e known bytes fits = absurd known
+  head_ends have meets ih k (is_union tag cs) e known bytes fits =
+      ends_then bytes tag_spelling (TagHasArm tag cs) (TagHasArm tag cs) (spelling t k) (Fits t k) (tag_at tag cs bytes)
+      (chosen_at read cs) (tag_meets tag cs bytes fits) (tag_ends K tag cs known bytes fits)
+      (λ d h. let c : Choice = h.1.0 in let v = have.value (arm_kind c) (known.arms (tag_number d) c h.1.1) in
+      (union d v.0, spelling t (arm_kind c) v.0, rw (e, h.1.1) (h.0, v.1), rw (e, h.1.1) refl))
+      (λ d rest is rest_fits h. arm_ends t K read ih k tag cs e d h.0 (λ c has. known.arms (tag_number d) c has)
+      (arm_of (tag_number d) cs) refl bytes rest is rest_fits h)
+  head_ends have meets ih k (is_struct ps) e known bytes fits =
+      ends_as bytes (parts_spelling t ps) (PartsFit t ps) (spelling t k) (Fits t k) items (parts_at read ps bytes)
+      (parts_end n t K read have meets ih ps bytes known fits) (λ vs h. (rw e refl, rw e h))
+  head_ends have meets ih k (is_array of m) e known bytes fits =
+      ends_as bytes (all_spelling t of) (λ vs. AllFit t of vs × (count vs ≡ m)) (spelling t k) (Fits t k) items
+      (elements_at read of m bytes) (elements_end n t K read have meets ih of m bytes known fits)
+      (λ vs h. (rw e refl, rw e (h.1, h.0)))
+  head_ends have meets ih k (is_array_up_to of m) e known bytes fits =
+      ends_then bytes word (λ c. (c ≤ list_limit t of m) × (c < 2 ^ 32)) (λ c. (c ≤ list_limit t of m) × (c < 2 ^ 32))
+      (spelling t k) (Fits t k) (limited_at (list_limit t of m) whys.Length bytes)
+      (λ c. elements_at read of c.0 c.1 >>= λ vs. Ok (items vs.0, vs.1))
+      (limited_meets (list_limit t of m) whys.Length bytes fits)
+      (limited_ends (list_limit t of m) whys.Length bytes fits)
+      (λ c h. let vs = fill_elements t K have of c known in (
+        items vs.0,
+        all_spelling t of vs.0,
+        rw e (omega (arith, vs.2, h), omega (arith, vs.2, h), vs.1),
+        rw e
+            (ap (λ (x : ℕ). word x ++ all_spelling t of vs.0) (sym vs.2)),
+      ))
+      (λ c rest is rest_fits h. ends_as bytes (λ vs. word c ++ all_spelling t of vs)
+      (λ vs. AllFit t of vs × (count vs ≡ c)) (spelling t k) (Fits t k) items (elements_at read of c rest)
+      (ends_behind bytes (word c) rest (all_spelling t of) (λ vs. AllFit t of vs × (count vs ≡ c))
+      (elements_at read of c rest) is (elements_end n t K read have meets ih of c rest known rest_fits))
+      (λ vs g. (
+        rw e (ap (λ (x : ℕ). word x ++ all_spelling t of vs) (sym g.1)),
+        rw e
+            (omega (arith, g.1, h), omega (arith, g.1, h), g.0),
+      )))
+  head_ends have meets ih k (is_maybe of) e known bytes fits =
+      ends_then bytes word (λ c. (c ≤ 1) × (c < 2 ^ 32)) (λ c. (c ≤ 1) × (c < 2 ^ 32)) (spelling t k) (Fits t k)
+      (limited_at 1 whys.Bool bytes) (optional_at read of) (limited_meets 1 whys.Bool bytes fits)
+      (limited_ends 1 whys.Bool bytes fits)
+      (λ c h. maybe_filled t K have k of e known c h.0)
+      (λ c rest is rest_fits h. optional_ends t K read ih k of e known c bytes rest is rest_fits h.0)
 
 leaf_ends : (t : Types) (K : Kind → Type 0) (k : Kind) (h : Head) → head_of t k ≡ h → PartsHave K h → (bytes : List ℕ)
     → IsBytes bytes → Ends bytes (spelling t k) (Fits t k) (head_at t None h bytes)

@@ -180,52 +180,52 @@ elements_more n t k m bytes d rest is within (Ok x) h =
 elements_more n t k m bytes d rest is within (Err f) h = meets_behind bytes (spelling t k d) rest (all_spelling t k)
     (λ vs. AllFit t k vs × (depths vs ≤ n) × (count vs ≡ m)) (Err f) is h
 
-optional_meets : (n : ℕ) (t : Types) (read : Read) → ReadMeets n t read → (k of : Kind) → head_of t k ≡ is_maybe of
-    → (c : ℕ) (bytes rest : List ℕ) → bytes ≡ word c ++ rest → IsBytes rest → c ≤ 1
-    → Meets bytes (spelling t k) (FitsWithin (suc n) t k) (optional_at read of (c, rest))
-optional_meets n t read ih k of e zero bytes rest is rest_fits le = (is, rest_fits, (rw e tt, omega arith))
-optional_meets n t read ih k of e (suc zero) bytes rest is rest_fits le =
-    meets_as bytes (λ d. word 1 ++ spelling t of d) (FitsWithin n t of) (spelling t k) (FitsWithin (suc n) t k) some
-    (read of rest)
-    (meets_behind bytes (word 1) rest (spelling t of) (FitsWithin n t of) (read of rest) is (ih of rest rest_fits))
-    (λ d h. (rw e refl, (rw e h.0, omega (arith, h.1))))
-optional_meets n t read ih k of e (suc (suc c)) bytes rest is rest_fits le = absurd (omega arith)
+module _ (n : ℕ) (t : Types) (read : Read) where
+  optional_meets : ReadMeets n t read → (k of : Kind) → head_of t k ≡ is_maybe of → (c : ℕ) (bytes rest : List ℕ)
+      → bytes ≡ word c ++ rest → IsBytes rest → c ≤ 1
+      → Meets bytes (spelling t k) (FitsWithin (suc n) t k) (optional_at read of (c, rest))
+  optional_meets ih k of e zero bytes rest is rest_fits le = (is, rest_fits, (rw e tt, omega arith))
+  optional_meets ih k of e (suc zero) bytes rest is rest_fits le =
+      meets_as bytes (λ d. word 1 ++ spelling t of d) (FitsWithin n t of) (spelling t k) (FitsWithin (suc n) t k) some
+      (read of rest)
+      (meets_behind bytes (word 1) rest (spelling t of) (FitsWithin n t of) (read of rest) is (ih of rest rest_fits))
+      (λ d h. (rw e refl, (rw e h.0, omega (arith, h.1))))
+  optional_meets ih k of e (suc (suc c)) bytes rest is rest_fits le = absurd (omega arith)
 
-pub parts_first : (n : ℕ) (t : Types) (read : Read) → ReadMeets n t read → (ps : List Part) (bytes : List ℕ)
-    → IsBytes bytes → Meets bytes (parts_spelling t ps) (λ vs. PartsFit t ps vs × (depths vs ≤ n))
-    (parts_at read ps bytes)
-unfolding parts_at
-parts_first n t read ih [] bytes fits = (refl, fits, (tt, omega arith))
-parts_first n t read ih (p ∷ ps) bytes fits =
-    meets_then bytes (spelling t p.kind) (FitsWithin n t p.kind) (parts_spelling t (p ∷ ps))
-    (λ vs. PartsFit t (p ∷ ps) vs × (depths vs ≤ n)) (read p.kind bytes)
-    (λ first. parts_at read ps first.1 >>= λ others. Ok (more first.0 others.0, others.1)) (ih p.kind bytes fits)
-    (λ d rest is rest_fits within. parts_more n t p ps bytes d rest is within (parts_at read ps rest)
-    (parts_first n t read ih ps rest rest_fits))
+  pub parts_first : ReadMeets n t read → (ps : List Part) (bytes : List ℕ) → IsBytes bytes
+      → Meets bytes (parts_spelling t ps) (λ vs. PartsFit t ps vs × (depths vs ≤ n)) (parts_at read ps bytes)
+  unfolding parts_at
+  parts_first ih [] bytes fits = (refl, fits, (tt, omega arith))
+  parts_first ih (p ∷ ps) bytes fits =
+      meets_then bytes (spelling t p.kind) (FitsWithin n t p.kind) (parts_spelling t (p ∷ ps))
+      (λ vs. PartsFit t (p ∷ ps) vs × (depths vs ≤ n)) (read p.kind bytes)
+      (λ first. parts_at read ps first.1 >>= λ others. Ok (more first.0 others.0, others.1)) (ih p.kind bytes fits)
+      (λ d rest is rest_fits within. parts_more n t p ps bytes d rest is within (parts_at read ps rest)
+      (parts_first ih ps rest rest_fits))
 
-pub elements_first : (n : ℕ) (t : Types) (read : Read) → ReadMeets n t read → (k : Kind) (m : ℕ) (bytes : List ℕ)
-    → IsBytes bytes → Meets bytes (all_spelling t k) (λ vs. AllFit t k vs × (depths vs ≤ n) × (count vs ≡ m))
-    (elements_at read k m bytes)
-unfolding elements_at
-elements_first n t read ih k zero bytes fits = (refl, fits, (tt, omega arith, refl))
-elements_first n t read ih k (suc m) bytes fits =
-    meets_then bytes (spelling t k) (FitsWithin n t k) (all_spelling t k)
-    (λ vs. AllFit t k vs × (depths vs ≤ n) × (count vs ≡ suc m)) (read k bytes)
-    (λ first. elements_at read k m first.1 >>= λ others. Ok (more first.0 others.0, others.1)) (ih k bytes fits)
-    (λ d rest is rest_fits within. elements_more n t k m bytes d rest is within (elements_at read k m rest)
-    (elements_first n t read ih k m rest rest_fits))
+  pub elements_first : ReadMeets n t read → (k : Kind) (m : ℕ) (bytes : List ℕ) → IsBytes bytes
+      → Meets bytes (all_spelling t k) (λ vs. AllFit t k vs × (depths vs ≤ n) × (count vs ≡ m))
+      (elements_at read k m bytes)
+  unfolding elements_at
+  elements_first ih k zero bytes fits = (refl, fits, (tt, omega arith, refl))
+  elements_first ih k (suc m) bytes fits =
+      meets_then bytes (spelling t k) (FitsWithin n t k) (all_spelling t k)
+      (λ vs. AllFit t k vs × (depths vs ≤ n) × (count vs ≡ suc m)) (read k bytes)
+      (λ first. elements_at read k m first.1 >>= λ others. Ok (more first.0 others.0, others.1)) (ih k bytes fits)
+      (λ d rest is rest_fits within. elements_more n t k m bytes d rest is within (elements_at read k m rest)
+      (elements_first ih k m rest rest_fits))
 
-arm_meets : (n : ℕ) (t : Types) (read : Read) → ReadMeets n t read → (k : Kind) (tag : Tag) (cs : List Choice)
-    → head_of t k ≡ is_union tag cs → (d : Datum) → TagFits tag d → (o : Option Choice) → arm_of (tag_number d) cs ≡ o
-    → (bytes rest : List ℕ) → bytes ≡ tag_spelling d ++ rest → IsBytes rest
-    → Meets bytes (spelling t k) (FitsWithin (suc n) t k) (arm_at read o (d, rest))
-arm_meets n t read ih k tag cs e d fits None has bytes rest is rest_fits = tt
-arm_meets n t read ih k tag cs e d fits (Some c) has bytes rest is rest_fits =
-    meets_as bytes (λ v. tag_spelling d ++ spelling t (arm_kind c) v) (FitsWithin n t (arm_kind c)) (spelling t k)
-    (FitsWithin (suc n) t k) (union d) (read (arm_kind c) rest)
-    (meets_behind bytes (tag_spelling d) rest (spelling t (arm_kind c)) (FitsWithin n t (arm_kind c))
-    (read (arm_kind c) rest) is (ih (arm_kind c) rest rest_fits))
-    (λ v h. (rw (e, has) refl, (rw (e, has) (fits, h.0), omega (arith, h.1))))
+module _ (n : ℕ) (t : Types) (read : Read) (ih : ReadMeets n t read) (k : Kind) (tag : Tag) (cs : List Choice) where
+  arm_meets : head_of t k ≡ is_union tag cs → (d : Datum) → TagFits tag d → (o : Option Choice)
+      → arm_of (tag_number d) cs ≡ o → (bytes rest : List ℕ) → bytes ≡ tag_spelling d ++ rest → IsBytes rest
+      → Meets bytes (spelling t k) (FitsWithin (suc n) t k) (arm_at read o (d, rest))
+  arm_meets e d fits None has bytes rest is rest_fits = tt
+  arm_meets e d fits (Some c) has bytes rest is rest_fits =
+      meets_as bytes (λ v. tag_spelling d ++ spelling t (arm_kind c) v) (FitsWithin n t (arm_kind c)) (spelling t k)
+      (FitsWithin (suc n) t k) (union d) (read (arm_kind c) rest)
+      (meets_behind bytes (tag_spelling d) rest (spelling t (arm_kind c)) (FitsWithin n t (arm_kind c))
+      (read (arm_kind c) rest) is (ih (arm_kind c) rest rest_fits))
+      (λ v h. (rw (e, has) refl, (rw (e, has) (fits, h.0), omega (arith, h.1))))
 
 head_meets : (n : ℕ) (t : Types) (read : Read) → ReadMeets n t read → (k : Kind) (h : Head) → head_of t k ≡ h
     → (bytes : List ℕ) → IsBytes bytes

@@ -43,14 +43,15 @@ faulty_itself (Err Deep) = tt
 faulty_itself (Err Short) = refl
 faulty_itself (Err (Bad left why)) = refl
 
-faulty_then : {A B : Type 0} (bytes : List ℕ) (first : A → List ℕ) (M : A → Type 0) (P Q : Fault → Type 0)
-    (r : AtFront A) (f : A × List ℕ → AtFront B) → Meets bytes first M r → Faulty P r → ((f : Fault) → P f → Q f)
-    → ((x : A) (rest : List ℕ) → bytes ≡ first x ++ rest → IsBytes rest → M x → Faulty Q (f (x, rest)))
-    → Faulty Q (r >>= f)
-faulty_then bytes first M P Q (Ok x) f meets h up go = go x.0 x.1 meets.0 meets.1 meets.2
-faulty_then bytes first M P Q (Err Deep) f meets h up go = tt
-faulty_then bytes first M P Q (Err Short) f meets h up go = up Short h
-faulty_then bytes first M P Q (Err (Bad left why)) f meets h up go = up (Bad left why) h
+module _ {A B : Type 0} (bytes : List ℕ) (first : A → List ℕ) (M : A → Type 0) (P Q : Fault → Type 0) where
+  faulty_then : (r : AtFront A) (f : A × List ℕ → AtFront B) → Meets bytes first M r → Faulty P r
+      → ((f : Fault) → P f → Q f)
+      → ((x : A) (rest : List ℕ) → bytes ≡ first x ++ rest → IsBytes rest → M x → Faulty Q (f (x, rest)))
+      → Faulty Q (r >>= f)
+  faulty_then (Ok x) f meets h up go = go x.0 x.1 meets.0 meets.1 meets.2
+  faulty_then (Err Deep) f meets h up go = tt
+  faulty_then (Err Short) f meets h up go = up Short h
+  faulty_then (Err (Bad left why)) f meets h up go = up (Bad left why) h
 
 faulty_done : {A B : Type 0} (P : Fault → Type 0) (r : AtFront A) (g : A → B) → Faulty P r
     → Faulty P (r >>= λ a. Ok (g a.0, a.1))

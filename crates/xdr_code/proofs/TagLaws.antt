@@ -203,43 +203,43 @@ guarded tag bytes a b r = cond a (cond b r (Err (Bad (length bytes) (tag_why tag
 abbrev as_tag : Tag → AtFront ℕ → AtFront Datum
 as_tag tag r = r >>= λ n. Ok (tag_datum tag n.0, n.1)
 
--- none of the cases before is none after, unless it is no tag then
-bad_after : (tag : Tag) (cs : List Choice) (bytes y : List ℕ) (b : Bool) → may (tag_set tag) (bytes ++ y) ≡ b
-    → 0 < length bytes → IsBytes y → may (case_set tag cs) bytes ≡ false
-    → (cause : Why) × (tag_at tag cs (bytes ++ y) ≡ Err (Bad (length bytes + length y) cause))
-unfolding tag_at in_set_at
-bad_after tag cs bytes y false is some_byte fits none_does =
-    let a : ltb 0 (length (bytes ++ y)) ≡ true = lt-ltb _ _ (omega (arith, some_byte, length-append bytes y)) in
-    (tag_why tag, rw (a, is, length-append bytes y) refl)
-bad_after tag cs bytes y true is some_byte fits none_does =
-    let a : ltb 0 (length (bytes ++ y)) ≡ true = lt-ltb _ _ (omega (arith, some_byte, length-append bytes y)) in
-    let c : may (case_set tag cs) (bytes ++ y) ≡ false = still_not (case_set tag cs) bytes y _ fits refl none_does in
-    (whys.Case, rw (a, is, c, length-append bytes y) refl)
+module _ (tag : Tag) (cs : List Choice) (bytes y : List ℕ) where
+  -- none of the cases before is none after, unless it is no tag then
+  bad_after : (b : Bool) → may (tag_set tag) (bytes ++ y) ≡ b → 0 < length bytes → IsBytes y
+      → may (case_set tag cs) bytes ≡ false
+      → (cause : Why) × (tag_at tag cs (bytes ++ y) ≡ Err (Bad (length bytes + length y) cause))
+  unfolding tag_at in_set_at
+  bad_after false is some_byte fits none_does =
+      let a : ltb 0 (length (bytes ++ y)) ≡ true = lt-ltb _ _ (omega (arith, some_byte, length-append bytes y)) in
+      (tag_why tag, rw (a, is, length-append bytes y) refl)
+  bad_after true is some_byte fits none_does =
+      let a : ltb 0 (length (bytes ++ y)) ≡ true = lt-ltb _ _ (omega (arith, some_byte, length-append bytes y)) in
+      let c : may (case_set tag cs) (bytes ++ y) ≡ false = still_not (case_set tag cs) bytes y _ fits refl none_does in
+      (whys.Case, rw (a, is, c, length-append bytes y) refl)
 
-stays_at : (tag : Tag) (cs : List Choice) (bytes y : List ℕ) (a b c d : Bool) → ltb 0 (length bytes) ≡ a
-    → may (tag_set tag) bytes ≡ b → may (case_set tag cs) bytes ≡ c → ltb (length bytes) 4 ≡ d → IsBytes y
-    → Stays y (guarded tag bytes a b (as_tag tag (chosen a c d whys.Case bytes))) (tag_at tag cs (bytes ++ y))
-unfolding tag_at in_set_at
-stays_at tag cs bytes y false b c d p q r s fits = tt
-stays_at tag cs bytes y true false c d p q r s fits =
-    let a : ltb 0 (length (bytes ++ y)) ≡ true = lt-ltb _ _ (omega (arith, ltb-true _ _ p, length-append bytes y)) in
-    let b : may (tag_set tag) (bytes ++ y) ≡ false = still_not (tag_set tag) bytes y _ fits refl q in
-    (tag_why tag, rw (a, b, length-append bytes y) refl)
-stays_at tag cs bytes y true true false d p q r s fits = bad_after tag cs bytes y _ refl (ltb-true _ _ p) fits r
-stays_at tag cs bytes y true true true true p q r s fits = tt
-stays_at tag cs bytes y true true true false p q r s fits =
-    let long : 4 ≤ length bytes = ltb-false _ _ s in
-    let is = same_word bytes y long in
-    let a : ltb 0 (length (bytes ++ y)) ≡ true = lt-ltb _ _ (omega (arith, length-append bytes y)) in
-    let b : may (tag_set tag) (bytes ++ y) ≡ true = same_may (tag_set tag) bytes y long ∙ q in
-    let c : may (case_set tag cs) (bytes ++ y) ≡ true = same_may (case_set tag cs) bytes y long ∙ r in
-    let d : ltb (length (bytes ++ y)) 4 ≡ false = le-ltb _ _ (omega (arith, length-append bytes y)) in
-    rw (a, b, c, d, is, drop-append-le 4 bytes y long) refl
+  stays_at : (a b c d : Bool) → ltb 0 (length bytes) ≡ a → may (tag_set tag) bytes ≡ b → may (case_set tag cs) bytes ≡ c
+      → ltb (length bytes) 4 ≡ d → IsBytes y
+      → Stays y (guarded tag bytes a b (as_tag tag (chosen a c d whys.Case bytes))) (tag_at tag cs (bytes ++ y))
+  unfolding tag_at in_set_at
+  stays_at false b c d p q r s fits = tt
+  stays_at true false c d p q r s fits =
+      let a : ltb 0 (length (bytes ++ y)) ≡ true = lt-ltb _ _ (omega (arith, ltb-true _ _ p, length-append bytes y)) in
+      let b : may (tag_set tag) (bytes ++ y) ≡ false = still_not (tag_set tag) bytes y _ fits refl q in
+      (tag_why tag, rw (a, b, length-append bytes y) refl)
+  stays_at true true false d p q r s fits = bad_after _ refl (ltb-true _ _ p) fits r
+  stays_at true true true true p q r s fits = tt
+  stays_at true true true false p q r s fits =
+      let long : 4 ≤ length bytes = ltb-false _ _ s in
+      let is = same_word bytes y long in
+      let a : ltb 0 (length (bytes ++ y)) ≡ true = lt-ltb _ _ (omega (arith, length-append bytes y)) in
+      let b : may (tag_set tag) (bytes ++ y) ≡ true = same_may (tag_set tag) bytes y long ∙ q in
+      let c : may (case_set tag cs) (bytes ++ y) ≡ true = same_may (case_set tag cs) bytes y long ∙ r in
+      let d : ltb (length (bytes ++ y)) 4 ≡ false = le-ltb _ _ (omega (arith, length-append bytes y)) in
+      rw (a, b, c, d, is, drop-append-le 4 bytes y long) refl
 
-pub tag_stays : (tag : Tag) (cs : List Choice) (bytes y : List ℕ) → IsBytes y
-    → Stays y (tag_at tag cs bytes) (tag_at tag cs (bytes ++ y))
-unfolding tag_at in_set_at
-tag_stays tag cs bytes y fits = stays_at tag cs bytes y _ _ _ _ refl refl refl refl fits
+  pub tag_stays : IsBytes y → Stays y (tag_at tag cs bytes) (tag_at tag cs (bytes ++ y))
+  unfolding tag_at in_set_at
+  tag_stays fits = stays_at _ _ _ _ refl refl refl refl fits
 
 -- ---- bytes that run short
 
@@ -267,58 +267,58 @@ number_back : (signed : Bool) (n : ℕ) → n < 2 ^ 32 → cast_unsigned w32 (nu
 number_back true n lt = of_z-to_z w32 n lt
 number_back false n lt = refl
 
-complete_by : (K : Kind → Type 0) (tag : Tag) (cs : List Choice) → ArmsHave K tag cs
-    → (bytes : List ℕ) (n : ℕ) (y : List ℕ) (o : Option Choice) → default_arm cs ≡ o
-    → reached (cases_of tag cs o) n n ≡ true → n < 2 ^ 32
-    → bytes ++ y ≡ word n → (d : Datum) × (z : List ℕ) × TagHasArm tag cs d × (bytes ++ z ≡ tag_spelling d)
-complete_by K tag cs have bytes n y (Some c) e r lt is =
-    let fits = tag_fits tag n (r, lt) in (
-      tag_datum tag n,
-      y,
-      (
-        fits.0,
-        with_default (tag_number (tag_datum tag n))
-            (own_arm (tag_number (tag_datum tag n)) cs) (default_arm cs) c e,
-      ),
-      is ∙ sym fits.1,
-    )
-complete_by K tag cs have bytes n y None e r lt is =
-    let one = exactly (is_signed tag) (case_numbers cs) n back32 r in
-    let z : ℤ = numbered (is_signed tag) n in
-    let is_case = each_case tag cs z have.cases one.1 in
-    let own = own_case z cs one.1 in
-    let word_is : tag_spelling (tag_value tag z) ≡ word n = ap word
-    (ap (cast_unsigned w32) (have.back z is_case) ∙ number_back (is_signed tag) n lt) in (
-      tag_value tag z,
-      y,
-      case_tag K tag cs have z is_case own.0
-          (own_first (own_arm z cs) (default_arm cs) own.0 own.1),
-      is ∙ sym word_is,
-    )
+module _ (K : Kind → Type 0) (tag : Tag) (cs : List Choice) where
+  complete_by : ArmsHave K tag cs → (bytes : List ℕ) (n : ℕ) (y : List ℕ) (o : Option Choice) → default_arm cs ≡ o
+      → reached (cases_of tag cs o) n n ≡ true → n < 2 ^ 32 → bytes ++ y ≡ word n
+      → (d : Datum) × (z : List ℕ) × TagHasArm tag cs d × (bytes ++ z ≡ tag_spelling d)
+  complete_by have bytes n y (Some c) e r lt is =
+      let fits = tag_fits tag n (r, lt) in (
+        tag_datum tag n,
+        y,
+        (
+          fits.0,
+          with_default (tag_number (tag_datum tag n))
+              (own_arm (tag_number (tag_datum tag n)) cs) (default_arm cs) c e,
+        ),
+        is ∙ sym fits.1,
+      )
+  complete_by have bytes n y None e r lt is =
+      let one = exactly (is_signed tag) (case_numbers cs) n back32 r in
+      let z : ℤ = numbered (is_signed tag) n in
+      let is_case = each_case tag cs z have.cases one.1 in
+      let own = own_case z cs one.1 in
+      let word_is : tag_spelling (tag_value tag z) ≡ word n = ap word
+      (ap (cast_unsigned w32) (have.back z is_case) ∙ number_back (is_signed tag) n lt) in (
+        tag_value tag z,
+        y,
+        case_tag K tag cs have z is_case own.0
+            (own_first (own_arm z cs) (default_arm cs) own.0 own.1),
+        is ∙ sym word_is,
+      )
 
-ends_at : (K : Kind → Type 0) (tag : Tag) (cs : List Choice) → ArmsHave K tag cs → (bytes : List ℕ) (a b c d : Bool)
-    → ltb 0 (length bytes) ≡ a → may (case_set tag cs) bytes ≡ c → ltb (length bytes) 4 ≡ d → IsBytes bytes
-    → Ends bytes tag_spelling (TagHasArm tag cs) (guarded tag bytes a b (as_tag tag (chosen a c d whys.Case bytes)))
-ends_at K tag cs have [] false b c d p r s fits = (
-  tag_value tag have.number,
-  tag_spelling (tag_value tag have.number),
-  case_tag K tag cs have have.number
-      have.is_case have.chosen have.has,
-  refl,
-)
-ends_at K tag cs have (x ∷ bytes) false b c d p r s fits = absurd (omega (arith, ltb-false _ _ p))
-ends_at K tag cs have bytes true false c d p r s fits = tt
-ends_at K tag cs have bytes true true false d p r s fits = tt
-ends_at K tag cs have bytes true true true false p r s fits = tt
-ends_at K tag cs have bytes true true true true p r s fits =
-    let n = completed (case_set tag cs) bytes fits (ltb-true _ _ s)
-    (some_number (case_set tag cs) (from_be_bytes w32 bytes) (high_word bytes) (low_high bytes) r) in
-    complete_by K tag cs have bytes n.0 n.1 (default_arm cs) refl n.2.0 n.2.1 n.3
+  ends_at : ArmsHave K tag cs → (bytes : List ℕ) (a b c d : Bool) → ltb 0 (length bytes) ≡ a
+      → may (case_set tag cs) bytes ≡ c → ltb (length bytes) 4 ≡ d → IsBytes bytes
+      → Ends bytes tag_spelling (TagHasArm tag cs) (guarded tag bytes a b (as_tag tag (chosen a c d whys.Case bytes)))
+  ends_at have [] false b c d p r s fits = (
+    tag_value tag have.number,
+    tag_spelling (tag_value tag have.number),
+    case_tag K tag cs have have.number
+        have.is_case have.chosen have.has,
+    refl,
+  )
+  ends_at have (x ∷ bytes) false b c d p r s fits = absurd (omega (arith, ltb-false _ _ p))
+  ends_at have bytes true false c d p r s fits = tt
+  ends_at have bytes true true false d p r s fits = tt
+  ends_at have bytes true true true false p r s fits = tt
+  ends_at have bytes true true true true p r s fits =
+      let n = completed (case_set tag cs) bytes fits (ltb-true _ _ s)
+      (some_number (case_set tag cs) (from_be_bytes w32 bytes) (high_word bytes) (low_high bytes) r) in
+      complete_by have bytes n.0 n.1 (default_arm cs) refl n.2.0 n.2.1 n.3
 
-pub tag_ends : (K : Kind → Type 0) (tag : Tag) (cs : List Choice) → ArmsHave K tag cs → (bytes : List ℕ)
-    → IsBytes bytes → Ends bytes tag_spelling (TagHasArm tag cs) (tag_at tag cs bytes)
-unfolding tag_at in_set_at
-tag_ends K tag cs have bytes fits = ends_at K tag cs have bytes _ _ _ _ refl refl refl fits
+  pub tag_ends : ArmsHave K tag cs → (bytes : List ℕ) → IsBytes bytes
+      → Ends bytes tag_spelling (TagHasArm tag cs) (tag_at tag cs bytes)
+  unfolding tag_at in_set_at
+  tag_ends have bytes fits = ends_at have bytes _ _ _ _ refl refl refl fits
 
 -- ---- levels
 

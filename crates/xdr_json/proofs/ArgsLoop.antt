@@ -48,19 +48,17 @@ less_deep j js left n is deep =
     let all : items_depth (items_view (j ∷ js)) ≤ n = subst (λ xs. items_depth (items_view xs) ≤ n) is deep in
     grind (arith, all)
 
--- one value more was judged
-pub args_go_on : (t : Types) (k : Kind) (ks all : List Kind) (front : Data) (i : ℕ) (j : JsonValue)
-    (left js : List JsonValue) (d : Datum) (total : Judged Data)
-    → left ≡ j ∷ js
-    → all ≡ k ∷ ks
-    → below (index_step i) (judged t (view j) k) ≡ Ok d
-    → with_front front (args_judged t all (items_view left) i) ≡ total
-    → with_front (append front (more d end)) (args_judged t ks (items_view js) (suc i)) ≡ total
-args_go_on t k ks all front i j left js d total is kinds h so_far =
-    let one : with_front front (args_judged t all (items_view left) i)
-    ≡ with_front (append front (more d end)) (args_judged t ks (items_view js) (suc i)) =
-    rw (is, kinds, h) (regroup front d (args_judged t ks (items_view js) (suc i))) in
-    sym one ∙ so_far
+module _ (t : Types) (k : Kind) (ks all : List Kind) (front : Data) (i : ℕ) (j : JsonValue) (left js : List JsonValue)
+    (d : Datum) (total : Judged Data) where
+  -- one value more was judged
+  pub args_go_on : left ≡ j ∷ js → all ≡ k ∷ ks → below (index_step i) (judged t (view j) k) ≡ Ok d
+      → with_front front (args_judged t all (items_view left) i) ≡ total
+      → with_front (append front (more d end)) (args_judged t ks (items_view js) (suc i)) ≡ total
+  args_go_on is kinds h so_far =
+      let one : with_front front (args_judged t all (items_view left) i)
+      ≡ with_front (append front (more d end)) (args_judged t ks (items_view js) (suc i)) =
+      rw (is, kinds, h) (regroup front d (args_judged t ks (items_view js) (suc i))) in
+      sym one ∙ so_far
 
 -- no argument is left
 pub args_done : (t : Types) (front : Data) (all : List Kind) (i : ℕ) (left : List JsonValue) (total : Judged Data)

@@ -372,41 +372,40 @@ found_tag : (tag : Tag) (o : Option Json) (d : Datum) → TagSound tag → tag_f
 found_tag tag None d sound found = cc found
 found_tag tag (Some j) d sound found = (j, refl, tag_says tag j d sound found)
 
-arm_says : (t : Types) (k : Kind) (tag : Tag) (cs : List Choice) (ms : Members) (case : Json) (d e : Datum)
-    (o : Option Choice) → head_of t k ≡ is_union tag cs → members_len ms ≡ 2 → get_member (codes "case") ms ≡ Some case
-    → TagIsRight tag case d → arm_of (tag_number d) cs ≡ o → MembersRight t ms
-    → arm_judged k d o (member_judge t ms (codes "value")) ≡ Ok e → Right t k (json.object ms) e
-arm_says t k tag cs ms case d e None is two has tagged chosen right found = cc found
-arm_says t k tag cs ms case d e (Some c) is two has tagged chosen right found =
-    let inner = bound (below (field_step (codes "value")) (asked (member_judge t ms (codes "value")) (arm_kind c)))
-    (λ v. Ok (union d v)) e found in
-    let one = asked_says t ms (codes "value") (arm_kind c) inner.0 (member_judge t ms (codes "value")) right refl
-    (below_is (field_step (codes "value")) _ inner.0 inner.1) in
-    let same : union d inner.0 ≡ e = let eq = inner.2 in cc eq in
-    subst (Right t k (json.object ms)) same (
-      tag_and_arm k tag cs ms case one.0 d inner.0 c is two has tagged.0 chosen one.1 one.2.0,
-      rw (is, tagged.1, chosen) one.2.1,
-    )
+module _ (t : Types) (k : Kind) (tag : Tag) (cs : List Choice) (ms : Members) where
+  arm_says : (case : Json) (d e : Datum) (o : Option Choice) → head_of t k ≡ is_union tag cs → members_len ms ≡ 2
+      → get_member (codes "case") ms ≡ Some case → TagIsRight tag case d → arm_of (tag_number d) cs ≡ o
+      → MembersRight t ms → arm_judged k d o (member_judge t ms (codes "value")) ≡ Ok e → Right t k (json.object ms) e
+  arm_says case d e None is two has tagged chosen right found = cc found
+  arm_says case d e (Some c) is two has tagged chosen right found =
+      let inner = bound (below (field_step (codes "value")) (asked (member_judge t ms (codes "value")) (arm_kind c)))
+      (λ v. Ok (union d v)) e found in
+      let one = asked_says t ms (codes "value") (arm_kind c) inner.0 (member_judge t ms (codes "value")) right refl
+      (below_is (field_step (codes "value")) _ inner.0 inner.1) in
+      let same : union d inner.0 ≡ e = let eq = inner.2 in cc eq in
+      subst (Right t k (json.object ms)) same (
+        tag_and_arm k tag cs ms case one.0 d inner.0 c is two has tagged.0 chosen one.1 one.2.0,
+        rw (is, tagged.1, chosen) one.2.1,
+      )
 
-chosen_says : (t : Types) (k : Kind) (tag : Tag) (cs : List Choice) (ms : Members) (d : Datum) (o : Option Datum)
-    → head_of t k ≡ is_union tag cs → TagSound tag → members_len ms ≡ 2
-    → tag_found tag (get_member (codes "case") ms) ≡ o → MembersRight t ms
-    → chosen_judged t k cs o (member_judge t ms (codes "value")) ≡ Ok d → Right t k (json.object ms) d
-chosen_says t k tag cs ms d None is sound two test right found = cc found
-chosen_says t k tag cs ms d (Some chosen) is sound two test right found =
-    let case = found_tag tag (get_member (codes "case") ms) chosen sound test in
-    arm_says t k tag cs ms case.0 chosen d _ is two case.1 case.2 refl right found
+  chosen_says : (d : Datum) (o : Option Datum) → head_of t k ≡ is_union tag cs → TagSound tag → members_len ms ≡ 2
+      → tag_found tag (get_member (codes "case") ms) ≡ o → MembersRight t ms
+      → chosen_judged t k cs o (member_judge t ms (codes "value")) ≡ Ok d → Right t k (json.object ms) d
+  chosen_says d None is sound two test right found = cc found
+  chosen_says d (Some chosen) is sound two test right found =
+      let case = found_tag tag (get_member (codes "case") ms) chosen sound test in
+      arm_says case.0 chosen d _ is two case.1 case.2 refl right found
 
-union_says : (t : Types) (k : Kind) (tag : Tag) (cs : List Choice) (ms : Members) (d : Datum) (b : Bool)
-    → head_of t k ≡ is_union tag cs → TagSound tag → has_union ms ≡ b → MembersRight t ms
-    → (if b then chosen_judged t k cs (tag_found tag (get_member (codes "case") ms)) (member_judge t ms (codes "value"))
-    else misfit k) ≡ Ok d
-    → Right t k (json.object ms) d
-union_says t k tag cs ms d false is sound test right found = cc found
-union_says t k tag cs ms d true is sound test right found =
-    let two = eqb-true (members_len ms) 2 (and_parts (members_len ms == 2) (is_some (get_member (codes "case") ms)
-    && is_some (get_member (codes "value") ms)) test).0 in
-    chosen_says t k tag cs ms d _ is sound two refl right found
+  union_says : (d : Datum) (b : Bool) → head_of t k ≡ is_union tag cs → TagSound tag → has_union ms ≡ b
+      → MembersRight t ms
+      → (if b then chosen_judged t k cs (tag_found tag (get_member (codes "case") ms))
+      (member_judge t ms (codes "value")) else misfit k) ≡ Ok d
+      → Right t k (json.object ms) d
+  union_says d false is sound test right found = cc found
+  union_says d true is sound test right found =
+      let two = eqb-true (members_len ms) 2 (and_parts (members_len ms == 2) (is_some (get_member (codes "case") ms)
+      && is_some (get_member (codes "value") ms)) test).0 in
+      chosen_says d _ is sound two refl right found
 
 hex_member_says : (t : Types) (k : Kind) (n : ℕ) (ms : Members) (d : Datum) (o : Option Json)
     → head_of t k ≡ is_basic (basics.Text n) → members_len ms ≡ 1 → get_member (codes "hex") ms ≡ o

@@ -73,23 +73,22 @@ uneven t (p ∷ ps) end h = refl
 uneven t (p ∷ ps) (more v vs) h = and_right (does_fit t p.kind v) (parts_fit t ps vs)
     (uneven t ps vs (λ e. h (ap suc e)))
 
--- an array of m: its count is tested first
-pub array_then : (t : Types) (k of : Kind) (m n : ℕ) (d : Datum) (vs : Data) (r : Bool) → d ≡ items vs
-    → is_array of m ≡ head_of t k → count vs ≡ n → eqb n m ≡ true → r ≡ all_fit t of vs → r ≡ does_fit t k d
-array_then t k of m n d vs r is head counted test e = rw (is, ← head, counted, test) e
+module _ (t : Types) (k of : Kind) (m n : ℕ) (d : Datum) (vs : Data) (r : Bool) where
+  -- an array of m: its count is tested first
+  pub array_then : d ≡ items vs → is_array of m ≡ head_of t k → count vs ≡ n → eqb n m ≡ true → r ≡ all_fit t of vs
+      → r ≡ does_fit t k d
+  array_then is head counted test e = rw (is, ← head, counted, test) e
 
-pub array_else : (t : Types) (k of : Kind) (m n : ℕ) (d : Datum) (vs : Data) (r : Bool) → d ≡ items vs
-    → is_array of m ≡ head_of t k → count vs ≡ n → r ≡ eqb n m → r ≡ false → r ≡ does_fit t k d
-array_else t k of m n d vs r is head counted test e = let no : eqb n m ≡ false = sym test ∙ e in rw
-    (is, ← head, counted, no) e
+  pub array_else : d ≡ items vs → is_array of m ≡ head_of t k → count vs ≡ n → r ≡ eqb n m → r ≡ false
+      → r ≡ does_fit t k d
+  array_else is head counted test e = let no : eqb n m ≡ false = sym test ∙ e in rw
+      (is, ← head, counted, no) e
 
-pub list_then : (t : Types) (k of : Kind) (m n : ℕ) (d : Datum) (vs : Data) (r : Bool) → d ≡ items vs
-    → is_array_up_to of m ≡ head_of t k → count vs ≡ n
-    → (leb n (list_limit t of m) && ltb n (2 ^ 32)) ≡ true → r ≡ all_fit t of vs → r ≡ does_fit t k d
-list_then t k of m n d vs r is head counted test e = rw (is, ← head, counted, test) e
+  pub list_then : d ≡ items vs → is_array_up_to of m ≡ head_of t k → count vs ≡ n
+      → (leb n (list_limit t of m) && ltb n (2 ^ 32)) ≡ true → r ≡ all_fit t of vs → r ≡ does_fit t k d
+  list_then is head counted test e = rw (is, ← head, counted, test) e
 
-pub list_else : (t : Types) (k of : Kind) (m n : ℕ) (d : Datum) (vs : Data) (r : Bool) → d ≡ items vs
-    → is_array_up_to of m ≡ head_of t k → count vs ≡ n
-    → r ≡ (leb n (list_limit t of m) && ltb n (2 ^ 32)) → r ≡ false → r ≡ does_fit t k d
-list_else t k of m n d vs r is head counted test e = let no : (leb n (list_limit t of m) && ltb n (2 ^ 32)) ≡ false =
-    sym test ∙ e in rw (is, ← head, counted, no) e
+  pub list_else : d ≡ items vs → is_array_up_to of m ≡ head_of t k → count vs ≡ n
+      → r ≡ (leb n (list_limit t of m) && ltb n (2 ^ 32)) → r ≡ false → r ≡ does_fit t k d
+  list_else is head counted test e = let no : (leb n (list_limit t of m) && ltb n (2 ^ 32)) ≡ false =
+      sym test ∙ e in rw (is, ← head, counted, no) e

@@ -37,20 +37,21 @@ struct_is t ps =
     (AllByRecursion (IsKnown t) (part_kinds ps)) (IsDistinct bytes_eq (map (λ (p : Part). p.name) ps))
     (kinds_are_known t (part_kinds ps)) (differ_is bytes_eq (map (λ (p : Part). p.name) ps))
 
--- the five tests of a union, one after the other
-five : (a b c d e : Bool) (A B C D E : Type 0) → ((a ≡ true) ↔ A) → ((b ≡ true) ↔ B) → ((c ≡ true) ↔ C)
-    → ((d ≡ true) ↔ D) → ((e ≡ true) ↔ E)
-    → ((a && b && c && d && e) ≡ true) ↔ (A × B × C × D × E)
-five a b c d e A B C D E p q r s u = (
-  λ h.
-      let w = and_parts (a && b && c && d) e h in
-      let x = and_parts (a && b && c) d w.0 in
-      let y = and_parts (a && b) c x.0 in
-      let z = and_parts a b y.0 in
-      (p.0 z.0, q.0 z.1, r.0 y.1, s.0 x.1, u.0 w.1),
-  λ h. and_from (a && b && c && d) e
-      (and_from (a && b && c) d (and_from (a && b) c (and_from a b (p.1 h.0) (q.1 h.1)) (r.1 h.2)) (s.1 h.3)) (u.1 h.4),
-)
+module _ (a b c d e : Bool) (A B C D E : Type 0) where
+  -- the five tests of a union, one after the other
+  five : ((a ≡ true) ↔ A) → ((b ≡ true) ↔ B) → ((c ≡ true) ↔ C) → ((d ≡ true) ↔ D) → ((e ≡ true) ↔ E)
+      → ((a && b && c && d && e) ≡ true) ↔ (A × B × C × D × E)
+  five p q r s u = (
+    λ h.
+        let w = and_parts (a && b && c && d) e h in
+        let x = and_parts (a && b && c) d w.0 in
+        let y = and_parts (a && b) c x.0 in
+        let z = and_parts a b y.0 in
+        (p.0 z.0, q.0 z.1, r.0 y.1, s.0 x.1, u.0 w.1),
+    λ h. and_from (a && b && c && d) e
+        (and_from (a && b && c) d (and_from (a && b) c (and_from a b (p.1 h.0) (q.1 h.1)) (r.1 h.2)) (s.1 h.3))
+        (u.1 h.4),
+  )
 
 union_is : (t : Types) (k : Kind) (cs : List Choice) → (form_sound t (choice k cs) ≡ true) ↔ FormIsSound t (choice k cs)
 union_is t k cs =

@@ -78,23 +78,25 @@ module _ {X : Type 0} (one : X → Option ℕ) (all : List X → Option ℕ) (f 
       → option_map capped (both f (Some s) (all (drop i xs))) ≡ total → None ≡ total
   none_here total e was = sym (none_left f s (one x) (all (drop (i + 1) xs)) e) ∙ sym next ∙ was
 
-pub plus_next : {X : Type 0} (one : X → Option ℕ) (all : List X → Option ℕ)
-    (cons : (x : X) (xs : List X) → all (x ∷ xs) ≡ both (λ m n. m + n) (one x) (all xs)) (xs : List X) (i : ℕ) (x : X)
-    (s b new : ℕ) (total : Option ℕ) → i < length xs → x ≡ get_or xs i x → Some b ≡ option_map capped (one x)
-    → new ≡ capped (b + s) → option_map capped (both (λ m n. m + n) (Some s) (all (drop i xs))) ≡ total
-    → option_map capped (both (λ m n. m + n) (Some new) (all (drop (i + 1) xs))) ≡ total
-plus_next one all cons xs i x s b new total lt is e sum was =
-    ap (λ (n : ℕ). option_map capped (both (λ m k. m + k) (Some n) (all (drop (i + 1) xs)))) sum
-    ∙ plus_more b s (one x) (all (drop (i + 1) xs)) e ∙ sym (next one all (λ m n. m + n) cons xs i x s lt is) ∙ was
+module _ {X : Type 0} (one : X → Option ℕ) (all : List X → Option ℕ)
+    (cons : (x : X) (xs : List X) → all (x ∷ xs) ≡ both (λ m n. m + n) (one x) (all xs)) (xs : List X) (i : ℕ) where
+  pub plus_next : (x : X) (s b new : ℕ) (total : Option ℕ) → i < length xs → x ≡ get_or xs i x
+      → Some b ≡ option_map capped (one x) → new ≡ capped (b + s)
+      → option_map capped (both (λ m n. m + n) (Some s) (all (drop i xs))) ≡ total
+      → option_map capped (both (λ m n. m + n) (Some new) (all (drop (i + 1) xs))) ≡ total
+  plus_next x s b new total lt is e sum was =
+      ap (λ (n : ℕ). option_map capped (both (λ m k. m + k) (Some n) (all (drop (i + 1) xs)))) sum
+      ∙ plus_more b s (one x) (all (drop (i + 1) xs)) e ∙ sym (next one all (λ m n. m + n) cons xs i x s lt is) ∙ was
 
-pub max_next : {X : Type 0} (one : X → Option ℕ) (all : List X → Option ℕ)
-    (cons : (x : X) (xs : List X) → all (x ∷ xs) ≡ both max (one x) (all xs)) (xs : List X) (i : ℕ) (x : X)
-    (s b new : ℕ) (total : Option ℕ) → i < length xs → x ≡ get_or xs i x → Some b ≡ option_map capped (one x)
-    → new ≡ max b s → option_map capped (both max (Some s) (all (drop i xs))) ≡ total
-    → option_map capped (both max (Some new) (all (drop (i + 1) xs))) ≡ total
-max_next one all cons xs i x s b new total lt is e sum was =
-    ap (λ (n : ℕ). option_map capped (both max (Some n) (all (drop (i + 1) xs)))) sum
-    ∙ max_more b s (one x) (all (drop (i + 1) xs)) e ∙ sym (next one all max cons xs i x s lt is) ∙ was
+module _ {X : Type 0} (one : X → Option ℕ) (all : List X → Option ℕ)
+    (cons : (x : X) (xs : List X) → all (x ∷ xs) ≡ both max (one x) (all xs)) (xs : List X) (i : ℕ) where
+  pub max_next : (x : X) (s b new : ℕ) (total : Option ℕ) → i < length xs → x ≡ get_or xs i x
+      → Some b ≡ option_map capped (one x) → new ≡ max b s
+      → option_map capped (both max (Some s) (all (drop i xs))) ≡ total
+      → option_map capped (both max (Some new) (all (drop (i + 1) xs))) ≡ total
+  max_next x s b new total lt is e sum was =
+      ap (λ (n : ℕ). option_map capped (both max (Some n) (all (drop (i + 1) xs)))) sum
+      ∙ max_more b s (one x) (all (drop (i + 1) xs)) e ∙ sym (next one all max cons xs i x s lt is) ∙ was
 
 pub plus_first : {X : Type 0} (all : List X → Option ℕ) (xs : List X)
     → option_map capped (both (λ m n. m + n) (Some 0) (all xs)) ≡ option_map capped (all xs)

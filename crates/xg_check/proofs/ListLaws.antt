@@ -59,17 +59,18 @@ members_more other ms i d h =
 pub map_push : {X A : Type 0} (f : X → A) (xs : List X) (x : X) → map f (xs ++ x ∷ []) ≡ map f xs ++ f x ∷ []
 map_push f xs x = map-append f xs (x ∷ [])
 
--- a list seen through a function, with one item pushed
-pub push_step : {X A : Type 0} (f : X → A) (new cur : List X) (v : X) (a b : List A) (w : A)
-    → new ≡ cur ++ v ∷ [] → map f cur ≡ a → b ≡ a ++ w ∷ [] → f v ≡ w → map f new ≡ b
-push_step {X} {A} f new cur v a b w is was more here =
-    ap (map f) is ∙ map_push f cur v ∙ ap (λ (zs : List A). zs ++ f v ∷ []) was
-    ∙ ap (λ (y : A). a ++ y ∷ []) here ∙ sym more
+module _ {X A : Type 0} (f : X → A) (new cur : List X) where
+  -- a list seen through a function, with one item pushed
+  pub push_step : (v : X) (a b : List A) (w : A) → new ≡ cur ++ v ∷ [] → map f cur ≡ a → b ≡ a ++ w ∷ [] → f v ≡ w
+      → map f new ≡ b
+  push_step v a b w is was more here =
+      ap (map f) is ∙ map_push f cur v ∙ ap (λ (zs : List A). zs ++ f v ∷ []) was
+      ∙ ap (λ (y : A). a ++ y ∷ []) here ∙ sym more
 
--- the same behind what was there
-pub push_behind : {X A : Type 0} (f : X → A) (new cur : List X) (v : X) (old a b : List A) (w : A)
-    → new ≡ cur ++ v ∷ [] → map f cur ≡ old ++ a → b ≡ a ++ w ∷ [] → f v ≡ w → map f new ≡ old ++ b
-push_behind {X} {A} f new cur v old a b w is was more here =
-    ap (map f) is ∙ map_push f cur v ∙ ap (λ (zs : List A). zs ++ f v ∷ []) was
-    ∙ ap (λ (y : A). (old ++ a) ++ y ∷ []) here
-    ∙ append_assoc old a (w ∷ []) ∙ ap (λ (zs : List A). old ++ zs) (sym more)
+  -- the same behind what was there
+  pub push_behind : (v : X) (old a b : List A) (w : A) → new ≡ cur ++ v ∷ [] → map f cur ≡ old ++ a → b ≡ a ++ w ∷ []
+      → f v ≡ w → map f new ≡ old ++ b
+  push_behind v old a b w is was more here =
+      ap (map f) is ∙ map_push f cur v ∙ ap (λ (zs : List A). zs ++ f v ∷ []) was
+      ∙ ap (λ (y : A). (old ++ a) ++ y ∷ []) here
+      ∙ append_assoc old a (w ∷ []) ∙ ap (λ (zs : List A). old ++ zs) (sym more)

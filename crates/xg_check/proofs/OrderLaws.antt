@@ -173,56 +173,54 @@ module _ (g : List (List ℕ)) (node : ℕ) (e : List Bool) (n : List ℕ) (w : 
 
 -- ---- the search
 
--- a node that waits goes on waiting
-pub waits_kept : (g : List (List ℕ)) (node : ℕ) (e0 e1 : List Bool) (n0 n1 : List ℕ) (w0 w1 : List (List ℕ))
-    (l1 : List ℕ) (r i : ℕ) → IsLooked g node e0 n0 w0 e1 n1 w1 l1 → r ≤ length n0 → Waits g n0 w0 r i
-    → Waits g n1 w1 r i
-waits_kept g node e0 e1 n0 n1 w0 w1 l1 r i look le a = record {
-  other = a.other;
-  leads = a.leads;
-  is_in = look.waits_on i a.other a.is_in;
-  later = later;
-}
-  where
-    later : (k : ℕ) → slice_get n1 k ≡ Some a.other → r ≤ k
-    later k x = elim (look.added k a.other x) [
-      | inl old ↦ a.later k old
-      | inr new ↦ omega (arith, new, le)
-    ]
+module _ (g : List (List ℕ)) (node : ℕ) (e0 e1 : List Bool) (n0 n1 : List ℕ) (w0 w1 : List (List ℕ)) where
+  -- a node that waits goes on waiting
+  pub waits_kept : (l1 : List ℕ) (r i : ℕ) → IsLooked g node e0 n0 w0 e1 n1 w1 l1 → r ≤ length n0 → Waits g n0 w0 r i
+      → Waits g n1 w1 r i
+  waits_kept l1 r i look le a = record {
+    other = a.other;
+    leads = a.leads;
+    is_in = look.waits_on i a.other a.is_in;
+    later = later;
+  }
+    where
+      later : (k : ℕ) → slice_get n1 k ≡ Some a.other → r ≤ k
+      later k x = elim (look.added k a.other x) [
+        | inl old ↦ a.later k old
+        | inr new ↦ omega (arith, new, le)
+      ]
 
--- the node that was looked at has ended or waits
-pub looked_waits : (g : List (List ℕ)) (node : ℕ) (e0 e1 : List Bool) (n0 n1 : List ℕ) (w0 w1 : List (List ℕ))
-    (l1 : List ℕ) (r : ℕ) → IsLooked g node e0 n0 w0 e1 n1 w1 l1
-    → (slice_get e1 node ≡ Some true) ⊎ Waits g n1 w1 r node
-looked_waits g node e0 e1 n0 n1 w0 w1 l1 r look = by_outcome look.outcome
-  where
-    by_outcome : (slice_get e1 node ≡ Some true)
-        ⊎ ((j : ℕ) × Step g node j × (slice_get e1 j ≡ Some false) × IsIn w1 j node)
-        → (slice_get e1 node ≡ Some true) ⊎ Waits g n1 w1 r node
-    by_outcome (inl ended) = inl ended
-    by_outcome (inr x) = inr (record {
-      other = x.0;
-      leads = x.1;
-      is_in = x.3;
-      later = λ k at. not_both (slice_get e1 x.0) (look.is.listed.there k x.0 at) x.2;
-    })
+  -- the node that was looked at has ended or waits
+  pub looked_waits : (l1 : List ℕ) (r : ℕ) → IsLooked g node e0 n0 w0 e1 n1 w1 l1
+      → (slice_get e1 node ≡ Some true) ⊎ Waits g n1 w1 r node
+  looked_waits l1 r look = by_outcome look.outcome
+    where
+      by_outcome : (slice_get e1 node ≡ Some true)
+          ⊎ ((j : ℕ) × Step g node j × (slice_get e1 j ≡ Some false) × IsIn w1 j node)
+          → (slice_get e1 node ≡ Some true) ⊎ Waits g n1 w1 r node
+      by_outcome (inl ended) = inl ended
+      by_outcome (inr x) = inr (record {
+        other = x.0;
+        leads = x.1;
+        is_in = x.3;
+        later = λ k at. not_both (slice_get e1 x.0) (look.is.listed.there k x.0 at) x.2;
+      })
 
-pub looked_one_more : (g : List (List ℕ)) (node : ℕ) (e0 e1 : List Bool) (n0 n1 : List ℕ) (w0 w1 : List (List ℕ))
-    (l0 l1 : List ℕ) → AllLooked g node e0 n0 w0 l0 → IsLooked g node e0 n0 w0 e1 n1 w1 l1
-    → AllLooked g (node + 1) e1 n1 w1 l1
-looked_one_more g node e0 e1 n0 n1 w0 w1 l0 l1 all look = record { is = look.is; each = each }
-  where
-    old : (i : ℕ) → (slice_get e0 i ≡ Some true) ⊎ Waits g n0 w0 0 i
-        → (slice_get e1 i ≡ Some true) ⊎ Waits g n1 w1 0 i
-    old i (inl ended) = inl (look.kept i ended)
-    old i (inr waits) = inr (waits_kept g node e0 e1 n0 n1 w0 w1 l1 0 i look (omega arith) waits)
+  pub looked_one_more : (l0 l1 : List ℕ) → AllLooked g node e0 n0 w0 l0 → IsLooked g node e0 n0 w0 e1 n1 w1 l1
+      → AllLooked g (node + 1) e1 n1 w1 l1
+  looked_one_more l0 l1 all look = record { is = look.is; each = each }
+    where
+      old : (i : ℕ) → (slice_get e0 i ≡ Some true) ⊎ Waits g n0 w0 0 i
+          → (slice_get e1 i ≡ Some true) ⊎ Waits g n1 w1 0 i
+      old i (inl ended) = inl (look.kept i ended)
+      old i (inr waits) = inr (waits_kept l1 0 i look (omega arith) waits)
 
-    each : (i : ℕ) → i < node + 1 → (slice_get e1 i ≡ Some true) ⊎ Waits g n1 w1 0 i
-    each i lt = elim (same_or_not i node) [
-      | inl same ↦ subst (λ (q : ℕ). (slice_get e1 q ≡ Some true) ⊎ Waits g n1 w1 0 q) (sym same)
-          (looked_waits g node e0 e1 n0 n1 w0 w1 l1 0 look)
-      | inr ne ↦ old i (all.each i (omega (arith, lt, ne)))
-    ]
+      each : (i : ℕ) → i < node + 1 → (slice_get e1 i ≡ Some true) ⊎ Waits g n1 w1 0 i
+      each i lt = elim (same_or_not i node) [
+        | inl same ↦ subst (λ (q : ℕ). (slice_get e1 q ≡ Some true) ⊎ Waits g n1 w1 0 q) (sym same)
+            (looked_waits l1 0 look)
+        | inr ne ↦ old i (all.each i (omega (arith, lt, ne)))
+      ]
 
 -- those that wait for a node that has ended are taken from its list
 pub released : (g : List (List ℕ)) (at node : ℕ) (e : List Bool) (n : List ℕ) (w : List (List ℕ)) (l ws : List ℕ)
@@ -305,27 +303,28 @@ still_inside (suc r) n0 n1 grown le =
     let x = item_of n0 r (omega (arith, le)) in
     omega (arith, slice_get_within n1 r x.0 (grown r x.0 x.1))
 
--- one of them is looked at
-pub one_less : (g : List (List ℕ)) (r x : ℕ) (some : List ℕ) (e0 e1 : List Bool) (n0 n1 : List ℕ)
-    (w0 w1 : List (List ℕ)) (l0 l1 : List ℕ) → AllButSome g r (x ∷ some) e0 n0 w0 l0
-    → IsLooked g x e0 n0 w0 e1 n1 w1 l1 → AllButSome g r some e1 n1 w1 l1
-one_less g r x some e0 e1 n0 n1 w0 w1 l0 l1 all look = record {
-  is = look.is;
-  each = λ i lt. by_each i (all.each i lt);
-  small = λ m i h. all.small (suc m) i h;
-  inside = still_inside r n0 n1 look.grown all.inside;
-}
-  where
-    by_each : (i : ℕ)
-        → ((slice_get e0 i ≡ Some true) ⊎ Waits g n0 w0 r i) ⊎ ((m : ℕ) × (slice_get (x ∷ some) m ≡ Some i))
-        → ((slice_get e1 i ≡ Some true) ⊎ Waits g n1 w1 r i) ⊎ ((m : ℕ) × (slice_get some m ≡ Some i))
-    by_each i (inl (inl ended)) = inl (inl (look.kept i ended))
-    by_each i (inl (inr a)) = inl (inr (waits_kept g x e0 e1 n0 n1 w0 w1 l1 r i look all.inside a))
-    by_each i (inr (zero, h)) =
-        let is : x ≡ i = cc in
-        inl (subst (λ (q : ℕ). (slice_get e1 q ≡ Some true) ⊎ Waits g n1 w1 r q) is
-        (looked_waits g x e0 e1 n0 n1 w0 w1 l1 r look))
-    by_each i (inr (suc m, h)) = inr (m, h)
+module _ (g : List (List ℕ)) (r x : ℕ) (some : List ℕ) (e0 e1 : List Bool) (n0 n1 : List ℕ) (w0 w1 : List (List ℕ))
+    (l0 l1 : List ℕ) where
+  -- one of them is looked at
+  pub one_less : AllButSome g r (x ∷ some) e0 n0 w0 l0 → IsLooked g x e0 n0 w0 e1 n1 w1 l1
+      → AllButSome g r some e1 n1 w1 l1
+  one_less all look = record {
+    is = look.is;
+    each = λ i lt. by_each i (all.each i lt);
+    small = λ m i h. all.small (suc m) i h;
+    inside = still_inside r n0 n1 look.grown all.inside;
+  }
+    where
+      by_each : (i : ℕ)
+          → ((slice_get e0 i ≡ Some true) ⊎ Waits g n0 w0 r i) ⊎ ((m : ℕ) × (slice_get (x ∷ some) m ≡ Some i))
+          → ((slice_get e1 i ≡ Some true) ⊎ Waits g n1 w1 r i) ⊎ ((m : ℕ) × (slice_get some m ≡ Some i))
+      by_each i (inl (inl ended)) = inl (inl (look.kept i ended))
+      by_each i (inl (inr a)) = inl (inr (waits_kept g x e0 e1 n0 n1 w0 w1 l1 r i look all.inside a))
+      by_each i (inr (zero, h)) =
+          let is : x ≡ i = cc in
+          inl (subst (λ (q : ℕ). (slice_get e1 q ≡ Some true) ⊎ Waits g n1 w1 r q) is
+          (looked_waits g x e0 e1 n0 n1 w0 w1 l1 r look))
+      by_each i (inr (suc m, h)) = inr (m, h)
 
 -- none of them is left
 pub none_left : (g : List (List ℕ)) (r : ℕ) (e : List Bool) (n : List ℕ) (w : List (List ℕ)) (l : List ℕ)

@@ -187,58 +187,58 @@ added_more m0 m1 m2 n0 n1 n2 xs x a b = record {
 
 -- ---- what is reached
 
--- the ways from one more were followed
-pub followed_more : (g : List (List ℕ)) (starts : List ℕ) (m0 m1 : List Bool) (n0 n1 : List ℕ) (at node : ℕ)
-    (next : List ℕ) → IsReaching g starts m0 n0 at → slice_get n0 at ≡ Some node → slice_get g node ≡ Some next
-    → AreAdded m0 m1 n0 n1 next → IsReaching g starts m1 n1 (at + 1)
-followed_more g starts m0 m1 n0 n1 at node next r here from a = record {
-  size = a.size ∙ r.size;
-  listed = a.listed;
-  started = λ p i h. a.kept i (r.started p i h);
-  reached = reached;
-  follows = follows;
-}
-  where
-    reached : (i : ℕ) → slice_get m1 i ≡ Some true → IsReached g starts i
-    reached i h = elim (a.only i h) [
-      | inl old ↦ r.reached i old
-      | inr new ↦ step node i (r.reached node (r.listed.there at node here))
-          (record { next = next; from = from; place = new.0; to = new.1 })
-    ]
+module _ (g : List (List ℕ)) (starts : List ℕ) (m0 m1 : List Bool) (n0 n1 : List ℕ) (at node : ℕ) (next : List ℕ) where
+  -- the ways from one more were followed
+  pub followed_more : IsReaching g starts m0 n0 at → slice_get n0 at ≡ Some node → slice_get g node ≡ Some next
+      → AreAdded m0 m1 n0 n1 next → IsReaching g starts m1 n1 (at + 1)
+  followed_more r here from a = record {
+    size = a.size ∙ r.size;
+    listed = a.listed;
+    started = λ p i h. a.kept i (r.started p i h);
+    reached = reached;
+    follows = follows;
+  }
+    where
+      reached : (i : ℕ) → slice_get m1 i ≡ Some true → IsReached g starts i
+      reached i h = elim (a.only i h) [
+        | inl old ↦ r.reached i old
+        | inr new ↦ step node i (r.reached node (r.listed.there at node here))
+            (record { next = next; from = from; place = new.0; to = new.1 })
+      ]
 
-    from_node : (j : ℕ) → Step g node j → slice_get m1 j ≡ Some true
-    from_node j s =
-        let both : Some s.next ≡ Some next = sym s.from ∙ from in
-        let same : s.next ≡ next = cc in
-        a.added_are s.place j (subst (λ (xs : List ℕ). slice_get xs s.place ≡ Some j) same s.to)
+      from_node : (j : ℕ) → Step g node j → slice_get m1 j ≡ Some true
+      from_node j s =
+          let both : Some s.next ≡ Some next = sym s.from ∙ from in
+          let same : s.next ≡ next = cc in
+          a.added_are s.place j (subst (λ (xs : List ℕ). slice_get xs s.place ≡ Some j) same s.to)
 
-    before : (k : ℕ) → k < at + 1 → (k < at) ⊎ (k ≡ at)
-    before k lt = by_cases (same_or_not k at)
-      where
-        by_cases : (k ≡ at) ⊎ (k ≡ at → ⊥) → (k < at) ⊎ (k ≡ at)
-        by_cases (inl e') = inr e'
-        by_cases (inr ne) = inl (omega (arith, lt, ne))
+      before : (k : ℕ) → k < at + 1 → (k < at) ⊎ (k ≡ at)
+      before k lt = by_cases (same_or_not k at)
+        where
+          by_cases : (k ≡ at) ⊎ (k ≡ at → ⊥) → (k < at) ⊎ (k ≡ at)
+          by_cases (inl e') = inr e'
+          by_cases (inr ne) = inl (omega (arith, lt, ne))
 
-    old_node : (k i : ℕ) → k < length n0 → slice_get n1 k ≡ Some i → slice_get n0 k ≡ Some i
-    old_node k i lt e =
-        let x = get_or n0 k i in
-        let old : slice_get n0 k ≡ Some x = slice_get-get_or n0 k i lt in
-        let both : Some x ≡ Some i = sym (a.grown k x old) ∙ e in
-        old ∙ both
+      old_node : (k i : ℕ) → k < length n0 → slice_get n1 k ≡ Some i → slice_get n0 k ≡ Some i
+      old_node k i lt e =
+          let x = get_or n0 k i in
+          let old : slice_get n0 k ≡ Some x = slice_get-get_or n0 k i lt in
+          let both : Some x ≡ Some i = sym (a.grown k x old) ∙ e in
+          old ∙ both
 
-    follows : (k i j : ℕ) → k < at + 1 → slice_get n1 k ≡ Some i → Step g i j → slice_get m1 j ≡ Some true
-    follows k i j lt e s = elim (before k lt) [
-      | inl less ↦
-          let there : at < length n0 = within n0 at node here in
-          a.kept j (r.follows k i j less (old_node k i (omega (arith, less, there)) e) s)
-      | inr same ↦
-          let there : at < length n0 = within n0 at node here in
-          let at_k : slice_get n0 at ≡ Some i =
-          subst (λ (n : ℕ). slice_get n0 n ≡ Some i) same (old_node k i (omega (arith, same, there)) e) in
-          let both : Some node ≡ Some i = sym here ∙ at_k in
-          let is : i ≡ node = cc in
-          from_node j (subst (λ (n : ℕ). Step g n j) is s)
-    ]
+      follows : (k i j : ℕ) → k < at + 1 → slice_get n1 k ≡ Some i → Step g i j → slice_get m1 j ≡ Some true
+      follows k i j lt e s = elim (before k lt) [
+        | inl less ↦
+            let there : at < length n0 = within n0 at node here in
+            a.kept j (r.follows k i j less (old_node k i (omega (arith, less, there)) e) s)
+        | inr same ↦
+            let there : at < length n0 = within n0 at node here in
+            let at_k : slice_get n0 at ≡ Some i =
+            subst (λ (n : ℕ). slice_get n0 n ≡ Some i) same (old_node k i (omega (arith, same, there)) e) in
+            let both : Some node ≡ Some i = sym here ∙ at_k in
+            let is : i ≡ node = cc in
+            from_node j (subst (λ (n : ℕ). Step g n j) is s)
+      ]
 
 -- where the ways from all were followed, the marks are those of what is reached
 pub all_followed : (g : List (List ℕ)) (starts : List ℕ) (marks : List Bool) (nodes : List ℕ) (at : ℕ)

@@ -62,16 +62,16 @@ spread true e h v = refl
 spread false true h v = refl
 spread false false h v = refl
 
--- what a set has after a member more
-pub set_more : (cs : List ConstantDef) (ms : List MembItem) (k : ℕ) (d : MembItem) (place i : ℕ) (z : ℤ)
-    (was o new : Bool)
-    → k < length ms → was ≡ (o || (nat_eq i place && members_have cs (take k ms) z))
-    → new ≡ (was || (nat_eq i place && is_value (value_named cs (get_or ms k d).name) z))
-    → new ≡ (o || (nat_eq i place && members_have cs (take (k + 1) ms) z))
-set_more cs ms k d place i z was o new lt e n =
-    n ∙ ap (λ (b : Bool). b || (nat_eq i place && is_value (value_named cs (get_or ms k d).name) z)) e
-    ∙ spread o (nat_eq i place) (members_have cs (take k ms) z) (is_value (value_named cs (get_or ms k d).name) z)
-    ∙ ap (λ (b : Bool). o || (nat_eq i place && b)) (sym (members_more cs ms k d z lt))
+module _ (cs : List ConstantDef) (ms : List MembItem) (k : ℕ) (d : MembItem) (place i : ℕ) (z : ℤ) (was o new : Bool)
+  where
+    -- what a set has after a member more
+    pub set_more : k < length ms → was ≡ (o || (nat_eq i place && members_have cs (take k ms) z))
+        → new ≡ (was || (nat_eq i place && is_value (value_named cs (get_or ms k d).name) z))
+        → new ≡ (o || (nat_eq i place && members_have cs (take (k + 1) ms) z))
+    set_more lt e n =
+        n ∙ ap (λ (b : Bool). b || (nat_eq i place && is_value (value_named cs (get_or ms k d).name) z)) e
+        ∙ spread o (nat_eq i place) (members_have cs (take k ms) z) (is_value (value_named cs (get_or ms k d).name) z)
+        ∙ ap (λ (b : Bool). o || (nat_eq i place && b)) (sym (members_more cs ms k d z lt))
 
 nothing_added : (o e : Bool) → o ≡ (o || (e && false))
 nothing_added true e = refl

@@ -88,46 +88,46 @@ whole_text starts text (p ∷ ps) rest r =
     r.1 ∙ (ap (λ (ds : List ℕ). spelling p ++ ds) (whole_text (begins_line p) r.0 ps rest r.3) ∙ sym
     (append_assoc (spelling p) (flat_map spelling ps) rest))
 
--- and behind the next part
-pub at_more : (text rest : List ℕ) (items : List Token) (feeds : ℕ) (starts : Bool) (s : Step)
-    (front back : List ℕ) (items' : List Token) (feeds' : ℕ) (starts' : Bool) → At text rest items feeds starts →
-    step_at starts rest ≡ Ok s → front ≡ take s.len rest → back ≡ drop s.len rest → items' ≡ items ++ token_with
-    feeds s.kind front → feeds' ≡ feeds + feeds_of s.kind front → starts' ≡ is_line_end front → At text back items'
-    feeds' starts'
-at_more text rest items feeds starts s front back items' feeds' starts' at e is_front is_back is_items is_feeds
-    is_starts =
-    let f = found_part starts rest s e in
-    let stands : CanStand (starts_after true at.parts) f.part f.more = subst (λ (b : Bool). CanStand b f.part f.more)
-    at.starts_is f.stands in
-    let len : s.len ≡ length (spelling f.part) = ap (λ (t : Step). t.len) f.is in
-    let kind : s.kind ≡ kind_of f.part = ap (λ (t : Step). t.kind) f.is in
-    let spelled : front ≡ spelling f.part = is_front ∙ (ap (λ (k : ℕ). take k rest) len ∙
-    (ap (take (length (spelling f.part))) f.whole ∙ take-front (spelling f.part) f.more)) in
-    let behind : back ≡ f.more = is_back ∙ (ap (λ (k : ℕ). drop k rest) len ∙
-    (ap (drop (length (spelling f.part))) f.whole ∙ drop-front (spelling f.part) f.more)) in
-    let token : token_with feeds s.kind front ≡ token_of (0 + line_feeds (flat_map spelling at.parts)) f.part =
-    ap (λ (k : Option TokenKind). token_with feeds k front) kind ∙ (ap (token_with feeds (kind_of f.part)) spelled
-    ∙ (sym (token_of-is feeds f.part) ∙ ap (λ (k : ℕ). token_of k f.part) (omega (arith, at.feeds_are)))) in
-    let count : feeds_of s.kind front ≡ line_feeds (spelling f.part) =
-    ap (λ (k : Option TokenKind). feeds_of k front) kind ∙ (ap (feeds_of (kind_of f.part)) spelled ∙ feeds_of-part
-    starts f.part f.more f.stands) in
-    record {
-      parts = at.parts ++ f.part ∷ [];
-      reads = subst (Reads true text (at.parts ++ f.part ∷ [])) (sym behind)
-          (reads_more true text at.parts rest f.part f.more at.reads f.whole stands);
-      tokens = is_items ∙ (ap (λ (ts : List Token). ts ++ token_with feeds s.kind front) at.tokens
-          ∙ (ap (λ (ts : List Token). tokens_of 0 at.parts ++ ts) token ∙ sym (tokens_of-push 0 at.parts f.part)));
-      feeds_are = is_feeds ∙ (omega (
-        arith,
-        count,
-        at.feeds_are,
-        feeds-append (flat_map spelling at.parts)
-            (spelling f.part),
-      )
-          ∙ ap line_feeds (sym (spelled-push at.parts f.part)));
-      starts_is = is_starts ∙ (ap is_line_end spelled ∙ (sym (begins_line-is starts f.part f.more f.stands) ∙ sym
-          (starts_after-push true at.parts f.part)));
-    }
+module _ (text rest : List ℕ) (items : List Token) (feeds : ℕ) (starts : Bool) (s : Step) (front back : List ℕ)
+    (items' : List Token) (feeds' : ℕ) (starts' : Bool) where
+  -- and behind the next part
+  pub at_more : At text rest items feeds starts → step_at starts rest ≡ Ok s → front ≡ take s.len rest
+      → back ≡ drop s.len rest → items' ≡ items ++ token_with feeds s.kind front
+      → feeds' ≡ feeds + feeds_of s.kind front → starts' ≡ is_line_end front → At text back items' feeds' starts'
+  at_more at e is_front is_back is_items is_feeds
+      is_starts =
+      let f = found_part starts rest s e in
+      let stands : CanStand (starts_after true at.parts) f.part f.more = subst (λ (b : Bool). CanStand b f.part f.more)
+      at.starts_is f.stands in
+      let len : s.len ≡ length (spelling f.part) = ap (λ (t : Step). t.len) f.is in
+      let kind : s.kind ≡ kind_of f.part = ap (λ (t : Step). t.kind) f.is in
+      let spelled : front ≡ spelling f.part = is_front ∙ (ap (λ (k : ℕ). take k rest) len ∙
+      (ap (take (length (spelling f.part))) f.whole ∙ take-front (spelling f.part) f.more)) in
+      let behind : back ≡ f.more = is_back ∙ (ap (λ (k : ℕ). drop k rest) len ∙
+      (ap (drop (length (spelling f.part))) f.whole ∙ drop-front (spelling f.part) f.more)) in
+      let token : token_with feeds s.kind front ≡ token_of (0 + line_feeds (flat_map spelling at.parts)) f.part =
+      ap (λ (k : Option TokenKind). token_with feeds k front) kind ∙ (ap (token_with feeds (kind_of f.part)) spelled
+      ∙ (sym (token_of-is feeds f.part) ∙ ap (λ (k : ℕ). token_of k f.part) (omega (arith, at.feeds_are)))) in
+      let count : feeds_of s.kind front ≡ line_feeds (spelling f.part) =
+      ap (λ (k : Option TokenKind). feeds_of k front) kind ∙ (ap (feeds_of (kind_of f.part)) spelled ∙ feeds_of-part
+      starts f.part f.more f.stands) in
+      record {
+        parts = at.parts ++ f.part ∷ [];
+        reads = subst (Reads true text (at.parts ++ f.part ∷ [])) (sym behind)
+            (reads_more true text at.parts rest f.part f.more at.reads f.whole stands);
+        tokens = is_items ∙ (ap (λ (ts : List Token). ts ++ token_with feeds s.kind front) at.tokens
+            ∙ (ap (λ (ts : List Token). tokens_of 0 at.parts ++ ts) token ∙ sym (tokens_of-push 0 at.parts f.part)));
+        feeds_are = is_feeds ∙ (omega (
+          arith,
+          count,
+          at.feeds_are,
+          feeds-append (flat_map spelling at.parts)
+              (spelling f.part),
+        )
+            ∙ ap line_feeds (sym (spelled-push at.parts f.part)));
+        starts_is = is_starts ∙ (ap is_line_end spelled ∙ (sym (begins_line-is starts f.part f.more f.stands) ∙ sym
+            (starts_after-push true at.parts f.part)));
+      }
 
 -- the line feeds are within the text, and so are those of what is read next
 pub feeds_fit : (text rest : List ℕ) (items : List Token) (feeds : ℕ) (starts : Bool) →
@@ -169,19 +169,20 @@ lexed_fault text (BadNumber line) h = h
 lexed_fault text (BadChar line) h = h
 lexed_fault text OutOfMemory h = tt
 
--- where no part stands, the fault is the first
-pub at_fault : (text rest : List ℕ) (items : List Token) (feeds : ℕ) (starts : Bool) (why : Why) (line : ℕ)
-    (f : LexFault) → At text rest items feeds starts → 0 < length rest → step_at starts rest ≡ Err why →
-    line ≡ line_after feeds → f ≡ fault_of why line → IsLexed text (Err f)
-at_fault text [] items feeds starts why line f at some e is_line is = absurd (omega arith)
-at_fault text (b ∷ bs) items feeds starts why line f at some e is_line is =
-    lexed_fault text f (record {
-      parts = at.parts;
-      first = b;
-      rest = bs;
-      reads = at.reads;
-      stuck = subst (λ (s : Bool). IsStuck s (b ∷ bs)) at.starts_is
-          (λ p more whole h. let both = sym e ∙ (ap (step_at starts) whole ∙ step_at-part starts p more h) in cc);
-      is = is ∙ (fault_of-step_at starts b bs why line e ∙ (ap (λ (s : Bool). fault_from s b line) at.starts_is
-          ∙ ap (fault_from (starts_after true at.parts) b) (is_line ∙ ap line_after at.feeds_are)));
-    })
+module _ (text : List ℕ) where
+  -- where no part stands, the fault is the first
+  pub at_fault : (rest : List ℕ) (items : List Token) (feeds : ℕ) (starts : Bool) (why : Why) (line : ℕ) (f : LexFault)
+      → At text rest items feeds starts → 0 < length rest → step_at starts rest ≡ Err why → line ≡ line_after feeds
+      → f ≡ fault_of why line → IsLexed text (Err f)
+  at_fault [] items feeds starts why line f at some e is_line is = absurd (omega arith)
+  at_fault (b ∷ bs) items feeds starts why line f at some e is_line is =
+      lexed_fault text f (record {
+        parts = at.parts;
+        first = b;
+        rest = bs;
+        reads = at.reads;
+        stuck = subst (λ (s : Bool). IsStuck s (b ∷ bs)) at.starts_is
+            (λ p more whole h. let both = sym e ∙ (ap (step_at starts) whole ∙ step_at-part starts p more h) in cc);
+        is = is ∙ (fault_of-step_at starts b bs why line e ∙ (ap (λ (s : Bool). fault_from s b line) at.starts_is
+            ∙ ap (fault_from (starts_after true at.parts) b) (is_line ∙ ap line_after at.feeds_are)));
+      })

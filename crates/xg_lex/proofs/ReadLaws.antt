@@ -90,22 +90,22 @@ pub record Agree (starts : Bool) (feeds : ℕ) (ps qs : List Lexeme) (r r' : Lis
   pub before : flat_map spelling ps ≡ flat_map spelling qs
   pub after : starts_after starts ps ≡ starts_after starts qs
 
-more_agrees : (starts : Bool) (feeds : ℕ) (p q : Lexeme) (m n : List ℕ) (ps qs : List Lexeme) (r r' : List ℕ) →
-    SamePart p q m n → begins_line p ≡ begins_line q → Agree (begins_line p) (feeds + line_feeds (spelling p)) ps
-    qs r r' → Agree starts feeds (p ∷ ps) (q ∷ qs) r r'
-more_agrees starts feeds p q m n ps qs r r' same lines a =
-    let here : token_of feeds p ≡ token_of feeds q =
-    token_of-is feeds p ∙ (ap (λ (k : Option TokenKind). token_with feeds k (spelling p)) same.kind ∙
-    (ap (token_with feeds (kind_of q)) same.spelled ∙ sym (token_of-is feeds q))) in
-    record {
-      rest = a.rest;
-      tokens = ap (λ (ts : List Token). ts ++ tokens_of (feeds + line_feeds (spelling p)) ps) here ∙ ap
-          (λ (ts : List Token). token_of feeds q ++ ts)
-          (a.tokens ∙ ap (λ (text : List ℕ). tokens_of (feeds + line_feeds text) qs) same.spelled);
-      before = ap (λ (text : List ℕ). text ++ flat_map spelling ps) same.spelled ∙ ap
-          (λ (text : List ℕ). spelling q ++ text) a.before;
-      after = a.after ∙ ap (λ (b : Bool). starts_after b qs) lines;
-    }
+module _ (starts : Bool) (feeds : ℕ) (p q : Lexeme) (m n : List ℕ) (ps qs : List Lexeme) (r r' : List ℕ) where
+  more_agrees : SamePart p q m n → begins_line p ≡ begins_line q
+      → Agree (begins_line p) (feeds + line_feeds (spelling p)) ps qs r r' → Agree starts feeds (p ∷ ps) (q ∷ qs) r r'
+  more_agrees same lines a =
+      let here : token_of feeds p ≡ token_of feeds q =
+      token_of-is feeds p ∙ (ap (λ (k : Option TokenKind). token_with feeds k (spelling p)) same.kind ∙
+      (ap (token_with feeds (kind_of q)) same.spelled ∙ sym (token_of-is feeds q))) in
+      record {
+        rest = a.rest;
+        tokens = ap (λ (ts : List Token). ts ++ tokens_of (feeds + line_feeds (spelling p)) ps) here ∙ ap
+            (λ (ts : List Token). token_of feeds q ++ ts)
+            (a.tokens ∙ ap (λ (text : List ℕ). tokens_of (feeds + line_feeds text) qs) same.spelled);
+        before = ap (λ (text : List ℕ). text ++ flat_map spelling ps) same.spelled ∙ ap
+            (λ (text : List ℕ). spelling q ++ text) a.before;
+        after = a.after ∙ ap (λ (b : Bool). starts_after b qs) lines;
+      }
 
 pub readings_agree : (starts : Bool) (feeds : ℕ) (text : List ℕ) (ps qs : List Lexeme) (r r' : List ℕ) →
     Reads starts text ps r → Ends (starts_after starts ps) r → Reads starts text qs r' → Ends

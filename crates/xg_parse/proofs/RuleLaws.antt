@@ -51,19 +51,21 @@ apart_back s u h o e = false_from_ne_true (has s o) (λ k. false≢true (sym (ap
 
 -- ---- what begins a text, and no text
 
-begins_pair : {A B : Type 0} (P : A → List Token → Type 0) (Q : B → List Token → Type 0) (s u : Terminal →
-    Bool) (n : Bool) → ((a : A) (t : Token) (ts : List Token) → P a (t ∷ ts) → has s (terminal_of t) ≡ true) →
-    ((a : A) → P a [] → n ≡ true) → ((b : B) (t : Token) (ts : List Token) → Q b (t ∷ ts) →
-    has u (terminal_of t) ≡ true) → (front back : List Token) (a : A) (b : B) (t : Token) (ts : List Token) →
-    t ∷ ts ≡ front ++ back → P a front → Q b back → has (λ t. s t || (n && u t)) (terminal_of t) ≡ true
-begins_pair {A} {B} P Q s u n first empty second [] [] a b t ts e p q = absurd (let h : t ∷ ts ≡ [] = e in cc)
-begins_pair {A} {B} P Q s u n first empty second [] (y ∷ ys) a b t ts e p q =
-    let is : y ≡ t = cc in
-    has_right s (λ t. n && u t) (terminal_of t) (has_under n u (terminal_of t) (empty a p)
-    (subst (λ (k : Token). has u (terminal_of k) ≡ true) is (second b y ys q)))
-begins_pair {A} {B} P Q s u n first empty second (x ∷ xs) back a b t ts e p q =
-    let is : x ≡ t = cc in
-    has_left s (λ t. n && u t) (terminal_of t) (subst (λ (k : Token). has s (terminal_of k) ≡ true) is (first a x xs p))
+module _ {A B : Type 0} (P : A → List Token → Type 0) (Q : B → List Token → Type 0) (s u : Terminal → Bool) (n : Bool)
+  where
+    begins_pair : ((a : A) (t : Token) (ts : List Token) → P a (t ∷ ts) → has s (terminal_of t) ≡ true)
+        → ((a : A) → P a [] → n ≡ true)
+        → ((b : B) (t : Token) (ts : List Token) → Q b (t ∷ ts) → has u (terminal_of t) ≡ true)
+        → (front back : List Token) (a : A) (b : B) (t : Token) (ts : List Token) → t ∷ ts ≡ front ++ back → P a front
+        → Q b back → has (λ t. s t || (n && u t)) (terminal_of t) ≡ true
+    begins_pair first empty second [] [] a b t ts e p q = absurd (let h : t ∷ ts ≡ [] = e in cc)
+    begins_pair first empty second [] (y ∷ ys) a b t ts e p q =
+        let is : y ≡ t = cc in
+        has_right s (λ t. n && u t) (terminal_of t) (has_under n u (terminal_of t) (empty a p)
+        (subst (λ (k : Token). has u (terminal_of k) ≡ true) is (second b y ys q)))
+    begins_pair first empty second (x ∷ xs) back a b t ts e p q =
+        let is : x ≡ t = cc in
+        has_left s (λ t. n && u t) (terminal_of t) (subst (λ (k : Token). has s (terminal_of k) ≡ true) is (first a x xs p))
 
 pub begins_each : {A : Type 0} (P : A → List Token → Type 0) (s : Terminal → Bool) →
     ((a : A) (t : Token) (ts : List Token) → P a (t ∷ ts) → has s (terminal_of t) ≡ true) →
@@ -211,39 +213,40 @@ pub longer : {A : Type 0} (g : Rule A) (a : A) (front : List Token) → nullable
 longer g a [] some d = absurd (false≢true (sym some ∙ empties g a d))
 longer g a (t ∷ ts) some d = omega arith
 
-again_many : {A : Type 0} (g : Rule A) → nullable g ≡ false → are_apart (tails g) (firsts g) ≡ true →
-    Again (Derives g) (read_rule g) (tails g) → (n : ℕ) (items : List A) (front rest : List Token) (p : Place) →
-    length p.rest < n → EachHas (Derives g) items front → p.rest ≡ front ++ rest → IsRight p → has (tails (many g))
-    (next_of rest) ≡ false → Reached (many_at (read_rule g) (firsts g) n p) items rest
-again_many g some apart first zero items front rest p fuel d e right lacks = absurd (omega arith)
-again_many g some apart first (suc n) [] front rest p fuel d e right lacks =
-    let whole : p.rest ≡ rest = e ∙ ap (λ (ts : List Token). ts ++ rest) d in
-    let other : has (firsts g) p.next ≡ false = ap (has (firsts g)) (right ∙ ap next_of whole) ∙ lacks_left
-    (firsts g) (tails g) (next_of rest) lacks in
-    record { place = without (firsts g) p; read_is = rw other refl; rest_is = whole; right = right }
-again_many g some apart first (suc n) (a ∷ items) front rest p fuel d e right lacks =
-    let whole : p.rest ≡ d.0 ++ (d.1 ++ rest) = e ∙ (ap (λ (ts : List Token). ts ++ rest) d.2 ∙ append_assoc d.0
-    d.1 rest) in
-    let x = first a d.0 (d.1 ++ rest) p d.3 whole right (between_each g apart items d.1 rest d.4 lacks) in
-    let less : length x.place.rest < n = omega (
-      arith,
-      ap length whole,
-      length-append d.0 (d.1 ++ rest),
-      longer g a
-          d.0 some d.3,
-      ap length x.rest_is,
-    ) in
-    let y = again_many g some apart first n items d.1 rest x.place less d.4 x.rest_is x.right lacks in
-    record {
-      place = y.place;
-      read_is = rw (
-        first_token g a d.0 (d.1 ++ rest) p some d.3 whole right,
-        x.read_is,
-        y.read_is,
-      ) refl;
-      rest_is = y.rest_is;
-      right = y.right;
-    }
+module _ {A : Type 0} (g : Rule A) (some : nullable g ≡ false) where
+  again_many : are_apart (tails g) (firsts g) ≡ true → Again (Derives g) (read_rule g) (tails g)
+      → (n : ℕ) (items : List A) (front rest : List Token) (p : Place) → length p.rest < n
+      → EachHas (Derives g) items front → p.rest ≡ front ++ rest → IsRight p
+      → has (tails (many g)) (next_of rest) ≡ false → Reached (many_at (read_rule g) (firsts g) n p) items rest
+  again_many apart first zero items front rest p fuel d e right lacks = absurd (omega arith)
+  again_many apart first (suc n) [] front rest p fuel d e right lacks =
+      let whole : p.rest ≡ rest = e ∙ ap (λ (ts : List Token). ts ++ rest) d in
+      let other : has (firsts g) p.next ≡ false = ap (has (firsts g)) (right ∙ ap next_of whole) ∙ lacks_left
+      (firsts g) (tails g) (next_of rest) lacks in
+      record { place = without (firsts g) p; read_is = rw other refl; rest_is = whole; right = right }
+  again_many apart first (suc n) (a ∷ items) front rest p fuel d e right lacks =
+      let whole : p.rest ≡ d.0 ++ (d.1 ++ rest) = e ∙ (ap (λ (ts : List Token). ts ++ rest) d.2 ∙ append_assoc d.0
+      d.1 rest) in
+      let x = first a d.0 (d.1 ++ rest) p d.3 whole right (between_each g apart items d.1 rest d.4 lacks) in
+      let less : length x.place.rest < n = omega (
+        arith,
+        ap length whole,
+        length-append d.0 (d.1 ++ rest),
+        longer g a
+            d.0 some d.3,
+        ap length x.rest_is,
+      ) in
+      let y = again_many apart first n items d.1 rest x.place less d.4 x.rest_is x.right lacks in
+      record {
+        place = y.place;
+        read_is = rw (
+          first_token g a d.0 (d.1 ++ rest) p some d.3 whole right,
+          x.read_is,
+          y.read_is,
+        ) refl;
+        rest_is = y.rest_is;
+        right = y.right;
+      }
 
 again_change : {A B : Type 0} (f : A → B) (g : Rule A) → Again (Derives g) (read_rule g) (tails g) →
     Again (Derives (change f g)) (read_rule (change f g)) (tails g)

@@ -112,43 +112,43 @@ pub record Half (a : CallLooks) (xs : List Sending) (b b1 b4 : CallLooks) : Type
   pub spoke : b4.spoke ≡ b1.spoke
   pub givings : b4.sent.givings ≡ b1.sent.givings
 
-half : (s t : Setup) (now_s now_t : ℕ) (a a1 a2 a4 b b1 b2 b4 : CallLooks) (xs ys : List Sending) (ms ns : List Message)
-    → GivesOut s now_s a xs ms a1 → TakesIn s now_s a1 ns a2 → TurnsOn now_s a2 a4
-    → GivesOut t now_t b ys ns b1 → TakesIn t now_t b1 ms b2 → TurnsOn now_t b2 b4
-    → Stood a a4 → Stood b b4 → a.cwnd.prompt ≡ false → b.cwnd.prompt ≡ false → Ready (is_client t.kind) a b
-    → b.sent.acked ≤ used_of a.received → Half a xs b b1 b4
-half s t now_s now_t a a1 a2 a4 b b1 b2 b4 xs ys ms ns gives_a takes_a turn_a gives_b takes_b turn_b stood_a stood_b
-    steady_a steady_b ready hard =
-    let tell_a = polls_tell s now_s a a xs ms a1 gives_a (same_end a steady_a)
-    (given-stood s now_s a a1 a2 a4 ns takes_a turn_a stood_a) in
-    let tell_b = polls_tell t now_t b b ys ns b1 gives_b (same_end b steady_b)
-    (given-stood t now_t b b1 b2 b4 ms takes_b turn_b stood_b) in
-    let same = tell_b.1 in
-    let kept : b1.received.kept ≡ b.received.kept = ap (λ (r : Received). r.kept) same.received in
-    let used : used_of b1.received ≡ used_of b.received = ap (λ (r : Received). used_of r) same.received in
-    let polled = ready_on (is_client t.kind) a b b1 kept used same.said same.shut ready in
-    let turned = turn_same now_t b2 b4 turn_b in
-    let still : front_of b2.received.kept ≤ front_of b1.received.kept =
-    (let first = ap (λ (ps : List Packet). front_of ps) turned.kept in
-    let second = ap (λ (ps : List Packet). front_of ps) kept in
-    let third = stood_b.front in
-    omega (arith, first, second, third)) in
-    let all = takes_tell s t now_t a b1 xs ms b2 takes_b tell_a.0 polled still in
-    let owed : b4.owed_ack ≡ b2.owed_ack =
-    turned.owed (let done = all.stays.used in let end = stood_b.used in omega (arith, done, end, used)) in
-    record {
-      less = λ some. (let less = all.less some in omega (arith, less, used));
-      told = λ some. (
-          let told = all.told some in
-          let turn = turned.acked in
-          let end = stood_b.acked in
-          omega (arith, told, turn, end, hard));
-      piece = λ some. owes-as b2 b4 owed (all.piece some);
-      ping = λ some. owes-as b2 b4 owed (all.ping some);
-      calm = λ none quiet. owed ∙ all.calm none quiet;
-      spoke = turned.spoke ∙ all.stays.spoke;
-      givings = turned.givings ∙ all.stays.givings;
-    }
+module _ (s t : Setup) (now_s now_t : ℕ) (a a1 a2 a4 b b1 b2 b4 : CallLooks) (xs ys : List Sending)
+    (ms ns : List Message) where
+  half : GivesOut s now_s a xs ms a1 → TakesIn s now_s a1 ns a2 → TurnsOn now_s a2 a4 → GivesOut t now_t b ys ns b1
+      → TakesIn t now_t b1 ms b2 → TurnsOn now_t b2 b4 → Stood a a4 → Stood b b4 → a.cwnd.prompt ≡ false
+      → b.cwnd.prompt ≡ false → Ready (is_client t.kind) a b → b.sent.acked ≤ used_of a.received → Half a xs b b1 b4
+  half gives_a takes_a turn_a gives_b takes_b turn_b stood_a stood_b
+      steady_a steady_b ready hard =
+      let tell_a = polls_tell s now_s a a xs ms a1 gives_a (same_end a steady_a)
+      (given-stood s now_s a a1 a2 a4 ns takes_a turn_a stood_a) in
+      let tell_b = polls_tell t now_t b b ys ns b1 gives_b (same_end b steady_b)
+      (given-stood t now_t b b1 b2 b4 ms takes_b turn_b stood_b) in
+      let same = tell_b.1 in
+      let kept : b1.received.kept ≡ b.received.kept = ap (λ (r : Received). r.kept) same.received in
+      let used : used_of b1.received ≡ used_of b.received = ap (λ (r : Received). used_of r) same.received in
+      let polled = ready_on (is_client t.kind) a b b1 kept used same.said same.shut ready in
+      let turned = turn_same now_t b2 b4 turn_b in
+      let still : front_of b2.received.kept ≤ front_of b1.received.kept =
+      (let first = ap (λ (ps : List Packet). front_of ps) turned.kept in
+      let second = ap (λ (ps : List Packet). front_of ps) kept in
+      let third = stood_b.front in
+      omega (arith, first, second, third)) in
+      let all = takes_tell s t now_t a b1 xs ms b2 takes_b tell_a.0 polled still in
+      let owed : b4.owed_ack ≡ b2.owed_ack =
+      turned.owed (let done = all.stays.used in let end = stood_b.used in omega (arith, done, end, used)) in
+      record {
+        less = λ some. (let less = all.less some in omega (arith, less, used));
+        told = λ some. (
+            let told = all.told some in
+            let turn = turned.acked in
+            let end = stood_b.acked in
+            omega (arith, told, turn, end, hard));
+        piece = λ some. owes-as b2 b4 owed (all.piece some);
+        ping = λ some. owes-as b2 b4 owed (all.ping some);
+        calm = λ none quiet. owed ∙ all.calm none quiet;
+        spoke = turned.spoke ∙ all.stays.spoke;
+        givings = turned.givings ∙ all.stays.givings;
+      }
 
 -- ---- both directions
 

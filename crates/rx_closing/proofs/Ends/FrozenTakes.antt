@@ -200,45 +200,48 @@ front_as_before : (k i : CallLooks) → i.received.kept ≡ k.received.kept
     → front_of i.received.kept ≡ front_of k.received.kept
 front_as_before k i same = ap (λ (ps : List Packet). front_of ps) same
 
-took_piece : (client : Bool) (c : CallLooks) (v : NodeView) (got : Took) (m : Message) (payload : List ℕ)
-    (k : CallLooks)
-    → v.client ≡ client → Ready client c k → m.body ≡ bodies.Chunk payload → m.seq ≡ lowest_of c.sent
-    → lowest_of c.sent ≤ given_of c.sent → call_row v m m.body k ≡ got → MakesSense got
-    → front_of (after_taken v got m k).received.kept ≤ front_of k.received.kept
-    → TookPiece c k (after_taken v got m k)
-took_piece client c v got m payload k is_client_ ready chunk seq given row sense still =
-    of (is_some (packet_at k.received.kept (lowest_of c.sent))) refl
+module _ (client : Bool) (c : CallLooks) (v : NodeView) (got : Took) (m : Message) (payload : List ℕ) (k : CallLooks)
   where
-    of : (b : Bool) → is_some (packet_at k.received.kept (lowest_of c.sent)) ≡ b → TookPiece c k (after_taken v got m k)
-    of false away =
-        absurd (let up = away_moves c.sent v got m payload k ready.truth chunk seq given ready.drained
-        (subst (λ (b : Bool). has_lead (found b k) ≡ false) (sym is_client_)
-        (leadless client c.sent k ready.frees given ready.drained away)) away row sense in omega arith)
-    of true there =
-        let repeat : got ≡ tooks.Repeat =
-        sym row ∙ (ap (λ (b : Body). call_row v m b k) chunk
-        ∙ repeat_row v m payload k (subst (λ (n : ℕ). is_some (packet_at k.received.kept n) ≡ true) (sym seq) there)
-        (subst MakesSense (sym row ∙ ap (λ (b : Body). call_row v m b k) chunk) sense)) in
-        let is = repeated v got m payload k chunk repeat in
-        let stays = stays-as (used_of c.received) k (after_data tooks.Repeat v.now m payload (found v.client k))
-        (after_taken v got m k) is (stays-repeat (used_of c.received) v.client v.now m payload k ready.room) in
-        record {
-          stays = stays;
-          less = ⊎_elim
-              (λ (up : front_of k.received.kept < front_of (after_taken v (call_row v m m.body k) m k).received.kept).
-              absurd (let up_ : front_of k.received.kept < front_of (after_taken v got m k).received.kept =
-              subst (λ (t : Took). front_of k.received.kept < front_of (after_taken v t m k).received.kept) row up in
-              omega arith))
-              (λ (less : c.sent.acked < used_of k.received). less)
-              (moves c.sent v m payload k ready.truth chunk seq given ready.drained
-              (λ away. absurd (cc (away, there))) (subst MakesSense (sym row) sense));
-          owes =
-              subst OwesNow (sym is) (record {
-                owed = record { reason = _; serial = m.serial; rank = 0 };
-                is = refl;
-                now = refl;
-              });
-        }
+    took_piece : v.client ≡ client → Ready client c k → m.body ≡ bodies.Chunk payload → m.seq ≡ lowest_of c.sent
+        → lowest_of c.sent ≤ given_of c.sent → call_row v m m.body k ≡ got → MakesSense got
+        → front_of (after_taken v got m k).received.kept ≤ front_of k.received.kept
+        → TookPiece c k (after_taken v got m k)
+    took_piece is_client_ ready chunk seq given row sense still =
+        of (is_some (packet_at k.received.kept (lowest_of c.sent))) refl
+      where
+        of : (b : Bool) → is_some (packet_at k.received.kept (lowest_of c.sent)) ≡ b
+            → TookPiece c k (after_taken v got m k)
+        of false away =
+            absurd (let up = away_moves c.sent v got m payload k ready.truth chunk seq given ready.drained
+            (subst (λ (b : Bool). has_lead (found b k) ≡ false) (sym is_client_)
+            (leadless client c.sent k ready.frees given ready.drained away)) away row sense in omega arith)
+        of true there =
+            let repeat : got ≡ tooks.Repeat =
+            sym row ∙ (ap (λ (b : Body). call_row v m b k) chunk
+            ∙ repeat_row v m payload k (subst (λ (n : ℕ). is_some (packet_at k.received.kept n) ≡ true) (sym seq) there)
+            (subst MakesSense (sym row ∙ ap (λ (b : Body). call_row v m b k) chunk) sense)) in
+            let is = repeated v got m payload k chunk repeat in
+            let stays = stays-as (used_of c.received) k (after_data tooks.Repeat v.now m payload (found v.client k))
+            (after_taken v got m k) is (stays-repeat (used_of c.received) v.client v.now m payload k ready.room) in
+            record {
+              stays = stays;
+              less = ⊎_elim
+                  (λ (up : front_of k.received.kept < front_of
+                  (after_taken v (call_row v m m.body k) m k).received.kept).
+                  absurd (let up_ : front_of k.received.kept < front_of (after_taken v got m k).received.kept =
+                  subst (λ (t : Took). front_of k.received.kept < front_of (after_taken v t m k).received.kept) row
+                  up in
+                  omega arith))
+                  (λ (less : c.sent.acked < used_of k.received). less)
+                  (moves c.sent v m payload k ready.truth chunk seq given ready.drained
+                  (λ away. absurd (cc (away, there))) (subst MakesSense (sym row) sense));
+              owes =
+                  subst OwesNow (sym is) (record {
+                    owed = record { reason = _; serial = m.serial; rank = 0 };
+                    is = refl;
+                    now = refl;
+                  });
+            }
 
 -- an acknowledgement
 record TookAck (c : CallLooks) (reason : ℕ) (k i : CallLooks) : Type 0 where

@@ -155,19 +155,20 @@ lowest-known sent r hard given away =
         (λ (soft : sent.soft j ≡ true). or_right (nat_le j (used_of r)) (sent.soft j) soft)
         (or_cases (nat_le j sent.acked) (sent.soft j) acked)
 
--- it makes the front rise
-pub away_moves : (sent : Sent) (v : NodeView) (got : Took) (m : Message) (payload : List ℕ) (k : CallLooks)
-    → AreTrue sent k.received → m.body ≡ bodies.Chunk payload → m.seq ≡ lowest_of sent → lowest_of sent ≤ given_of sent
-    → used_of k.received ≡ front_of k.received.kept → has_lead (found v.client k) ≡ false
-    → is_some (packet_at k.received.kept (lowest_of sent)) ≡ false → call_row v m m.body k ≡ got → MakesSense got
-    → front_of k.received.kept < front_of (after_taken v got m k).received.kept
-away_moves sent v got m payload k truth chunk seq given drained leadless away row sense =
-    ⊎_elim
-    (λ (up : front_of k.received.kept < front_of (after_taken v (call_row v m m.body k) m k).received.kept).
-    subst (λ (t : Took). front_of k.received.kept < front_of (after_taken v t m k).received.kept) row up)
-    (λ (less : used_of k.received < used_of k.received). absurd (omega arith))
-    (moves (knowing sent k.received) v m payload k
-    (record { hard = omega arith; soft = truth.soft }) chunk
-    (let hard = truth.hard in seq ∙ sym (lowest-known sent k.received hard given away))
-    (let hard = truth.hard in let same = lowest-known sent k.received hard given away in omega (arith, same, given))
-    drained (λ none. leadless) (subst MakesSense (sym row) sense))
+module _ (sent : Sent) (v : NodeView) (got : Took) (m : Message) (payload : List ℕ) (k : CallLooks) where
+  -- it makes the front rise
+  pub away_moves : AreTrue sent k.received → m.body ≡ bodies.Chunk payload → m.seq ≡ lowest_of sent
+      → lowest_of sent ≤ given_of sent → used_of k.received ≡ front_of k.received.kept
+      → has_lead (found v.client k) ≡ false → is_some (packet_at k.received.kept (lowest_of sent)) ≡ false
+      → call_row v m m.body k ≡ got → MakesSense got
+      → front_of k.received.kept < front_of (after_taken v got m k).received.kept
+  away_moves truth chunk seq given drained leadless away row sense =
+      ⊎_elim
+      (λ (up : front_of k.received.kept < front_of (after_taken v (call_row v m m.body k) m k).received.kept).
+      subst (λ (t : Took). front_of k.received.kept < front_of (after_taken v t m k).received.kept) row up)
+      (λ (less : used_of k.received < used_of k.received). absurd (omega arith))
+      (moves (knowing sent k.received) v m payload k
+      (record { hard = omega arith; soft = truth.soft }) chunk
+      (let hard = truth.hard in seq ∙ sym (lowest-known sent k.received hard given away))
+      (let hard = truth.hard in let same = lowest-known sent k.received hard given away in omega (arith, same, given))
+      drained (λ none. leadless) (subst MakesSense (sym row) sense))

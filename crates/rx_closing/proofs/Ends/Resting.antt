@@ -78,24 +78,23 @@ none_left s now a a1 xs ms gives none fit acked =
       | inr all ↦ (let counts = fit.counts in omega (arith, all, counts))
     ]
 
--- so all that counts was given, came, was read and is known to have come
-pub rests : (s : Setup) (now start : ℕ) (a a1 : CallLooks) (xs : List Sending) (ms : List Message) (r : Received)
-    → GivesOut s now a xs ms a1 → has_piece xs ≡ false → IsFit now a
-    → ((j : ℕ) → 1 ≤ j → j ≤ given_of a.sent → GivenBy start a.sent.givings j) → start + MAX_RTO_MS ≤ now
-    → AreTrue a.sent r → AreGiven a.sent r → used_of r ≡ front_of r.kept → a.sent.acked ≡ used_of r
-    → RestsOn a.sent r
-rests s now start a a1 xs ms r gives none fit known late truth given drained all_known =
-    let below = none_flying s now start a a1 xs ms gives none fit known late in
-    let reaches = front_reaches a.sent r truth in
-    let within = reach_le (λ j. is_some (packet_at r.kept j)) (greatest r.kept) in
-    let front : front_of r.kept ≡ given_of a.sent = omega (arith, below, reaches, within, given) in
-    let acked : a.sent.acked ≡ given_of a.sent = omega (arith, all_known, drained, front) in
-    record {
-      acked = acked;
-      front = front;
-      used = drained ∙ front;
-      counts = none_left s now a a1 xs ms gives none fit acked;
-    }
+module _ (s : Setup) (now start : ℕ) (a a1 : CallLooks) (xs : List Sending) (ms : List Message) (r : Received) where
+  -- so all that counts was given, came, was read and is known to have come
+  pub rests : GivesOut s now a xs ms a1 → has_piece xs ≡ false → IsFit now a
+      → ((j : ℕ) → 1 ≤ j → j ≤ given_of a.sent → GivenBy start a.sent.givings j) → start + MAX_RTO_MS ≤ now
+      → AreTrue a.sent r → AreGiven a.sent r → used_of r ≡ front_of r.kept → a.sent.acked ≡ used_of r → RestsOn a.sent r
+  rests gives none fit known late truth given drained all_known =
+      let below = none_flying s now start a a1 xs ms gives none fit known late in
+      let reaches = front_reaches a.sent r truth in
+      let within = reach_le (λ j. is_some (packet_at r.kept j)) (greatest r.kept) in
+      let front : front_of r.kept ≡ given_of a.sent = omega (arith, below, reaches, within, given) in
+      let acked : a.sent.acked ≡ given_of a.sent = omega (arith, all_known, drained, front) in
+      record {
+        acked = acked;
+        front = front;
+        used = drained ∙ front;
+        counts = none_left s now a a1 xs ms gives none fit acked;
+      }
 
 -- ---- it stays so
 

@@ -43,21 +43,22 @@ filled n q = of (opened n) (within_opened n)
         whole : (m : ℕ) → opened (1412 * m) ≡ m
         whole m = omega arith
 
--- what is left in common behind it is none, by the slots in common before and behind, those of the call, and their
--- leads
-none_common : (most common_ common2 packets open_ e e2 q : ℕ) → common_ ≤ most → e ≤ packets + open_ → e ≤ 1
-    → common2 + (packets + open_ - e) ≡ common_ + (packets + (open_ + q) - e2) → (0 < q → e2 ≡ 1) → (q ≡ 0 → e2 ≡ e)
-    → q ≡ most - common_ + 1 - e → most - common2 + 1 - e2 ≡ 0
-none_common most common_ common2 packets open_ e e2 zero low holds one sum leads same is =
-    let lead_ : e2 ≡ e = same refl in
-    let still : common2 ≡ common_ = omega arith in
-    omega arith
-none_common most common_ common2 packets open_ e e2 (suc q) low holds one sum leads same is =
-    let lead_ : e2 ≡ 1 = leads (omega arith) in
-    let all : common2 + (packets + open_ - e) ≡ common_ + (packets + open_ + q) = omega arith in
-    let held_ : common2 + (packets + open_) ≡ common_ + (packets + open_ + q) + e = omega arith in
-    let full : common2 ≡ most = omega arith in
-    omega arith
+module _ (most common_ common2 packets open_ e e2 : ℕ) where
+  -- what is left in common behind it is none, by the slots in common before and behind, those of the call, and their
+  -- leads
+  none_common : (q : ℕ) → common_ ≤ most → e ≤ packets + open_ → e ≤ 1
+      → common2 + (packets + open_ - e) ≡ common_ + (packets + (open_ + q) - e2) → (0 < q → e2 ≡ 1) → (q ≡ 0 → e2 ≡ e)
+      → q ≡ most - common_ + 1 - e → most - common2 + 1 - e2 ≡ 0
+  none_common zero low holds one sum leads same is =
+      let lead_ : e2 ≡ e = same refl in
+      let still : common2 ≡ common_ = omega arith in
+      omega arith
+  none_common (suc q) low holds one sum leads same is =
+      let lead_ : e2 ≡ 1 = leads (omega arith) in
+      let all : common2 + (packets + open_ - e) ≡ common_ + (packets + open_ + q) = omega arith in
+      let held_ : common2 + (packets + open_) ≡ common_ + (packets + open_ + q) + e = omega arith in
+      let full : common2 ≡ most = omega arith in
+      omega arith
 
 -- ---- slots
 
@@ -334,35 +335,36 @@ count_numbers n a window most lead_ wide some one known small none = of (opened 
         by (inr (inl is)) none low = omega (arith, one, some, is, none)
         by (inr (inr is)) none low = absurd (omega (arith, is, none, low))
 
--- where it has none, and no other call lives, a piece counts that isn't acknowledged
-pub room_counts : (s : Setup) (l : Looks) (c : CallName) (r : CallRecord) → FitsLimits s.limits → RoomyAt s l
-    → ((d : CallName) (x : CallRecord) → call_at l d ≡ Some x → is_live x.life ≡ true → d ≡ c) → call_at l c ≡ Some r
-    → is_active r.life ≡ true → r.looks.sent.shut ≡ false
-    → count_above (used_of r.looks.received) r.looks.received.kept ≡ 0
-    → r.looks.sent.acked ≤ opened (length r.looks.sent.said) → opened (length r.looks.sent.said) < 4294967294
-    → room s l r.looks ≡ 0 → r.looks.sent.acked < counting_of r.looks.sent
-room_counts s l c r fits roomy alone there active unshut above known small none =
-    let k : CallLooks = r.looks in
-    let n : ℕ = length k.sent.said in
-    let all : common l ≡ beside r = common_lone s l c r roomy alone there in
-    let holds : held k ≡ opened n - k.sent.acked =
-    ap (λ (m : ℕ). m + held_pieces k.sent) above ∙ ap (λ (b : Bool). 0 + (pieces_by n b - k.sent.acked)) unshut
-    ∙ zero_plus (opened n - k.sent.acked) in
-    let own : common l ≡ opened n - k.sent.acked - lead k =
-    all ∙ ap (λ (b : Bool). cond b (held k - lead k) 0) active ∙ ap (λ (m : ℕ). m - lead k) holds in
-    let room_ : 1412 * (opened n + min (min (sending_window s - (opened n - k.sent.acked))
-    (shared_slots s - (opened n - k.sent.acked - lead k) + 1 - lead k)) (4294967294 - opened n)) - n ≡ 0 =
-    subst (λ (m : ℕ). 1412 * (opened n + min (min (sending_window s - (opened n - k.sent.acked))
-    (shared_slots s - m + 1 - lead k)) (4294967294 - opened n)) - n ≡ 0) own none in
-    let counts : counting_of k.sent ≡ (n - 1) / 1412 = ap (λ (b : Bool). counting_by n b) unshut in
-    let some : 1 ≤ shared_slots s = (let more = fits.some_slots in omega arith) in
-    let low : k.sent.acked < (n - 1) / 1412 =
-    count_numbers n k.sent.acked (sending_window s) (shared_slots s) (lead k) fits.wide some (lead_most k) known small
-    room_ in
-    subst (λ (m : ℕ). k.sent.acked < m) (sym counts) low
-  where
-    zero_plus : (m : ℕ) → 0 + m ≡ m
-    zero_plus m = omega arith
+module _ (s : Setup) (l : Looks) (c : CallName) (r : CallRecord) where
+  -- where it has none, and no other call lives, a piece counts that isn't acknowledged
+  pub room_counts : FitsLimits s.limits → RoomyAt s l
+      → ((d : CallName) (x : CallRecord) → call_at l d ≡ Some x → is_live x.life ≡ true → d ≡ c) → call_at l c ≡ Some r
+      → is_active r.life ≡ true → r.looks.sent.shut ≡ false
+      → count_above (used_of r.looks.received) r.looks.received.kept ≡ 0
+      → r.looks.sent.acked ≤ opened (length r.looks.sent.said) → opened (length r.looks.sent.said) < 4294967294
+      → room s l r.looks ≡ 0 → r.looks.sent.acked < counting_of r.looks.sent
+  room_counts fits roomy alone there active unshut above known small none =
+      let k : CallLooks = r.looks in
+      let n : ℕ = length k.sent.said in
+      let all : common l ≡ beside r = common_lone s l c r roomy alone there in
+      let holds : held k ≡ opened n - k.sent.acked =
+      ap (λ (m : ℕ). m + held_pieces k.sent) above ∙ ap (λ (b : Bool). 0 + (pieces_by n b - k.sent.acked)) unshut
+      ∙ zero_plus (opened n - k.sent.acked) in
+      let own : common l ≡ opened n - k.sent.acked - lead k =
+      all ∙ ap (λ (b : Bool). cond b (held k - lead k) 0) active ∙ ap (λ (m : ℕ). m - lead k) holds in
+      let room_ : 1412 * (opened n + min (min (sending_window s - (opened n - k.sent.acked))
+      (shared_slots s - (opened n - k.sent.acked - lead k) + 1 - lead k)) (4294967294 - opened n)) - n ≡ 0 =
+      subst (λ (m : ℕ). 1412 * (opened n + min (min (sending_window s - (opened n - k.sent.acked))
+      (shared_slots s - m + 1 - lead k)) (4294967294 - opened n)) - n ≡ 0) own none in
+      let counts : counting_of k.sent ≡ (n - 1) / 1412 = ap (λ (b : Bool). counting_by n b) unshut in
+      let some : 1 ≤ shared_slots s = (let more = fits.some_slots in omega arith) in
+      let low : k.sent.acked < (n - 1) / 1412 =
+      count_numbers n k.sent.acked (sending_window s) (shared_slots s) (lead k) fits.wide some (lead_most k) known small
+      room_ in
+      subst (λ (m : ℕ). k.sent.acked < m) (sym counts) low
+    where
+      zero_plus : (m : ℕ) → 0 + m ≡ m
+      zero_plus m = omega arith
 
 -- ---- packets that are kept and not done with
 

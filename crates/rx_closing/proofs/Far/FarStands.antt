@@ -37,23 +37,24 @@ record AreSame (p g k f u s e l q h m o v t d n : ℕ) : Type 0 where
   seventh : d ≡ e
   eighth : n ≡ l
 
-are_same : (p g k f u s e l q h m o v t d n : ℕ) → p ≤ q → g ≤ h → k ≤ m → f ≤ o → u ≤ v → s ≤ t → e ≤ d → l ≤ n
-    → p + g + k + f + u + s + e + l ≡ q + h + m + o + v + t + d + n → AreSame p g k f u s e l q h m o v t d n
-are_same p g k f u s e l q h m o v t d n a1 a2 a3 a4 a5 a6 a7 a8 sum =
-    record {
-      first = omega arith;
-      second = omega arith;
-      third = omega arith;
-      fourth = omega arith;
-      fifth = omega arith;
-      sixth = omega arith;
-      seventh = omega arith;
-      eighth = omega arith;
-    }
+module _ (p g k f u s e l q h m o v t d n : ℕ) where
+  are_same : p ≤ q → g ≤ h → k ≤ m → f ≤ o → u ≤ v → s ≤ t → e ≤ d → l ≤ n
+      → p + g + k + f + u + s + e + l ≡ q + h + m + o + v + t + d + n → AreSame p g k f u s e l q h m o v t d n
+  are_same a1 a2 a3 a4 a5 a6 a7 a8 sum =
+      record {
+        first = omega arith;
+        second = omega arith;
+        third = omega arith;
+        fourth = omega arith;
+        fifth = omega arith;
+        sixth = omega arith;
+        seventh = omega arith;
+        eighth = omega arith;
+      }
 
-eight_low : (p g k f u s e l q h m o v t d n : ℕ) → p ≤ q → g ≤ h → k ≤ m → f ≤ o → u ≤ v → s ≤ t → e ≤ d → l ≤ n
-    → p + g + k + f + u + s + e + l ≤ q + h + m + o + v + t + d + n
-eight_low p g k f u s e l q h m o v t d n a1 a2 a3 a4 a5 a6 a7 a8 = omega arith
+  eight_low : p ≤ q → g ≤ h → k ≤ m → f ≤ o → u ≤ v → s ≤ t → e ≤ d → l ≤ n
+      → p + g + k + f + u + s + e + l ≤ q + h + m + o + v + t + d + n
+  eight_low a1 a2 a3 a4 a5 a6 a7 a8 = omega arith
 
 -- ---- at one end
 
@@ -232,15 +233,16 @@ both_low c k client server t scene s later is =
     let down = served_low c k client server t scene s later is in
     omega (arith, up, down))
 
--- where it is the same at two stages, it is so at each between
-pub far_between : (c : CallName) (k : ℕ) (client server : Node) (s u t : Stage) → OneOf c k client server u
-    → OneOf c k client server t → (first second : List Noted) → u.history ≡ first ++ s.history
-    → t.history ≡ second ++ u.history → both_far c k client server s ≡ both_far c k client server t
-    → (both_far c k client server s ≡ both_far c k client server u)
-    × (both_far c k client server u ≡ both_far c k client server t)
-far_between c k client server s u t at_u at_t first second is_u is_t same =
-    by (both_far c k client server s) (both_far c k client server u) (both_far c k client server t)
-    (both_low c k client server u at_u s first is_u) (both_low c k client server t at_t u second is_t) same
-  where
-    by : (m n o : ℕ) → m ≤ n → n ≤ o → m ≡ o → (m ≡ n) × (n ≡ o)
-    by m n o low high is = (omega arith, omega arith)
+module _ (c : CallName) (k : ℕ) (client server : Node) (s u t : Stage) where
+  -- where it is the same at two stages, it is so at each between
+  pub far_between : OneOf c k client server u → OneOf c k client server t → (first second : List Noted)
+      → u.history ≡ first ++ s.history → t.history ≡ second ++ u.history
+      → both_far c k client server s ≡ both_far c k client server t
+      → (both_far c k client server s ≡ both_far c k client server u)
+      × (both_far c k client server u ≡ both_far c k client server t)
+  far_between at_u at_t first second is_u is_t same =
+      by (both_far c k client server s) (both_far c k client server u) (both_far c k client server t)
+      (both_low c k client server u at_u s first is_u) (both_low c k client server t at_t u second is_t) same
+    where
+      by : (m n o : ℕ) → m ≤ n → n ≤ o → m ≡ o → (m ≡ n) × (n ≡ o)
+      by m n o low high is = (omega arith, omega arith)

@@ -168,17 +168,17 @@ at_work most c r js j work there undecided =
     of true true h ended waits handled = absurd cc
     of true false false ended waits handled = absurd cc
 
--- with each step that its job waits more it is further
-pub waited_more : (most : ℕ) (c : CallName) (r f : CallRecord) (js ks : List JobState) (i j : JobState) → IsAtWork r
-    → IsAtWork f → job_of c js ≡ Some i → job_of c ks ≡ Some j → i.code ≡ None → j.code ≡ None
-    → i.steps < j.steps → waited most c (Some r) js < waited most c (Some f) ks
-waited_more most c r f js ks i j first second there behind open_ still less =
-    let before = at_work most c r js i first there open_ in
-    let after_it = at_work most c f ks j second behind still in
-    by (waited most c (Some r) js) (waited most c (Some f) ks) i.steps j.steps before after_it less
-  where
-    by : (m n a b : ℕ) → m ≡ suc a → n ≡ suc b → a < b → m < n
-    by m n a b first second less = omega (arith, first, second, less)
+module _ (most : ℕ) (c : CallName) (r f : CallRecord) (js ks : List JobState) (i j : JobState) where
+  -- with each step that its job waits more it is further
+  pub waited_more : IsAtWork r → IsAtWork f → job_of c js ≡ Some i → job_of c ks ≡ Some j → i.code ≡ None
+      → j.code ≡ None → i.steps < j.steps → waited most c (Some r) js < waited most c (Some f) ks
+  waited_more first second there behind open_ still less =
+      let before = at_work most c r js i first there open_ in
+      let after_it = at_work most c f ks j second behind still in
+      by (waited most c (Some r) js) (waited most c (Some f) ks) i.steps j.steps before after_it less
+    where
+      by : (m n a b : ℕ) → m ≡ suc a → n ≡ suc b → a < b → m < n
+      by m n a b first second less = omega (arith, first, second, less)
 
 -- ---- all that is done for a call
 

@@ -49,39 +49,39 @@ between_of a b None first second back = absurd first
 between_of a b (Some m) first second back =
     (m, refl, stays_so a.life m.life b.life first.life second.life back)
 
--- so has a call, whatever life that is
-pub life_within : (s : Setup) (c : CallName) (back front h : List Event) → FitsSetup s
-    → Legal s (back ++ (front ++ h)) → StartsNoneAnew s (back ++ (front ++ h)) c → (a b : CallRecord)
-    → call_at (looks s h) c ≡ Some a → call_at (looks s (back ++ (front ++ h))) c ≡ Some b → b.life ≡ a.life
-    → (m : CallRecord) × (call_at (looks s (front ++ h)) c ≡ Some m) × (m.life ≡ a.life)
-life_within s c back front h fits legal anew a b at_first at_last same =
-    between_of a b (call_at (looks s (front ++ h)) c)
-    (subst (λ (o : Option CallRecord). FurtherOf o (call_at (looks s (front ++ h)) c)) at_first
-    (further_on s front h c fits (legal_parts s back (front ++ h) legal) (anew_before s back (front ++ h) c anew)))
-    (subst (λ (o : Option CallRecord). FurtherOf (call_at (looks s (front ++ h)) c) o) at_last
-    (further_on s back (front ++ h) c fits legal anew))
-    same
+module _ (s : Setup) (c : CallName) (back front h : List Event) where
+  -- so has a call, whatever life that is
+  pub life_within : FitsSetup s → Legal s (back ++ (front ++ h)) → StartsNoneAnew s (back ++ (front ++ h)) c
+      → (a b : CallRecord) → call_at (looks s h) c ≡ Some a → call_at (looks s (back ++ (front ++ h))) c ≡ Some b
+      → b.life ≡ a.life → (m : CallRecord) × (call_at (looks s (front ++ h)) c ≡ Some m) × (m.life ≡ a.life)
+  life_within fits legal anew a b at_first at_last same =
+      between_of a b (call_at (looks s (front ++ h)) c)
+      (subst (λ (o : Option CallRecord). FurtherOf o (call_at (looks s (front ++ h)) c)) at_first
+      (further_on s front h c fits (legal_parts s back (front ++ h) legal) (anew_before s back (front ++ h) c anew)))
+      (subst (λ (o : Option CallRecord). FurtherOf (call_at (looks s (front ++ h)) c) o) at_last
+      (further_on s back (front ++ h) c fits legal anew))
+      same
 
--- of a node's side at three stages
-pub life_at : (n : Node) (j : ℕ) (c : CallName) (s u t : Stage) → Adds s.history u.history → Adds u.history t.history
-    → FitsSetup n.setup → Legal n.setup (side j t.history) → StartsNoneAnew n.setup (side j t.history) c
-    → (a b : CallRecord) → call_at (looks_of s j n) c ≡ Some a → call_at (looks_of t j n) c ≡ Some b
-    → b.life ≡ a.life
-    → (m : CallRecord) × (call_at (looks_of u j n) c ≡ Some m) × (m.life ≡ a.life)
-life_at n j c s u t front back fits legal anew a b at_first at_last same =
-    (let r = life_within n.setup c (side j back.more) (side j front.more) (side j s.history) fits
-    (subst (Legal n.setup) all legal)
-    (subst (λ (es : List Event). StartsNoneAnew n.setup es c) all anew) a b at_first
-    (subst (λ (es : List Event). call_at (looks n.setup es) c ≡ Some b) all at_last) same in
-    (r.0, subst (λ (es : List Event). call_at (looks n.setup es) c ≡ Some r.0) (sym mid) r.1, r.2))
-  where
-    mid : side j u.history ≡ side j front.more ++ side j s.history
-    mid = ap (side j) front.is ∙ side_split j front.more s.history
+module _ (n : Node) (j : ℕ) (c : CallName) (s u t : Stage) where
+  -- of a node's side at three stages
+  pub life_at : Adds s.history u.history → Adds u.history t.history → FitsSetup n.setup
+      → Legal n.setup (side j t.history) → StartsNoneAnew n.setup (side j t.history) c → (a b : CallRecord)
+      → call_at (looks_of s j n) c ≡ Some a → call_at (looks_of t j n) c ≡ Some b → b.life ≡ a.life
+      → (m : CallRecord) × (call_at (looks_of u j n) c ≡ Some m) × (m.life ≡ a.life)
+  life_at front back fits legal anew a b at_first at_last same =
+      (let r = life_within n.setup c (side j back.more) (side j front.more) (side j s.history) fits
+      (subst (Legal n.setup) all legal)
+      (subst (λ (es : List Event). StartsNoneAnew n.setup es c) all anew) a b at_first
+      (subst (λ (es : List Event). call_at (looks n.setup es) c ≡ Some b) all at_last) same in
+      (r.0, subst (λ (es : List Event). call_at (looks n.setup es) c ≡ Some r.0) (sym mid) r.1, r.2))
+    where
+      mid : side j u.history ≡ side j front.more ++ side j s.history
+      mid = ap (side j) front.is ∙ side_split j front.more s.history
 
-    all : side j t.history ≡ side j back.more ++ (side j front.more ++ side j s.history)
-    all =
-        ap (side j) back.is ∙ side_split j back.more u.history
-        ∙ ap (λ (es : List Event). side j back.more ++ es) mid
+      all : side j t.history ≡ side j back.more ++ (side j front.more ++ side j s.history)
+      all =
+          ap (side j) back.is ∙ side_split j back.more u.history
+          ∙ ap (λ (es : List Event). side j back.more ++ es) mid
 
 -- ---- at the two ends of a call
 

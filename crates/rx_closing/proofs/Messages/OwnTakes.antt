@@ -105,26 +105,26 @@ pub record AllOver (c : CallName) (Open : Looks → Type 0) (l : Looks) (k : Cal
       → ((channel_at l (channel_of c)).owed_abort ≡ Some code) ⊎ IsMore ms
       → (channel_at m (channel_of c)).owed_abort ≡ Some code
 
--- the first one in front of the others
-pub taken_first : (s : Setup) (c : CallName) (Open : Looks → Type 0) (l q m : Looks) (k : CallRecord) (first : Message)
-    (ms : List Message) (v : NodeView) (got : Took) → IsViewAt s l.now v → call_row v first first.body k.looks ≡ got
-    → MakesSense got → q.now ≡ l.now
-    → AllTaken s c Open q (record k { looks = after_taken v got first k.looks }) ms m
-    → AllTaken s c Open l k (first ∷ ms) m
-taken_first s c Open l q m k first ms v got view row fine now r =
-    record { call = r.call; took = by r.took; last = r.last; open_ = r.open_; now = r.now ∙ now }
-  where
-    k1 : CallRecord
-    k1 = record k { looks = after_taken v got first k.looks }
+module _ (s : Setup) (c : CallName) (Open : Looks → Type 0) (l q m : Looks) (k : CallRecord) (first : Message)
+    (ms : List Message) (v : NodeView) (got : Took) where
+  -- the first one in front of the others
+  pub taken_first : IsViewAt s l.now v → call_row v first first.body k.looks ≡ got → MakesSense got → q.now ≡ l.now
+      → AllTaken s c Open q (record k { looks = after_taken v got first k.looks }) ms m
+      → AllTaken s c Open l k (first ∷ ms) m
+  taken_first view row fine now r =
+      record { call = r.call; took = by r.took; last = r.last; open_ = r.open_; now = r.now ∙ now }
+    where
+      k1 : CallRecord
+      k1 = record k { looks = after_taken v got first k.looks }
 
-    by : TookAll s q.now k1 ms r.call → TookAll s l.now k (first ∷ ms) r.call
-    by (at_work f takes is) =
-        at_work f (takes_one k.looks f first ms v got view row fine
-        (subst (λ (t : ℕ). TakesIn s t (after_taken v got first k.looks) ms f) now takes)) is
-    by (settles fs bs f are takes finished all is) =
-        settles (first ∷ fs) bs f (ap (λ (xs : List Message). first ∷ xs) are)
-        (takes_one k.looks f first fs v got view row fine
-        (subst (λ (t : ℕ). TakesIn s t (after_taken v got first k.looks) fs f) now takes)) finished all is
+      by : TookAll s q.now k1 ms r.call → TookAll s l.now k (first ∷ ms) r.call
+      by (at_work f takes is) =
+          at_work f (takes_one k.looks f first ms v got view row fine
+          (subst (λ (t : ℕ). TakesIn s t (after_taken v got first k.looks) ms f) now takes)) is
+      by (settles fs bs f are takes finished all is) =
+          settles (first ∷ fs) bs f (ap (λ (xs : List Message). first ∷ xs) are)
+          (takes_one k.looks f first fs v got view row fine
+          (subst (λ (t : ℕ). TakesIn s t (after_taken v got first k.looks) fs f) now takes)) finished all is
 
 last_behind : (l m : Looks) (c : CallName) (k b : CallRecord) → IsLast l c k → TookOwn c l b m → IsLast m c b
 last_behind l m c k b last own =

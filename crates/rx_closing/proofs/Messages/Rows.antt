@@ -190,32 +190,31 @@ server_front s service nonces l from m kind flag stream serves index =
         else if not (x && y) then Some tooks.Unserved else None) ≡ None
     of a b x y p q u v = rw (p, q, u, v) refl
 
--- a server's message of a kind for clients, on a connection with it, of the class
-pub client_front_by : (s : Setup) (host : Host) (epoch : ℕ) (l : Looks) (from : Host) (m : Message) (c : CallName)
-    → s.kind ≡ Client host epoch → has_flag CLIENT_INITIATED m.flags ≡ false
-    → is_for_clients s.class.challenges m.body ≡ true → named s from m ≡ c
-    → is_peer from (conn_at l (connection_of c)) ≡ true → m.index ≡ s.class.index → outer_row s s.kind l from m ≡ None
-client_front_by s host epoch l from m c kind flag for name peer index =
-    ap (λ (k : Kind). outer_row s k l from m) kind
-    ∙ of (has_flag CLIENT_INITIATED m.flags) (is_peer from (conn_at l (connection_of (named s from m))))
-    (m.index == s.class.index) (is_for_clients s.class.challenges m.body) flag
-    (ap (λ (n : CallName). is_peer from (conn_at l (connection_of n))) name ∙ peer)
-    (ap (λ (n : ℕ). n == s.class.index) index ∙ number_itself s.class.index) for
-  where
-    of : (a b x y : Bool) → a ≡ false → b ≡ true → x ≡ true → y ≡ true
-        → (if a then Some tooks.Foreign else if not b then Some tooks.Strange
-        else if not (x && y) then Some tooks.Strange else None) ≡ None
-    of a b x y p q u v = rw (p, q, u, v) refl
+module _ (s : Setup) (host : Host) (epoch : ℕ) (l : Looks) (from : Host) (m : Message) (c : CallName) where
+  -- a server's message of a kind for clients, on a connection with it, of the class
+  pub client_front_by : s.kind ≡ Client host epoch → has_flag CLIENT_INITIATED m.flags ≡ false
+      → is_for_clients s.class.challenges m.body ≡ true → named s from m ≡ c
+      → is_peer from (conn_at l (connection_of c)) ≡ true → m.index ≡ s.class.index → outer_row s s.kind l from m ≡ None
+  client_front_by kind flag for name peer index =
+      ap (λ (k : Kind). outer_row s k l from m) kind
+      ∙ of (has_flag CLIENT_INITIATED m.flags) (is_peer from (conn_at l (connection_of (named s from m))))
+      (m.index == s.class.index) (is_for_clients s.class.challenges m.body) flag
+      (ap (λ (n : CallName). is_peer from (conn_at l (connection_of n))) name ∙ peer)
+      (ap (λ (n : ℕ). n == s.class.index) index ∙ number_itself s.class.index) for
+    where
+      of : (a b x y : Bool) → a ≡ false → b ≡ true → x ≡ true → y ≡ true
+          → (if a then Some tooks.Foreign else if not b then Some tooks.Strange
+          else if not (x && y) then Some tooks.Strange else None) ≡ None
+      of a b x y p q u v = rw (p, q, u, v) refl
 
--- its DATA or ACK
-pub client_front : (s : Setup) (host : Host) (epoch : ℕ) (l : Looks) (from : Host) (m : Message) (c : CallName)
-    → s.kind ≡ Client host epoch → has_flag CLIENT_INITIATED m.flags ≡ false → IsStream m.body
-    → named s from m ≡ c → is_peer from (conn_at l (connection_of c)) ≡ true → m.index ≡ s.class.index
-    → outer_row s s.kind l from m ≡ None
-client_front s host epoch l from m c kind flag stream name peer index =
-    client_front_by s host epoch l from m c kind flag (for_clients m.body stream) name peer index
-  where
-    for_clients : (body : Body) → IsStream body → is_for_clients s.class.challenges body ≡ true
-    for_clients (bodies.Chunk payload) stream = refl
-    for_clients (bodies.Ack a) stream = refl
-    for_clients _ stream = absurd stream
+  -- its DATA or ACK
+  pub client_front : s.kind ≡ Client host epoch → has_flag CLIENT_INITIATED m.flags ≡ false → IsStream m.body
+      → named s from m ≡ c → is_peer from (conn_at l (connection_of c)) ≡ true → m.index ≡ s.class.index
+      → outer_row s s.kind l from m ≡ None
+  client_front kind flag stream name peer index =
+      client_front_by kind flag (for_clients m.body stream) name peer index
+    where
+      for_clients : (body : Body) → IsStream body → is_for_clients s.class.challenges body ≡ true
+      for_clients (bodies.Chunk payload) stream = refl
+      for_clients (bodies.Ack a) stream = refl
+      for_clients _ stream = absurd stream

@@ -317,17 +317,17 @@ module _ (c : CallName) (k : ℕ) (client server : Node) (t : Stage) (one : OneO
       server_there =
           ap (λ (w : Stage). slice_get w.nodes 0) (sym (delivers_grow ds u v made).rest) ∙ at_end.server_there
 
--- in a round: the channel owes it at the end of the round
-pub tells_round : (c : CallName) (k : ℕ) (client server : Node) (g : Handlers) (s t : Stage) (r : RoundMade g s t)
-    → OneOf c k client server t → (service nonces : ℕ) → server.setup.kind ≡ Server service nonces → (d : Datagram)
-    → In d r.polled.given → Asked c client server service d → (y : CallRecord)
-    → served_in c server r.polled.stage ≡ Some y → is_active y.life ≡ false → (code : ℤ)
-    → served_code y.life ≡ Some code
-    → (channel_at (looks_of r.delivered 0 server) (channel_of c)).number ≡ c.number → Owing c (looks_of t 0 server)
-tells_round c k client server g s t r one service nonces kind d there asked y at idle code coded number =
-    (let a : RoundAdds g s t r = round_adds g s t r in
-    owing_round c server g s t r
-    (tells_over c k client server t one service nonces kind r.polled.stage r.delivered
-    (adds_both r.delivered.history r.called.history t.history
-    (adds_both r.delivered.history r.served.history r.called.history a.served a.called) a.over)
-    (a.delivered_nodes ∙ sym a.nodes) r.polled.given r.delivers_are d there asked y at idle code coded number))
+module _ (c : CallName) (k : ℕ) (client server : Node) (g : Handlers) (s t : Stage) (r : RoundMade g s t)
+    (one : OneOf c k client server t) (service nonces : ℕ) where
+  -- in a round: the channel owes it at the end of the round
+  pub tells_round : server.setup.kind ≡ Server service nonces → (d : Datagram) → In d r.polled.given
+      → Asked c client server service d → (y : CallRecord) → served_in c server r.polled.stage ≡ Some y
+      → is_active y.life ≡ false → (code : ℤ) → served_code y.life ≡ Some code
+      → (channel_at (looks_of r.delivered 0 server) (channel_of c)).number ≡ c.number → Owing c (looks_of t 0 server)
+  tells_round kind d there asked y at idle code coded number =
+      (let a : RoundAdds g s t r = round_adds g s t r in
+      owing_round c server g s t r
+      (tells_over c k client server t one service nonces kind r.polled.stage r.delivered
+      (adds_both r.delivered.history r.called.history t.history
+      (adds_both r.delivered.history r.served.history r.called.history a.served a.called) a.over)
+      (a.delivered_nodes ∙ sym a.nodes) r.polled.given r.delivers_are d there asked y at idle code coded number))

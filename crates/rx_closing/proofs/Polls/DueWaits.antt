@@ -26,48 +26,49 @@ use Rattle.rx_closing.specs.Living.{looks_of}
 use Rattle.rx_closing.proofs.Polls.NodePolls.{live_seen}
 use Rattle.rx_closing.proofs.Polls.OnePoll.{active_lives}
 
--- an item of a node is due no earlier
-pub item_waits : (s : Stage) (j : ℕ) (n : Node) (w : ℕ) → slice_get s.nodes j ≡ Some n
-    → least_wait s.nodes s.history ≡ Some w → 0 < w → (i : Item) → In i (items n.setup (looks_of s j n))
-    → moment j s.history + w ≤ i.rank
-item_waits s j n w there least some i among = of (least_by (λ (m : ℕ). m) (moments n.setup (looks_of s j n))) refl
-  where
-    in_moments : In i.rank (moments n.setup (looks_of s j n))
-    in_moments =
-        in_behind i.rank (map (λ x. 0) (looks_of s j n).strays)
-        (map (λ (x : Item). x.rank) (items n.setup (looks_of s j n)) ++ deaths (looks_of s j n).calls)
-        (in_front i.rank (map (λ (x : Item). x.rank) (items n.setup (looks_of s j n))) (deaths (looks_of s j n).calls)
-        (in_map (λ (x : Item). x.rank) i (items n.setup (looks_of s j n)) among))
+module _ (s : Stage) (j : ℕ) (n : Node) (w : ℕ) where
+  -- an item of a node is due no earlier
+  pub item_waits : slice_get s.nodes j ≡ Some n → least_wait s.nodes s.history ≡ Some w → 0 < w → (i : Item)
+      → In i (items n.setup (looks_of s j n)) → moment j s.history + w ≤ i.rank
+  item_waits there least some i among = of (least_by (λ (m : ℕ). m) (moments n.setup (looks_of s j n))) refl
+    where
+      in_moments : In i.rank (moments n.setup (looks_of s j n))
+      in_moments =
+          in_behind i.rank (map (λ x. 0) (looks_of s j n).strays)
+          (map (λ (x : Item). x.rank) (items n.setup (looks_of s j n)) ++ deaths (looks_of s j n).calls)
+          (in_front i.rank (map (λ (x : Item). x.rank) (items n.setup (looks_of s j n))) (deaths (looks_of s j n).calls)
+          (in_map (λ (x : Item). x.rank) i (items n.setup (looks_of s j n)) among))
 
-    of : (o : Option ℕ) → least_by (λ (m : ℕ). m) (moments n.setup (looks_of s j n)) ≡ o
-        → moment j s.history + w ≤ i.rank
-    of None nothing =
-        absurd (subst (λ (ms : List ℕ). In i.rank ms)
-        (least_none (λ (m : ℕ). m) (moments n.setup (looks_of s j n)) nothing) in_moments)
-    of (Some m) is =
-        (let low : m ≤ i.rank = least_low (λ (x : ℕ). x) m i.rank (moments n.setup (looks_of s j n)) is in_moments in
-        let now = now-side n.setup j s.history in
-        let wait : wait_at s.history j n ≡ Some (max (looks_of s j n).now m - moment j s.history) =
-        ap (λ (o : Option ℕ). option_map (λ x. x - moment j s.history) (option_map (max (looks_of s j n).now) o)) is in
-        let within = wait_within s.nodes s.history j (max (looks_of s j n).now m - moment j s.history) n there wait in
-        let same : within.0 ≡ w =
-        (let both : ◌≡◌ {A = Option ℕ} (Some within.0) (Some w) = sym within.1 ∙ least in cc (both)) in
-        let short = within.2 in
-        omega (arith, low, now, same, short, some))
+      of : (o : Option ℕ) → least_by (λ (m : ℕ). m) (moments n.setup (looks_of s j n)) ≡ o
+          → moment j s.history + w ≤ i.rank
+      of None nothing =
+          absurd (subst (λ (ms : List ℕ). In i.rank ms)
+          (least_none (λ (m : ℕ). m) (moments n.setup (looks_of s j n)) nothing) in_moments)
+      of (Some m) is =
+          (let low : m ≤ i.rank = least_low (λ (x : ℕ). x) m i.rank (moments n.setup (looks_of s j n)) is in_moments in
+          let now = now-side n.setup j s.history in
+          let wait : wait_at s.history j n ≡ Some (max (looks_of s j n).now m - moment j s.history) =
+          ap (λ (o : Option ℕ). option_map (λ x. x - moment j s.history) (option_map (max (looks_of s j n).now) o))
+          is in
+          let within = wait_within s.nodes s.history j (max (looks_of s j n).now m - moment j s.history) n there wait in
+          let same : within.0 ≡ w =
+          (let both : ◌≡◌ {A = Option ℕ} (Some within.0) (Some w) = sym within.1 ∙ least in cc (both)) in
+          let short = within.2 in
+          omega (arith, low, now, same, short, some))
 
--- so is what a call's end owes that is at work and isn't silent
-pub call_waits : (s : Stage) (j : ℕ) (n : Node) (w : ℕ) → slice_get s.nodes j ≡ Some n
-    → least_wait s.nodes s.history ≡ Some w → 0 < w → FitsSetup n.setup → Legal n.setup (side j s.history)
-    → (c : CallName) (r : CallRecord) → call_at (looks_of s j n) c ≡ Some r → is_active r.life ≡ true
-    → is_silent (looks_of s j n).now r ≡ false → (x : CallItem) → In x (call_items (is_client n.setup.kind) r.looks)
-    → moment j s.history + w ≤ x.rank
-call_waits s j n w there least some fits legal c r is active awake x own =
-    (let seen = live_seen n.setup (side j s.history) c r fits legal is (active_lives r.life active) in
-    item_waits s j n w there least some (item_of n.setup r x)
-    (in_items n.setup (looks_of s j n) (item_of n.setup r x) (channel_of c) (all_channels (looks_of s j n).conns)
-    seen.known
-    (in_channel n.setup (looks_of s j n) (channel_of c) r x (latest_is (looks_of s j n) c seen.latest ∙ is) active awake
-    own)))
+  -- so is what a call's end owes that is at work and isn't silent
+  pub call_waits : slice_get s.nodes j ≡ Some n → least_wait s.nodes s.history ≡ Some w → 0 < w → FitsSetup n.setup
+      → Legal n.setup (side j s.history) → (c : CallName) (r : CallRecord) → call_at (looks_of s j n) c ≡ Some r
+      → is_active r.life ≡ true → is_silent (looks_of s j n).now r ≡ false → (x : CallItem)
+      → In x (call_items (is_client n.setup.kind) r.looks) → moment j s.history + w ≤ x.rank
+  call_waits there least some fits legal c r is active awake x own =
+      (let seen = live_seen n.setup (side j s.history) c r fits legal is (active_lives r.life active) in
+      item_waits there least some (item_of n.setup r x)
+      (in_items n.setup (looks_of s j n) (item_of n.setup r x) (channel_of c) (all_channels (looks_of s j n).conns)
+      seen.known
+      (in_channel n.setup (looks_of s j n) (channel_of c) r x (latest_is (looks_of s j n) c seen.latest ∙ is) active
+      awake
+      own)))
 
 -- the ping of a client
 pub ping_there : (client : Bool) (r : CallRecord) → client ≡ true

@@ -287,45 +287,45 @@ pub record EndTurn (c : CallName) (peer : Host) (service : ℕ) (k : ℕ) (n : N
   pub left : EndPolled n.setup c peer service (moment k p.stage.history) n.host (side k p.stage.history)
       (side k q.stage.history) gave messages
 
-pub end_polls : (c : CallName) (peer : Host) (service : ℕ) (k : ℕ) (n : Node) (p q : Polled)
-    → slice_get p.stage.nodes k ≡ Some n → FitsSetup n.setup → IsMute n.setup.class
-    → Legal n.setup (side k p.stage.history) → IsHome n.host n.setup.kind
-    → ConnIs (looks_of p.stage k n) (connection_of c) peer service → Made (polls_out k) p q
-    → EndTurn c peer service k n p q
-end_polls c peer service k n p q there fits mute legal home conn made =
-    ⊎_elim
-    (λ (w : (r : CallRecord) × WorksAt c (looks_of p.stage k n) r). (
-    let turn = node_turn n.host k n o.0 q.stage (WorkOn n.setup fits mute c peer service at n.host home)
-    (work_none n.setup fits mute c peer service at n.host home)
-    (work_some n.setup fits mute c peer service at n.host home) p.given p.stage o.2.0 there legal o.2.1 in
-    let left = turn.res w.0 w.1 conn now in
-    record {
-      out = turn.out;
-      gave = turn.gave;
-      then_ = o.1 ∙ turn.more;
-      given_by = turn.given_by;
-      messages = left.messages;
-      left = end_works w.0 w.1 left.left;
-    }))
-    (λ (rests : RestsAt c (looks_of p.stage k n)). (
-    let turn = node_turn n.host k n o.0 q.stage (RestOn n.setup fits mute c peer service at n.host home)
-    (rest_none n.setup fits mute c peer service at n.host home)
-    (rest_some n.setup fits mute c peer service at n.host home) p.given p.stage o.2.0 there legal o.2.1 in
-    record {
-      out = turn.out;
-      gave = turn.gave;
-      then_ = o.1 ∙ turn.more;
-      given_by = turn.given_by;
-      messages = [];
-      left = end_rests rests refl (turn.res rests now);
-    }))
-    (works_or_rests n.setup fits mute c peer service at n.host home (looks_of p.stage k n))
-  where
-    at : ℕ
-    at = moment k p.stage.history
+module _ (c : CallName) (peer : Host) (service k : ℕ) (n : Node) (p q : Polled) where
+  pub end_polls : slice_get p.stage.nodes k ≡ Some n → FitsSetup n.setup → IsMute n.setup.class
+      → Legal n.setup (side k p.stage.history) → IsHome n.host n.setup.kind
+      → ConnIs (looks_of p.stage k n) (connection_of c) peer service → Made (polls_out k) p q
+      → EndTurn c peer service k n p q
+  end_polls there fits mute legal home conn made =
+      ⊎_elim
+      (λ (w : (r : CallRecord) × WorksAt c (looks_of p.stage k n) r). (
+      let turn = node_turn n.host k n o.0 q.stage (WorkOn n.setup fits mute c peer service at n.host home)
+      (work_none n.setup fits mute c peer service at n.host home)
+      (work_some n.setup fits mute c peer service at n.host home) p.given p.stage o.2.0 there legal o.2.1 in
+      let left = turn.res w.0 w.1 conn now in
+      record {
+        out = turn.out;
+        gave = turn.gave;
+        then_ = o.1 ∙ turn.more;
+        given_by = turn.given_by;
+        messages = left.messages;
+        left = end_works w.0 w.1 left.left;
+      }))
+      (λ (rests : RestsAt c (looks_of p.stage k n)). (
+      let turn = node_turn n.host k n o.0 q.stage (RestOn n.setup fits mute c peer service at n.host home)
+      (rest_none n.setup fits mute c peer service at n.host home)
+      (rest_some n.setup fits mute c peer service at n.host home) p.given p.stage o.2.0 there legal o.2.1 in
+      record {
+        out = turn.out;
+        gave = turn.gave;
+        then_ = o.1 ∙ turn.more;
+        given_by = turn.given_by;
+        messages = [];
+        left = end_rests rests refl (turn.res rests now);
+      }))
+      (works_or_rests n.setup fits mute c peer service at n.host home (looks_of p.stage k n))
+    where
+      at : ℕ
+      at = moment k p.stage.history
 
-    o : (w : Polling) × (q.given ≡ w.given) × Polls k n.host p.given p.stage w q.stage
-    o = out_to k n.host p q made.0 (ap (option_map (λ (m : Node). m.host)) there) made.1
+      o : (w : Polling) × (q.given ≡ w.given) × Polls k n.host p.given p.stage w q.stage
+      o = out_to k n.host p q made.0 (ap (option_map (λ (m : Node). m.host)) there) made.1
 
-    now : (looks n.setup (side k p.stage.history)).now ≡ moment k p.stage.history
-    now = now-side n.setup k p.stage.history
+      now : (looks n.setup (side k p.stage.history)).now ≡ moment k p.stage.history
+      now = now-side n.setup k p.stage.history

@@ -61,13 +61,14 @@ pub record RoundGiven (c : CallName) (k : ℕ) (client server : Node) (peer : Ho
   pub moments : (j : ℕ) → moment j p.stage.history ≡ moment j s.history
   pub rest : p.stage ≡ record s { history = p.stage.history }
 
-end_moved : (c : CallName) (s : Setup) (peer : Host) (service now then : ℕ) (from : Host) (h g later last : List Event)
-    (ds : List Datagram) (ms : List Message) → now ≡ then → h ≡ g → later ≡ last
-    → EndPolled s c peer service now from h later ds ms → EndPolled s c peer service then from g last ds ms
-end_moved c s peer service now then from h g later last ds ms at front back left =
-    subst (λ (n : ℕ). EndPolled s c peer service n from g last ds ms) at
-    (subst (λ (x : List Event). EndPolled s c peer service now from x last ds ms) front
-    (subst (λ (x : List Event). EndPolled s c peer service now from h x ds ms) back left))
+module _ (c : CallName) (s : Setup) (peer : Host) (service now then : ℕ) (from : Host) (h g later last : List Event)
+    (ds : List Datagram) (ms : List Message) where
+  end_moved : now ≡ then → h ≡ g → later ≡ last → EndPolled s c peer service now from h later ds ms
+      → EndPolled s c peer service then from g last ds ms
+  end_moved at front back left =
+      subst (λ (n : ℕ). EndPolled s c peer service n from g last ds ms) at
+      (subst (λ (x : List Event). EndPolled s c peer service now from x last ds ms) front
+      (subst (λ (x : List Event). EndPolled s c peer service now from h x ds ms) back left))
 
 out_moved : (n : Node) (h g later last : List Event) → h ≡ g → later ≡ last → OutAt n h later → OutAt n g last
 out_moved n h g later last front back out =

@@ -190,11 +190,11 @@ said_name nodes now world c h d m said =
         → name_of (if is_client n.setup.kind then d.from else d.to) m ≡ named n.setup d.to m
     by j n there host = home j n there host n.setup.kind refl
 
--- where both ends gave nothing, nothing of its stream was given
-pub gave_none : (c : CallName) (k : ℕ) (client server : Node) (peer : Host) (service : ℕ) (s : Stage) (p : Polled)
-    → World s.nodes s.history → (q : RoundPolled c k client server peer service s p) → q.asks ≡ [] → q.answers ≡ []
-    → (d : Datagram) → In d p.given → (m : Message) → reading_of d.bytes ≡ Ok m → IsStream m.body → (h : List Noted)
-    → SaidFor s.nodes c h d m → ⊥
-gave_none c k client server peer service s p world q asks answers d there m reads stream h said =
-    every_at (NoStreamOf c) p.given d there (q.quiet asks answers) m reads stream
-    (said_name s.nodes s.history world c h d m said)
+module _ (c : CallName) (k : ℕ) (client server : Node) (peer : Host) (service : ℕ) (s : Stage) (p : Polled) where
+  -- where both ends gave nothing, nothing of its stream was given
+  pub gave_none : World s.nodes s.history → (q : RoundPolled c k client server peer service s p) → q.asks ≡ []
+      → q.answers ≡ [] → (d : Datagram) → In d p.given → (m : Message) → reading_of d.bytes ≡ Ok m → IsStream m.body
+      → (h : List Noted) → SaidFor s.nodes c h d m → ⊥
+  gave_none world q asks answers d there m reads stream h said =
+      every_at (NoStreamOf c) p.given d there (q.quiet asks answers) m reads stream
+      (said_name s.nodes s.history world c h d m said)

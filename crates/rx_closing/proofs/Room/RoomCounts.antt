@@ -108,20 +108,20 @@ one_only (x ∷ []) c d few (inl one) (inr none) = absurd none
 one_only (x ∷ []) c d few (inr none) here = absurd none
 one_only (x ∷ (y ∷ ys)) c d few there here = absurd (omega (arith, few))
 
--- where it has none, a piece counts that isn't acknowledged
-pub room_counts_among : (s : Setup) (h : List Event) (cs : List CallName) (c : CallName) (r : CallRecord) → FitsSetup s
-    → Legal s h → AreAmong cs (looks s h) → IsSpacious cs s → call_at (looks s h) c ≡ Some r
-    → is_active r.life ≡ true → r.looks.sent.shut ≡ false
-    → count_above (used_of r.looks.received) r.looks.received.kept ≡ 0
-    → r.looks.sent.acked ≤ opened (length r.looks.sent.said) → opened (length r.looks.sent.said) < 4294967294
-    → room s (looks s h) r.looks ≡ 0 → r.looks.sent.acked < counting_of r.looks.sent
-room_counts_among s h cs c r fits legal among space there active unshut above known small none =
-    by (slot_left s h cs fits legal among space)
-  where
-    by : (length cs ≤ 1) ⊎ (common (looks s h) < shared_slots s) → r.looks.sent.acked < counting_of r.looks.sent
-    by (inl few) =
-        room_counts s (looks s h) c r fits.limits (roomy_history s h legal)
-        (λ d x here living.
-        one_only cs c d few (among c r there (active_lives r.life active)) (among d x here living))
-        there active unshut above known small none
-    by (inr left) = counts_left s (looks s h) r.looks fits.limits left unshut known small none
+module _ (s : Setup) (h : List Event) (cs : List CallName) (c : CallName) (r : CallRecord) where
+  -- where it has none, a piece counts that isn't acknowledged
+  pub room_counts_among : FitsSetup s → Legal s h → AreAmong cs (looks s h) → IsSpacious cs s
+      → call_at (looks s h) c ≡ Some r → is_active r.life ≡ true → r.looks.sent.shut ≡ false
+      → count_above (used_of r.looks.received) r.looks.received.kept ≡ 0
+      → r.looks.sent.acked ≤ opened (length r.looks.sent.said) → opened (length r.looks.sent.said) < 4294967294
+      → room s (looks s h) r.looks ≡ 0 → r.looks.sent.acked < counting_of r.looks.sent
+  room_counts_among fits legal among space there active unshut above known small none =
+      by (slot_left s h cs fits legal among space)
+    where
+      by : (length cs ≤ 1) ⊎ (common (looks s h) < shared_slots s) → r.looks.sent.acked < counting_of r.looks.sent
+      by (inl few) =
+          room_counts s (looks s h) c r fits.limits (roomy_history s h legal)
+          (λ d x here living.
+          one_only cs c d few (among c r there (active_lives r.life active)) (among d x here living))
+          there active unshut above known small none
+      by (inr left) = counts_left s (looks s h) r.looks fits.limits left unshut known small none

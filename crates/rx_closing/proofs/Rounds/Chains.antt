@@ -332,23 +332,23 @@ module _ (s : Setup) (host : Host) (epoch : ℕ) (kind : s.kind ≡ Client host 
           (let e = ended_there (more ++ h) then_ t dead in
           absurd (no_end (later ++ (more ++ h)) e.0 last (stays_ended later (more ++ h) e.0 legal e.1)))
 
--- so it is of stages
-pub lives_between : (c : CallName) (k : ℕ) (client : Node) (host : Host) (epoch : ℕ) (s u t : Stage)
-    → client.setup.kind ≡ Client host epoch → FitsSetup client.setup → Legal client.setup (side k t.history)
-    → Adds s.history u.history → Adds u.history t.history → call_lives_at s c k client ≡ true
-    → call_lives_at t c k client ≡ true → call_lives_at u c k client ≡ true
-lives_between c k client host epoch s u t kind fits legal a b first last =
-    subst (λ (h : List Event). is_call (λ r. is_live r.life) (call_at (looks client.setup h) c) ≡ true) (sym middle)
-    (lived_between client.setup host epoch kind fits c (side k b.more) (side k a.more) (side k s.history)
-    (subst (Legal client.setup) whole legal) first
-    (subst (λ (h : List Event). is_call (λ r. is_live r.life) (call_at (looks client.setup h) c) ≡ true) whole last))
-  where
-    middle : side k u.history ≡ side k a.more ++ side k s.history
-    middle = ap (side k) a.is ∙ side_parts k a.more s.history
+module _ (c : CallName) (k : ℕ) (client : Node) (host : Host) (epoch : ℕ) (s u t : Stage) where
+  -- so it is of stages
+  pub lives_between : client.setup.kind ≡ Client host epoch → FitsSetup client.setup
+      → Legal client.setup (side k t.history) → Adds s.history u.history → Adds u.history t.history
+      → call_lives_at s c k client ≡ true → call_lives_at t c k client ≡ true → call_lives_at u c k client ≡ true
+  lives_between kind fits legal a b first last =
+      subst (λ (h : List Event). is_call (λ r. is_live r.life) (call_at (looks client.setup h) c) ≡ true) (sym middle)
+      (lived_between client.setup host epoch kind fits c (side k b.more) (side k a.more) (side k s.history)
+      (subst (Legal client.setup) whole legal) first
+      (subst (λ (h : List Event). is_call (λ r. is_live r.life) (call_at (looks client.setup h) c) ≡ true) whole last))
+    where
+      middle : side k u.history ≡ side k a.more ++ side k s.history
+      middle = ap (side k) a.is ∙ side_parts k a.more s.history
 
-    whole : side k t.history ≡ side k b.more ++ (side k a.more ++ side k s.history)
-    whole =
-        ap (side k) b.is ∙ side_parts k b.more u.history ∙ ap (λ (h : List Event). side k b.more ++ h) middle
+      whole : side k t.history ≡ side k b.more ++ (side k a.more ++ side k s.history)
+      whole =
+          ap (side k) b.is ∙ side_parts k b.more u.history ∙ ap (λ (h : List Event). side k b.more ++ h) middle
 
 -- events are added behind a history
 pub behind_adds_all : (es h : List Noted) → Adds h (behind es h)

@@ -19,21 +19,22 @@ use Rattle.rx_closing.specs.Living.{looks_of}
 use Rattle.rx_closing.proofs.Frame.{OneOf}
 use Rattle.rx_closing.proofs.Rounds.SpokeHolds.{awake_stays}
 
--- at a node of a scene, from an earlier stage with the same moment on
-pub awake_between : (c : CallName) (k : ℕ) (client server : Node) (s t : Stage) → OneOf c k client server t
-    → (later : List Noted) → t.history ≡ later ++ s.history → (j : ℕ) (n : Node) → slice_get t.nodes j ≡ Some n
-    → moment j t.history ≡ moment j s.history → (a b : CallRecord) → call_at (looks_of s j n) c ≡ Some a
-    → is_active a.life ≡ true → is_silent (looks_of s j n).now a ≡ false → call_at (looks_of t j n) c ≡ Some b
-    → is_silent (looks_of t j n).now b ≡ false
-awake_between c k client server s t scene later grew j n there still a b before active awake behind =
-    (let fits = if-some (slice_get t.nodes j) n (λ m. FitsSetup m.setup) there (scene.world.sides.nodes_are.fits j) in
-    let legal = if-some (slice_get t.nodes j) n (λ m. Legal m.setup (side j t.history)) there
-    (scene.world.sides.legal j) in
-    let own : side j t.history ≡ side j later ++ side j s.history =
-    ap (side j) grew ∙ side_split j later s.history in
-    let now : (looks n.setup (side j later ++ side j s.history)).now ≡ (looks n.setup (side j s.history)).now =
-    ap (λ (h : List Event). (looks n.setup h).now) (sym own) ∙ now-side n.setup j t.history ∙ still
-    ∙ sym (now-side n.setup j s.history) in
-    subst (λ (h : List Event). is_silent (looks n.setup h).now b ≡ false) (sym own)
-    (awake_stays n.setup (side j later) (side j s.history) c a b fits (subst (Legal n.setup) own legal) now before
-    active awake (ap (λ (h : List Event). call_at (looks n.setup h) c) (sym own) ∙ behind)))
+module _ (c : CallName) (k : ℕ) (client server : Node) (s t : Stage) (scene : OneOf c k client server t)
+    (later : List Noted) where
+  -- at a node of a scene, from an earlier stage with the same moment on
+  pub awake_between : t.history ≡ later ++ s.history → (j : ℕ) (n : Node) → slice_get t.nodes j ≡ Some n
+      → moment j t.history ≡ moment j s.history → (a b : CallRecord) → call_at (looks_of s j n) c ≡ Some a
+      → is_active a.life ≡ true → is_silent (looks_of s j n).now a ≡ false → call_at (looks_of t j n) c ≡ Some b
+      → is_silent (looks_of t j n).now b ≡ false
+  awake_between grew j n there still a b before active awake behind =
+      (let fits = if-some (slice_get t.nodes j) n (λ m. FitsSetup m.setup) there (scene.world.sides.nodes_are.fits j) in
+      let legal = if-some (slice_get t.nodes j) n (λ m. Legal m.setup (side j t.history)) there
+      (scene.world.sides.legal j) in
+      let own : side j t.history ≡ side j later ++ side j s.history =
+      ap (side j) grew ∙ side_split j later s.history in
+      let now : (looks n.setup (side j later ++ side j s.history)).now ≡ (looks n.setup (side j s.history)).now =
+      ap (λ (h : List Event). (looks n.setup h).now) (sym own) ∙ now-side n.setup j t.history ∙ still
+      ∙ sym (now-side n.setup j s.history) in
+      subst (λ (h : List Event). is_silent (looks n.setup h).now b ≡ false) (sym own)
+      (awake_stays n.setup (side j later) (side j s.history) c a b fits (subst (Legal n.setup) own legal) now before
+      active awake (ap (λ (h : List Event). call_at (looks n.setup h) c) (sym own) ∙ behind)))

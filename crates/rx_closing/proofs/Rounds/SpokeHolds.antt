@@ -267,25 +267,25 @@ heard_rises s (e ∷ later) h c a fits legal there =
     let high = new.heard in
     record { call = new.call; there = new.there; heard = omega arith }
 
--- so a call that isn't silent doesn't fall silent while its node's clock stands
-pub awake_stays : (s : Setup) (later h : List Event) (c : CallName) (a b : CallRecord) → FitsSetup s
-    → Legal s (later ++ h) → (looks s (later ++ h)).now ≡ (looks s h).now → call_at (looks s h) c ≡ Some a
-    → is_active a.life ≡ true → is_silent (looks s h).now a ≡ false → call_at (looks s (later ++ h)) c ≡ Some b
-    → is_silent (looks s (later ++ h)).now b ≡ false
-awake_stays s later h c a b fits legal now there active awake is =
-    (let on = heard_rises s later h c a fits legal there in
-    let one : on.call ≡ b = (let both : ◌≡◌ {A = Option CallRecord} (Some on.call) (Some b) = sym on.there ∙ is in
-    cc (both)) in
-    let short : nat_le SILENCE_MS ((looks s h).now - a.looks.heard) ≡ false =
-    ap (λ (q : Bool). q && nat_le SILENCE_MS ((looks s h).now - a.looks.heard)) (sym active) ∙ awake in
-    let less : (looks s h).now - a.looks.heard < SILENCE_MS =
-    leb-false SILENCE_MS ((looks s h).now - a.looks.heard) short in
-    let high : a.looks.heard ≤ b.looks.heard =
-    subst (λ (k : CallRecord). a.looks.heard ≤ k.looks.heard) one on.heard in
-    of (is_active b.life) ((looks s (later ++ h)).now) now less high)
-  where
-    of : (q : Bool) (m : ℕ) → m ≡ (looks s h).now → (looks s h).now - a.looks.heard < SILENCE_MS
-        → a.looks.heard ≤ b.looks.heard → (q && nat_le SILENCE_MS (m - b.looks.heard)) ≡ false
-    of false m same less high = refl
-    of true m same less high = (let low : m - b.looks.heard < SILENCE_MS = omega arith in
-        lt-leb SILENCE_MS (m - b.looks.heard) low)
+module _ (s : Setup) (later h : List Event) (c : CallName) (a b : CallRecord) where
+  -- so a call that isn't silent doesn't fall silent while its node's clock stands
+  pub awake_stays : FitsSetup s → Legal s (later ++ h) → (looks s (later ++ h)).now ≡ (looks s h).now
+      → call_at (looks s h) c ≡ Some a → is_active a.life ≡ true → is_silent (looks s h).now a ≡ false
+      → call_at (looks s (later ++ h)) c ≡ Some b → is_silent (looks s (later ++ h)).now b ≡ false
+  awake_stays fits legal now there active awake is =
+      (let on = heard_rises s later h c a fits legal there in
+      let one : on.call ≡ b = (let both : ◌≡◌ {A = Option CallRecord} (Some on.call) (Some b) = sym on.there ∙ is in
+      cc (both)) in
+      let short : nat_le SILENCE_MS ((looks s h).now - a.looks.heard) ≡ false =
+      ap (λ (q : Bool). q && nat_le SILENCE_MS ((looks s h).now - a.looks.heard)) (sym active) ∙ awake in
+      let less : (looks s h).now - a.looks.heard < SILENCE_MS =
+      leb-false SILENCE_MS ((looks s h).now - a.looks.heard) short in
+      let high : a.looks.heard ≤ b.looks.heard =
+      subst (λ (k : CallRecord). a.looks.heard ≤ k.looks.heard) one on.heard in
+      of (is_active b.life) ((looks s (later ++ h)).now) now less high)
+    where
+      of : (q : Bool) (m : ℕ) → m ≡ (looks s h).now → (looks s h).now - a.looks.heard < SILENCE_MS
+          → a.looks.heard ≤ b.looks.heard → (q && nat_le SILENCE_MS (m - b.looks.heard)) ≡ false
+      of false m same less high = refl
+      of true m same less high = (let low : m - b.looks.heard < SILENCE_MS = omega arith in
+          lt-leb SILENCE_MS (m - b.looks.heard) low)

@@ -57,24 +57,25 @@ module _ (c : CallName) (k : ℕ) (client server : Node) (t : Stage) (scene : On
       let wrong : ◌≡◌ {A = Bool} true false = sym whole ∙ open_ in
       cc (wrong)
 
--- so it is over there
-pub rests_over : (g : Handlers) (ls : List Numbered) (c : CallName) (k : ℕ) (client server : Node) (t : Stage)
+module _ (g : Handlers) (ls : List Numbered) (c : CallName) (k : ℕ) (client server : Node) (t : Stage)
     (scene : OneOf c k client server t) (follows : IsFollowed g ls (seen t)) (i : IsCaused g ls c k client t)
-    (a : CallRecord) → IsAtRest g ls c k client server t scene follows i a
-    → (p : IsPast g ls c k client server t scene follows i) → (code : Option ℤ) × (p.call.life ≡ lives.Over code)
-rests_over g ls c k client server t scene follows i a r p =
-    of p.call.life refl p.unhandled p.served_
-    (lives_served server.setup (side 0 t.history) c p.call (fed c k client server t scene).server_kind
-    (fed c k client server t scene).server_fits (fed c k client server t scene).server_legal p.there)
-  where
-    of : (x : Life) → p.call.life ≡ x → is_handled x ≡ false → is_waiting x ≡ false → IsServed x
-        → (code : Option ℤ) × (p.call.life ≡ lives.Over code)
-    of (lives.Over code) is unhandled waits here = (code, is)
-    of lives.Finished is unhandled waits here =
-        absurd (finished_counts c k client server t scene p.call p.there is
-        (subst (λ (o : Option CallRecord). counting_of (sent_by o) ≤ (sent_by o).acked) p.there r.known))
-    of lives.Calling is unhandled waits here = absurd here
-    of (lives.Ended end) is unhandled waits here = absurd here
-    of lives.Waiting is unhandled waits here = absurd cc
-    of lives.Accepted is unhandled waits here = absurd cc
-    of (lives.Broken code) is unhandled waits here = absurd cc
+    (a : CallRecord) where
+  -- so it is over there
+  pub rests_over : IsAtRest g ls c k client server t scene follows i a
+      → (p : IsPast g ls c k client server t scene follows i) → (code : Option ℤ) × (p.call.life ≡ lives.Over code)
+  rests_over r p =
+      of p.call.life refl p.unhandled p.served_
+      (lives_served server.setup (side 0 t.history) c p.call (fed c k client server t scene).server_kind
+      (fed c k client server t scene).server_fits (fed c k client server t scene).server_legal p.there)
+    where
+      of : (x : Life) → p.call.life ≡ x → is_handled x ≡ false → is_waiting x ≡ false → IsServed x
+          → (code : Option ℤ) × (p.call.life ≡ lives.Over code)
+      of (lives.Over code) is unhandled waits here = (code, is)
+      of lives.Finished is unhandled waits here =
+          absurd (finished_counts c k client server t scene p.call p.there is
+          (subst (λ (o : Option CallRecord). counting_of (sent_by o) ≤ (sent_by o).acked) p.there r.known))
+      of lives.Calling is unhandled waits here = absurd here
+      of (lives.Ended end) is unhandled waits here = absurd here
+      of lives.Waiting is unhandled waits here = absurd cc
+      of lives.Accepted is unhandled waits here = absurd cc
+      of (lives.Broken code) is unhandled waits here = absurd cc

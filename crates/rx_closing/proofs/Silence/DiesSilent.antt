@@ -188,39 +188,40 @@ dead_step s e h c a silence fits legal there calling dead =
 
 -- ---- any events
 
--- one that is found dead behind any events wasn't heard for long
-pub dies_silent : (s : Setup) (host : Host) (epoch : ℕ) → s.kind ≡ Client host epoch → FitsSetup s
-    → (later h : List Event) (c : CallName) (a : CallRecord) (silence : ℕ) → Legal s (later ++ h)
-    → call_at (looks s h) c ≡ Some a → a.life ≡ lives.Calling
-    → end_at (looks s (later ++ h)) c ≡ Some (ends.Dead silence) → a.looks.heard + 12000 ≤ (looks s (later ++ h)).now
-dies_silent s host epoch kind fits [] h c a silence legal there calling dead =
-    absurd (let both : ◌≡◌ {A = Option End} None (Some (ends.Dead silence)) =
-    sym (ap end_by there ∙ ap end_of_life calling) ∙ dead in cc (both))
-dies_silent s host epoch kind fits (e ∷ later) h c a silence legal there calling dead =
-    of (λ ended. dies_silent s host epoch kind fits later h c a silence legal.1 there calling ended) (on.call.life) refl
-    (subst IsCalledOr on.there (calls_called s host epoch kind fits (later ++ h) c legal.1))
-  where
-    on : HeardOn s (later ++ h) c a
-    on = heard_rises s later h c a fits legal.1 there
+module _ (s : Setup) (host : Host) (epoch : ℕ) where
+  -- one that is found dead behind any events wasn't heard for long
+  pub dies_silent : s.kind ≡ Client host epoch → FitsSetup s
+      → (later h : List Event) (c : CallName) (a : CallRecord) (silence : ℕ) → Legal s (later ++ h)
+      → call_at (looks s h) c ≡ Some a → a.life ≡ lives.Calling
+      → end_at (looks s (later ++ h)) c ≡ Some (ends.Dead silence) → a.looks.heard + 12000 ≤ (looks s (later ++ h)).now
+  dies_silent kind fits [] h c a silence legal there calling dead =
+      absurd (let both : ◌≡◌ {A = Option End} None (Some (ends.Dead silence)) =
+      sym (ap end_by there ∙ ap end_of_life calling) ∙ dead in cc (both))
+  dies_silent kind fits (e ∷ later) h c a silence legal there calling dead =
+      of (λ ended. dies_silent kind fits later h c a silence legal.1 there calling ended) (on.call.life) refl
+      (subst IsCalledOr on.there (calls_called s host epoch kind fits (later ++ h) c legal.1))
+    where
+      on : HeardOn s (later ++ h) c a
+      on = heard_rises s later h c a fits legal.1 there
 
-    of : (end_at (looks s (later ++ h)) c ≡ Some (ends.Dead silence)
-        → a.looks.heard + 12000 ≤ (looks s (later ++ h)).now) → (x : Life) → on.call.life ≡ x → IsCalled on.call.life
-        → a.looks.heard + 12000 ≤ (looks s (e ∷ (later ++ h))).now
-    of again lives.Calling is called =
-        (let low = on.heard in
-        let up = now_rises s (looks s (later ++ h)) e legal.0 in
-        let long = dead_step s e (later ++ h) c on.call silence fits legal on.there is dead in
-        omega (arith, low, up, long))
-    of again (lives.Ended end) is called =
-        (let before : end_at (looks s (later ++ h)) c ≡ Some end = ap end_by on.there ∙ ap end_of_life is in
-        let behind = end_stays s host epoch kind fits e (later ++ h) c end legal before in
-        let same : end ≡ ends.Dead silence =
-        (let both : ◌≡◌ {A = Option End} (Some end) (Some (ends.Dead silence)) = sym behind ∙ dead in cc (both)) in
-        let long = again (before ∙ ap (λ (x : End). Some x) same) in
-        let up = now_rises s (looks s (later ++ h)) e legal.0 in
-        omega (arith, long, up))
-    of again lives.Waiting is called = absurd (subst IsCalled is called)
-    of again lives.Accepted is called = absurd (subst IsCalled is called)
-    of again lives.Finished is called = absurd (subst IsCalled is called)
-    of again (lives.Broken code) is called = absurd (subst IsCalled is called)
-    of again (lives.Over code) is called = absurd (subst IsCalled is called)
+      of : (end_at (looks s (later ++ h)) c ≡ Some (ends.Dead silence)
+          → a.looks.heard + 12000 ≤ (looks s (later ++ h)).now) → (x : Life) → on.call.life ≡ x → IsCalled on.call.life
+          → a.looks.heard + 12000 ≤ (looks s (e ∷ (later ++ h))).now
+      of again lives.Calling is called =
+          (let low = on.heard in
+          let up = now_rises s (looks s (later ++ h)) e legal.0 in
+          let long = dead_step s e (later ++ h) c on.call silence fits legal on.there is dead in
+          omega (arith, low, up, long))
+      of again (lives.Ended end) is called =
+          (let before : end_at (looks s (later ++ h)) c ≡ Some end = ap end_by on.there ∙ ap end_of_life is in
+          let behind = end_stays s host epoch kind fits e (later ++ h) c end legal before in
+          let same : end ≡ ends.Dead silence =
+          (let both : ◌≡◌ {A = Option End} (Some end) (Some (ends.Dead silence)) = sym behind ∙ dead in cc (both)) in
+          let long = again (before ∙ ap (λ (x : End). Some x) same) in
+          let up = now_rises s (looks s (later ++ h)) e legal.0 in
+          omega (arith, long, up))
+      of again lives.Waiting is called = absurd (subst IsCalled is called)
+      of again lives.Accepted is called = absurd (subst IsCalled is called)
+      of again lives.Finished is called = absurd (subst IsCalled is called)
+      of again (lives.Broken code) is called = absurd (subst IsCalled is called)
+      of again (lives.Over code) is called = absurd (subst IsCalled is called)

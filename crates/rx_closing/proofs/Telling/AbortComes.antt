@@ -106,87 +106,88 @@ code_moves code lives.Finished active same =
 code_moves code (lives.Broken told) active same = (let no : false ≡ true = active in cc (no))
 code_moves code (lives.Over told) active same = (let no : false ≡ true = active in cc (no))
 
--- where the server takes it its life there is another
-stopped : (c : CallName) (k : ℕ) (client server : Node) (g : Handlers) (s t : Stage) (r : RoundMade g s t)
-    (one : OneOf c k client server t) (f : DebtCame c k client server g s t r one IsAbort) (y : CallRecord)
-    → IsLast (looks_of f.taken.before 0 server) c y → is_active y.life ≡ true
-    → served_in c server f.taken.behind
-    ≡ Some (record y { life = after_code (abort_code f.says.message.body f.says.kind).0 y.life })
-stopped c k client server g s t r one f y last active =
-    ap (λ (l : Looks). call_at l c)
-    (ap (looks server.setup) f.taken.took.own
-    ∙ ap (λ (got : Took). after server.setup (events.Taken f.datagram.from f.datagram.bytes got) l) answer
-    ∙ taken_by server.setup l c f.datagram.from f.datagram.bytes m tooks.Stopped f.says.reads front name)
-    ∙ stops_there server.setup l c y m code.0 last none code.1
-  where
-    service : ℕ
-    service = (round_serves c k client server g s t r one).0
+module _ (c : CallName) (k : ℕ) (client server : Node) (g : Handlers) (s t : Stage) (r : RoundMade g s t)
+    (one : OneOf c k client server t) (f : DebtCame c k client server g s t r one IsAbort) (y : CallRecord) where
+  -- where the server takes it its life there is another
+  stopped : IsLast (looks_of f.taken.before 0 server) c y → is_active y.life ≡ true
+      → served_in c server f.taken.behind ≡ Some
+      (record y { life = after_code (abort_code f.says.message.body f.says.kind).0 y.life })
+  stopped last active =
+      ap (λ (l : Looks). call_at l c)
+      (ap (looks server.setup) f.taken.took.own
+      ∙ ap (λ (got : Took). after server.setup (events.Taken f.datagram.from f.datagram.bytes got) l) answer
+      ∙ taken_by server.setup l c f.datagram.from f.datagram.bytes m tooks.Stopped f.says.reads front name)
+      ∙ stops_there server.setup l c y m code.0 last none code.1
+    where
+      service : ℕ
+      service = (round_serves c k client server g s t r one).0
 
-    nonces : ℕ
-    nonces = (round_serves c k client server g s t r one).1
+      nonces : ℕ
+      nonces = (round_serves c k client server g s t r one).1
 
-    l : Looks
-    l = looks_of f.taken.before 0 server
+      l : Looks
+      l = looks_of f.taken.before 0 server
 
-    m : Message
-    m = f.says.message
+      m : Message
+      m = f.says.message
 
-    code : (code : ℤ) × (m.body ≡ bodies.Abort code)
-    code = abort_code m.body f.says.kind
+      code : (code : ℤ) × (m.body ≡ bodies.Abort code)
+      code = abort_code m.body f.says.kind
 
-    front : outer_row server.setup server.setup.kind l f.datagram.from m ≡ None
-    front =
-        debt_front c k client server service nonces t.history (round_meets c k client server g s t r one) IsAbort
-        abort_served f.datagram f.says f.from l
+      front : outer_row server.setup server.setup.kind l f.datagram.from m ≡ None
+      front =
+          debt_front c k client server service nonces t.history (round_meets c k client server g s t r one) IsAbort
+          abort_served f.datagram f.says f.from l
 
-    name : named server.setup f.datagram.from m ≡ c
-    name =
-        debt_name c k client server service nonces t.history (round_meets c k client server g s t r one) IsAbort
-        abort_served f.datagram f.says f.from
+      name : named server.setup f.datagram.from m ≡ c
+      name =
+          debt_name c k client server service nonces t.history (round_meets c k client server g s t r one) IsAbort
+          abort_served f.datagram f.says f.from
 
-    none : (c.number == 0) ≡ false
-    none = ne_eqb c.number 0 (λ (is : c.number ≡ 0). (let low = last.some in omega arith))
+      none : (c.number == 0) ≡ false
+      none = ne_eqb c.number 0 (λ (is : c.number ≡ 0). (let low = last.some in omega arith))
 
-    answer : took_of server.setup l f.datagram.from f.datagram.bytes ≡ tooks.Stopped
-    answer =
-        judged_by server.setup l c f.datagram.from f.datagram.bytes m f.says.reads front name
-        ∙ abort_took server.setup l c y m code.0 last active (ap (λ (n : CallName). n.number) name) code.1
+      answer : took_of server.setup l f.datagram.from f.datagram.bytes ≡ tooks.Stopped
+      answer =
+          judged_by server.setup l c f.datagram.from f.datagram.bytes m f.says.reads front name
+          ∙ abort_took server.setup l c y m code.0 last active (ap (λ (n : CallName). n.number) name) code.1
 
 abort_some : (o : Option ℤ) → is_some o ≡ true → is_some (option_map bodies.Abort o) ≡ true
 abort_some None is = absurd (cc (is))
 abort_some (Some code) is = refl
 
--- so a call that was at work there keeps no life through the deliveries
-pub client_abort_stops : (c : CallName) (k : ℕ) (client server : Node) (g : Handlers) (s t : Stage)
-    (r : RoundMade g s t) → OneOf c k client server t → AreLinked s → AreServed s.nodes s.history
-    → Owing c (looks_of s (suc k) client) → (y b : CallRecord) → served_in c server s ≡ Some y
-    → is_active y.life ≡ true → served_in c server r.delivered ≡ Some b → b.life ≡ y.life → ⊥
-client_abort_stops c k client server g s t r one linked served owes y b at active behind same =
-    code_moves (abort_code f.says.message.body f.says.kind).0 m.0.life active_ moved
-  where
-    f : DebtCame c k client server g s t r one IsAbort
-    f =
-        debt_comes c k client server g s t r one linked served IsAbort abort_debt abort_owed
-        (abort_some (channel_at (looks_of s (suc k) client) (channel_of c)).owed_abort owes.owed) owes.number owes.some
+module _ (c : CallName) (k : ℕ) (client server : Node) (g : Handlers) (s t : Stage) (r : RoundMade g s t) where
+  -- so a call that was at work there keeps no life through the deliveries
+  pub client_abort_stops : OneOf c k client server t → AreLinked s → AreServed s.nodes s.history
+      → Owing c (looks_of s (suc k) client) → (y b : CallRecord) → served_in c server s ≡ Some y
+      → is_active y.life ≡ true → served_in c server r.delivered ≡ Some b → b.life ≡ y.life → ⊥
+  client_abort_stops one linked served owes y b at active behind same =
+      code_moves (abort_code f.says.message.body f.says.kind).0 m.0.life active_ moved
+    where
+      f : DebtCame c k client server g s t r one IsAbort
+      f =
+          debt_comes c k client server g s t r one linked served IsAbort abort_debt abort_owed
+          (abort_some (channel_at (looks_of s (suc k) client) (channel_of c)).owed_abort owes.owed) owes.number
+          owes.some
 
-    m : (m : CallRecord) × (served_in c server f.taken.before ≡ Some m) × (m.life ≡ y.life)
-    m = served_before c k client server g s t r one f.datagram f.taken y b at behind same
+      m : (m : CallRecord) × (served_in c server f.taken.before ≡ Some m) × (m.life ≡ y.life)
+      m = served_before c k client server g s t r one f.datagram f.taken y b at behind same
 
-    n : (m : CallRecord) × (served_in c server f.taken.behind ≡ Some m) × (m.life ≡ y.life)
-    n = served_behind c k client server g s t r one f.datagram f.taken y b at behind same
+      n : (m : CallRecord) × (served_in c server f.taken.behind ≡ Some m) × (m.life ≡ y.life)
+      n = served_behind c k client server g s t r one f.datagram f.taken y b at behind same
 
-    active_ : is_active m.0.life ≡ true
-    active_ = ap is_active m.2 ∙ active
+      active_ : is_active m.0.life ≡ true
+      active_ = ap is_active m.2 ∙ active
 
-    last : IsLast (looks_of f.taken.before 0 server) c m.0
-    last = served_taken c k client server g s t r one f.datagram f.taken m.0 m.1 (active_lives m.0.life active_)
+      last : IsLast (looks_of f.taken.before 0 server) c m.0
+      last = served_taken c k client server g s t r one f.datagram f.taken m.0 m.1 (active_lives m.0.life active_)
 
-    moved : after_code (abort_code f.says.message.body f.says.kind).0 m.0.life ≡ m.0.life
-    moved =
-        (let then_ = stopped c k client server g s t r one f m.0 last active_ in
-        let one_ : ◌≡◌ {A = Option CallRecord} (Some n.0)
-        (Some (record m.0 { life = after_code (abort_code f.says.message.body f.says.kind).0 m.0.life })) =
-        sym n.1 ∙ then_ in
-        let is : n.0 ≡ record m.0 { life = after_code (abort_code f.says.message.body f.says.kind).0 m.0.life } =
-        some_is n.0 (record m.0 { life = after_code (abort_code f.says.message.body f.says.kind).0 m.0.life }) one_ in
-        ap (λ (x : CallRecord). x.life) (sym is) ∙ n.2 ∙ sym m.2)
+      moved : after_code (abort_code f.says.message.body f.says.kind).0 m.0.life ≡ m.0.life
+      moved =
+          (let then_ = stopped c k client server g s t r one f m.0 last active_ in
+          let one_ : ◌≡◌ {A = Option CallRecord} (Some n.0)
+          (Some (record m.0 { life = after_code (abort_code f.says.message.body f.says.kind).0 m.0.life })) =
+          sym n.1 ∙ then_ in
+          let is : n.0 ≡ record m.0 { life = after_code (abort_code f.says.message.body f.says.kind).0 m.0.life } =
+          some_is n.0 (record m.0 { life = after_code (abort_code f.says.message.body f.says.kind).0 m.0.life }) one_ in
+          ap (λ (x : CallRecord). x.life) (sym is) ∙ n.2 ∙ sym m.2)

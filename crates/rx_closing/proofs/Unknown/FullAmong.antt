@@ -55,19 +55,19 @@ among_events fs h later mid e is =
     let long = ap (λ (zs : List Noted). length zs) same in
     (same_behind fs (forth mid ++ e ∷ forth later) h h (omega (arith, first, second, long)) same).0)
 
--- of rounds from one stage to another, between two moments of them
-pub full_among : (setup : Setup) (c : CallName) (g : Handlers) (n : ℕ) (fs : List Noted) (s t u v : Stage)
-    → rounds g n s fs (To t) → Adds s.history u.history → Adds v.history t.history
-    → CameFull setup c u.history v.history → CameAmong 0 setup (λ got. got ≡ tooks.Full) c fs
-full_among setup c g n fs s t u v made front back full =
-    (let wide : CameFull setup c s.history t.history =
-    came_since setup c s.history u.history t.history front.more front.is
-    (came_till setup c u.history v.history t.history back.more back.is full) in
-    record {
-      before = forth wide.mid;
-      event = wide.event;
-      later = forth wide.later;
-      are = among_events fs s.history wide.later wide.mid (noted 0 wide.event)
-          (sym (rounds_track g n s fs t made) ∙ wide.are);
-      comes = wide.comes;
-    })
+module _ (setup : Setup) (c : CallName) (g : Handlers) (n : ℕ) (fs : List Noted) (s t u v : Stage) where
+  -- of rounds from one stage to another, between two moments of them
+  pub full_among : rounds g n s fs (To t) → Adds s.history u.history → Adds v.history t.history
+      → CameFull setup c u.history v.history → CameAmong 0 setup (λ got. got ≡ tooks.Full) c fs
+  full_among made front back full =
+      (let wide : CameFull setup c s.history t.history =
+      came_since setup c s.history u.history t.history front.more front.is
+      (came_till setup c u.history v.history t.history back.more back.is full) in
+      record {
+        before = forth wide.mid;
+        event = wide.event;
+        later = forth wide.later;
+        are = among_events fs s.history wide.later wide.mid (noted 0 wide.event)
+            (sym (rounds_track g n s fs t made) ∙ wide.are);
+        comes = wide.comes;
+      })

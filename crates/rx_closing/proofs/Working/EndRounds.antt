@@ -91,22 +91,23 @@ pub record Gave (s : Setup) (c : CallName) (peer : Host) (service now : ℕ) (fr
   pub worked : EndWorked s c peer service now from a later ds ms
   pub is : f.looks ≡ worked.end
 
--- what the polls of its node make of an active call
-pub gave_of : (s : Setup) (c : CallName) (peer : Host) (service now : ℕ) (from : Host) (h later : List Event)
-    (ds : List Datagram) (ms : List Message) (a f : CallRecord) → (looks s h).now ≡ now
-    → call_at (looks s h) c ≡ Some a → call_at (looks s later) c ≡ Some f → is_active f.life ≡ true
-    → EndPolled s c peer service now from h later ds ms → Gave s c peer service now from h later ds ms a f
-gave_of s c peer service now from h later ds ms a f at there behind works polled =
-    (let w = end_was s c peer service now from h later ds ms at f behind works polled in
-    let same : w.call ≡ a = one_record w.call a (call_at (looks s h) c) w.works.there there in
-    by w.call same w.works w.left w.is)
-  where
-    by : (q : CallRecord) → q ≡ a → WorksAt c (looks s h) q
-        → (e : EndWorked s c peer service now from q later ds ms) → f ≡ record q { looks = e.end }
-        → Gave s c peer service now from h later ds ms a f
-    by q same works_ e is_ =
-        subst (λ (x : CallRecord). Gave s c peer service now from h later ds ms x f) same
-        (record { awake = works_.awake; worked = e; is = ap (λ (x : CallRecord). x.looks) is_ })
+module _ (s : Setup) (c : CallName) (peer : Host) (service now : ℕ) (from : Host) (h later : List Event)
+    (ds : List Datagram) (ms : List Message) (a f : CallRecord) where
+  -- what the polls of its node make of an active call
+  pub gave_of : (looks s h).now ≡ now → call_at (looks s h) c ≡ Some a → call_at (looks s later) c ≡ Some f
+      → is_active f.life ≡ true → EndPolled s c peer service now from h later ds ms
+      → Gave s c peer service now from h later ds ms a f
+  gave_of at there behind works polled =
+      (let w = end_was s c peer service now from h later ds ms at f behind works polled in
+      let same : w.call ≡ a = one_record w.call a (call_at (looks s h) c) w.works.there there in
+      by w.call same w.works w.left w.is)
+    where
+      by : (q : CallRecord) → q ≡ a → WorksAt c (looks s h) q
+          → (e : EndWorked s c peer service now from q later ds ms) → f ≡ record q { looks = e.end }
+          → Gave s c peer service now from h later ds ms a f
+      by q same works_ e is_ =
+          subst (λ (x : CallRecord). Gave s c peer service now from h later ds ms x f) same
+          (record { awake = works_.awake; worked = e; is = ap (λ (x : CallRecord). x.looks) is_ })
 
 -- ---- a round
 

@@ -22,22 +22,23 @@ pub record IsSince (c : CallName) (k : ℕ) (client server : Node) (h : ℕ) (v 
   pub drained : IsDrained work.asked.looks.received
   pub lively : OwesBy h (ends_of c k client server v work) ⊎ Lively (ends_of c k client server v work)
 
--- so it is behind a round
-pub since_round : (g : Handlers) (ls : List Numbered) (servable : AreServable g) (cs : List CallName) (c : CallName)
-    (k : ℕ) (client server : Node) (s t : Stage) (r : RoundMade g s t) → RoundFor g ls cs c k client server s t r
-    → (h : ℕ) → IsSince c k client server h s → AtWork c k client server t → IsSince c k client server h t
-since_round g ls servable cs c k client server s t r i h live x =
-    record {
-      work = x;
-      drained = drained_asked g ls servable cs c k client server s t r i live.work x;
-      lively = ⊎_elim
-          (λ (since : OwesBy h (ends_of c k client server s live.work)).
-          owes_step client.setup server.setup (client_kind c k client server s live.work.scene)
-          (ends_of c k client server s live.work) (ends_of c k client server t x) o.round h since)
-          (λ (lively : Lively (ends_of c k client server s live.work)).
-          inr (live_step client.setup server.setup (client_kind c k client server s live.work.scene)
-          (ends_of c k client server s live.work) (ends_of c k client server t x) o.round lively)) live.lively;
-    }
-  where
-    o : LiveOf g ls servable cs c k client server s t r i live.work x
-    o = live_of g ls servable cs c k client server s t r i live.work x live.drained
+module _ (g : Handlers) (ls : List Numbered) (servable : AreServable g) (cs : List CallName) (c : CallName) (k : ℕ)
+    (client server : Node) (s t : Stage) (r : RoundMade g s t) where
+  -- so it is behind a round
+  pub since_round : RoundFor g ls cs c k client server s t r → (h : ℕ) → IsSince c k client server h s
+      → AtWork c k client server t → IsSince c k client server h t
+  since_round i h live x =
+      record {
+        work = x;
+        drained = drained_asked g ls servable cs c k client server s t r i live.work x;
+        lively = ⊎_elim
+            (λ (since : OwesBy h (ends_of c k client server s live.work)).
+            owes_step client.setup server.setup (client_kind c k client server s live.work.scene)
+            (ends_of c k client server s live.work) (ends_of c k client server t x) o.round h since)
+            (λ (lively : Lively (ends_of c k client server s live.work)).
+            inr (live_step client.setup server.setup (client_kind c k client server s live.work.scene)
+            (ends_of c k client server s live.work) (ends_of c k client server t x) o.round lively)) live.lively;
+      }
+    where
+      o : LiveOf g ls servable cs c k client server s t r i live.work x
+      o = live_of g ls servable cs c k client server s t r i live.work x live.drained

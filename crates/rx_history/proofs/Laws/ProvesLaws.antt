@@ -94,34 +94,33 @@ same-answer : (key : List ℕ) (c d : CallName) (asked : List ℕ) → connectio
 same-answer key c d asked same =
     ap (λ (x : Connection). sha256 (key ++ (big_bytes 4 x.epoch ++ (big_bytes 4 x.cid ++ asked)))) same
 
--- it was the right one for the record that is there
-pub proves-now : (s : Setup) (key : List ℕ) (c : CallName) (h : List Event) (from : Host) (bytes answer : List ℕ)
-    (m : Message)
-    (q : ConnLooks) → IsServer s.kind → s.class ≡ token key → reading_of bytes ≡ Ok m → m.body ≡ bodies.Response answer
-    → tooks.Heard ≡ took_named s (looks s h) (named s from m) m
-    → connection_of (named s from m) ≡ connection_of c
-    → IsSomeAnd (conn_at (looks s h) (connection_of c)) (λ r. r.order ≡ q.order)
-    → Proves s key c q.order (events.Taken from bytes tooks.Heard ∷ h)
-proves-now s key c h from bytes answer m q server class reads body heard on order =
-    let d : CallName = named s from m in
-    let l : Looks = looks s h in
-    let right = heard_is_right s l d m answer server refl body heard in
-    let is = right_is s key l d answer class right in
-    let nonce : nonce_at s (conn_at l (connection_of d)) ≡ nonce_of s.kind q.order =
-    ap (λ (x : Connection). nonce_at s (conn_at l x)) on ∙ nonce-of s (conn_at l (connection_of c)) q.order order in
-    record {
-      later = [];
-      from = from;
-      bytes = bytes;
-      before = h;
-      is = refl;
-      message = m;
-      reads = reads;
-      on = sym (ap connection_of (served-name s s.kind from m server)) ∙ on;
-      record_is = order;
-      body =
-          body
-          ∙ ap (λ (a : List ℕ). bodies.Response a)
-          (is ∙ (same-answer key c d (big_bytes 8 (nonce_at s (conn_at l (connection_of d)))) on
-          ∙ ap (λ (n : ℕ). token_answer key c (big_bytes 8 n)) nonce));
-    }
+module _ (s : Setup) (key : List ℕ) (c : CallName) (h : List Event) (from : Host) (bytes answer : List ℕ) (m : Message)
+    (q : ConnLooks) where
+  -- it was the right one for the record that is there
+  pub proves-now : IsServer s.kind → s.class ≡ token key → reading_of bytes ≡ Ok m → m.body ≡ bodies.Response answer
+      → tooks.Heard ≡ took_named s (looks s h) (named s from m) m → connection_of (named s from m) ≡ connection_of c
+      → IsSomeAnd (conn_at (looks s h) (connection_of c)) (λ r. r.order ≡ q.order)
+      → Proves s key c q.order (events.Taken from bytes tooks.Heard ∷ h)
+  proves-now server class reads body heard on order =
+      let d : CallName = named s from m in
+      let l : Looks = looks s h in
+      let right = heard_is_right s l d m answer server refl body heard in
+      let is = right_is s key l d answer class right in
+      let nonce : nonce_at s (conn_at l (connection_of d)) ≡ nonce_of s.kind q.order =
+      ap (λ (x : Connection). nonce_at s (conn_at l x)) on ∙ nonce-of s (conn_at l (connection_of c)) q.order order in
+      record {
+        later = [];
+        from = from;
+        bytes = bytes;
+        before = h;
+        is = refl;
+        message = m;
+        reads = reads;
+        on = sym (ap connection_of (served-name s s.kind from m server)) ∙ on;
+        record_is = order;
+        body =
+            body
+            ∙ ap (λ (a : List ℕ). bodies.Response a)
+            (is ∙ (same-answer key c d (big_bytes 8 (nonce_at s (conn_at l (connection_of d)))) on
+            ∙ ap (λ (n : ℕ). token_answer key c (big_bytes 8 n)) nonce));
+      }

@@ -66,14 +66,14 @@ linked-orderly s host epoch to service first cid l client is o =
     orderly_more s (fresh_conn x to service first l) l refl
     (none-high x (length l.conns) l.conns (omega arith) (o.conns.low client)) next.room (λ client. omega arith) o
 
--- it makes a connection
-pub linked-by : (s : Setup) (kind : Kind) (host : Host) (epoch : ℕ) (to : Host) (service first cid : ℕ) (l : Looks)
-    → kind ≡ Client host epoch
-    → is_client s.kind ≡ true → Ok cid ≡ connect_answer s l → Orderly s l
-    → Orderly s (linked kind to service first cid l)
-linked-by s (Client h e) host epoch to service first cid l same client is o = linked-orderly s h e to service first
-    cid l client is o
-linked-by s (Server nonces other) host epoch to service first cid l same client is o = absurd cc
+module _ (s : Setup) where
+  -- it makes a connection
+  pub linked-by : (kind : Kind) (host : Host) (epoch : ℕ) (to : Host) (service first cid : ℕ) (l : Looks)
+      → kind ≡ Client host epoch → is_client s.kind ≡ true → Ok cid ≡ connect_answer s l → Orderly s l
+      → Orderly s (linked kind to service first cid l)
+  linked-by (Client h e) host epoch to service first cid l same client is o = linked-orderly s h e to service first
+      cid l client is o
+  linked-by (Server nonces other) host epoch to service first cid l same client is o = absurd cc
 
 -- ---- a client's call
 

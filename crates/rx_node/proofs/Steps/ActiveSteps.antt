@@ -216,32 +216,33 @@ no_call class old l ch m change answered = none_by class old l ch m change (none
     none-in None is = refl
     none-in (Some k) is = absurd (cc (is))
 
--- a code reaches a channel's latest call, of which the life is known
-pub reached_by : (class : List ℕ → Class) (old new : NodeState) (l : Looks) (ch : Channel) (m : Mirrors class old l)
-    (before : Life) (change : Life → Life) → Some before ≡ option_map (λ k. k.life) (latest l ch)
-    → ((x : Life) → Falls x (change x)) → ((x : Life) → is_live x ≡ false → change x ≡ x)
-    → ((k : CallRecord) → latest l ch ≡ Some k → is_live k.life ≡ true → Falls k.life (change before)
-    → Mirrors class new (on_life (latest_name l ch) (λ b. change before) l))
-    → (is_call (λ k. is_live k.life) (latest l ch) ≡ false → new ≡ old)
-    → Mirrors class new (on_life (latest_name l ch) change l)
-reached_by class old new l ch m before change answered falls still steps ended = of (latest l ch) refl answered
-  where
-    of : (o : Option CallRecord) → latest l ch ≡ o → Some before ≡ option_map (λ k. k.life) o
-        → Mirrors class new (on_life (latest_name l ch) change l)
-    of None is none = absurd (cc (none))
-    of (Some k) is some =
-        (let same : before ≡ k.life = cc (some) in
-        (elim (is_live k.life) as (λ b. is_live k.life ≡ b → Mirrors class new (on_life (latest_name l ch) change l)) [
-          | true ↦ λ live.
-              changed_as class old l ch m (λ j. record j { life = change j.life }) new k
-              (λ j. record j { life = change before }) is (ap (λ (x : Life). record k { life = change x }) same)
-              (steps k is live (subst (λ (x : Life). Falls x (change before)) same (falls before)))
-          | false ↦ λ none.
-              subst (λ (n : NodeState). Mirrors class n (on_life (latest_name l ch) change l))
-              (sym (ended (ap (is_call (λ j. is_live j.life)) is ∙ none)))
-              (same_by class old l ch m (λ j. record j { life = change j.life }) k is
-              (λ i. record k { life = still k.life none i }))
-        ]) refl)
+module _ (class : List ℕ → Class) (old new : NodeState) (l : Looks) (ch : Channel) (m : Mirrors class old l)
+    (before : Life) (change : Life → Life) where
+  -- a code reaches a channel's latest call, of which the life is known
+  pub reached_by : Some before ≡ option_map (λ k. k.life) (latest l ch) → ((x : Life) → Falls x (change x))
+      → ((x : Life) → is_live x ≡ false → change x ≡ x)
+      → ((k : CallRecord) → latest l ch ≡ Some k → is_live k.life ≡ true → Falls k.life (change before)
+      → Mirrors class new (on_life (latest_name l ch) (λ b. change before) l))
+      → (is_call (λ k. is_live k.life) (latest l ch) ≡ false → new ≡ old)
+      → Mirrors class new (on_life (latest_name l ch) change l)
+  reached_by answered falls still steps ended = of (latest l ch) refl answered
+    where
+      of : (o : Option CallRecord) → latest l ch ≡ o → Some before ≡ option_map (λ k. k.life) o
+          → Mirrors class new (on_life (latest_name l ch) change l)
+      of None is none = absurd (cc (none))
+      of (Some k) is some =
+          (let same : before ≡ k.life = cc (some) in
+          (elim (is_live k.life) as (λ b. is_live k.life ≡ b → Mirrors class new (on_life (latest_name l ch) change l)) [
+            | true ↦ λ live.
+                changed_as class old l ch m (λ j. record j { life = change j.life }) new k
+                (λ j. record j { life = change before }) is (ap (λ (x : Life). record k { life = change x }) same)
+                (steps k is live (subst (λ (x : Life). Falls x (change before)) same (falls before)))
+            | false ↦ λ none.
+                subst (λ (n : NodeState). Mirrors class n (on_life (latest_name l ch) change l))
+                (sym (ended (ap (is_call (λ j. is_live j.life)) is ∙ none)))
+                (same_by class old l ch m (λ j. record j { life = change j.life }) k is
+                (λ i. record k { life = still k.life none i }))
+          ]) refl)
 
 -- ---- silence
 

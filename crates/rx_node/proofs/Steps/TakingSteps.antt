@@ -302,50 +302,47 @@ unheard_looks v _ m k row other = absurd row
 
 -- ---- what is answered
 
--- data that was judged: its call changes, and may be challenged
-pub judged_mirrors : (class : List ℕ → Class) (old heard new : NodeState) (l : Looks) (key : ℕ) (c : CallName)
-    (k : CallRecord)
-    (got : Took) (m : Message) → IsOwn class old l key c k → is_judged got ≡ true → KeepsNode old heard
-    → Mirrors class heard (taken_at (setup_of class old) got c m l)
-    → ((n : Looks) → Mirrors class heard n → IsChannel n key (channel_of c)
-    → Mirrors class new (challenged (setup_of class heard) c n))
-    → Mirrors class new (taken_with (setup_of class old) got c m l)
-judged_mirrors class old heard new l key c k got m own judged kept one then_ =
-    let s : Setup = setup_of class old in
-    let begun : Looks = record (taken_at s got c m l) { firsts = with_first got c m.seq l.firsts } in
-    let two = mirrors_firsts class heard (taken_at s got c m l) one (with_first got c m.seq l.firsts) in
-    subst (Mirrors class new)
-    (ap (λ (t : Setup). challenged t c begun) (kept_setup class old heard kept)
-    ∙ sym (judged_with s got c m l own.latest judged))
-    (then_ begun two (same_key l begun key (channel_of c) refl own.channel))
+module _ (class : List ℕ → Class) (old heard : NodeState) where
+  -- data that was judged: its call changes, and may be challenged
+  pub judged_mirrors : (new : NodeState) (l : Looks) (key : ℕ) (c : CallName) (k : CallRecord) (got : Took)
+      (m : Message)
+      → IsOwn class old l key c k → is_judged got ≡ true → KeepsNode old heard
+      → Mirrors class heard (taken_at (setup_of class old) got c m l)
+      → ((n : Looks) → Mirrors class heard n → IsChannel n key (channel_of c)
+      → Mirrors class new (challenged (setup_of class heard) c n))
+      → Mirrors class new (taken_with (setup_of class old) got c m l)
+  judged_mirrors new l key c k got m own judged kept one then_ =
+      let s : Setup = setup_of class old in
+      let begun : Looks = record (taken_at s got c m l) { firsts = with_first got c m.seq l.firsts } in
+      let two = mirrors_firsts class heard (taken_at s got c m l) one (with_first got c m.seq l.firsts) in
+      subst (Mirrors class new)
+      (ap (λ (t : Setup). challenged t c begun) (kept_setup class old heard kept)
+      ∙ sym (judged_with s got c m l own.latest judged))
+      (then_ begun two (same_key l begun key (channel_of c) refl own.channel))
 
--- that wasn't: nothing changes
-pub unjudged_mirrors : (class : List ℕ → Class) (old heard : NodeState) (l : Looks) (key : ℕ) (c : CallName)
-    (k : CallRecord)
-    (got : Took) (m : Message) → IsOwn class old l key c k → is_data m.body ≡ true
-    → got ≡ end_row (setup_of class old) l k m → is_judged got ≡ false
-    → Mirrors class heard (taken_at (setup_of class old) got c m l)
-    → Mirrors class heard (taken_with (setup_of class old) got c m l)
-unjudged_mirrors class old heard l key c k got m own is row judged one =
-    let s : Setup = setup_of class old in
-    let data_row : IsDataRow got = subst IsDataRow (sym row) (data_rows (node_view s l) m m.body k.looks is) in
-    subst (Mirrors class heard)
-    (idle_taken s got c m l own.mirrors.roomy.differ (λ j. unjudged_looks (node_view s l) got m j data_row judged)
-    ∙ sym (unjudged_with s got c m l data_row judged)) one
+  -- that wasn't: nothing changes
+  pub unjudged_mirrors : (l : Looks) (key : ℕ) (c : CallName) (k : CallRecord) (got : Took) (m : Message)
+      → IsOwn class old l key c k → is_data m.body ≡ true → got ≡ end_row (setup_of class old) l k m
+      → is_judged got ≡ false → Mirrors class heard (taken_at (setup_of class old) got c m l)
+      → Mirrors class heard (taken_with (setup_of class old) got c m l)
+  unjudged_mirrors l key c k got m own is row judged one =
+      let s : Setup = setup_of class old in
+      let data_row : IsDataRow got = subst IsDataRow (sym row) (data_rows (node_view s l) m m.body k.looks is) in
+      subst (Mirrors class heard)
+      (idle_taken s got c m l own.mirrors.roomy.differ (λ j. unjudged_looks (node_view s l) got m j data_row judged)
+      ∙ sym (unjudged_with s got c m l data_row judged)) one
 
--- an acknowledgement that isn't heard
-pub unheard_mirrors : (class : List ℕ → Class) (old heard : NodeState) (l : Looks) (key : ℕ) (c : CallName)
-    (k : CallRecord)
-    (got : Took) (m : Message) → IsOwn class old l key c k → is_acking m.body ≡ true
-    → got ≡ end_row (setup_of class old) l k m → is_heard got ≡ false
-    → Mirrors class heard (taken_at (setup_of class old) got c m l)
-    → Mirrors class heard (taken_with (setup_of class old) got c m l)
-unheard_mirrors class old heard l key c k got m own is row other one =
-    let s : Setup = setup_of class old in
-    let acks : IsAckRow got = subst IsAckRow (sym row) (ack_rows (node_view s l) m m.body k.looks is) in
-    subst (Mirrors class heard)
-    (idle_taken s got c m l own.mirrors.roomy.differ (λ j. unheard_looks (node_view s l) got m j acks other)
-    ∙ sym (unheard_with s got c m l acks other)) one
+  -- an acknowledgement that isn't heard
+  pub unheard_mirrors : (l : Looks) (key : ℕ) (c : CallName) (k : CallRecord) (got : Took) (m : Message)
+      → IsOwn class old l key c k → is_acking m.body ≡ true → got ≡ end_row (setup_of class old) l k m
+      → is_heard got ≡ false → Mirrors class heard (taken_at (setup_of class old) got c m l)
+      → Mirrors class heard (taken_with (setup_of class old) got c m l)
+  unheard_mirrors l key c k got m own is row other one =
+      let s : Setup = setup_of class old in
+      let acks : IsAckRow got = subst IsAckRow (sym row) (ack_rows (node_view s l) m m.body k.looks is) in
+      subst (Mirrors class heard)
+      (idle_taken s got c m l own.mirrors.roomy.differ (λ j. unheard_looks (node_view s l) got m j acks other)
+      ∙ sym (unheard_with s got c m l acks other)) one
 
 pub heard_is : (got : Took) → is_heard got ≡ true → got ≡ tooks.Heard
 heard_is tooks.Heard is = refl
@@ -362,21 +359,21 @@ taken_ackall s c (variants.Abort code) l is other = absurd (false≢true is)
 taken_ackall s c (variants.Challenge bytes) l is other = absurd (false≢true is)
 taken_ackall s c (variants.Response bytes) l is other = absurd (false≢true is)
 
--- an acknowledgement that is heard, with its call settled
-pub settled_mirrors : (class : List ℕ → Class) (old heard new : NodeState) (l : Looks) (key : ℕ) (c : CallName)
-    (k : CallRecord)
-    (got : Took) (m : Message) → IsOwn class old l key c k → is_heard got ≡ true
-    → Mirrors class heard (taken_at (setup_of class old) got c m l)
-    → ((n : Looks) → Mirrors class heard n → IsChannel n key (channel_of c)
-    → Mirrors class new (on_call (latest_name n (channel_of c)) settled n))
-    → Mirrors class new (on_call c settled (taken_at (setup_of class old) tooks.Heard c m l))
-settled_mirrors class old heard new l key c k got m own is one then_ =
-    let s : Setup = setup_of class old in
-    let after : Looks = taken_at s tooks.Heard c m l in
-    let here : Mirrors class heard after =
-    subst (λ (t : Took). Mirrors class heard (taken_at s t c m l)) (heard_is got is) one in
-    subst (λ (d : CallName). Mirrors class new (on_call d settled after)) own.latest
-    (then_ after here (same_key l after key (channel_of c) refl own.channel))
+module _ (class : List ℕ → Class) (old heard new : NodeState) (l : Looks) (key : ℕ) (c : CallName) (k : CallRecord)
+    (got : Took) (m : Message) where
+  -- an acknowledgement that is heard, with its call settled
+  pub settled_mirrors : IsOwn class old l key c k → is_heard got ≡ true
+      → Mirrors class heard (taken_at (setup_of class old) got c m l)
+      → ((n : Looks) → Mirrors class heard n → IsChannel n key (channel_of c)
+      → Mirrors class new (on_call (latest_name n (channel_of c)) settled n))
+      → Mirrors class new (on_call c settled (taken_at (setup_of class old) tooks.Heard c m l))
+  settled_mirrors own is one then_ =
+      let s : Setup = setup_of class old in
+      let after : Looks = taken_at s tooks.Heard c m l in
+      let here : Mirrors class heard after =
+      subst (λ (t : Took). Mirrors class heard (taken_at s t c m l)) (heard_is got is) one in
+      subst (λ (d : CallName). Mirrors class new (on_call d settled after)) own.latest
+      (then_ after here (same_key l after key (channel_of c) refl own.channel))
 
 -- ---- a RESPONSE
 
@@ -399,20 +396,20 @@ response_is s l c k m bytes right proved there is_right is_proved_at =
     let known = is_proved_at ∙ ap (λ (d : CallName). is_proved l (connection_of d)) (sym (own_name l c k there)) in
     λ i. response_row (is_right i) (known i)
 
--- one that is right is heard, and proves its client
-pub right_mirrors : (class : List ℕ → Class) (old heard new : NodeState) (l : Looks) (key : ℕ) (c : CallName)
-    (k : CallRecord)
-    (got : Took) (m : Message) → IsOwn class old l key c k → got ≡ tooks.Heard
-    → Mirrors class heard (taken_at (setup_of class old) got c m l)
-    → ((n : Looks) → Mirrors class heard n → IsChannel n key (channel_of c)
-    → Mirrors class new (on_conn (connection_of c) (λ r. record r { proved = true }) n))
-    → Mirrors class new (on_conn (connection_of c) (λ r. record r { proved = true })
-    (taken_at (setup_of class old) tooks.Heard c m l))
-right_mirrors class old heard new l key c k got m own is one then_ =
-    let s : Setup = setup_of class old in
-    let after : Looks = taken_at s tooks.Heard c m l in
-    then_ after (subst (λ (t : Took). Mirrors class heard (taken_at s t c m l)) is one)
-    (same_key l after key (channel_of c) refl own.channel)
+module _ (class : List ℕ → Class) (old heard new : NodeState) (l : Looks) (key : ℕ) (c : CallName) (k : CallRecord)
+    (got : Took) (m : Message) where
+  -- one that is right is heard, and proves its client
+  pub right_mirrors : IsOwn class old l key c k → got ≡ tooks.Heard
+      → Mirrors class heard (taken_at (setup_of class old) got c m l)
+      → ((n : Looks) → Mirrors class heard n → IsChannel n key (channel_of c)
+      → Mirrors class new (on_conn (connection_of c) (λ r. record r { proved = true }) n))
+      → Mirrors class new (on_conn (connection_of c) (λ r. record r { proved = true })
+      (taken_at (setup_of class old) tooks.Heard c m l))
+  right_mirrors own is one then_ =
+      let s : Setup = setup_of class old in
+      let after : Looks = taken_at s tooks.Heard c m l in
+      then_ after (subst (λ (t : Took). Mirrors class heard (taken_at s t c m l)) is one)
+      (same_key l after key (channel_of c) refl own.channel)
 
 -- ---- a CHALLENGE
 
@@ -446,24 +443,23 @@ challenge_is s l c k m bytes o there is =
     ap (λ (x : Option (List ℕ)). if is_some x then tooks.Heard else tooks.Strange)
     (sym is ∙ ap (λ (d : CallName). s.class.respond d bytes) (sym (own_name l c k there)))
 
--- one that has an answer is heard, and its channel owes it
-pub answered_mirrors : (class : List ℕ → Class) (old heard new : NodeState) (l : Looks) (key : ℕ) (c : CallName)
-    (k : CallRecord)
-    (got : Took) (m : Message) (asked bytes : List ℕ) → IsOwn class old l key c k → got ≡ tooks.Heard
-    → (class old.secret).respond c asked ≡ Some bytes
-    → Mirrors class heard (taken_at (setup_of class old) got c m l)
-    → ((n : Looks) → Mirrors class heard n → IsChannel n key (channel_of c)
-    → Mirrors class new (on_channel (channel_of c) (λ q. record q { owed_response = Some bytes }) n))
-    → Mirrors class new (taken_heard (setup_of class old) c (bodies.Challenge asked)
-    (taken_at (setup_of class old) tooks.Heard c m l))
-answered_mirrors class old heard new l key c k got m asked bytes own is answer one then_ =
-    let s : Setup = setup_of class old in
-    let after : Looks = taken_at s tooks.Heard c m l in
-    subst (λ (o : Option (List ℕ)). Mirrors class new
-    (on_channel (channel_of c) (λ q. record q { owed_response = o }) after))
-    (sym answer)
-    (then_ after (subst (λ (t : Took). Mirrors class heard (taken_at s t c m l)) is one)
-    (same_key l after key (channel_of c) refl own.channel))
+module _ (class : List ℕ → Class) (old heard new : NodeState) (l : Looks) (key : ℕ) (c : CallName) (k : CallRecord)
+    (got : Took) (m : Message) (asked bytes : List ℕ) where
+  -- one that has an answer is heard, and its channel owes it
+  pub answered_mirrors : IsOwn class old l key c k → got ≡ tooks.Heard → (class old.secret).respond c asked ≡ Some bytes
+      → Mirrors class heard (taken_at (setup_of class old) got c m l)
+      → ((n : Looks) → Mirrors class heard n → IsChannel n key (channel_of c)
+      → Mirrors class new (on_channel (channel_of c) (λ q. record q { owed_response = Some bytes }) n))
+      → Mirrors class new (taken_heard (setup_of class old) c (bodies.Challenge asked)
+      (taken_at (setup_of class old) tooks.Heard c m l))
+  answered_mirrors own is answer one then_ =
+      let s : Setup = setup_of class old in
+      let after : Looks = taken_at s tooks.Heard c m l in
+      subst (λ (o : Option (List ℕ)). Mirrors class new
+      (on_channel (channel_of c) (λ q. record q { owed_response = o }) after))
+      (sym answer)
+      (then_ after (subst (λ (t : Took). Mirrors class heard (taken_at s t c m l)) is one)
+      (same_key l after key (channel_of c) refl own.channel))
 
 -- ---- a BUSY and an ABORT
 

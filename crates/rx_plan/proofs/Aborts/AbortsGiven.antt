@@ -71,38 +71,39 @@ pub record IsOfCall (K : CallName → ℤ → Type 0) (s : Setup) (to : Host) (m
   pub own : OwnName s.kind (named s to m)
   pub has : K (named s to m) code
 
--- that a poll gives
-pub poll_tells : (K : CallName → ℤ → Type 0) (s : Setup) (h : List Event) (to : Host) (bytes : List ℕ) (m : Message)
-    (code : ℤ) → FitsSetup s → Legal s h → Owed K (looks s h) → poll_answer s (looks s h) ≡ Some (to, bytes)
-    → reading_of bytes ≡ Ok m → m.body ≡ bodies.Abort code → IsStray s h to m code ⊎ IsOfCall K s to m code
-poll_tells K s h to bytes m code fits legal owed answer reads aborts =
-    let g = poll_gives s h fits legal to bytes answer in
-    let same : g.message ≡ m = (let one : Ok g.message ≡ Ok m = sym g.read ∙ reads in cc) in
-    of (subst (λ (n : Message). GivesStray (looks s h) to n ⊎ GivesItem s (looks s h) to n) same g.owed)
+module _ (K : CallName → ℤ → Type 0) (s : Setup) (h : List Event) (to : Host) (bytes : List ℕ) (m : Message) (code : ℤ)
   where
-    of : GivesStray (looks s h) to m ⊎ GivesItem s (looks s h) to m → IsStray s h to m code ⊎ IsOfCall K s to m code
-    of (inl g) =
-        (let body : bodies.Abort code ≡ bodies.Abort RX_INVALID_OPERATION =
-        sym aborts ∙ ap (λ (n : Message). n.body) g.is in
-        inl (record {
-          code_is = cc;
-          stray = g.oldest;
-          is = g.is;
-          host = g.host;
-          came = (subst (λ (xs : List Stray). Every (CameStray s h) xs) g.owed (strays_came s h)).0;
-        }))
-    of (inr g) =
-        inr (record {
-          some = item_apart s h fits legal to m g;
-          own =
-              subst (OwnName s.kind) (sym (item_name s h fits legal to m g))
-              (next_is s h fits legal g.item g.next).name.own;
-          has =
-              subst (λ (c : CallName). K c code) (sym (item_name s h fits legal to m g))
-              (next_tells (Tells K) (plain K) s (silenced (looks s h)) g.item
-              (λ ch. told K s (silenced (looks s h)) ch owed) g.next code
-              (sym (ap (λ (n : Message). n.body) g.is) ∙ aborts));
-        })
+    -- that a poll gives
+    pub poll_tells : FitsSetup s → Legal s h → Owed K (looks s h) → poll_answer s (looks s h) ≡ Some (to, bytes)
+        → reading_of bytes ≡ Ok m → m.body ≡ bodies.Abort code → IsStray s h to m code ⊎ IsOfCall K s to m code
+    poll_tells fits legal owed answer reads aborts =
+        let g = poll_gives s h fits legal to bytes answer in
+        let same : g.message ≡ m = (let one : Ok g.message ≡ Ok m = sym g.read ∙ reads in cc) in
+        of (subst (λ (n : Message). GivesStray (looks s h) to n ⊎ GivesItem s (looks s h) to n) same g.owed)
+      where
+        of : GivesStray (looks s h) to m ⊎ GivesItem s (looks s h) to m → IsStray s h to m code ⊎ IsOfCall K s to m code
+        of (inl g) =
+            (let body : bodies.Abort code ≡ bodies.Abort RX_INVALID_OPERATION =
+            sym aborts ∙ ap (λ (n : Message). n.body) g.is in
+            inl (record {
+              code_is = cc;
+              stray = g.oldest;
+              is = g.is;
+              host = g.host;
+              came = (subst (λ (xs : List Stray). Every (CameStray s h) xs) g.owed (strays_came s h)).0;
+            }))
+        of (inr g) =
+            inr (record {
+              some = item_apart s h fits legal to m g;
+              own =
+                  subst (OwnName s.kind) (sym (item_name s h fits legal to m g))
+                  (next_is s h fits legal g.item g.next).name.own;
+              has =
+                  subst (λ (c : CallName). K c code) (sym (item_name s h fits legal to m g))
+                  (next_tells (Tells K) (plain K) s (silenced (looks s h)) g.item
+                  (λ ch. told K s (silenced (looks s h)) ch owed) g.next code
+                  (sym (ap (λ (n : Message). n.body) g.is) ∙ aborts));
+            })
 
 -- that one of its events gave
 pub aborts_given : (s : Setup) (h : List Event) (to : Host) (bytes : List ℕ) (m : Message) (code : ℤ) → FitsSetup s

@@ -209,40 +209,39 @@ module _ (K : CallName → List ℕ → Type 0) where
 
 -- ---- a history
 
-asked_by : (s : Setup) (h : List Event) (from : Host) (bytes : List ℕ) (got : Took) (m : Message)
-    → got ≡ took_of s (looks s h) from bytes → reading_of bytes ≡ Ok m
-    → outer_row s s.kind (looks s h) from m ≡ None → Legal s h → (g : Took) (body : Body) → got ≡ g → m.body ≡ body
-    → MayAnswer (HasAnswered s (events.Taken from bytes got ∷ h)) s g (named s from m) body
-    (prepared s got (connection_of (named s from m)) (looks s h))
-asked_by s h from bytes got m is reads front legal tooks.Heard (bodies.Challenge asked) same at = (
-  ready_here s h from bytes got m is reads front legal (ap enters same)
-      (asked_number s (looks s h) (named s from m) m asked refl at
-      (named_row s (looks s h) from bytes got m is reads front ∙ same)),
-  λ text answers.
-      record {
-        later = [];
-        from = from;
-        bytes = bytes;
-        got = got;
-        before = h;
-        is = refl;
-        message = m;
-        asked = asked;
-        reads = reads;
-        front = front;
-        name = refl;
-        body = at;
-        answers = answers;
-      },
-)
-asked_by s h from bytes got m is reads front legal _ body same at = tt
+module _ (s : Setup) (h : List Event) (from : Host) (bytes : List ℕ) (got : Took) where
+  asked_by : (m : Message) → got ≡ took_of s (looks s h) from bytes → reading_of bytes ≡ Ok m
+      → outer_row s s.kind (looks s h) from m ≡ None → Legal s h → (g : Took) (body : Body) → got ≡ g → m.body ≡ body
+      → MayAnswer (HasAnswered s (events.Taken from bytes got ∷ h)) s g (named s from m) body
+      (prepared s got (connection_of (named s from m)) (looks s h))
+  asked_by m is reads front legal tooks.Heard (bodies.Challenge asked) same at = (
+    ready_here s h from bytes got m is reads front legal (ap enters same)
+        (asked_number s (looks s h) (named s from m) m asked refl at
+        (named_row s (looks s h) from bytes got m is reads front ∙ same)),
+    λ text answers.
+        record {
+          later = [];
+          from = from;
+          bytes = bytes;
+          got = got;
+          before = h;
+          is = refl;
+          message = m;
+          asked = asked;
+          reads = reads;
+          front = front;
+          name = refl;
+          body = at;
+          answers = answers;
+        },
+  )
+  asked_by m is reads front legal _ body same at = tt
 
-taken_by : (s : Setup) (h : List Event) (from : Host) (bytes : List ℕ) (got : Took) (reading : Result Message BadMsg)
-    → got ≡ took_of s (looks s h) from bytes → reading_of bytes ≡ reading → Legal s h
-    → MayAnswerFor (HasAnswered s (events.Taken from bytes got ∷ h)) s (looks s h) from reading got
-taken_by s h from bytes got (Err bad) is reads legal = tt
-taken_by s h from bytes got (Ok m) is reads legal = λ front.
-    asked_by s h from bytes got m is reads front legal got m.body refl refl
+  taken_by : (reading : Result Message BadMsg) → got ≡ took_of s (looks s h) from bytes → reading_of bytes ≡ reading
+      → Legal s h → MayAnswerFor (HasAnswered s (events.Taken from bytes got ∷ h)) s (looks s h) from reading got
+  taken_by (Err bad) is reads legal = tt
+  taken_by (Ok m) is reads legal = λ front.
+      asked_by m is reads front legal got m.body refl refl
 
 event_by : (s : Setup) (h : List Event) (e : Event) → AllowedAt s.kind s (looks s h) e → Legal s h
     → MayAnswerBy (HasAnswered s (e ∷ h)) s (looks s h) e

@@ -13,8 +13,8 @@ use rx_model::Took;
 use rx_model::wire::LAST_SEQ;
 use rx_pool::Pool;
 
-/// Which slots are left for a packet that comes: `common` for any packet, and with `lead` one more for the packet behind
-/// the front.
+/// The slots left for a packet that comes: `common` for any packet, and with `lead` one more for the packet behind the
+/// front.
 #[derive(Clone, Copy, Debug, PartialEq, Eq)]
 pub struct Spare {
     pub lead: bool,

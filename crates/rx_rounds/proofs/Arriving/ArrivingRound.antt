@@ -89,29 +89,29 @@ tells_read whole n k r =
       plain = r.plain;
     }
 
--- what was read out, where more is to come
-pub reads_out_of : (whole : List ℕ) (now p n : ℕ) (first k : CallLooks) (read : List ℕ) → 1 ≤ n → p < 2 ^ 32
-    → IfSome first.owed_ack IsPlainOwed → IsRead whole now p n first read k → unread_of k.received ≡ []
-    → is_complete k.received ≡ false → n ≤ total whole → Reads whole n k
-reads_out_of whole now p n first k read known low plain h none part within =
-    let less : n < total whole =
-    elim (cases_lt n (total whole)) as (λ c. n < total whole) [
-      | inl below ↦ below
-      | inr all ↦ absurd (both_ways (is_complete (part_read whole read p n))
-          (ap (λ (i : CallLooks). is_complete i.received) (sym h.is) ∙ part)
-          (complete_whole whole read p n (omega arith) known))
-    ] in
-    record {
-      read = read;
-      previous = p;
-      kept = ap (λ (i : CallLooks). i.received) h.is;
-      low = low;
-      short = less;
-      exact = read_out whole now p n first read k h none;
-      out = none;
-      plain = subst (λ (o : Option Owed). IfSome o IsPlainOwed) (sym (ap (λ (i : CallLooks). i.owed_ack) h.is))
-          (h.plain plain);
-    }
+module _ (whole : List ℕ) (now p n : ℕ) (first k : CallLooks) (read : List ℕ) where
+  -- what was read out, where more is to come
+  pub reads_out_of : 1 ≤ n → p < 2 ^ 32 → IfSome first.owed_ack IsPlainOwed → IsRead whole now p n first read k
+      → unread_of k.received ≡ [] → is_complete k.received ≡ false → n ≤ total whole → Reads whole n k
+  reads_out_of known low plain h none part within =
+      let less : n < total whole =
+      elim (cases_lt n (total whole)) as (λ c. n < total whole) [
+        | inl below ↦ below
+        | inr all ↦ absurd (both_ways (is_complete (part_read whole read p n))
+            (ap (λ (i : CallLooks). is_complete i.received) (sym h.is) ∙ part)
+            (complete_whole whole read p n (omega arith) known))
+      ] in
+      record {
+        read = read;
+        previous = p;
+        kept = ap (λ (i : CallLooks). i.received) h.is;
+        low = low;
+        short = less;
+        exact = read_out whole now p n first read k h none;
+        out = none;
+        plain = subst (λ (o : Option Owed). IfSome o IsPlainOwed) (sym (ap (λ (i : CallLooks). i.owed_ack) h.is))
+            (h.plain plain);
+      }
 
 -- ---- what passes
 

@@ -48,29 +48,30 @@ use Rattle.rx_rounds.proofs.Two.{AreApart, Polls, Two, client_polls_none, client
 
 -- ---- a server that knows the call takes a piece
 
-pub link_took : (x : Ends) (proved challenged : Bool) (firsts : List CallName) (now used given : ℕ) (life : Life)
-    (k : CallLooks) (seq serial flags : ℕ) (payload : List ℕ) → 1 < x.first + 1
-    → is_active life ≡ true → IsPlain (data_of x seq serial flags payload) → has_flag CLIENT_INITIATED flags ≡ true
-    → took_of (server_setup x) (node_of x (served_link x proved challenged given used) firsts now life k) x.client
-    (made (data_of x seq serial flags payload))
-    ≡ row_of (server_place x now) (data_of x seq serial flags payload) k
-link_took x proved challenged firsts now used given life k seq serial flags payload some active plain ours =
-    let numbered : (x.first == 0) ≡ false = ne_eqb x.first 0 (λ (e : x.first ≡ 0). omega arith) in
-    let below : nat_lt x.first x.first ≡ false = le-ltb x.first x.first (omega arith) in
-    rw (reads_back (data_of x seq serial flags payload) plain)
-    (simp (
-      ours,
-      active,
-      numbered,
-      below,
-      number_itself x.service,
-      number_itself (class_of x.key).index,
-      number_itself x.client.addr,
-      number_itself x.client.port,
-      number_itself x.epoch,
-      number_itself x.first,
-      add-zero,
-    ) refl)
+module _ (x : Ends) (proved challenged : Bool) (firsts : List CallName) (now used given : ℕ) (life : Life)
+    (k : CallLooks) (seq serial flags : ℕ) (payload : List ℕ) where
+  pub link_took : 1 < x.first + 1 → is_active life ≡ true → IsPlain (data_of x seq serial flags payload)
+      → has_flag CLIENT_INITIATED flags ≡ true
+      → took_of (server_setup x) (node_of x (served_link x proved challenged given used) firsts now life k) x.client
+      (made (data_of x seq serial flags payload)) ≡ row_of (server_place x now) (data_of x seq serial flags payload)
+      k
+  link_took some active plain ours =
+      let numbered : (x.first == 0) ≡ false = ne_eqb x.first 0 (λ (e : x.first ≡ 0). omega arith) in
+      let below : nat_lt x.first x.first ≡ false = le-ltb x.first x.first (omega arith) in
+      rw (reads_back (data_of x seq serial flags payload) plain)
+      (simp (
+        ours,
+        active,
+        numbered,
+        below,
+        number_itself x.service,
+        number_itself (class_of x.key).index,
+        number_itself x.client.addr,
+        number_itself x.client.port,
+        number_itself x.epoch,
+        number_itself x.first,
+        add-zero,
+      ) refl)
 
 pub server_took : (x : Ends) (firsts : List CallName) (now used given : ℕ) (life : Life) (k : CallLooks)
     (seq serial flags : ℕ) (payload : List ℕ) → 1 < x.first + 1
@@ -125,17 +126,16 @@ link_kept x proved challenged false firsts now used given life k seq serial flag
       add-zero,
     ) refl)
 
-pub server_kept : (x : Ends) (firsts : List CallName) (now used given : ℕ) (life : Life) (k : CallLooks)
-    (seq serial flags : ℕ) (payload : List ℕ)
-    → is_active life ≡ true → IsPlain (data_of x seq serial flags payload) → has_flag CLIENT_INITIATED flags ≡ true
-    → (seq == 1) ≡ false
-    → after (server_setup x) (events.Taken x.client (made (data_of x seq serial flags payload)) tooks.Kept)
-    (node_of x (from_server x given used) firsts now life k)
-    ≡ node_of x (from_server x given now) firsts now life
-    (after_taken (view_of (server_place x now) k) tooks.Kept (data_of x seq serial flags payload) k)
-server_kept x firsts now used given life k seq serial flags payload =
-    link_kept x (is_some x.key) false false firsts now used given life k seq serial flags payload
-    (challenged_none x.key)
+module _ (x : Ends) (firsts : List CallName) (now used given : ℕ) (life : Life) (k : CallLooks) (seq serial flags : ℕ)
+    (payload : List ℕ) where
+  pub server_kept : is_active life ≡ true → IsPlain (data_of x seq serial flags payload)
+      → has_flag CLIENT_INITIATED flags ≡ true → (seq == 1) ≡ false
+      → after (server_setup x) (events.Taken x.client (made (data_of x seq serial flags payload)) tooks.Kept)
+      (node_of x (from_server x given used) firsts now life k) ≡ node_of x (from_server x given now) firsts now life
+      (after_taken (view_of (server_place x now) k) tooks.Kept (data_of x seq serial flags payload) k)
+  server_kept =
+      link_kept x (is_some x.key) false false firsts now used given life k seq serial flags payload
+      (challenged_none x.key)
 
 -- ---- the client's burst
 

@@ -58,39 +58,39 @@ refused_later s t c g r =
     subst (λ (h : List Event). HasRefused h c) (sym (ap (side 0) g.is ∙ side_grew 0 g.more s.history))
     (refused_grew (side 0 g.more) (side 0 s.history) c r)
 
--- behind the turn in which it was decided
-pub refused_then : (x : Ends) (g : Handlers) (lc : Looks) (cs : List InvokedState) (js : List JobState)
-    (now given used : ℕ) (k : CallLooks) (request : List ℕ) (code : ℤ) (s u : Stage) (d : Turning)
-    → early_code g request false ≡ Some code
-    → Two x (node_of x (from_server x given used) (the_call x ∷ []) now lives.Accepted k) lc cs js s
-    → Serves g (settle g [] (record
-    { job = coded code (record (begun (the_call x)) { request = request }); phase = phases.Moves }) []) s d u
-    → HasRefused (side 0 u.history) (the_call x)
-refused_then x g lc cs js now given used k request code s u d early two turn =
-    let c : CallName = the_call x in
-    let ls : Looks = node_of x (from_server x given used) (c ∷ []) now lives.Accepted k in
-    let job : JobState = coded code (record (begun c) { request = request }) in
-    let v : Turning = settle g [] (record { job = job; phase = phases.Moves }) [] in
-    let some : code ≢ pos 0 = early_no_zero g request false code early in
-    let open_ : is_zero code ≡ false = no_zero code some in
-    let asked : (dispatching g).asks v ≡ Some (asks.finish c code) = rw open_ refl in
-    let n = turn_goes (dispatching g) 0 v d (asks.finish c code) s u turn.0 asked turn.1 in
-    let both = at_server x ls lc cs js s ((dispatching g).is (asks.finish c code)) n.event two n.allowed in
-    let allowed : Allowed (server_setup x) ls (events.Finished c code both.0.0) = subst
-    (λ (e : Event). Allowed (server_setup x) ls e) both.0.1 both.1 in
-    let fine : (k.received.ended || not (is_zero code)) ≡ true = or_right k.received.ended (not (is_zero code))
-    (ap not open_) in
-    let got : both.0.0 ≡ Ok tt = allowed.1
-    ∙ ap (λ (o : Option CallRecord). served_finish o code)
-    (call_is x (from_server x given used) (c ∷ []) now lives.Accepted k) ∙ rw fine refl in
-    let e : Event = events.Finished c code (Ok tt) in
-    let is : n.event ≡ e = both.0.1 ∙ ap (λ (r : Result (Unit {0}) ServeRefused). events.Finished c code r) got in
-    let rest : Turn (dispatching g) 0 ((dispatching g).heard v e) (with_event 0 e s) n.more (To (d, u)) =
-    subst (λ (f : Event). Turn (dispatching g) 0 ((dispatching g).heard v f) (with_event 0 f s) n.more (To (d, u))) is
-    n.rest in
-    refused_later (with_event 0 e s) u c
-    (grew_turn (dispatching g) 0 ((dispatching g).heard v e) d (with_event 0 e s) u n.more job_quiet rest)
-    ([], side 0 s.history, code, refl, some)
+module _ (x : Ends) (g : Handlers) (lc : Looks) (cs : List InvokedState) (js : List JobState) (now given used : ℕ)
+    (k : CallLooks) (request : List ℕ) (code : ℤ) (s u : Stage) (d : Turning) where
+  -- behind the turn in which it was decided
+  pub refused_then : early_code g request false ≡ Some code
+      → Two x (node_of x (from_server x given used) (the_call x ∷ []) now lives.Accepted k) lc cs js s
+      → Serves g (settle g [] (record
+      { job = coded code (record (begun (the_call x)) { request = request }); phase = phases.Moves }) []) s d u
+      → HasRefused (side 0 u.history) (the_call x)
+  refused_then early two turn =
+      let c : CallName = the_call x in
+      let ls : Looks = node_of x (from_server x given used) (c ∷ []) now lives.Accepted k in
+      let job : JobState = coded code (record (begun c) { request = request }) in
+      let v : Turning = settle g [] (record { job = job; phase = phases.Moves }) [] in
+      let some : code ≢ pos 0 = early_no_zero g request false code early in
+      let open_ : is_zero code ≡ false = no_zero code some in
+      let asked : (dispatching g).asks v ≡ Some (asks.finish c code) = rw open_ refl in
+      let n = turn_goes (dispatching g) 0 v d (asks.finish c code) s u turn.0 asked turn.1 in
+      let both = at_server x ls lc cs js s ((dispatching g).is (asks.finish c code)) n.event two n.allowed in
+      let allowed : Allowed (server_setup x) ls (events.Finished c code both.0.0) = subst
+      (λ (e : Event). Allowed (server_setup x) ls e) both.0.1 both.1 in
+      let fine : (k.received.ended || not (is_zero code)) ≡ true = or_right k.received.ended (not (is_zero code))
+      (ap not open_) in
+      let got : both.0.0 ≡ Ok tt = allowed.1
+      ∙ ap (λ (o : Option CallRecord). served_finish o code)
+      (call_is x (from_server x given used) (c ∷ []) now lives.Accepted k) ∙ rw fine refl in
+      let e : Event = events.Finished c code (Ok tt) in
+      let is : n.event ≡ e = both.0.1 ∙ ap (λ (r : Result (Unit {0}) ServeRefused). events.Finished c code r) got in
+      let rest : Turn (dispatching g) 0 ((dispatching g).heard v e) (with_event 0 e s) n.more (To (d, u)) =
+      subst (λ (f : Event). Turn (dispatching g) 0 ((dispatching g).heard v f) (with_event 0 f s) n.more (To (d, u))) is
+      n.rest in
+      refused_later (with_event 0 e s) u c
+      (grew_turn (dispatching g) 0 ((dispatching g).heard v e) d (with_event 0 e s) u n.more job_quiet rest)
+      ([], side 0 s.history, code, refl, some)
 
 -- ---- how a request arrived
 

@@ -193,12 +193,12 @@ whole_is bytes read p n within whole =
       | inr all ↦ omega arith
     ]
 
--- where the job read the end, the server keeps each piece as it was said
-pub keeps_whole : (x : Ends) (g : Handlers) (bytes : List ℕ) (client : Looks) (given p n : ℕ) (owed : Option Owed)
-    (k : CallLooks)
-    → n ≤ total bytes → Keeps x g client [] bytes given p n owed k → is_complete k.received ≡ true
-    → (j : ℕ) → 1 ≤ j → j ≤ total bytes → packet_at k.received.kept j ≡ Some (piece bytes j)
-keeps_whole x g bytes client given p n owed k within good whole j low high =
-    let all : n ≡ total bytes = whole_is bytes good.read p n
-    within (ap (λ (i : CallLooks). is_complete i.received) (sym good.is) ∙ whole) in
-    ap (λ (i : CallLooks). packet_at i.received.kept j) good.is ∙ packet_kept bytes n j low (omega arith)
+module _ (x : Ends) (g : Handlers) (bytes : List ℕ) (client : Looks) (given p n : ℕ) (owed : Option Owed)
+    (k : CallLooks) where
+  -- where the job read the end, the server keeps each piece as it was said
+  pub keeps_whole : n ≤ total bytes → Keeps x g client [] bytes given p n owed k → is_complete k.received ≡ true
+      → (j : ℕ) → 1 ≤ j → j ≤ total bytes → packet_at k.received.kept j ≡ Some (piece bytes j)
+  keeps_whole within good whole j low high =
+      let all : n ≡ total bytes = whole_is bytes good.read p n
+      within (ap (λ (i : CallLooks). is_complete i.received) (sym good.is) ∙ whole) in
+      ap (λ (i : CallLooks). packet_at i.received.kept j) good.is ∙ packet_kept bytes n j low (omega arith)

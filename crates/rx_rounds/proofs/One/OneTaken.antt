@@ -48,119 +48,113 @@ use Rattle.rx_rounds.proofs.Two.{AreApart, Two, delivered_client, delivered_serv
 abbrev pub ack_flagged : Ends → ℕ → ℕ → AckBody → Message
 ack_flagged x serial flags a = record (header_of x) { serial = serial; flags = flags; body = bodies.Ack a }
 
-server_took_ack : (x : Ends) (firsts : List CallName) (now used given : ℕ) (life : Life) (k : CallLooks)
-    (serial flags : ℕ) (a : AckBody) → 1 < x.first + 1 → is_active life ≡ true → IsPlain (ack_flagged x serial flags a)
-    → has_flag CLIENT_INITIATED flags ≡ true
-    → took_of (server_setup x) (node_of x (from_server x given used) firsts now life k) x.client
-    (made (ack_flagged x serial flags a))
-    ≡ row_of (server_place x now) (ack_flagged x serial flags a) k
-server_took_ack x firsts now used given life k serial flags a some active plain ours =
-    let numbered : (x.first == 0) ≡ false = ne_eqb x.first 0 (λ (e : x.first ≡ 0). omega arith) in
-    let below : nat_lt x.first x.first ≡ false = le-ltb x.first x.first (omega arith) in
-    rw (reads_back (ack_flagged x serial flags a) plain)
-    (simp (
-      ours,
-      active,
-      numbered,
-      below,
-      number_itself x.service,
-      number_itself (class_of x.key).index,
-      challenged_none x.key,
-      number_itself x.client.addr,
-      number_itself
-          x.client.port,
-      number_itself x.epoch,
-      number_itself x.first,
-      add-zero,
-    ) refl)
+module _ (x : Ends) (firsts : List CallName) (now used given : ℕ) where
+  server_took_ack : (life : Life) (k : CallLooks) (serial flags : ℕ) (a : AckBody) → 1 < x.first + 1
+      → is_active life ≡ true → IsPlain (ack_flagged x serial flags a) → has_flag CLIENT_INITIATED flags ≡ true
+      → took_of (server_setup x) (node_of x (from_server x given used) firsts now life k) x.client
+      (made (ack_flagged x serial flags a)) ≡ row_of (server_place x now) (ack_flagged x serial flags a) k
+  server_took_ack life k serial flags a some active plain ours =
+      let numbered : (x.first == 0) ≡ false = ne_eqb x.first 0 (λ (e : x.first ≡ 0). omega arith) in
+      let below : nat_lt x.first x.first ≡ false = le-ltb x.first x.first (omega arith) in
+      rw (reads_back (ack_flagged x serial flags a) plain)
+      (simp (
+        ours,
+        active,
+        numbered,
+        below,
+        number_itself x.service,
+        number_itself (class_of x.key).index,
+        challenged_none x.key,
+        number_itself x.client.addr,
+        number_itself
+            x.client.port,
+        number_itself x.epoch,
+        number_itself x.first,
+        add-zero,
+      ) refl)
 
-server_heard_ack : (x : Ends) (firsts : List CallName) (now used given : ℕ) (life : Life) (k : CallLooks)
-    (serial flags : ℕ) (a : AckBody) → IsPlain (ack_flagged x serial flags a) → has_flag CLIENT_INITIATED flags ≡ true
-    → after_acks (is_delivered (after_taken (view_of (server_place x now) k) tooks.Heard (ack_flagged x serial flags a)
-    k)) life ≡ life
-    → after (server_setup x) (events.Taken x.client (made (ack_flagged x serial flags a)) tooks.Heard)
-    (node_of x (from_server x given used) firsts now life k)
-    ≡ node_of x (from_server x given now) firsts now life
-    (after_taken (view_of (server_place x now) k) tooks.Heard (ack_flagged x serial flags a) k)
-server_heard_ack x firsts now used given life k serial flags a plain ours lives_on =
-    rw (reads_back (ack_flagged x serial flags a) plain)
-    (simp (
-      ours,
-      number_itself x.service,
-      number_itself (class_of x.key).index,
-      challenged_none x.key,
-      number_itself x.client.addr,
-      number_itself x.client.port,
-      number_itself x.epoch,
-      number_itself x.first,
-    ) (rw lives_on refl))
+  server_heard_ack : (life : Life) (k : CallLooks) (serial flags : ℕ) (a : AckBody)
+      → IsPlain (ack_flagged x serial flags a) → has_flag CLIENT_INITIATED flags ≡ true
+      → after_acks (is_delivered
+      (after_taken (view_of (server_place x now) k) tooks.Heard (ack_flagged x serial flags a) k)) life ≡ life
+      → after (server_setup x) (events.Taken x.client (made (ack_flagged x serial flags a)) tooks.Heard)
+      (node_of x (from_server x given used) firsts now life k) ≡ node_of x (from_server x given now) firsts now life
+      (after_taken (view_of (server_place x now) k) tooks.Heard (ack_flagged x serial flags a) k)
+  server_heard_ack life k serial flags a plain ours lives_on =
+      rw (reads_back (ack_flagged x serial flags a) plain)
+      (simp (
+        ours,
+        number_itself x.service,
+        number_itself (class_of x.key).index,
+        challenged_none x.key,
+        number_itself x.client.addr,
+        number_itself x.client.port,
+        number_itself x.epoch,
+        number_itself x.first,
+      ) (rw lives_on refl))
 
-client_took_data_on : (x : Ends) (firsts : List CallName) (now used given : ℕ) (k : CallLooks)
-    (seq serial flags : ℕ) (payload : List ℕ) → 1 < x.first + 1
-    → IsPlain (data_of x seq serial flags payload) → has_flag CLIENT_INITIATED flags ≡ false
-    → took_of (client_setup x) (client_at x given used firsts now k) x.server
-    (made (data_of x seq serial flags payload))
-    ≡ row_of (client_place x now) (data_of x seq serial flags payload) k
-client_took_data_on x firsts now used given k seq serial flags payload some plain theirs =
-    let numbered : (x.first == 0) ≡ false = ne_eqb x.first 0 (λ (e : x.first ≡ 0). omega arith) in
-    let below : nat_lt x.first x.first ≡ false = le-ltb x.first x.first (omega arith) in
-    rw (reads_back (data_of x seq serial flags payload) plain)
-    (simp (
-      theirs,
-      numbered,
-      below,
-      number_itself x.client.addr,
-      number_itself x.client.port,
-      number_itself
-          x.server.addr,
-      number_itself x.server.port,
-      number_itself (class_of x.key).index,
-      number_itself x.epoch,
-      number_itself x.first,
-      add-zero,
-    ) refl)
+  client_took_data_on : (k : CallLooks) (seq serial flags : ℕ) (payload : List ℕ) → 1 < x.first + 1
+      → IsPlain (data_of x seq serial flags payload) → has_flag CLIENT_INITIATED flags ≡ false
+      → took_of (client_setup x) (client_at x given used firsts now k) x.server (made
+      (data_of x seq serial flags payload)) ≡ row_of (client_place x now) (data_of x seq serial flags payload) k
+  client_took_data_on k seq serial flags payload some plain theirs =
+      let numbered : (x.first == 0) ≡ false = ne_eqb x.first 0 (λ (e : x.first ≡ 0). omega arith) in
+      let below : nat_lt x.first x.first ≡ false = le-ltb x.first x.first (omega arith) in
+      rw (reads_back (data_of x seq serial flags payload) plain)
+      (simp (
+        theirs,
+        numbered,
+        below,
+        number_itself x.client.addr,
+        number_itself x.client.port,
+        number_itself
+            x.server.addr,
+        number_itself x.server.port,
+        number_itself (class_of x.key).index,
+        number_itself x.epoch,
+        number_itself x.first,
+        add-zero,
+      ) refl)
 
-client_kept_on : (x : Ends) (firsts : List CallName) (now used given : ℕ) (k : CallLooks) (seq serial flags : ℕ)
-    (payload : List ℕ)
-    → IsPlain (data_of x seq serial flags payload) → has_flag CLIENT_INITIATED flags ≡ false
-    → after (client_setup x) (events.Taken x.server (made (data_of x seq serial flags payload)) tooks.Kept)
-    (client_at x given used firsts now k)
-    ≡ client_at x given now (cond (seq == 1) (firsts ++ the_call x ∷ []) firsts) now
-    (after_taken (view_of (client_place x now) k) tooks.Kept (data_of x seq serial flags payload) k)
-client_kept_on x firsts now used given k seq serial flags payload plain theirs =
-    let below : nat_lt x.first x.first ≡ false = le-ltb x.first x.first (omega arith) in
-    rw (reads_back (data_of x seq serial flags payload) plain)
-    (simp (
-      theirs,
-      below,
-      number_itself x.client.addr,
-      number_itself x.client.port,
-      number_itself x.server.addr,
-      number_itself x.server.port,
-      number_itself (class_of x.key).index,
-      number_itself x.epoch,
-      number_itself x.first,
-      add-zero,
-    ) refl)
+  client_kept_on : (k : CallLooks) (seq serial flags : ℕ) (payload : List ℕ)
+      → IsPlain (data_of x seq serial flags payload) → has_flag CLIENT_INITIATED flags ≡ false
+      → after (client_setup x) (events.Taken x.server (made (data_of x seq serial flags payload)) tooks.Kept)
+      (client_at x given used firsts now k) ≡ client_at x given now (cond (seq == 1) (firsts ++ the_call x ∷ [])
+      firsts) now (after_taken (view_of (client_place x now) k) tooks.Kept (data_of x seq serial flags payload) k)
+  client_kept_on k seq serial flags payload plain theirs =
+      let below : nat_lt x.first x.first ≡ false = le-ltb x.first x.first (omega arith) in
+      rw (reads_back (data_of x seq serial flags payload) plain)
+      (simp (
+        theirs,
+        below,
+        number_itself x.client.addr,
+        number_itself x.client.port,
+        number_itself x.server.addr,
+        number_itself x.server.port,
+        number_itself (class_of x.key).index,
+        number_itself x.epoch,
+        number_itself x.first,
+        add-zero,
+      ) refl)
 
--- an ACK is heard at the client
-client_hears : (x : Ends) (firsts : List CallName) (now used given : ℕ) (k : CallLooks) (serial : ℕ) (a : AckBody)
-    (m : Message) → m ≡ ack_of x serial a → 1 < x.first + 1 → IsPlain m
-    → row_of (client_place x now) m k ≡ tooks.Heard
-    → after (client_setup x) (events.Taken x.server (made m)
-    (took_of (client_setup x) (client_at x given used firsts now k) x.server (made m)))
-    (client_at x given used firsts now k)
-    ≡ client_at x given now firsts now (after_taken (view_of (client_place x now) k) tooks.Heard m k)
-client_hears x firsts now used given k serial a m is some =
-    subst (λ (n : Message). IsPlain n → row_of (client_place x now) n k ≡ tooks.Heard
-    → after (client_setup x) (events.Taken x.server (made n)
-    (took_of (client_setup x) (client_at x given used firsts now k) x.server (made n)))
-    (client_at x given used firsts now k)
-    ≡ client_at x given now firsts now (after_taken (view_of (client_place x now) k) tooks.Heard n k)) (sym is)
-    (λ plain row. ap (λ (got : Took). after (client_setup x) (events.Taken x.server (made (ack_of x serial a)) got)
-    (client_at x given used firsts now k))
-    (client_took_ack x firsts now used given k serial a some plain ∙ row)
-    ∙ client_heard_ack x firsts now used given k serial a plain)
+  -- an ACK is heard at the client
+  client_hears : (k : CallLooks) (serial : ℕ) (a : AckBody) (m : Message) → m ≡ ack_of x serial a → 1 < x.first + 1
+      → IsPlain m → row_of (client_place x now) m k ≡ tooks.Heard
+      → after (client_setup x)
+      (events.Taken x.server (made m)
+      (took_of (client_setup x) (client_at x given used firsts now k) x.server (made m)))
+      (client_at x given used firsts now k) ≡ client_at x given now firsts now
+      (after_taken (view_of (client_place x now) k) tooks.Heard m k)
+  client_hears k serial a m is some =
+      subst (λ (n : Message). IsPlain n → row_of (client_place x now) n k ≡ tooks.Heard
+      → after (client_setup x) (events.Taken x.server (made n)
+      (took_of (client_setup x) (client_at x given used firsts now k) x.server (made n)))
+      (client_at x given used firsts now k)
+      ≡ client_at x given now firsts now (after_taken (view_of (client_place x now) k) tooks.Heard n k)) (sym is)
+      (λ plain row. ap (λ (got : Took). after (client_setup x) (events.Taken x.server (made (ack_of x serial a)) got)
+      (client_at x given used firsts now k))
+      (client_took_ack x firsts now used given k serial a some plain ∙ row)
+      ∙ client_heard_ack x firsts now used given k serial a plain)
 
 -- ---- several
 

@@ -98,116 +98,111 @@ plain_abort x serial code fits small is_code =
       body = is_code;
     }
 
--- its polls
-pub abort_polls : (x : Ends) (code : ℤ) (given used now : ℕ) (k : CallLooks) (lc : Looks) (cs : List InvokedState)
-    (js : List JobState) (s t : Stage) (before : List Datagram) (w : Polling) → FitsEnds x → IsCode code
-    → Two x (over_at x code (Some code) given used now k) lc cs js s → Polls 0 x.server before s w t
-    → (w.given ≡ before ++ sent x.server x.client (made (abort_of x (suc given % 2 ^ 32) code)) ∷ [])
-    × Two x (over_at x code None (suc given) now now k) lc cs js t
-abort_polls x code given used now k lc cs js s t before w fits is_code two polled =
-    let m : Message = abort_of x (suc given % 2 ^ 32) code in
-    let plain : IsPlain m = plain_abort x (suc given % 2 ^ 32) code fits (omega arith) is_code in
-    let a = server_polls_some x (over_at x code (Some code) given used now k) lc cs js s t x.server x.client (made m)
-    before w two (abort_poll x code given used now k) polled in
-    let two1 = two_as x _ lc (over_at x code None (suc given) now now k) lc cs js a.0 a.0
-    (abort_gave x code given used now k (let some : 1 ≤ x.first = fits.some in omega arith) plain) refl refl a.1 in
-    let b = server_polls_none x (over_at x code None (suc given) now now k) lc cs js a.0 t x.server
-    (before ++ sent x.server x.client (made m) ∷ []) w two1 (over_poll x code (suc given) now now k) a.2 in
-    (b.0, two_as x _ lc (over_at x code None (suc given) now now k) lc cs js t t refl refl refl b.1)
+module _ (x : Ends) (code : ℤ) (given used now : ℕ) (k : CallLooks) (lc : Looks) (cs : List InvokedState)
+    (js : List JobState) (s t : Stage) (before : List Datagram) (w : Polling) where
+  -- its polls
+  pub abort_polls : FitsEnds x → IsCode code → Two x (over_at x code (Some code) given used now k) lc cs js s
+      → Polls 0 x.server before s w t
+      → (w.given ≡ before ++ sent x.server x.client (made (abort_of x (suc given % 2 ^ 32) code)) ∷ [])
+      × Two x (over_at x code None (suc given) now now k) lc cs js t
+  abort_polls fits is_code two polled =
+      let m : Message = abort_of x (suc given % 2 ^ 32) code in
+      let plain : IsPlain m = plain_abort x (suc given % 2 ^ 32) code fits (omega arith) is_code in
+      let a = server_polls_some x (over_at x code (Some code) given used now k) lc cs js s t x.server x.client (made m)
+      before w two (abort_poll x code given used now k) polled in
+      let two1 = two_as x _ lc (over_at x code None (suc given) now now k) lc cs js a.0 a.0
+      (abort_gave x code given used now k (let some : 1 ≤ x.first = fits.some in omega arith) plain) refl refl a.1 in
+      let b = server_polls_none x (over_at x code None (suc given) now now k) lc cs js a.0 t x.server
+      (before ++ sent x.server x.client (made m) ∷ []) w two1 (over_poll x code (suc given) now now k) a.2 in
+      (b.0, two_as x _ lc (over_at x code None (suc given) now now k) lc cs js t t refl refl refl b.1)
 
 -- ---- what comes to it
 
--- a piece owes it again
-pub over_took_data : (x : Ends) (code : ℤ) (o : Option ℤ) (given used now : ℕ) (k : CallLooks) (seq serial flags : ℕ)
-    (payload : List ℕ) → 1 < x.first + 1
-    → IsPlain (record (header_of x) { seq = seq; serial = serial; flags = flags; body = bodies.Chunk payload })
-    → has_flag CLIENT_INITIATED flags ≡ true
-    → took_of (server_setup x) (over_at x code o given used now k) x.client
-    (made (record (header_of x) { seq = seq; serial = serial; flags = flags; body = bodies.Chunk payload }))
-    ≡ tooks.Over
-over_took_data x code o given used now k seq serial flags payload some plain ours =
-    let numbered : (x.first == 0) ≡ false = ne_eqb x.first 0 (λ (e : x.first ≡ 0). omega arith) in
-    let below : nat_lt x.first x.first ≡ false = le-ltb x.first x.first (omega arith) in
-    rw (reads_back (record (header_of x) { seq = seq; serial = serial; flags = flags; body = bodies.Chunk payload })
-    plain)
-    (simp (
-      ours,
-      numbered,
-      below,
-      number_itself x.service,
-      number_itself (class_of x.key).index,
-      number_itself x.client.addr,
-      number_itself x.client.port,
-      number_itself x.epoch,
-      number_itself x.first,
-      add-zero,
-    ) refl)
+module _ (x : Ends) (code : ℤ) (o : Option ℤ) (given used now : ℕ) (k : CallLooks) where
+  -- a piece owes it again
+  pub over_took_data : (seq serial flags : ℕ) (payload : List ℕ) → 1 < x.first + 1
+      → IsPlain (record (header_of x) { seq = seq; serial = serial; flags = flags; body = bodies.Chunk payload })
+      → has_flag CLIENT_INITIATED flags ≡ true
+      → took_of (server_setup x) (over_at x code o given used now k) x.client (made (record (header_of x)
+      { seq = seq; serial = serial; flags = flags; body = bodies.Chunk payload })) ≡ tooks.Over
+  over_took_data seq serial flags payload some plain ours =
+      let numbered : (x.first == 0) ≡ false = ne_eqb x.first 0 (λ (e : x.first ≡ 0). omega arith) in
+      let below : nat_lt x.first x.first ≡ false = le-ltb x.first x.first (omega arith) in
+      rw (reads_back (record (header_of x) { seq = seq; serial = serial; flags = flags; body = bodies.Chunk payload })
+      plain)
+      (simp (
+        ours,
+        numbered,
+        below,
+        number_itself x.service,
+        number_itself (class_of x.key).index,
+        number_itself x.client.addr,
+        number_itself x.client.port,
+        number_itself x.epoch,
+        number_itself x.first,
+        add-zero,
+      ) refl)
 
-pub over_after_data : (x : Ends) (code : ℤ) (o : Option ℤ) (given used now : ℕ) (k : CallLooks) (seq serial flags : ℕ)
-    (payload : List ℕ)
-    → IsPlain (record (header_of x) { seq = seq; serial = serial; flags = flags; body = bodies.Chunk payload })
-    → has_flag CLIENT_INITIATED flags ≡ true
-    → after (server_setup x) (events.Taken x.client (made (record (header_of x)
-    { seq = seq; serial = serial; flags = flags; body = bodies.Chunk payload })) tooks.Over)
-    (over_at x code o given used now k)
-    ≡ over_at x code (Some code) given now now k
-over_after_data x code o given used now k seq serial flags payload plain ours =
-    rw (reads_back (record (header_of x) { seq = seq; serial = serial; flags = flags; body = bodies.Chunk payload })
-    plain)
-    (simp (
-      ours,
-      number_itself x.service,
-      number_itself (class_of x.key).index,
-      number_itself x.client.addr,
-      number_itself x.client.port,
-      number_itself x.epoch,
-      number_itself x.first,
-    ) refl)
+  pub over_after_data : (seq serial flags : ℕ) (payload : List ℕ)
+      → IsPlain (record (header_of x) { seq = seq; serial = serial; flags = flags; body = bodies.Chunk payload })
+      → has_flag CLIENT_INITIATED flags ≡ true
+      → after (server_setup x)
+      (events.Taken x.client
+      (made (record (header_of x) { seq = seq; serial = serial; flags = flags; body = bodies.Chunk payload }))
+      tooks.Over) (over_at x code o given used now k) ≡ over_at x code (Some code) given now now k
+  over_after_data seq serial flags payload plain ours =
+      rw (reads_back (record (header_of x) { seq = seq; serial = serial; flags = flags; body = bodies.Chunk payload })
+      plain)
+      (simp (
+        ours,
+        number_itself x.service,
+        number_itself (class_of x.key).index,
+        number_itself x.client.addr,
+        number_itself x.client.port,
+        number_itself x.epoch,
+        number_itself x.first,
+      ) refl)
 
--- and so does an ACK
-pub over_took_ack : (x : Ends) (code : ℤ) (o : Option ℤ) (given used now : ℕ) (k : CallLooks) (serial flags : ℕ)
-    (a : AckBody) → 1 < x.first + 1
-    → IsPlain (record (header_of x) { serial = serial; flags = flags; body = bodies.Ack a })
-    → has_flag CLIENT_INITIATED flags ≡ true
-    → took_of (server_setup x) (over_at x code o given used now k) x.client
-    (made (record (header_of x) { serial = serial; flags = flags; body = bodies.Ack a }))
-    ≡ tooks.Over
-over_took_ack x code o given used now k serial flags a some plain ours =
-    let numbered : (x.first == 0) ≡ false = ne_eqb x.first 0 (λ (e : x.first ≡ 0). omega arith) in
-    let below : nat_lt x.first x.first ≡ false = le-ltb x.first x.first (omega arith) in
-    rw (reads_back (record (header_of x) { serial = serial; flags = flags; body = bodies.Ack a }) plain)
-    (simp (
-      ours,
-      numbered,
-      below,
-      number_itself x.service,
-      number_itself (class_of x.key).index,
-      number_itself x.client.addr,
-      number_itself x.client.port,
-      number_itself x.epoch,
-      number_itself x.first,
-      add-zero,
-    ) refl)
+  -- and so does an ACK
+  pub over_took_ack : (serial flags : ℕ) (a : AckBody) → 1 < x.first + 1
+      → IsPlain (record (header_of x) { serial = serial; flags = flags; body = bodies.Ack a })
+      → has_flag CLIENT_INITIATED flags ≡ true
+      → took_of (server_setup x) (over_at x code o given used now k) x.client
+      (made (record (header_of x) { serial = serial; flags = flags; body = bodies.Ack a })) ≡ tooks.Over
+  over_took_ack serial flags a some plain ours =
+      let numbered : (x.first == 0) ≡ false = ne_eqb x.first 0 (λ (e : x.first ≡ 0). omega arith) in
+      let below : nat_lt x.first x.first ≡ false = le-ltb x.first x.first (omega arith) in
+      rw (reads_back (record (header_of x) { serial = serial; flags = flags; body = bodies.Ack a }) plain)
+      (simp (
+        ours,
+        numbered,
+        below,
+        number_itself x.service,
+        number_itself (class_of x.key).index,
+        number_itself x.client.addr,
+        number_itself x.client.port,
+        number_itself x.epoch,
+        number_itself x.first,
+        add-zero,
+      ) refl)
 
-pub over_after_ack : (x : Ends) (code : ℤ) (o : Option ℤ) (given used now : ℕ) (k : CallLooks) (serial flags : ℕ)
-    (a : AckBody)
-    → IsPlain (record (header_of x) { serial = serial; flags = flags; body = bodies.Ack a })
-    → has_flag CLIENT_INITIATED flags ≡ true
-    → after (server_setup x) (events.Taken x.client
-    (made (record (header_of x) { serial = serial; flags = flags; body = bodies.Ack a })) tooks.Over)
-    (over_at x code o given used now k)
-    ≡ over_at x code (Some code) given now now k
-over_after_ack x code o given used now k serial flags a plain ours =
-    rw (reads_back (record (header_of x) { serial = serial; flags = flags; body = bodies.Ack a }) plain)
-    (simp (
-      ours,
-      number_itself x.service,
-      number_itself (class_of x.key).index,
-      number_itself x.client.addr,
-      number_itself x.client.port,
-      number_itself x.epoch,
-      number_itself x.first,
-    ) refl)
+  pub over_after_ack : (serial flags : ℕ) (a : AckBody)
+      → IsPlain (record (header_of x) { serial = serial; flags = flags; body = bodies.Ack a })
+      → has_flag CLIENT_INITIATED flags ≡ true
+      → after (server_setup x)
+      (events.Taken x.client (made (record (header_of x) { serial = serial; flags = flags; body = bodies.Ack a }))
+      tooks.Over) (over_at x code o given used now k) ≡ over_at x code (Some code) given now now k
+  over_after_ack serial flags a plain ours =
+      rw (reads_back (record (header_of x) { serial = serial; flags = flags; body = bodies.Ack a }) plain)
+      (simp (
+        ours,
+        number_itself x.service,
+        number_itself (class_of x.key).index,
+        number_itself x.client.addr,
+        number_itself x.client.port,
+        number_itself x.epoch,
+        number_itself x.first,
+      ) refl)
 
 -- ---- the client takes it
 

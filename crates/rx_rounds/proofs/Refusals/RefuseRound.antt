@@ -211,66 +211,64 @@ module _ (x : Ends) (fits : FitsEnds x) (apart : AreApart x) (now : ℕ) (code :
             (sym (ends_to c.between delivered c.rest c.goes)) d;
       }
 
--- the polls and the deliveries of the round
-abort_comes : (x : Ends) (g : Handlers) (request : List ℕ) (call line now : ℕ) (code : ℤ) (s t : Stage)
-    → FitsEnds x → AreApart x → total request < 2 ^ 32 - 1
-    → (r : Refusing x g request call line now code s)
-    → (m : RoundMade g s t)
-    → AbortCame x code now (caller_at call line (caller_with x r.offering r.shut [] r.phase) ∷ []) m.delivered
-abort_comes x g request call line now code s t fits apart few r m =
-    let e : CallEnd = record { looks = r.kc; given = r.given_client } in
-    let cs : List InvokedState = caller_at call line (caller_with x r.offering r.shut [] r.phase) ∷ [] in
-    let ls : Looks = over_at x code (Some code) r.given_server r.used_server now r.ks in
-    let lc : Looks = client_at x r.given_client r.used_client [] now r.kc in
-    let o : PolledOut (client_place x now) request r.since r.a r.n 0 e =
-    polled_out (client_place x now) request r.since r.a r.n 0 e refl r.soon r.up
-    (tells_none r.kc r.quiet r.owes_none) in
-    let within : o.pieces.last ≤ total request =
-    (let h = o.pieces.sends 0 (omega arith) (λ less. omega arith) in
-    let most : counting_of o.pieces.behind.looks.sent ≤ total request =
-    counts_within request 0 r.a o.pieces.last o.pieces.behind.looks h in
-    let counted : o.pieces.last ≤ counting_of o.pieces.behind.looks.sent = h.counted in omega arith) in
-    let plain : ArePlain (o.pieces.messages ++ o.acks) = plain_both x fits o.pieces.messages o.acks
-    (plain_burst x fits true request r.n o.pieces.last o.pieces.messages (omega arith) o.pieces.burst)
-    (plain_acks x fits true 0 o.acks (omega arith) o.tells) in
-    let awake : nat_le SILENCE_MS (now - r.kc.heard) ≡ false =
-    lt-leb SILENCE_MS (now - r.kc.heard) (let near : now ≤ r.kc.heard + 4100 = r.awake in omega arith) in
-    let q = polls_to x ls lc cs [] s m.polled m.polls_are.0 r.two m.polls_are.1 in
-    let c = client_polled_out x now cs [] [] ls e o.behind (o.pieces.messages ++ o.acks) o.polls plain awake
-    r.used_client [] s q.0.stage q.2 r.two q.4 in
-    let lc2 : Looks = client_at x o.behind.given c.1.0 [] now o.behind.looks in
-    let od = out_to 0 x.server q.0 m.polled q.1 (host_server x ls lc2 cs [] q.0.stage c.1.1) q.5 in
-    abort_takes x fits apart now code cs request few r.n o.pieces.last o.pieces.messages o.acks o.behind c.1.0
-    r.given_server r.used_server r.ks q.0.stage q.0.given m.polled.stage m.delivered m.polled.given od.0 within
-    o.pieces.burst o.tells r.fits c.1.1 (q.3 ∙ c.0) od.2 od.1 m.delivers_are
+module _ (x : Ends) (g : Handlers) (request : List ℕ) (call line now : ℕ) (code : ℤ) (s t : Stage) where
+  -- the polls and the deliveries of the round
+  abort_comes : FitsEnds x → AreApart x → total request < 2 ^ 32 - 1 → (r : Refusing x g request call line now code s)
+      → (m : RoundMade g s t)
+      → AbortCame x code now (caller_at call line (caller_with x r.offering r.shut [] r.phase) ∷ []) m.delivered
+  abort_comes fits apart few r m =
+      let e : CallEnd = record { looks = r.kc; given = r.given_client } in
+      let cs : List InvokedState = caller_at call line (caller_with x r.offering r.shut [] r.phase) ∷ [] in
+      let ls : Looks = over_at x code (Some code) r.given_server r.used_server now r.ks in
+      let lc : Looks = client_at x r.given_client r.used_client [] now r.kc in
+      let o : PolledOut (client_place x now) request r.since r.a r.n 0 e =
+      polled_out (client_place x now) request r.since r.a r.n 0 e refl r.soon r.up
+      (tells_none r.kc r.quiet r.owes_none) in
+      let within : o.pieces.last ≤ total request =
+      (let h = o.pieces.sends 0 (omega arith) (λ less. omega arith) in
+      let most : counting_of o.pieces.behind.looks.sent ≤ total request =
+      counts_within request 0 r.a o.pieces.last o.pieces.behind.looks h in
+      let counted : o.pieces.last ≤ counting_of o.pieces.behind.looks.sent = h.counted in omega arith) in
+      let plain : ArePlain (o.pieces.messages ++ o.acks) = plain_both x fits o.pieces.messages o.acks
+      (plain_burst x fits true request r.n o.pieces.last o.pieces.messages (omega arith) o.pieces.burst)
+      (plain_acks x fits true 0 o.acks (omega arith) o.tells) in
+      let awake : nat_le SILENCE_MS (now - r.kc.heard) ≡ false =
+      lt-leb SILENCE_MS (now - r.kc.heard) (let near : now ≤ r.kc.heard + 4100 = r.awake in omega arith) in
+      let q = polls_to x ls lc cs [] s m.polled m.polls_are.0 r.two m.polls_are.1 in
+      let c = client_polled_out x now cs [] [] ls e o.behind (o.pieces.messages ++ o.acks) o.polls plain awake
+      r.used_client [] s q.0.stage q.2 r.two q.4 in
+      let lc2 : Looks = client_at x o.behind.given c.1.0 [] now o.behind.looks in
+      let od = out_to 0 x.server q.0 m.polled q.1 (host_server x ls lc2 cs [] q.0.stage c.1.1) q.5 in
+      abort_takes x fits apart now code cs request few r.n o.pieces.last o.pieces.messages o.acks o.behind c.1.0
+      r.given_server r.used_server r.ks q.0.stage q.0.given m.polled.stage m.delivered m.polled.given od.0 within
+      o.pieces.burst o.tells r.fits c.1.1 (q.3 ∙ c.0) od.2 od.1 m.delivers_are
 
--- the turns behind it
-abort_told : (x : Ends) (g : Handlers) (call line now : ℕ) (code : ℤ) (offering : List ℕ) (shut : Bool) (phase : Phase)
-    (s u v t : Stage) (quiet : Bool)
-    → AbortCame x code now (caller_at call line (caller_with x offering shut [] phase) ∷ []) s
-    → Made (dispatches g) s u → Made turns_all u v → Made (settles quiet) v t
-    → (w : CallerState) × HasEnded call line w t × (w.end ≡ Some (ends.Abort code))
-abort_told x g call line now code offering shut phase s u v t quiet a served called settled =
-    let cs : List InvokedState = caller_at call line (caller_with x offering shut [] phase) ∷ [] in
-    let ls : Looks = over_at x code a.owed a.given_server a.used_server now a.server in
-    let lc : Looks = aborted_at x code a.given_client a.used_client [] now a.client in
-    let two = idle_dispatch x g ls lc cs s u a.two
-    (over_accepts x code a.owed a.given_server a.used_server now a.server) served in
-    let w = caller_aborted x ls [] call line code a.given_client a.used_client now [] a.client offering shut phase u v
-    two
-    called in
-    (w.0, ended_settled call line w.0 v t quiet settled w.1, w.2)
+module _ (x : Ends) (g : Handlers) (call line now : ℕ) (code : ℤ) (offering : List ℕ) (shut : Bool) (phase : Phase)
+    (s u v t : Stage) (quiet : Bool) where
+  -- the turns behind it
+  abort_told : AbortCame x code now (caller_at call line (caller_with x offering shut [] phase) ∷ []) s
+      → Made (dispatches g) s u → Made turns_all u v → Made (settles quiet) v t
+      → (w : CallerState) × HasEnded call line w t × (w.end ≡ Some (ends.Abort code))
+  abort_told a served called settled =
+      let cs : List InvokedState = caller_at call line (caller_with x offering shut [] phase) ∷ [] in
+      let ls : Looks = over_at x code a.owed a.given_server a.used_server now a.server in
+      let lc : Looks = aborted_at x code a.given_client a.used_client [] now a.client in
+      let two = idle_dispatch x g ls lc cs s u a.two
+      (over_accepts x code a.owed a.given_server a.used_server now a.server) served in
+      let w = caller_aborted x ls [] call line code a.given_client a.used_client now [] a.client offering shut phase u v
+      two
+      called in
+      (w.0, ended_settled call line w.0 v t quiet settled w.1, w.2)
 
-pub refused_comes : (x : Ends) (g : Handlers) (request : List ℕ) (call line now : ℕ) (code : ℤ) (s t : Stage)
-    → FitsEnds x → AreApart x → total request < 2 ^ 32 - 1
-    → (r : Refusing x g request call line now code s)
-    → RoundMade g s t → HasCome x g request call line t
-refused_comes x g request call line now code s t fits apart few r m =
-    let w = abort_told x g call line now code r.offering r.shut r.phase m.delivered m.served m.called t
-    (length m.polled.given == 0) (abort_comes x g request call line now code s t fits apart few r m)
-    m.serves_are m.calls_are m.settles_are in
-    record {
-      caller = w.0;
-      ended = w.1;
-      with = subst (λ (v : Served). EndsWith x v w.0) (sym r.served) w.2;
-    }
+module _ (x : Ends) (g : Handlers) (request : List ℕ) (call line now : ℕ) (code : ℤ) (s t : Stage) where
+  pub refused_comes : FitsEnds x → AreApart x → total request < 2 ^ 32 - 1
+      → (r : Refusing x g request call line now code s) → RoundMade g s t → HasCome x g request call line t
+  refused_comes fits apart few r m =
+      let w = abort_told x g call line now code r.offering r.shut r.phase m.delivered m.served m.called t
+      (length m.polled.given == 0) (abort_comes x g request call line now code s t fits apart few r m)
+      m.serves_are m.calls_are m.settles_are in
+      record {
+        caller = w.0;
+        ended = w.1;
+        with = subst (λ (v : Served). EndsWith x v w.0) (sym r.served) w.2;
+      }

@@ -102,22 +102,22 @@ module _ (x : Ends) (ls : Looks) (js : List JobState) (cs : List InvokedState) (
       subst (λ (u : CallerState). Calls REPLY_BYTES u m.stage w t) heard_is m.goes in
       (gone v1, reads_gone k1 v1 m.stage t w refl two1 goes, refl)
 
--- so the caller ends with the code
-pub caller_aborted : (x : Ends) (ls : Looks) (js : List JobState) (call line : ℕ) (code : ℤ) (given used now : ℕ)
-    (firsts : List CallName) (k : CallLooks) (offering : List ℕ) (shut : Bool) (phase : Phase) (s t : Stage)
-    → Two x ls (aborted_at x code given used firsts now k)
-    (caller_at call line (caller_with x offering shut [] phase) ∷ []) js s
-    → Made turns_all s t
-    → (v : CallerState) × HasEnded call line v t × (v.end ≡ Some (ends.Abort code))
-caller_aborted x ls js call line code given used now firsts k offering shut phase s t two made =
-    let v0 : CallerState = caller_with x offering shut [] phase in
-    let m = call_to x ls (aborted_at x code given used firsts now k) js call line v0 s t two made in
-    let g = told_gone x ls js (caller_at call line v0 ∷ []) code given used now firsts k offering shut s m.stage m.view
-    two m.calls in (
-      g.0,
-      record {
-        phase = g.0.phase;
-        is = ap (λ (u : Stage). u.callers) m.then_ ∙ ap (λ (w : CallerState). caller_at call line w ∷ []) g.1;
-      },
-      g.2,
-    )
+module _ (x : Ends) (ls : Looks) (js : List JobState) (call line : ℕ) (code : ℤ) (given used now : ℕ)
+    (firsts : List CallName) (k : CallLooks) (offering : List ℕ) (shut : Bool) (phase : Phase) (s t : Stage) where
+  -- so the caller ends with the code
+  pub caller_aborted : Two x ls (aborted_at x code given used firsts now k)
+      (caller_at call line (caller_with x offering shut [] phase) ∷ []) js s
+      → Made turns_all s t → (v : CallerState) × HasEnded call line v t × (v.end ≡ Some (ends.Abort code))
+  caller_aborted two made =
+      let v0 : CallerState = caller_with x offering shut [] phase in
+      let m = call_to x ls (aborted_at x code given used firsts now k) js call line v0 s t two made in
+      let g = told_gone x ls js (caller_at call line v0 ∷ []) code given used now firsts k offering shut s m.stage
+      m.view
+      two m.calls in (
+        g.0,
+        record {
+          phase = g.0.phase;
+          is = ap (λ (u : Stage). u.callers) m.then_ ∙ ap (λ (w : CallerState). caller_at call line w ∷ []) g.1;
+        },
+        g.2,
+      )

@@ -51,32 +51,33 @@ pub answering_shut : (x : Ends) (g : Handlers) (request said : List ℕ) (shut :
 answering_shut x g request said shut rest life js (writes steps going some) none = absurd (omega arith)
 answering_shut x g request said shut rest life js (finished closed empty) none = closed
 
--- an end that said more, or shut its stream
-pub sends_on : (whole : List ℕ) (since a n : ℕ) (k : CallLooks) → Sends whole since a n k
-    → (more left : List ℕ) (shut : Bool)
-    → whole ≡ (k.sent.said ++ more) ++ left → (shut ≡ true → left ≡ []) → (k.sent.shut ≡ true → shut ≡ true)
-    → length (k.sent.said ++ more) ≤ 1412 * (a + 32) → Sends whole since a n (said_more more shut k)
-sends_on whole since a n k h more left shut split ends keeps within = by k.sent.shut refl
-  where
-    by : (b : Bool) → k.sent.shut ≡ b → Sends whole since a n (said_more more shut k)
-    by false going = sends_said whole since a n k h going more left shut split ends within
-    by true closed =
-        let none : h.rest ≡ [] = h.shut closed in
-        let long : length whole ≡ length k.sent.said + length h.rest =
-        ap (λ (ys : List ℕ). length ys) h.said ∙ length-append k.sent.said h.rest in
-        let long2 : length whole ≡ length (k.sent.said ++ more) + length left =
-        ap (λ (ys : List ℕ). length ys) split ∙ length-append (k.sent.said ++ more) left in
-        let long3 : length (k.sent.said ++ more) ≡ length k.sent.said + length more = length-append k.sent.said more in
-        let zero_ : length h.rest ≡ 0 = ap (λ (ys : List ℕ). length ys) none in
-        let empty : more ≡ [] = nothing more (omega arith) in
-        sends_same whole since a n k (said_more more shut k)
-        (ap (λ (ys : List ℕ). sent_more ys shut k.sent) empty ∙ ap (λ (b : Bool). sent_more [] b k.sent)
-        (keeps closed ∙ sym closed) ∙ ap (λ (ys : List ℕ). record k.sent { said = ys }) (append-nil k.sent.said)) refl
-        refl h
-      where
-        nothing : (ys : List ℕ) → length ys ≡ 0 → ys ≡ []
-        nothing [] none = refl
-        nothing (y ∷ ys) none = absurd (omega arith)
+module _ (whole : List ℕ) (since a n : ℕ) (k : CallLooks) where
+  -- an end that said more, or shut its stream
+  pub sends_on : Sends whole since a n k → (more left : List ℕ) (shut : Bool) → whole ≡ (k.sent.said ++ more) ++ left
+      → (shut ≡ true → left ≡ []) → (k.sent.shut ≡ true → shut ≡ true) → length (k.sent.said ++ more) ≤ 1412 * (a + 32)
+      → Sends whole since a n (said_more more shut k)
+  sends_on h more left shut split ends keeps within = by k.sent.shut refl
+    where
+      by : (b : Bool) → k.sent.shut ≡ b → Sends whole since a n (said_more more shut k)
+      by false going = sends_said whole since a n k h going more left shut split ends within
+      by true closed =
+          let none : h.rest ≡ [] = h.shut closed in
+          let long : length whole ≡ length k.sent.said + length h.rest =
+          ap (λ (ys : List ℕ). length ys) h.said ∙ length-append k.sent.said h.rest in
+          let long2 : length whole ≡ length (k.sent.said ++ more) + length left =
+          ap (λ (ys : List ℕ). length ys) split ∙ length-append (k.sent.said ++ more) left in
+          let long3 : length (k.sent.said ++ more) ≡ length k.sent.said + length more = length-append k.sent.said
+          more in
+          let zero_ : length h.rest ≡ 0 = ap (λ (ys : List ℕ). length ys) none in
+          let empty : more ≡ [] = nothing more (omega arith) in
+          sends_same whole since a n k (said_more more shut k)
+          (ap (λ (ys : List ℕ). sent_more ys shut k.sent) empty ∙ ap (λ (b : Bool). sent_more [] b k.sent)
+          (keeps closed ∙ sym closed) ∙ ap (λ (ys : List ℕ). record k.sent { said = ys }) (append-nil k.sent.said)) refl
+          refl h
+        where
+          nothing : (ys : List ℕ) → length ys ≡ 0 → ys ≡ []
+          nothing [] none = refl
+          nothing (y ∷ ys) none = absurd (omega arith)
 
 -- what a stream said fits where few pieces are held
 pub room_held : (s : Sent) (a : ℕ) → s.acked ≡ a → pieces_by (length s.said) s.shut - s.acked ≤ 32

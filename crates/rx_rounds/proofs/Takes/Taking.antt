@@ -130,44 +130,43 @@ few_held whole read previous n used k is done near few =
     (count_kept whole (used_of r) n) in
     omega arith
 
--- the next piece is kept
-pub keeps_one : (client : Bool) (now : ℕ) (header : Message) (whole read : List ℕ) (previous n used serial : ℕ)
-    (asking : Bool) (k : CallLooks)
-    → k.received ≡ part_read whole read previous n → used ≤ used_of (part_read whole read previous n)
-    → suc n ≤ used + 32 → n < total whole → suc n < 2 ^ 32 - 1 → held_pieces k.sent ≤ 32 → k.cwnd.prompt ≡ false
-    → (client ≡ true → is_all_given k.sent ≡ true)
-    → (row_of (place_at client now header) (piece_with header (not client) whole (suc n) serial asking) k ≡ tooks.Kept)
-    × (after_taken (view_of (place_at client now header) k) tooks.Kept
-    (piece_with header (not client) whole (suc n) serial asking) k
-    ≡ kept_one client now whole read n serial asking k)
-keeps_one client now header whole read previous n used serial asking k is done near short small few steady given =
-    (row client given, kept)
-  where
-    holds : held k ≤ 64
-    holds = few_held whole read previous n used k is done (omega arith) few
+module _ (client : Bool) (now : ℕ) (header : Message) (whole read : List ℕ) (previous n used serial : ℕ) (asking : Bool)
+    (k : CallLooks) where
+  -- the next piece is kept
+  pub keeps_one : k.received ≡ part_read whole read previous n → used ≤ used_of (part_read whole read previous n)
+      → suc n ≤ used + 32 → n < total whole → suc n < 2 ^ 32 - 1 → held_pieces k.sent ≤ 32 → k.cwnd.prompt ≡ false
+      → (client ≡ true → is_all_given k.sent ≡ true)
+      → (row_of (place_at client now header) (piece_with header (not client) whole (suc n) serial asking) k ≡
+      tooks.Kept) × (after_taken (view_of (place_at client now header) k) tooks.Kept (piece_with header (not client)
+      whole (suc n) serial asking) k ≡ kept_one client now whole read n serial asking k)
+  keeps_one is done near short small few steady given =
+      (row client given, kept)
+    where
+      holds : held k ≤ 64
+      holds = few_held whole read previous n used k is done (omega arith) few
 
-    row : (c : Bool) → (c ≡ true → is_all_given k.sent ≡ true)
-        → row_of (place_at c now header) (piece_with header (not client) whole (suc n) serial asking) k ≡ tooks.Kept
-    row true all =
-        row_kept whole read previous n used true (1984 - (held k - lead k) + freed true k)
-        (piece_with header (not client) whole (suc n) serial asking) (piece whole (suc n)).payload (found true k) is
-        done
-        refl short small near (omega (arith, holds)) (ap not (all refl))
-    row false all =
-        row_kept whole read previous n used false (1984 - (held k - lead k) + freed false k)
-        (piece_with header (not client) whole (suc n) serial asking) (piece whole (suc n)).payload (found false k) is
-        done refl short small near (omega (arith, holds)) refl
+      row : (c : Bool) → (c ≡ true → is_all_given k.sent ≡ true)
+          → row_of (place_at c now header) (piece_with header (not client) whole (suc n) serial asking) k ≡ tooks.Kept
+      row true all =
+          row_kept whole read previous n used true (1984 - (held k - lead k) + freed true k)
+          (piece_with header (not client) whole (suc n) serial asking) (piece whole (suc n)).payload (found true k) is
+          done
+          refl short small near (omega (arith, holds)) (ap not (all refl))
+      row false all =
+          row_kept whole read previous n used false (1984 - (held k - lead k) + freed false k)
+          (piece_with header (not client) whole (suc n) serial asking) (piece whole (suc n)).payload (found false k) is
+          done refl short small near (omega (arith, holds)) refl
 
-    kept : after_taken (view_of (place_at client now header) k) tooks.Kept
-        (piece_with header (not client) whole (suc n) serial asking) k
-        ≡ kept_one client now whole read n serial asking k
-    kept =
-        let front : front_of k.received.kept ≡ n = ap (λ (r : Received). front_of r.kept) is ∙ front_kept whole n in
-        let last : has_flag LAST_PACKET (piece_with header (not client) whole (suc n) serial asking).flags
-        ≡ (suc n == total whole) = flag_last (not client) asking (suc n == total whole) in
-        let asks : has_flag REQUEST_ACK (piece_with header (not client) whole (suc n) serial asking).flags ≡ asking =
-        flag_asks (not client) asking (suc n == total whole) in
-        rw (front, steady, asks, last, is) (rw (eq-eqb (suc n) (suc n) refl) refl)
+      kept : after_taken (view_of (place_at client now header) k) tooks.Kept
+          (piece_with header (not client) whole (suc n) serial asking) k
+          ≡ kept_one client now whole read n serial asking k
+      kept =
+          let front : front_of k.received.kept ≡ n = ap (λ (r : Received). front_of r.kept) is ∙ front_kept whole n in
+          let last : has_flag LAST_PACKET (piece_with header (not client) whole (suc n) serial asking).flags
+          ≡ (suc n == total whole) = flag_last (not client) asking (suc n == total whole) in
+          let asks : has_flag REQUEST_ACK (piece_with header (not client) whole (suc n) serial asking).flags ≡ asking =
+          flag_asks (not client) asking (suc n == total whole) in
+          rw (front, steady, asks, last, is) (rw (eq-eqb (suc n) (suc n) refl) refl)
 
 -- ---- pieces come
 

@@ -24,16 +24,16 @@ whole_remembers g before request whole kept found same is kept_is remembered =
     remembered_whole g before found
     (subst (λ (q : List ℕ). IsRemembered g q found) (kept_is ∙ ap (kept_of g) (is ∙ same)) remembered)
 
--- a request that is cut where what is kept of it ends is what is kept
-cut_remembers : (g : Handlers) (request whole kept cut left : List ℕ) (found behind : Option Found)
-    → left ≡ request → whole ≡ request → kept ≡ kept_of g whole → cut ≡ take (length kept) left → behind ≡ found
-    → IsRemembered g kept found → IsRemembered g cut behind
-cut_remembers g request whole kept cut left found behind same is kept_is cut_is found_is remembered =
-    let at : take (length kept) left ≡ kept =
-    ap (take (length kept)) (same ∙ sym is) ∙ ap (λ (k : List ℕ). take (length k) whole) kept_is
-    ∙ kept_front g whole ∙ sym kept_is in
-    subst (IsRemembered g cut) (sym found_is)
-    (subst (λ (q : List ℕ). IsRemembered g q found) (sym (cut_is ∙ at)) remembered)
+module _ (g : Handlers) (request whole kept cut left : List ℕ) (found behind : Option Found) where
+  -- a request that is cut where what is kept of it ends is what is kept
+  cut_remembers : left ≡ request → whole ≡ request → kept ≡ kept_of g whole → cut ≡ take (length kept) left
+      → behind ≡ found → IsRemembered g kept found → IsRemembered g cut behind
+  cut_remembers same is kept_is cut_is found_is remembered =
+      let at : take (length kept) left ≡ kept =
+      ap (take (length kept)) (same ∙ sym is) ∙ ap (λ (k : List ℕ). take (length k) whole) kept_is
+      ∙ kept_front g whole ∙ sym kept_is in
+      subst (IsRemembered g cut) (sym found_is)
+      (subst (λ (q : List ℕ). IsRemembered g q found) (sym (cut_is ∙ at)) remembered)
 
 pub early_code-requires : goal.early_code-requires
 early_code-requires c =

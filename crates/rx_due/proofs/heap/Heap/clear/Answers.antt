@@ -4,20 +4,20 @@ use Rattle.rx_due.specs.Heap.{place_of, entry_at, key_at, moment_in, IsOpen, IsH
 use Rattle.rx_due.proofs.Taking.{Cleared, open_without, heap_without, refilled}
 use Rattle.rx_due.proofs.heap.Heap.clear.Goals as goal
 
--- the last entry, as it was read, was settled in the heap without the key, as it was written
-settled : (h new : Heap) (key hole : ℕ) (places : List (ℕ × ℕ)) (e : ℕ × ℕ) → IsHeap h → key < length h.places
-    → place_of h key ≡ hole + 1 → hole < h.len - 1 → places ≡ set h.places key (0, 0) → e ≡ entry_at h (h.len - 1)
-    → moment_in new e.1 ≡ Some e.0
-    → KeepsOthers (record { entries = h.entries; places = places; len = h.len - 1 }) new e.1 → Cleared h new key
-settled h new key hole places e so key_in place_is more places_are e_is moment keeps =
-    let moment_last = subst (λ (x : ℕ × ℕ). moment_in new x.1 ≡ Some x.0) e_is moment in
-    let keeps_last =
-    subst (λ (x : ℕ × ℕ). KeepsOthers (record { entries = h.entries; places = places; len = h.len - 1 }) new x.1)
-    e_is keeps in
-    let keeps_without =
-    subst (λ (cells : List (ℕ × ℕ)). KeepsOthers (record { entries = h.entries; places = cells; len = h.len - 1 })
-    new (key_at h (h.len - 1))) places_are keeps_last in
-    refilled h key hole so key_in place_is (omega (arith, more)) new moment_last keeps_without
+module _ (h new : Heap) (key hole : ℕ) (places : List (ℕ × ℕ)) (e : ℕ × ℕ) where
+  -- the last entry, as it was read, was settled in the heap without the key, as it was written
+  settled : IsHeap h → key < length h.places → place_of h key ≡ hole + 1 → hole < h.len - 1
+      → places ≡ set h.places key (0, 0) → e ≡ entry_at h (h.len - 1) → moment_in new e.1 ≡ Some e.0
+      → KeepsOthers (record { entries = h.entries; places = places; len = h.len - 1 }) new e.1 → Cleared h new key
+  settled so key_in place_is more places_are e_is moment keeps =
+      let moment_last = subst (λ (x : ℕ × ℕ). moment_in new x.1 ≡ Some x.0) e_is moment in
+      let keeps_last =
+      subst (λ (x : ℕ × ℕ). KeepsOthers (record { entries = h.entries; places = places; len = h.len - 1 }) new x.1)
+      e_is keeps in
+      let keeps_without =
+      subst (λ (cells : List (ℕ × ℕ)). KeepsOthers (record { entries = h.entries; places = cells; len = h.len - 1 })
+      new (key_at h (h.len - 1))) places_are keeps_last in
+      refilled h key hole so key_in place_is (omega (arith, more)) new moment_last keeps_without
 
 pub overflow_sub-self : goal.overflow_sub-self
 overflow_sub-self g c =
