@@ -43,14 +43,14 @@ there-none (Some k) there none = absurd cc
 
 -- ---- at its start
 
-tells-first : (s : Setup) (node cid : ℕ) (c : CallName) (request : List ℕ) (l : Looks)
-    → Tells request (caller_for node c request) (after s (events.Called cid (Ok c)) l)
-tells-first s node cid c request l =
+tells-first : (s : Setup) (cid : ℕ) (c : CallName) (request : List ℕ) (l : Looks)
+    → Tells request (caller_for c request) (after s (events.Called cid (Ok c)) l)
+tells-first s cid c request l =
     let new : CallRecord =
     record { name = c; life = lives.Calling; looks = fresh_call (pace_of s) l.now } in
     let found : call_at (after s (events.Called cid (Ok c)) l) c ≡ Some new =
     call_at-any c new l refl (call_at l c) refl in
-    tells_of request (caller_for node c request) (after s (events.Called cid (Ok c)) l) new found
+    tells_of request (caller_for c request) (after s (events.Called cid (Ok c)) l) new found
     (record {
       called = tt;
       said = refl;
@@ -139,7 +139,7 @@ tells-left s host epoch request v e h kind fits legal leaves_it t =
 -- what it tells along a history that it drives
 pub tells_driven : TellsOfItsCall
 tells_driven s host epoch limit request v h kind fits legal (starts node cid c h') =
-    tells-first s node cid c request (looks s h')
+    tells-first s cid c request (looks s h')
 tells_driven s host epoch limit request v h kind fits legal (begins w h' drives) =
     tells_begun request w (looks s h') (tells_driven s host epoch limit request w h' kind fits legal drives)
 tells_driven s host epoch limit request v h kind fits legal (makes w a e h' asked is drives) =

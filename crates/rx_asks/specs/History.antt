@@ -30,8 +30,8 @@ LeavesCall c _ = Unit {0}
 -- a history of its client, from the start of its call on: a caller was made for the call with a request, and nobody
 -- else writes, shuts or reads the call
 pub data Drives (limit : ℕ) (request : List ℕ) : CallerState → List Event → Type 0 where
-  starts : (node cid : ℕ) (c : CallName) (h : List Event)
-      → Drives limit request (caller_for node c request) (events.Called cid (Ok c) ∷ h)
+  starts : (cid : ℕ) (c : CallName) (h : List Event)
+      → Drives limit request (caller_for c request) (events.Called cid (Ok c) ∷ h)
   begins : (v : CallerState) (h : List Event) → Drives limit request v h → Drives limit request (begun v) h
   makes : (v : CallerState) (a : Asking) (e : Event) (h : List Event)
       → (calling limit).asks v ≡ Some a → (calling limit).is a e → Drives limit request v h

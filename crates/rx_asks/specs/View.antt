@@ -8,7 +8,6 @@ use Rattle.rx_asks.specs.declared.ask.Phase.TheVariants as phases
 -- the node for which its events are noted; its call; the bytes of its request that are still to be offered; whether it
 -- shut; the bytes read; the end of its call, once it is finished; where its turn stands
 pub record CallerState : Type 0 where
-  pub node : ℕ
   pub call : CallName
   pub offering : List ℕ
   pub shut : Bool
@@ -17,10 +16,9 @@ pub record CallerState : Type 0 where
   pub phase : Phase
 
 -- a caller for a call, which has said and read nothing of it
-abbrev pub caller_for : ℕ → CallName → List ℕ → CallerState
-caller_for node c request =
+abbrev pub caller_for : CallName → List ℕ → CallerState
+caller_for c request =
     record {
-      node = node;
       call = c;
       offering = request;
       shut = false;

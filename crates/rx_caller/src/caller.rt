@@ -18,7 +18,6 @@ use std::marker::Model;
 #[derive(Debug, Drop)]
 pub struct Caller {
     alloc: Global,
-    node: u32,
     call: CallName,
     request: Vec<u8>,
     accepted: usize,
@@ -35,7 +34,6 @@ impl Model for Caller {
     ghost Value = { CallerState };
 
     ghost view = { λ s. record {
-      node = s.node;
       call = s.call;
       offering = drop s.accepted s.request.items;
       shut = s.shut;
@@ -48,13 +46,12 @@ impl Model for Caller {
 }
 
 impl Caller {
-    /// A caller for a call of a client, which has said and read nothing. Its events are noted for this node.
-    pub fn make(alloc: Global, node: u32, call: CallName, request: Vec<u8>) -> Caller
-        ensures { result ≡ caller_for node call request.items }
+    /// A caller for a call of a client, which has said and read nothing.
+    pub fn make(alloc: Global, call: CallName, request: Vec<u8>) -> Caller
+        ensures { result ≡ caller_for call request.items }
     {
         Caller {
             alloc,
-            node,
             call,
             request,
             accepted: 0,

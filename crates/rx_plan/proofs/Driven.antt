@@ -51,7 +51,7 @@ seen_behind node e x = record x { history = noted node e ∷ x.history }
 
 -- the caller of an invoke's line, with these bytes to say
 abbrev pub invoked : ℕ → ℕ → ℕ → CallName → List ℕ → InvokedState
-invoked call node line c bytes = record { call = call; node = node; line = line; caller = caller_for node c bytes }
+invoked call node line c bytes = record { call = call; node = node; line = line; caller = caller_for c bytes }
 
 -- an invoke's caller with what it knows now
 abbrev pub with_view : InvokedState → CallerState → InvokedState

@@ -154,11 +154,11 @@ module _ (g : Handlers) (Origin : ℕ → Type 0) (request_of : (place : ℕ) �
         fits = subst IsBytes asks.request fits;
         node = n;
         drives =
-            subst (λ (past : List Event). Drives REPLY_BYTES (request_of line asks.origin) (caller_for node c bytes)
+            subst (λ (past : List Event). Drives REPLY_BYTES (request_of line asks.origin) (caller_for c bytes)
             past)
             (sym (side_own node (events.Called cid (Ok c)) h))
-            (subst (λ (b : List ℕ). Drives REPLY_BYTES b (caller_for node c bytes)
-            (events.Called cid (Ok c) ∷ side node h)) asks.request (driven.starts node cid c (side node h)));
+            (subst (λ (b : List ℕ). Drives REPLY_BYTES b (caller_for c bytes)
+            (events.Called cid (Ok c) ∷ side node h)) asks.request (driven.starts cid c (side node h)));
       }
 
   more_callers : (nodes : List Node) (h : List Noted) (call node line cid : ℕ) (c : CallName) (bytes : List ℕ)

@@ -110,7 +110,7 @@ with_caller node line bytes (Some name) s =
         call = length s.calls;
         node = node;
         line = line;
-        caller = caller_for node name bytes;
+        caller = caller_for name bytes;
       } ∷ [];
     }
 

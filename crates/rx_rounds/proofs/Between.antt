@@ -43,7 +43,6 @@ server_at x given used now life k = node_of x (from_server x given used) (the_ca
 abbrev pub caller_with : Ends → List ℕ → Bool → List ℕ → Phase → CallerState
 caller_with x offering shut reply phase =
     record {
-      node = 1;
       call = the_call x;
       offering = offering;
       shut = shut;

@@ -147,7 +147,6 @@ module _ (proc : String Global) (named : string_bytes proc ≡ codes "Put") (arg
   abbrev left : ℕ → Bool → CallerState
   left accepted shut =
       record {
-        node = 1;
         call = call;
         offering = drop accepted (request_for g invoke);
         shut = shut;

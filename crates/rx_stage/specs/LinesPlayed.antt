@@ -25,7 +25,7 @@ keeps_caller node line bytes (Some name) w =
         call = length w.calls;
         node = node;
         line = line;
-        caller = caller_for node name bytes;
+        caller = caller_for name bytes;
       } ∷ [];
     }
 

@@ -87,7 +87,7 @@ impl World {
         let Some(name) = called(event) else {
             return Ok(());
         };
-        let caller = Caller::make(self.alloc, node, name, bytes);
+        let caller = Caller::make(self.alloc, name, bytes);
         let call = self.calls.len();
         self.callers.push(Invoked {
             call,

@@ -112,7 +112,7 @@ module _ (w : Words) (request : List ℕ) (s : Setup) (s0 s1 : List Event → Ty
   pub call_begun : (name : CallName) (t : Setup) (most : ℕ) (v : CallerState) (result : Result CallEnd Stop)
       (last : Told)
       → Plays (change 1 s s0 s1 (told book sink wire) (told mid sink wire)) (begins w) (λ x. x ≡ name) None
-      → t ≡ s → most ≡ w.jumbo → v ≡ caller_for 1 name request
+      → t ≡ s → most ≡ w.jumbo → v ≡ caller_for name request
       → ((p : Place) → IsAt t s1 (told mid sink wire) p
       → CallMade (call_terms_by t most w.turns) v p result (told mid sink wire) last)
       → CallsBound w request s result (told book sink wire) last
@@ -122,7 +122,7 @@ module _ (w : Words) (request : List ℕ) (s : Setup) (s0 s1 : List Event → Ty
       r = plays start is_there
 
       as_named : (p : Place) → IsAt s s1 (told mid sink wire) p
-          → CallMade (call_terms w s) (caller_for 1 name request) p result (told mid sink wire) last
+          → CallMade (call_terms w s) (caller_for name request) p result (told mid sink wire) last
       as_named p at =
           subst (λ (u : CallerState). CallMade (call_terms w s) u p result (told mid sink wire) last) caller
           (subst (λ (k : ℕ). CallMade (call_terms_by s k w.turns) v p result (told mid sink wire) last) joins

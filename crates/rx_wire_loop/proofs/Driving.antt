@@ -37,7 +37,7 @@ module _ (request : List ℕ) where
 
   -- the caller of a call of this name, which was just made
   abbrev New : CallName → List Event → Type 0
-  New name = Driven (caller_for 1 name request)
+  New name = Driven (caller_for name request)
 
   begun_on : (cid : ℕ) → Brings (begins_on cid) Any New
   begun_on cid = brings_one (λ name. events.Called cid (Ok name)) Any New (λ name h any. starts 1 cid name h)

@@ -40,7 +40,7 @@ module _ (w : Words) (request : List ℕ) (class : Class) (v : CallerState) (bef
   made_told : (host : Host) (bound between : Told) (name : CallName) (es : List Event) (ls : List Logged)
       → bound.noted ≡ before.noted
       → begins w (record { history = []; now = bound.wire.moment }) es ls (To name) → Gains 1 bound between es ls
-      → CallMade (call_terms w (client_setup w class host)) (caller_for 1 name request)
+      → CallMade (call_terms w (client_setup w class host)) (caller_for name request)
       (behind es ls (record { history = []; now = bound.wire.moment })) (Ok (call_ends.Ended v)) between after
       → CallTold w request class v before after
   made_told host bound between name es ls same begins_so gains made =
@@ -62,15 +62,15 @@ module _ (w : Words) (request : List ℕ) (class : Class) (v : CallerState) (bef
       start : Place
       start = record { history = []; now = bound.wire.moment }
 
-      came : Calls (call_terms w s) (caller_for 1 name request) (behind es ls start) made.events made.log (IsEnded v)
+      came : Calls (call_terms w s) (caller_for name request) (behind es ls start) made.events made.log (IsEnded v)
           × Gains 1 between after made.events made.log
       came =
-          by_came (call_terms w s) (caller_for 1 name request) v (behind es ls start) made.events made.log between after
+          by_came (call_terms w s) (caller_for name request) v (behind es ls start) made.events made.log between after
           made.came made.calls made.ends
 
       ended : (is_some v.end ≡ true) × Drives REPLY_BYTES request v (after_all made.events (after_all es []))
       ended =
-          call_ended request (call_terms w s) (caller_for 1 name request) (behind es ls start) made.events made.log v
+          call_ended request (call_terms w s) (caller_for name request) (behind es ls start) made.events made.log v
           (call_begun request w start es ls name tt begins_so) came.0
 
       joined : after_all (es ++ made.events) [] ≡ after_all made.events (after_all es [])

@@ -159,7 +159,7 @@ CallsBound w request s result before after =
     × Legal s (after_all es []) × Refuses 1 before after es ls))
     ⊎ ((name : CallName) × (es : List Event) × (ls : List Logged) × (between : Told)
     × begins w (record { history = []; now = before.wire.moment }) es ls (To name) × Gains 1 before between es ls
-    × CallMade (call_terms w s) (caller_for 1 name request)
+    × CallMade (call_terms w s) (caller_for name request)
     (behind es ls (record { history = []; now = before.wire.moment })) result between after)
 
 -- The wire is bound to the host that was asked for, and the client is set up on the one that it got.

@@ -98,7 +98,7 @@ fn call_from<C: Class, W: Wire, J: Journal>(
     let name = begin(calling, &ports, &mut client, wire, book)?;
     let node = CallingNode {
         client,
-        caller: Caller::make(alloc, CLIENT, name, request),
+        caller: Caller::make(alloc, name, request),
         room: Room::none(alloc),
         ports,
     };

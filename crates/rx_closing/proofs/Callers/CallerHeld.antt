@@ -203,13 +203,13 @@ module _ (s : Setup) (host : Host) (epoch : ℕ) (kind : s.kind ≡ Client host 
   -- along a history that it drives
   pub holds_driven : (request : List ℕ) (v : CallerState) (h : List Event) → Legal s h → Drives REPLY_BYTES request v h
       → HoldsBy v (call_at (looks s h) v.call)
-  holds_driven request v h legal (starts node cid c h') =
+  holds_driven request v h legal (starts cid c h') =
       let l : Looks = looks s h' in
       let new : CallRecord =
       record { name = c; life = lives.Calling; looks = fresh_call (pace_of s) l.now } in
       let found : call_at (after s (events.Called cid (Ok c)) l) c ≡ Some new =
       call_at-any c new l refl (call_at l c) refl in
-      subst (HoldsBy (caller_for node c request)) (sym found) (λ living. (refl, refl))
+      subst (HoldsBy (caller_for c request)) (sym found) (λ living. (refl, refl))
   holds_driven request v h legal (begins w h' drives) =
       holds_begun w (call_at (looks s h') w.call) (holds_driven request w h' legal drives)
   holds_driven request v h legal (makes w a e h' asked is drives) =

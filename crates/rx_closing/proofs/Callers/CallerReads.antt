@@ -55,7 +55,7 @@ unread_behind now max k =
     ∙ drop_take max (unread_of k.received)
 
 module _ (node : ℕ) (client : Node) (host : Host) (epoch : ℕ) (kind : client.setup.kind ≡ Client host epoch)
-    (c : CallName) (cs : List CallName) (now : ℕ) (request : List ℕ) (k0 : CallLooks) (name : CallName) (place : ℕ)
+    (c : CallName) (cs : List CallName) (now : ℕ) (request : List ℕ) (k0 : CallLooks) (name : CallName)
     (w : CallerState) (t : Stage) where
   abbrev looks_on : Stage → Looks
   looks_on s = looks client.setup (side node s.history)
@@ -68,7 +68,7 @@ module _ (node : ℕ) (client : Node) (host : Host) (epoch : ℕ) (kind : client
 
   abbrev on_call : List ℕ → Bool → List ℕ → Phase → CallerState
   on_call offering shut reply phase =
-      caller_on node client host epoch kind c cs now place offering shut reply phase
+      caller_on node client host epoch kind c cs now offering shut reply phase
 
   abbrev Said : Sent → Type 0
   Said sent = SaidOut node client host epoch kind c cs now request k0 sent

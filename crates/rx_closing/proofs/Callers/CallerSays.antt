@@ -43,7 +43,7 @@ first_of (suc n) (suc m) [] = refl
 first_of (suc n) (suc m) (x ∷ xs) = ap (λ (ys : List ℕ). x ∷ ys) (first_of n m xs)
 
 module _ (node : ℕ) (client : Node) (host : Host) (epoch : ℕ) (kind : client.setup.kind ≡ Client host epoch)
-    (c : CallName) (cs : List CallName) (now : ℕ) (request : List ℕ) (k0 : CallLooks) (name : CallName) (place : ℕ)
+    (c : CallName) (cs : List CallName) (now : ℕ) (request : List ℕ) (k0 : CallLooks) (name : CallName)
     (w : CallerState) (t : Stage) where
   abbrev looks_on : Stage → Looks
   looks_on s = looks client.setup (side node s.history)
@@ -56,7 +56,7 @@ module _ (node : ℕ) (client : Node) (host : Host) (epoch : ℕ) (kind : client
 
   abbrev on_call : List ℕ → Bool → List ℕ → Phase → CallerState
   on_call offering shut reply phase =
-      caller_on node client host epoch kind c cs now place offering shut reply phase
+      caller_on node client host epoch kind c cs now offering shut reply phase
 
   abbrev Left : Type 0
   Left = CallerLeft node client host epoch kind c cs now request k0 t
@@ -78,7 +78,7 @@ module _ (node : ℕ) (client : Node) (host : Host) (epoch : ℕ) (kind : client
       let behind : There (with_event node e s) (calls name f) =
       event_at node client host epoch kind c cs now s (calls name k) (calls name f) (Shuts c) e at n.asked n.allowed
       (own_change c (λ i. record i { looks = after_shut i.looks }) (looks_on s) (calls name k) (λ i. refl) at.there) in
-      reads_out node client host epoch kind c cs now request k0 name place w t (length (unread_of f.received)) f [] true
+      reads_out node client host epoch kind c cs now request k0 name w t (length (unread_of f.received)) f [] true
       reply phases.Offering (with_event node e s) (omega arith)
       begins (all_said refl (sym (append-nil k.sent.said) ∙ said))
       (turn_trans now k0 k f on (turns_shut k f (turns_none f))) behind n.goes
@@ -163,7 +163,7 @@ module _ (node : ℕ) (client : Node) (host : Host) (epoch : ℕ) (kind : client
                 (on_call rest false reply (cond b phases.Reading phases.Offering)) (with_event node e s)
                 next_one.goes.0 (To (w, t))) part next_one.goes.1,
           ) in
-          reads_out node client host epoch kind c cs now request k0 name place w t (length (unread_of f.received)) f
+          reads_out node client host epoch kind c cs now request k0 name w t (length (unread_of f.received)) f
           rest false reply phases.Reading (with_event node e s)
           (omega arith) (goes_on false)
           (fills_up (record {
@@ -202,7 +202,7 @@ module _ (node : ℕ) (client : Node) (host : Host) (epoch : ℕ) (kind : client
       → (shut ≡ true → offering ≡ []) → k0.sent.said ++ offering ≡ request → There s (calls name k0)
       → Goes_ (on_call offering shut reply phases.Offering) s w t → Left
   turns_own offering true reply s is none said at go =
-      reads_out node client host epoch kind c cs now request k0 name place w t (length (unread_of k0.received)) k0
+      reads_out node client host epoch kind c cs now request k0 name w t (length (unread_of k0.received)) k0
       offering true reply phases.Offering s (omega arith) begins
       (all_said (sym is)
       (sym (append-nil k0.sent.said) ∙ ap (λ (ys : List ℕ). k0.sent.said ++ ys) (sym (none refl)) ∙ said))
@@ -211,7 +211,7 @@ module _ (node : ℕ) (client : Node) (host : Host) (epoch : ℕ) (kind : client
     where
       by : (b : Bool) → nat_lt REPLY_BYTES (length reply) ≡ b → Left
       by true long =
-          gives_up node client host epoch kind c cs now request k0 name place w t k0 offering false reply
+          gives_up node client host epoch kind c cs now request k0 name w t k0 offering false reply
           phases.Offering s long (turns_none k0) at go
       by false few =
           says_out (length offering) k0 offering reply s (omega arith) few (sym is) refl said (turns_none k0) at go

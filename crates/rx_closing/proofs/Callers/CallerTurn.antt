@@ -148,10 +148,9 @@ module _ (node : ℕ) (client : Node) (host : Host) (epoch : ℕ) (kind : client
   -- ---- a caller's own turn
 
   -- a caller of the call that isn't finished
-  abbrev pub caller_on : ℕ → List ℕ → Bool → List ℕ → Phase → CallerState
-  caller_on place offering shut reply phase =
+  abbrev pub caller_on : List ℕ → Bool → List ℕ → Phase → CallerState
+  caller_on offering shut reply phase =
       record {
-        node = place;
         call = c;
         offering = offering;
         shut = shut;

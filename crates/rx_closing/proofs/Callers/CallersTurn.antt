@@ -287,10 +287,9 @@ module _ (node : ℕ) (client : Node) (host : Host) (epoch : ℕ) (kind : client
       by : TurnAt place i s t → OwnTurn request place k t
       by u =
           let begins : begun i.caller
-          ≡ caller_on node client host epoch kind c cs now i.caller.node i.caller.offering i.caller.shut i.caller.reply
+          ≡ caller_on node client host epoch kind c cs now i.caller.offering i.caller.shut i.caller.reply
           phases.Offering =
           λ j. record {
-            node = i.caller.node;
             call = on.call j;
             offering = i.caller.offering;
             shut = i.caller.shut;
@@ -299,7 +298,7 @@ module _ (node : ℕ) (client : Node) (host : Host) (epoch : ℕ) (kind : client
             phase = phases.Offering;
           } in
           let go : Goes node client host epoch kind c cs now
-          (caller_on node client host epoch kind c cs now i.caller.node i.caller.offering i.caller.shut i.caller.reply
+          (caller_on node client host epoch kind c cs now i.caller.offering i.caller.shut i.caller.reply
           phases.Offering) s u.view u.stage = (
             u.events,
             subst (λ (v : CallerState). Turn (calling REPLY_BYTES) node v s u.events (To (u.view, u.stage))) begins
@@ -307,7 +306,7 @@ module _ (node : ℕ) (client : Node) (host : Host) (epoch : ℕ) (kind : client
                 of_node u.turn),
           ) in
           let left : Left request k u.stage =
-          turns_own node client host epoch kind c cs now request k name i.caller.node u.view u.stage i.caller.offering
+          turns_own node client host epoch kind c cs now request k name u.view u.stage i.caller.offering
           i.caller.shut i.caller.reply s on.shut on.none on.said was.at go in
           subst (OwnTurn request place k) (sym u.then_)
           (own_behind request place i u.view k s u.stage was.own was.others

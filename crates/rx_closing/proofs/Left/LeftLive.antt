@@ -54,7 +54,6 @@ module _ (any : Stage) (proc : Procedure → String Global)
         history = reverse es;
         callers = caller_at 1 3
             (record {
-              node = 1;
               call = call;
               offering = offering;
               shut = shut;

@@ -160,4 +160,4 @@ has_room s are two k =
 abbrev pub caller_of : ℕ → ℕ → CallName → List ℕ → Bool → Option End → InvokedState
 caller_of call line c offering shut ended =
     caller_at call line
-    (record { node = 1; call = c; offering = offering; shut = shut; reply = []; end = ended; phase = phases.Resting })
+    (record { call = c; offering = offering; shut = shut; reply = []; end = ended; phase = phases.Resting })

@@ -51,7 +51,7 @@ RoundsComplete key =
     → AreServable g → WaitsShort g → IsBytes request → 0 < length request → length request ≤ 16842756
     → rounds_for g key request ≤ n
     → Two x (empty_at 0) (node_of x (from_client x 0 0) [] 0 lives.Calling fresh)
-    (caller_at 1 3 (caller_for 1 (the_call x) request) ∷ []) [] u
+    (caller_at 1 3 (caller_for (the_call x) request) ∷ []) [] u
     → Made (rounds g n) u s → HasCome x g request 1 3 s
 
 module _ (g : Handlers) (at : Host) (service nonce : ℕ) (from : Host) (epoch first : ℕ) (key : Option (List ℕ))

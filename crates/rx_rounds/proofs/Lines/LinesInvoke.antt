@@ -84,7 +84,7 @@ module _ (g : Handlers) (at : Host) (service nonce : ℕ) (from : Host) (epoch f
   behind_call = with_caller 1 3 request (Some (the_call x)) (with_called 1 call (with_event 1 call linked))
 
   pub two_called : Two x (empty_at 0) (client_has at service nonce from epoch first key fresh)
-      (caller_at 1 3 (caller_for 1 (the_call x) request) ∷ []) [] behind_call
+      (caller_at 1 3 (caller_for (the_call x) request) ∷ []) [] behind_call
   two_called =
       record {
         nodes = refl;
