@@ -22,13 +22,12 @@ no_side nodes (e ∷ h) k are past =
     other-side e.node k e.event h (λ is. absurd (omega (arith, is, are.0))) ∙ no_side nodes h k are.1 past
 
 -- what holds of each by its place, also of one that comes behind them
-each_pushed : (P : ℕ → ClientAt → Type 0) (cs : List ClientAt) (c : ClientAt)
-    → ((k : ℕ) → IfSome (slice_get cs k) (P k))
-    → P (length cs) c → (k : ℕ) → IfSome (slice_get (cs ++ c ∷ []) k) (P k)
-each_pushed P [] c all last zero = last
-each_pushed P [] c all last (suc k) = tt
-each_pushed P (d ∷ ds) c all last zero = all zero
-each_pushed P (d ∷ ds) c all last (suc k) = each_pushed (λ j. P (suc j)) ds c (λ j. all (suc j)) last k
+pub each_pushed : {X : Type 0} (P : ℕ → X → Type 0) (xs : List X) (x : X) → ((k : ℕ) → IfSome (slice_get xs k) (P k))
+    → P (length xs) x → (k : ℕ) → IfSome (slice_get (xs ++ x ∷ []) k) (P k)
+each_pushed P [] x all last zero = last
+each_pushed P [] x all last (suc k) = tt
+each_pushed P (y ∷ xs) x all last zero = all zero
+each_pushed P (y ∷ xs) x all last (suc k) = each_pushed (λ j. P (suc j)) xs x (λ j. all (suc j)) last k
 
 pub with_one_more : (host : Host) (server : ServerState) (cs : List ClientAt) (n : NodesState) (c : ClientAt)
     (new : List ClientAt) → with_fields host server cs ≡ n → new ≡ cs ++ c ∷ [] → StandsNode chosen c.client []

@@ -7,6 +7,7 @@ use Rattle.rx_model.specs.declared.names.Limits.{Limits}
 use Rattle.rx_rules.specs.Setup.{FitsLimits, FitsSetup}
 use Rattle.rx_class.specs.NullLaws.{null_fits}
 use Rattle.rx_node.specs.Node.{setup_of}
+use Rattle.rx_joint.proofs.Added.{each_pushed}
 use Rattle.rx_peer.specs.declared.role.Role.{Role}
 use Rattle.rx_peer.specs.declared.role.Role.TheVariants as roles
 use Rattle.rx_peer.specs.Halves.{StandsPeer}
@@ -14,14 +15,6 @@ use Rattle.rx_peer.specs.PeerWorlds.{IsPeer, PeerNode, peer_at, setup_at}
 use Rattle.rx_joint_peers.specs.declared.joint.PeerAt.{PeerAt}
 use Rattle.rx_joint_peers.specs.Joint.{Standing, made_peer, peer_node, peers_of, unsecured}
 use Rattle.rx_joint_peers.specs.Worlds.{ArePeers, IsNewHost}
-
--- what holds of each by its place, also of one that comes behind them
-each_pushed : {X : Type 0} (P : ℕ → X → Type 0) (xs : List X) (x : X) → ((k : ℕ) → IfSome (slice_get xs k) (P k))
-    → P (length xs) x → (k : ℕ) → IfSome (slice_get (xs ++ x ∷ []) k) (P k)
-each_pushed P [] x all last zero = last
-each_pushed P [] x all last (suc k) = tt
-each_pushed P (y ∷ xs) x all last zero = all zero
-each_pushed P (y ∷ xs) x all last (suc k) = each_pushed (λ j. P (suc j)) xs x (λ j. all (suc j)) last k
 
 pub stands_pushed : (xs ps new : List PeerAt) (p : PeerAt) → xs ≡ ps → new ≡ xs ++ p ∷ []
     → StandsPeer unsecured p.peer [] [] → Standing ps [] → Standing new []

@@ -7,7 +7,6 @@ use Rattle.rx_model.specs.declared.event.Event.{Event}
 use Rattle.rx_model.specs.declared.event.Event.TheVariants as events
 use Rattle.rx_model.specs.declared.event.Noted.{Noted}
 use Rattle.rx_model.specs.declared.names.Host.{Host}
-use Rattle.rx_model.proofs.NameLaws.{number_itself}
 use Rattle.rx_rules.specs.After.{looks}
 use Rattle.rx_rules.specs.Rules.{Allowed}
 use Rattle.rx_law.proofs.WorldTimed.{found-and}
@@ -17,13 +16,14 @@ use Rattle.rx_node.specs.Node.{NodeState, setup_of}
 use Rattle.rx_node.specs.Steps.{AnswersNode, StandsNode}
 use Rattle.rx_node.proofs.Steps.TableSteps.{changed-length, changed-other, changed-own, decided}
 use Rattle.rx_server.specs.Server.{Answered, ServerState, Stands}
-use Rattle.rx_joint.proofs.Standing.{other-side}
+use Rattle.rx_joint.proofs.Standing.{other-side, own-side}
 use Rattle.rx_peer.specs.declared.peer.Peer.{Peer}
 use Rattle.rx_peer.specs.declared.role.Role.{Role}
 use Rattle.rx_peer.specs.declared.role.Role.TheVariants as roles
 use Rattle.rx_peer.specs.Halves.{AnswersBoth, AnswersHalf, PollsPeer, SameSetups, StandsPeer}
 use Rattle.rx_peer.specs.PeerWorlds.{AreOfHalves, GaveAs, IsFor, PeerNode, half, peer_at, setup_at}
 use Rattle.rx_peer.specs.Roles.{half_of, node_of}
+use Rattle.rx_peer.proofs.Carrying.{same_half}
 use Rattle.rx_joint_peers.specs.declared.joint.PeerAt.{PeerAt}
 use Rattle.rx_joint_peers.specs.Joint.{KeepsOtherHalf, Makes, MakesBoth, Standing, WasGiven, of_half}
 use Rattle.rx_joint_peers.specs.Joint.{peer_node, peer_of, peers_of, unsecured, with_peer}
@@ -33,10 +33,7 @@ use Rattle.rx_joint_peers.specs.Polls.{MakesPolled}
 
 -- two halves are two nodes
 apart : (q r : Role) (i j : ℕ) → (q ≡ r → i ≡ j → ⊥) → node_of q i ≡ node_of r j → ⊥
-apart roles.Caller roles.Caller i j differ is = differ refl (omega arith)
-apart roles.Served roles.Served i j differ is = differ refl (omega arith)
-apart roles.Caller roles.Served i j differ is = absurd (omega arith)
-apart roles.Served roles.Caller i j differ is = absurd (omega arith)
+apart q r i j differ is = (let same = same_half q r i j is in differ same.role same.number)
 
 -- the side of another half stays
 pub other-half : (number other : ℕ) (r q : Role) (e : Event) (h : List Noted) → (r ≡ q → number ≡ other → ⊥)
@@ -47,7 +44,7 @@ other-half number other r q e h differ =
 -- its own has the event
 own-half : (number : ℕ) (r : Role) (e : Event) (h : List Noted)
     → half r number (of_half number r e ∷ h) ≡ e ∷ half r number h
-own-half number r e h = rw (number_itself (node_of r number)) refl
+own-half number r e h = own-side (node_of r number) e h
 
 caller-served : roles.Caller ≡ roles.Served → ⊥
 caller-served is = absurd cc

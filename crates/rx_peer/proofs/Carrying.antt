@@ -28,7 +28,7 @@ pub record SameHalf (q r : Role) (i j : ℕ) : Type 0 where
   pub role : q ≡ r
   pub number : i ≡ j
 
-same_half : (q r : Role) (i j : ℕ) → node_of q i ≡ node_of r j → SameHalf q r i j
+pub same_half : (q r : Role) (i j : ℕ) → node_of q i ≡ node_of r j → SameHalf q r i j
 same_half roles.Caller roles.Caller i j is = record { role = refl; number = omega arith }
 same_half roles.Served roles.Served i j is = record { role = refl; number = omega arith }
 same_half roles.Caller roles.Served i j is = absurd (omega arith)
