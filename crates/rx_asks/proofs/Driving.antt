@@ -17,12 +17,12 @@ use Rattle.rx_rules.specs.CallLooks.{fresh_call}
 use Rattle.rx_rules.specs.Judging.{outer_row}
 use Rattle.rx_rules.specs.Life as lives
 use Rattle.rx_rules.specs.Looks.{CallRecord, Looks, call_at, channel_at, conn_at}
-use Rattle.rx_rules.specs.Rules.{AllowedAt, AllowedClient, Legal}
-use Rattle.rx_rules.specs.Setup.{Client, FitsSetup, Kind, Setup, named, pace_of}
+use Rattle.rx_rules.specs.Rules.{AllowedClient, Legal}
+use Rattle.rx_rules.specs.Setup.{Client, FitsSetup, Setup, named, pace_of}
 use Rattle.rx_rules.proofs.ConnsLaws.{number_of}
 use Rattle.rx_history.specs.Starts.{StartsBy, StartsNew}
 use Rattle.rx_history.proofs.Client.{fresh-call}
-use Rattle.rx_history.proofs.ClientHistory.{client-calls}
+use Rattle.rx_history.proofs.ClientHistory.{client-calls, clients}
 use Rattle.rx_history.proofs.Conns.{Conns}
 use Rattle.rx_history.proofs.Server.{spared-starts}
 use Rattle.rx_history.proofs.Laws.SoundLaws.{Below, Sound}
@@ -118,10 +118,6 @@ module _ (s : Setup) (l : Looks) (c : CallName) (there : IsCalledAt (call_at l c
 
 -- ---- along a history
 
-by-kind : (kind : Kind) (s : Setup) (host : Host) (epoch : ℕ) (l : Looks) (e : Event) → kind ≡ Client host epoch
-    → AllowedAt kind s l e → AllowedClient s host epoch l e
-by-kind kind s host epoch l e is allowed = subst (λ (k : Kind). AllowedAt k s l e) is allowed
-
 tells-left : (s : Setup) (host : Host) (epoch : ℕ) (request : List ℕ) (v : CallerState) (e : Event) (h : List Event)
     → s.kind ≡ Client host epoch → FitsSetup s → Legal s (e ∷ h) → LeavesCall v.call e → Tells request v (looks s h)
     → Tells request v (looks s (e ∷ h))
@@ -129,7 +125,7 @@ tells-left s host epoch request v e h kind fits legal leaves_it t =
     let l : Looks = looks s h in
     let before = client-calls s host epoch h kind fits legal.1 in
     let behind = client-calls s host epoch (e ∷ h) kind fits legal in
-    let allowed = by-kind s.kind s host epoch l e kind legal.0 in
+    let allowed = clients s.kind s host epoch l e kind legal.0 in
     let new : StartsNew s l e v.call =
     spared-starts (Unit {0}) v.call s l e (before.sound v.call) (behind.spared (connection_of v.call)) in
     tells_kept request v l (after s e l)
@@ -144,7 +140,7 @@ tells_driven s host epoch limit request v h kind fits legal (begins w h' drives)
     tells_begun request w (looks s h') (tells_driven s host epoch limit request w h' kind fits legal drives)
 tells_driven s host epoch limit request v h kind fits legal (makes w a e h' asked is drives) =
     tells_made limit request s host epoch w (looks s h') a e asked is
-    (by-kind s.kind s host epoch (looks s h') e kind legal.0)
+    (clients s.kind s host epoch (looks s h') e kind legal.0)
     (tells_driven s host epoch limit request w h' kind fits legal.1 drives)
 tells_driven s host epoch limit request v h kind fits legal (leaves w e h' leaves_it drives) =
     tells-left s host epoch request w e h' kind fits legal leaves_it

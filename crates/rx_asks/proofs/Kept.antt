@@ -35,7 +35,7 @@ pub record GoesOn (x y : Life) : Type 0 where
 pub on-refl : (x : Life) → GoesOn x x
 on-refl x = record { called = λ is. is; ended = λ end is. is }
 
-on-trans : (x y z : Life) → GoesOn x y → GoesOn y z → GoesOn x z
+pub on-trans : (x y z : Life) → GoesOn x y → GoesOn y z → GoesOn x z
 on-trans x y z p q =
     record { called = λ is. q.called (p.called is); ended = λ end is. q.ended end (p.ended end is) }
 

@@ -1,7 +1,7 @@
 -- What a caller tells of its call, carried along a history.
-use Rattle.std.proofs.Common.{◌≡◌, ◌⊎◌, ◌==◌, ◌++◌, inl, inr, cond, if◌then◌else◌, is_some, ℕ, ℤ, zero, suc, Bool}
+use Rattle.std.proofs.Common.{◌≡◌, ◌⊎◌, ◌==◌, ◌++◌, inl, inr, if◌then◌else◌, is_some, ℕ, ℤ, zero, suc, Bool}
 use Rattle.std.proofs.Common.{true, false, List, [], ◌∷◌, length, take, drop, append_assoc, append-nil, length-append}
-use Rattle.std.proofs.Common.{Option, Some, None, option_map, Ok, Err, refl, ◌∙◌, ap, sym, subst, arith}
+use Rattle.std.proofs.Common.{Option, Some, None, Ok, Err, refl, ◌∙◌, ap, sym, subst, arith}
 use Rattle.rx_model.specs.declared.answers.CallRead.{CallRead}
 use Rattle.rx_model.specs.declared.answers.CallRead.TheVariants as callreads
 use Rattle.rx_model.specs.declared.answers.End.{End}
@@ -14,17 +14,15 @@ use Rattle.rx_model.specs.declared.event.Event.{Event}
 use Rattle.rx_model.specs.declared.event.Event.TheVariants as events
 use Rattle.rx_model.specs.declared.names.CallName.{CallName}
 use Rattle.rx_model.specs.declared.names.Host.{Host}
-use Rattle.rx_model.specs.Names.{channel_of, same_name}
+use Rattle.rx_model.specs.Names.{channel_of}
 use Rattle.rx_rules.specs.After.{acknowledged, after, is_end}
 use Rattle.rx_rules.specs.CallLooks.{CallLooks, after_read, after_shut, after_write}
 use Rattle.rx_rules.specs.Life.{Life, after_cancel, after_end}
 use Rattle.rx_rules.specs.Life as lives
-use Rattle.rx_rules.specs.Looks.{CallRecord, Looks, call_at, channel_at, on_call, on_life, on_looks}
+use Rattle.rx_rules.specs.Looks.{CallRecord, Looks, call_at, channel_at, on_life, on_looks}
 use Rattle.rx_rules.specs.Received.{read_of}
 use Rattle.rx_rules.specs.Rules.{AllowedClient, client_read, client_read_by, client_read_got, own_call}
 use Rattle.rx_rules.specs.Setup.{Setup}
-use Rattle.rx_rules.proofs.CallsLaws.{KeepsNames, changed_if, call_at-on_call}
-use Rattle.rx_rules.proofs.FindLaws.{find_passes}
 use Rattle.rx_history.specs.Streams as streams
 use Rattle.rx_events.specs.Events.{written_count}
 use Rattle.rx_asks.specs.declared.ask.TheConstants.{BLOCK_BYTES, CC_UNMARSHAL}
@@ -33,6 +31,7 @@ use Rattle.rx_asks.specs.History.{IsCalled, IsCalledAt, Tells}
 use Rattle.rx_asks.specs.View.{CallerState}
 use Rattle.rx_asks.proofs.Asked.{asks_own, asks_unended, cancels_with, offers_next, shuts_all}
 use Rattle.rx_asks.proofs.Kept.{Kept, Spoken, on-cancel, on-end}
+use Rattle.rx_asks.proofs.CallerEvents.{own_change}
 
 -- ---- of the record of its call
 
@@ -105,24 +104,18 @@ tells_in request v l k there t =
 
 -- ---- its own call changes
 
-own-call : (c : CallName) (change : CallRecord → CallRecord) (l : Looks) (k : CallRecord) → KeepsNames change
-    → call_at l c ≡ Some k → call_at (on_call c change l) c ≡ Some (change k)
-own-call c change l k names there =
-    call_at-on_call c c change l names ∙ ap (option_map (changed_if c change)) there
-    ∙ ap (λ (b : Bool). Some (cond b (change k) k)) (find_passes (λ j. same_name j.name c) l.calls k there)
-
 own-looks : (c : CallName) (change : CallLooks → CallLooks) (l : Looks) (k : CallRecord) → call_at l c ≡ Some k
     → call_at (on_looks c change l) c ≡ Some (record k { looks = change k.looks })
-own-looks c change l k there = own-call c (λ j. record j { looks = change j.looks }) l k (λ j. refl) there
+own-looks c change l k there = own_change c (λ j. record j { looks = change j.looks }) l k (λ j. refl) there
 
 own-life : (c : CallName) (change : Life → Life) (l : Looks) (k : CallRecord) → call_at l c ≡ Some k
     → call_at (on_life c change l) c ≡ Some (record k { life = change k.life })
-own-life c change l k there = own-call c (λ j. record j { life = change j.life }) l k (λ j. refl) there
+own-life c change l k there = own_change c (λ j. record j { life = change j.life }) l k (λ j. refl) there
 
 -- ---- bytes that were accepted
 
 -- the first bytes of the first, and those behind them
-first-of : (n m : ℕ) (xs : List ℕ) → take n (take m xs) ++ drop (length (take n (take m xs))) xs ≡ xs
+pub first-of : (n m : ℕ) (xs : List ℕ) → take n (take m xs) ++ drop (length (take n (take m xs))) xs ≡ xs
 first-of zero zero [] = refl
 first-of zero zero (x ∷ xs) = refl
 first-of zero (suc m) [] = refl
@@ -191,7 +184,7 @@ own-code code told end is own ends_so =
     let same : ends.Cancelled told ≡ end = cc (ends_so) in
     sym same ∙ ap ends.Cancelled (is ∙ own)
 
-none-end : (o : Option End) → is_some o ≡ false → o ≡ None
+pub none-end : (o : Option End) → is_some o ≡ false → o ≡ None
 none-end None none = refl
 none-end (Some end) none = absurd cc
 

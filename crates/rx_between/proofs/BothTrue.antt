@@ -113,7 +113,7 @@ came-of s l y e c Wanted came on m got own j =
     subst (λ (x : Event). JudgedCame s l y x Wanted) j.is came m (not-foreign got own) j.reads j.front
     (ap connection_of j.name ∙ on)
 
-no-client : (k : Kind) → IsServer k → is_client k ≡ true → ⊥
+pub no-client : (k : Kind) → IsServer k → is_client k ≡ true → ⊥
 no-client (Server service nonces) server is = absurd cc
 no-client (Client host epoch) server is = server
 

@@ -5,6 +5,7 @@ use Rattle.std.proofs.Common.{◌∙◌, arith, ◌==◌, inl, inr}
 use Rattle.std.proofs.lemmas.Bool.{eq-eqb, ne_eqb, cases_eq, cases_lt, both_ways, eqb-true, and_parts}
 use Rattle.rx_rules.specs.Received.{reach}
 use Rattle.rx_rules.specs.Sent.{count_to}
+use Rattle.rx_rules.proofs.ReachLaws.{reach_within}
 
 -- ---- how many pass
 
@@ -28,14 +29,6 @@ count_rest p g (suc d) (suc n) whole none all =
     (ap (λ i. suc i) (count_rest p g d n (omega arith) none (λ k low high. all k low (omega arith))))
 
 -- ---- how far
-
-pub reach_le : (test : ℕ → Bool) (n : ℕ) → reach test n ≤ n
-reach_le test zero = omega arith
-reach_le test (suc n) =
-    elim ((reach test n == n) && test (suc n)) as (λ b. cond b (suc n) (reach test n) ≤ suc n) [
-      | true ↦ omega arith
-      | false ↦ omega (arith, reach_le test n)
-    ]
 
 pub reach_all : (test : ℕ → Bool) (n : ℕ) → ((k : ℕ) → 1 ≤ k → k ≤ n → test k ≡ true) → reach test n ≡ n
 reach_all test zero all = refl
@@ -72,7 +65,7 @@ reach_least test (suc n) m within all =
     elim (cases_eq m (suc n)) as (λ c. m ≤ reach test (suc n)) [
       | inl whole ↦ (
           let far : n ≤ reach test n = reach_least test n n (omega arith) (λ j low high. all j low (omega arith)) in
-          let exact : reach test n ≡ n = omega (arith, reach_le test n) in
+          let exact : reach test n ≡ n = omega (arith, reach_within test n) in
           let last : test (suc n) ≡ true = all (suc n) (omega arith) (omega arith) in
           rw (exact, eq-eqb n n refl, last) (omega arith))
       | inr less ↦ (
@@ -82,19 +75,6 @@ reach_least test (suc n) m within all =
             | false ↦ before
           ])
     ]
-
--- the next one doesn't, where it stops short
-pub reach_fails : (test : ℕ → Bool) (n : ℕ) → reach test n < n → test (suc (reach test n)) ≡ false
-reach_fails test n short =
-    (elim (test (suc (reach test n))) as (λ b. test (suc (reach test n)) ≡ b → b ≡ false) [
-      | true ↦ λ next. absurd (let far : suc (reach test n) ≤ reach test n =
-          reach_least test n (suc (reach test n)) short
-          (λ j low high. elim (cases_eq j (suc (reach test n))) as (λ c. test j ≡ true) [
-            | inl same ↦ subst (λ (i : ℕ). test i ≡ true) (sym same) next
-            | inr less ↦ reach_passes test n j low (omega arith)
-          ]) in omega arith)
-      | false ↦ λ next. refl
-    ]) refl
 
 -- it is no more than where one fails
 pub reach_short : (test : ℕ → Bool) (n k : ℕ) → 1 ≤ k → test k ≡ false → reach test n < k

@@ -70,7 +70,7 @@ gave_there s (e ∷ h) to bytes m payload fits legal is_read chunk (inl gave) =
 
 -- ---- what follows a call is data
 
-taken_is : (kind : Kind) (s : Setup) (l : Looks) (from : Host) (bytes : List ℕ) (got : Took)
+pub taken_is : (kind : Kind) (s : Setup) (l : Looks) (from : Host) (bytes : List ℕ) (got : Took)
     → AllowedAt kind s l (events.Taken from bytes got) → got ≡ took_of s l from bytes
 taken_is (Server service nonces) s l from bytes got allowed = allowed.1
 taken_is (Client host epoch) s l from bytes got allowed = allowed.1

@@ -1,7 +1,6 @@
 -- What was received at one end of a call only grows: with each step of the end.
 use Rattle.std.proofs.Common.{◌≡◌, ◌<◌, ◌≤◌, ℕ, if◌then◌else◌, Bool, true, false, List, Option, refl, ap, sym, subst}
 use Rattle.std.proofs.Common.{◌∙◌, ◌+◌, ◌||◌, arith, is_some, nat_le}
-use Rattle.std.proofs.lemmas.Bool.Decides.{nat_tests}
 use Rattle.rx_model.specs.declared.answers.Took.{Took}
 use Rattle.rx_model.specs.declared.answers.Took.TheVariants as tooks
 use Rattle.rx_model.specs.declared.event.Event.{Event}
@@ -25,6 +24,7 @@ use Rattle.rx_history.proofs.Laws.UsedLaws.{used_reads}
 use Rattle.rx_between.proofs.Each.EachStep.{EndStep, finishes, gives, reads, shuts, stays, takes, writes}
 use Rattle.rx_between.proofs.Marks.{packet-more, used-more}
 use Rattle.rx_between.specs.Told.{Grows}
+use Rattle.rx_history.proofs.Rows.RowsKept.{above-by}
 
 -- nothing came
 pub grows_same : (r : Received) → Grows r r
@@ -97,9 +97,6 @@ fresh-arrival a is = of a.is_strange a.is_repeat a.is_beyond a.is_clash refl ref
     of false false true e repeats clashes is = absurd cc
     of false false false true repeats clashes is = absurd cc
     of false false false false repeats clashes is = record { new = repeats; below = clashes }
-
-above-by : (seq used : ℕ) → nat_le seq used ≡ false → used < seq
-above-by seq used high = grind (arith, nat_tests)
 
 two-rows : (b : Bool) → (if b then tooks.Strange else tooks.Heard) ≡ tooks.Kept → ⊥
 two-rows true is = absurd cc

@@ -71,7 +71,7 @@ sense_by false false false true slot a b d = absurd cc
 sense_by false false false false true a b d = tt
 sense_by false false false false false a b d = tt
 
-either_false : (a b : Bool) → a ≡ false → b ≡ false → (a || b) ≡ false
+pub either_false : (a b : Bool) → a ≡ false → b ≡ false → (a || b) ≡ false
 either_false true b p q = p
 either_false false b p q = q
 

@@ -3,7 +3,6 @@ use Rattle.std.proofs.Common.{◌≡◌, ℕ, zero, suc, ◌+◌, ◌-◌, ◌<�
 use Rattle.std.proofs.Common.{List, [], ◌∷◌, ◌++◌, length, refl, ap, sym, ◌∙◌, subst, inl, inr, ⊎_elim, arith}
 use Rattle.std.proofs.Common.{Option}
 use Rattle.std.proofs.Common.{nat_lt, nat_le, ◌==◌, is_some, ap₂, slice_index_or}
-use Rattle.std.proofs.lemmas.List.{length_push}
 use Rattle.std.proofs.lemmas.Bool.{ne_eqb, le-leb, leb-true, le-ltb, lt-leb, cases_eq, cases_lt, cases_Bool}
 use Rattle.std.proofs.lemmas.Bool.{or_cases, or_parts, both_ways}
 use Rattle.rx_rules.proofs.PacketLaws.{above_greatest, kept_within}
@@ -12,7 +11,9 @@ use Rattle.rx_rules.specs.Received.{used_of, is_done, is_done_by, end_of, payloa
 use Rattle.rx_rules.specs.Sent.{Sent, given_of, is_acked, lowest_of, is_marked, marks_past}
 use Rattle.rx_rules.specs.Sent.{is_strange_ack}
 use Rattle.rx_between.specs.Acknowledged.{AreTrue}
-use Rattle.rx_between.proofs.Counting.{reach_le, reach_passes, reach_least}
+use Rattle.rx_between.proofs.Counting.{reach_passes, reach_least}
+use Rattle.rx_history.proofs.Plain.PlainBodies.{marks-count}
+use Rattle.rx_rules.proofs.ReachLaws.{reach_within}
 
 -- ---- kept packets
 
@@ -20,7 +21,7 @@ use Rattle.rx_between.proofs.Counting.{reach_le, reach_passes, reach_least}
 pub used_kept : (r : Received) (k : ℕ) → 1 ≤ k → k ≤ used_of r → is_some (packet_at r.kept k) ≡ true
 used_kept r k low high =
     reach_passes (λ j. is_some (packet_at r.kept j)) (greatest r.kept) k low
-    (omega (arith, reach_le (is_done r) (front_of r.kept)))
+    (omega (arith, reach_within (is_done r) (front_of r.kept)))
 
 -- ---- two ends that are true to each other
 
@@ -64,18 +65,12 @@ index-past [] i high = refl
 index-past (x ∷ xs) zero high = absurd (omega arith)
 index-past (x ∷ xs) (suc i) high = index-past xs i (omega arith)
 
-pub length-marks : (kept : List Packet) (used n : ℕ) → length (marks_from kept used n) ≡ n
-length-marks kept used zero = refl
-length-marks kept used (suc n) =
-    length_push (marks_from kept used n) (is_some (packet_at kept (used + suc n)))
-    ∙ (let before : length (marks_from kept used n) ≡ n = length-marks kept used n in omega arith)
-
 -- the mark at a place
 pub mark-at : (kept : List Packet) (used n i : ℕ) → i < n
     → slice_index_or (marks_from kept used n) i false ≡ is_some (packet_at kept (used + suc i))
 mark-at kept used zero i low = absurd (omega arith)
 mark-at kept used (suc n) i low =
-    let count : length (marks_from kept used n) ≡ n = length-marks kept used n in
+    let count : length (marks_from kept used n) ≡ n = marks-count kept used n in
     elim (cases_eq i n) as (λ c. slice_index_or
     (marks_from kept used n ++ is_some (packet_at kept (used + suc n)) ∷ []) i false ≡ is_some
     (packet_at kept (used + suc i))) [
@@ -96,7 +91,7 @@ marked_is r k above =
     as (λ c. slice_index_or (marks_of r) (k - (u + 1)) false ≡ is_some (packet_at r.kept k)) [
       | inl inside ↦ mark-at r.kept u (greatest r.kept - u) (k - (u + 1)) inside
           ∙ ap (λ j. is_some (packet_at r.kept j)) place
-      | inr past ↦ index-past (marks_of r) (k - (u + 1)) (omega (arith, length-marks r.kept u (greatest r.kept - u)))
+      | inr past ↦ index-past (marks_of r) (k - (u + 1)) (omega (arith, marks-count r.kept u (greatest r.kept - u)))
           ∙ sym (ap (λ (o : Option Piece). is_some o)
           (above_greatest r.kept k (omega arith)))
     ])
@@ -130,9 +125,9 @@ used-more p r previous new =
     let there : (j : ℕ) → 1 ≤ j → j ≤ used_of r → is_some (packet_at (p ∷ r.kept) j) ≡ true =
     λ j low high. ap (λ (o : Option Piece). is_some o) (packet-more p r.kept j new (used_kept r j low high))
     ∙ used_kept r j low high in
-    let far : used_of r ≤ front_of r.kept = reach_le (is_done r) (front_of r.kept) in
+    let far : used_of r ≤ front_of r.kept = reach_within (is_done r) (front_of r.kept) in
     let front : used_of r ≤ greatest r.kept = omega
-    (arith, reach_le (λ j. is_some (packet_at r.kept j)) (greatest r.kept)) in
+    (arith, reach_within (λ j. is_some (packet_at r.kept j)) (greatest r.kept)) in
     reach_least (is_done more) (front_of (p ∷ r.kept)) (used_of r)
     (reach_least (λ j. is_some (packet_at (p ∷ r.kept) j)) (greatest (p ∷ r.kept)) (used_of r) (omega arith) there)
     (λ j low high.
@@ -168,7 +163,7 @@ past-none kept used zero g only = refl
 past-none kept used (suc n) g only =
     past-append (marks_from kept used n) (is_some (packet_at kept (used + suc n))) (used + 1) g
     (past-none kept used n g only)
-    (let place : used + 1 + length (marks_from kept used n) ≡ used + suc n = omega (arith, length-marks kept used n) in
+    (let place : used + 1 + length (marks_from kept used n) ≡ used + suc n = omega (arith, marks-count kept used n) in
     rw place
     (elim (cases_Bool (is_some (packet_at kept (used + suc n))))
     as (λ c. (is_some (packet_at kept (used + suc n)) && nat_lt g (used + suc n)) ≡ false) [

@@ -15,11 +15,11 @@ use Rattle.rx_model.specs.Reading.{reading_of}
 use Rattle.rx_rules.specs.Judging.{else_row, facts_of, opened, outer_row, own_row, side_row, took_named, took_of}
 use Rattle.rx_rules.specs.Judging.{took_reading}
 use Rattle.rx_rules.specs.Looks.{CallRecord, Looks, call_at, channel_at, conn_at}
-use Rattle.rx_rules.specs.Rules.{AllowedAt, AllowedClient, AllowedServer, Legal}
-use Rattle.rx_rules.specs.Setup.{Client, FitsSetup, IsServer, Kind, Setup, is_client, named, pace_of}
+use Rattle.rx_rules.specs.Rules.{AllowedClient, AllowedServer, Legal}
+use Rattle.rx_rules.specs.Setup.{Client, FitsSetup, IsServer, Setup, is_client, named, pace_of}
 use Rattle.rx_rules.proofs.ConnsLaws.{number_of}
 use Rattle.rx_history.proofs.Client.{fresh-call}
-use Rattle.rx_history.proofs.ClientHistory.{Called}
+use Rattle.rx_history.proofs.ClientHistory.{Called, clients}
 use Rattle.rx_history.proofs.Laws.OnceLaw.{served}
 use Rattle.rx_history.proofs.Openings.{channel_prepared}
 use Rattle.rx_history.proofs.Rows.RowsInFront.{above_served, may_start}
@@ -75,10 +75,6 @@ row_named s l from bytes got m is reads front =
 no-record : (o : Option CallRecord) (number top : ℕ) → Below o number top → top < number → o ≡ None
 no-record None number top below above = refl
 no-record (Some k) number top below above = absurd (omega arith)
-
-pub clients : (kind : Kind) (s : Setup) (host : Host) (epoch : ℕ) (l : Looks) (e : Event) → kind ≡ Client host epoch
-    → AllowedAt kind s l e → AllowedClient s host epoch l e
-clients kind s host epoch l e is allowed = subst (λ (k : Kind). AllowedAt k s l e) is allowed
 
 -- no message starts a call there
 pub no-opening : (s : Setup) (host : Host) (epoch : ℕ) (e : Event) (h : List Event) (c : CallName) (b : CallRecord)

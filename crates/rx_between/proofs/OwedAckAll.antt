@@ -21,7 +21,7 @@ use Rattle.rx_model.specs.Body as bodies
 use Rattle.rx_model.specs.Message.{Message}
 use Rattle.rx_model.specs.Names.{Connection, channel_of, connection_of, same_connection}
 use Rattle.rx_model.specs.Reading.{reading_of}
-use Rattle.rx_model.proofs.NameLaws.{connection_is, name_itself, same_number}
+use Rattle.rx_model.proofs.NameLaws.{connection_is, name_itself, same_number, both}
 use Rattle.rx_rules.specs.After.{after, acknowledged, enters, is_end, is_ok_end}
 use Rattle.rx_rules.specs.After.{linked, looks, owing_abort, owing_ackall, owing_again, prepared, read_done}
 use Rattle.rx_rules.specs.After.{served_code}
@@ -39,13 +39,13 @@ use Rattle.rx_rules.specs.Setup.{Setup, Kind, Client, FitsSetup, Server, named}
 use Rattle.rx_rules.proofs.ConnsLaws.{channel_number, conn_at-on_conn, conn_if, number_in, number_of}
 use Rattle.rx_rules.proofs.FindLaws.{find_passes}
 use Rattle.rx_history.proofs.Calls.{call-changed}
-use Rattle.rx_history.proofs.ClientHistory.{client-calls}
+use Rattle.rx_history.proofs.ClientHistory.{client-calls, clients}
 use Rattle.rx_history.proofs.Events.{call-by, calls-prepared}
 use Rattle.rx_history.proofs.Openings.{channel_prepared}
 use Rattle.rx_history.proofs.Turns.{Fine}
 use Rattle.rx_between.specs.Acknowledged.{received_by}
 use Rattle.rx_between.proofs.Histories.{client_onward, grown_step}
-use Rattle.rx_between.proofs.Onward.{clients, row_named}
+use Rattle.rx_between.proofs.Onward.{row_named}
 use Rattle.rx_between.proofs.Owing.{Calm, Clears, calm_abort, calm_channel, calm_same}
 use Rattle.rx_between.proofs.Owing.{calm_polled, calm_started, calm_trans, calm_turned, calm_used, calm_with, owes_in}
 use Rattle.rx_between.proofs.Owing.{owes_of}
@@ -173,11 +173,6 @@ comes-to-owe d f l m y keeps own conns ended n is =
 
 -- ---- a read
 
-both-true : (a b : Bool) → (a && b) ≡ true → (a ≡ true) × (b ≡ true)
-both-true true true is = (refl, refl)
-both-true true false is = absurd cc
-both-true false b is = absurd cc
-
 some-call : (o : Option CallRecord) → is_call (λ k. is_calling k.life) o ≡ true → (k : CallRecord) × (o ≡ Some k)
 some-call None is = absurd cc
 some-call (Some k) is = (k, refl)
@@ -239,7 +234,7 @@ read-owes l d max got bytes y is = of (end && is_call (λ k. is_calling k.life) 
 
     of : (b : Bool) → (end && is_call (λ k. is_calling k.life) (call_at l d)) ≡ b → OwesBy l done y
     of true owes =
-        let parts = both-true end (is_call (λ k. is_calling k.life) (call_at l d)) owes in
+        let parts = both end (is_call (λ k. is_calling k.life) (call_at l d)) owes in
         let k = some-call (call_at l d) parts.1 in
         comes-to-owe d (owing_ackall (end && is_call (λ k. is_calling k.life) (call_at l d))) l done y
         (ackall-number (end && is_call (λ k. is_calling k.life) (call_at l d)))

@@ -29,7 +29,7 @@ use Rattle.rx_history.proofs.Takes.{call_at-any}
 -- ---- the rows in front
 
 -- one of them didn't hold
-own_past : (b : Bool) (row rest got : Took) → is_own got ≡ true → is_own row ≡ false
+pub own_past : (b : Bool) (row rest got : Took) → is_own got ≡ true → is_own row ≡ false
     → (if b then row else rest) ≡ got → (b ≡ false) × (rest ≡ got)
 own_past true row rest got own other is = absurd (let same : is_own row ≡ is_own got = ap is_own is in
     cc (same, own, other))
@@ -42,7 +42,7 @@ pub record OwnRow (kind : Kind) (f : Facts) (call got : Took) : Type 0 where
   pub served : f.is_above ≡ true → is_client kind ≡ false
   pub starts : f.is_above ≡ true → f.can_start ≡ true
 
-above_can : (above can : Bool) → above ≡ true → (above && not can) ≡ false → can ≡ true
+pub above_can : (above can : Bool) → above ≡ true → (above && not can) ≡ false → can ≡ true
 above_can true true high is = refl
 above_can true false high is = absurd cc
 above_can false can high is = absurd cc

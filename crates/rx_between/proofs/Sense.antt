@@ -16,7 +16,7 @@ use Rattle.rx_rules.specs.CallLooks.{CallLooks, call_row, packet_of}
 use Rattle.rx_rules.specs.Looks.{CallRecord, call_at}
 use Rattle.rx_rules.specs.Received.{Packet, Piece, Received, greatest, packet_at, used_of}
 use Rattle.rx_rules.specs.Sent.{Sent, given_of, is_all_given, pieces_by, pieces_of}
-use Rattle.rx_rules.specs.Setup.{Setup, Kind, Client, Server, IsServer, is_client, named, receiving_window}
+use Rattle.rx_rules.specs.Setup.{Setup, is_client, named, receiving_window}
 use Rattle.rx_law.specs.Pieces.{IsAt}
 use Rattle.rx_history.specs.Sides.{side}
 use Rattle.rx_law.specs.Worlds.{Gave, TwoEnds}
@@ -33,15 +33,15 @@ use Rattle.rx_between.specs.Agreed.{Agrees, AreGiven, MakesSense, SenseAt, Sense
 use Rattle.rx_between.specs.Told.{IsEarlierAck}
 use Rattle.rx_between.proofs.Along.{Stands}
 use Rattle.rx_between.proofs.AllAgree.{all_agree, client_only_gives, server_only_gives}
-use Rattle.rx_between.proofs.BothTrue.{all-used}
+use Rattle.rx_between.proofs.BothTrue.{all-used, no-client}
 use Rattle.rx_between.proofs.CameAll.{CameAll}
-use Rattle.rx_between.proofs.Counting.{reach_le}
 use Rattle.rx_between.proofs.GivenAckAlls.{given_ackalls, no_ackalls}
 use Rattle.rx_between.proofs.GivenAcks.{given_acks}
 use Rattle.rx_between.proofs.GivenSeqs.{given_seqs}
 use Rattle.rx_between.proofs.Histories.{client_only_grows, client_whole, server_only_grows, server_whole}
 use Rattle.rx_between.proofs.HonestRows.{IsGivenTo, ack_makes_sense, ackall_makes_sense, data_makes_sense}
 use Rattle.rx_between.proofs.SaysLate.{given_data}
+use Rattle.rx_rules.proofs.ReachLaws.{reach_within}
 
 -- ---- of a call that is looked for
 
@@ -109,7 +109,7 @@ all_given : (a b : Option CallRecord) → Carries (ends_of a).said (ends_of a).s
 all_given a b carries gives given ended used =
     let shut : (sent_by a).shut ≡ true = sym (shut_is a) ∙ (carries.ended ended).0 in
     let front = used_within (received_by b) in
-    let top = reach_le (λ j. is_some (packet_at (received_by b).kept j)) (greatest (received_by b).kept) in
+    let top = reach_within (λ j. is_some (packet_at (received_by b).kept j)) (greatest (received_by b).kept) in
     let low = gives.counts in
     let same : given_of (sent_by a) ≡ pieces_of (sent_by a) = omega (arith, used, front, top, given, low) in
     let equal : (given_of (sent_by a) == pieces_of (sent_by a)) ≡ true =
@@ -149,10 +149,6 @@ sense_by s peer m a b given chunks acks all v client window = of m.body refl
     of (bodies.Abort code) is = tt
     of (bodies.Challenge bytes) is = tt
     of (bodies.Response bytes) is = tt
-
-no_client : (k : Kind) → IsServer k → is_client k ≡ true → ⊥
-no_client (Server service nonces) server is = absurd cc
-no_client (Client host epoch) server is = server
 
 -- ---- at both ends
 
@@ -230,7 +226,7 @@ module _ (x : TwoEnds) (h : List Noted) (f : Fed x h) (came : CameAll x h) (c : 
           kept = agrees.request_given;
           within = agrees.request_within;
         },
-        λ client. absurd (no_client x.server_setup.kind f.server_kind client),
+        λ client. absurd (no-client x.server_setup.kind f.server_kind client),
       ))
       (λ k is.
       given_acks x.client_setup cl c x.server_host bytes m k f.client_fits f.client_legal

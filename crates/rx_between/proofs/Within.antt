@@ -31,7 +31,7 @@ use Rattle.rx_between.proofs.Onward.{end_by, sent_is}
 
 -- ---- items
 
-in_filtered : {X : Type 0} (p : X → Bool) (x : X) (xs : List X) → In x (filter p xs) → In x xs
+pub in_filtered : {X : Type 0} (p : X → Bool) (x : X) (xs : List X) → In x (filter p xs) → In x xs
 in_filtered p x [] there = absurd there
 in_filtered {X = X} p x (y ∷ ys) there =
     (elim (p y) as (λ b. In x (cond b (y ∷ filter p ys) (filter p ys)) → In x (y ∷ ys)) [
@@ -40,7 +40,7 @@ in_filtered {X = X} p x (y ∷ ys) there =
       | false ↦ λ is. inr (in_filtered p x ys is)
     ]) there
 
-in_either : {X : Type 0} (x : X) (xs ys : List X) → In x (xs ++ ys) → In x xs ⊎ In x ys
+pub in_either : {X : Type 0} (x : X) (xs ys : List X) → In x (xs ++ ys) → In x xs ⊎ In x ys
 in_either x [] ys there = inr there
 in_either {X = X} x (z ∷ xs) ys there =
     ⊎_elim (λ (same : x ≡ z). inl (inl same))

@@ -29,6 +29,7 @@ use Rattle.rx_call.specs.Standing.{EndOfCall, HasSpare, StandsCall, after_given,
 use Rattle.rx_call.specs.Standing.{slots_of}
 use Rattle.rx_call.proofs.CallsAt.{of_some_and}
 use Rattle.rx_call_ends.specs.Ends.{EndsState, HasShutSlot, IsUnshut, KeepsSlots, beside_looks}
+use Rattle.rx_history.proofs.Rows.RowsKept.{above-by}
 
 -- ---- what is held of what came
 
@@ -59,9 +60,6 @@ kept_slot a is = of a.is_strange a.is_repeat a.is_beyond a.is_clash a.has_slot i
     of false false false false true is = (refl, refl)
     of false false false false false is = absurd cc
 
-above : (seq used : ℕ) → nat_le seq used ≡ false → used < seq
-above seq used high = grind (arith, nat_tests)
-
 -- a packet that is kept has a slot
 slotted : (v : NodeView) (p : Packet) (k : CallLooks) →
     arrival_row (arrival v.client v.window (v.left + freed v.client k) p (found v.client k)) ≡ tooks.Kept
@@ -69,7 +67,7 @@ slotted : (v : NodeView) (p : Packet) (k : CallLooks) →
 slotted v p k is =
     let row = kept_slot (arrival v.client v.window (v.left + freed v.client k) p (found v.client k)) is in
     let new = neither (nat_le p.seq (used_of k.received)) (is_some (packet_at k.received.kept p.seq)) row.0 in
-    record { above = above p.seq (used_of k.received) new.0; away = new.1; slot = row.1 }
+    record { above-by = above-by p.seq (used_of k.received) new.0; away = new.1; slot = row.1 }
 
 chunk_most : (v : NodeView) (m : Message) (body : Body) (k : CallLooks) → call_row v m body k ≡ tooks.Kept →
     beside_looks (after_chunk v tooks.Kept m body k) ≤ beside_looks k + v.left

@@ -47,7 +47,7 @@ use Rattle.rx_node.specs.Lives.{after_turn}
 use Rattle.rx_node.specs.Mirrors.{IsChannel, Mirrors, StepsAt, StepsNode}
 use Rattle.rx_node.specs.Node.{NodeState, setup_of}
 use Rattle.rx_node.specs.Steps.{AnswersNode, StandsNode}
-use Rattle.rx_node.proofs.Arguments.{no_bytes, take_bytes}
+use Rattle.rx_node.proofs.Arguments.{take_bytes}
 use Rattle.rx_node.proofs.IdleEvents.{read_nothing, write_nothing}
 use Rattle.rx_client.specs.Calling.{HasEnded, IsCallingAt}
 use Rattle.rx_client.specs.Client.{read_count, read_ended}
@@ -56,12 +56,10 @@ use Rattle.rx_client.proofs.Answering.{allowed_client, answers_by}
 use Rattle.rx_client.proofs.ReadCalls.{ended_as, read_again, read_calling, read_gone, read_ok, read_unknown}
 use Rattle.rx_client.proofs.SaidCalls.{accepted_write, calling_latest, calling_lives, calling_own, not_done}
 use Rattle.rx_client.proofs.SaidCalls.{refused_write, unshut_says, was_done}
+use Rattle.rx_history.proofs.Events.{take_none}
+use Rattle.rx_history.proofs.Fit.FitCall.{none-said}
 
 -- ---- bytes
-
-pub take_nothing : (xs : List ℕ) → [] ≡ take 0 xs
-take_nothing [] = refl
-take_nothing (x ∷ xs) = refl
 
 -- ---- how many bytes were read
 
@@ -113,10 +111,10 @@ module _ (class : List ℕ → Class) (old : NodeState) (host : Host) (epoch : �
       unchanged (events.Wrote c (length xs) (writers.Client (Err (record {}))) (take 0 xs))
       (λ h st. (
         refused_write its (looks its h) (own_call (looks its h) c) (length xs) (mute (looks its h) st.mirrors),
-        subst IsBytes (take_nothing xs) no_bytes,
-        sym (take_nothing xs),
+        subst IsBytes (take_none xs) none-said,
+        sym (take_none xs),
       ))
-      (λ h st. ap (λ (ys : List ℕ). on_looks c (after_write ys) (looks its h)) (sym (take_nothing xs))
+      (λ h st. ap (λ (ys : List ℕ). on_looks c (after_write ys) (looks its h)) (sym (take_none xs))
       ∙ write_nothing c (looks its h))
 
   pub shut_none : (c : CallName) → ((l : Looks) → Mirrors class old l → is_call can_say (own_call l c) ≡ false)
@@ -286,11 +284,11 @@ module _ (class : List ℕ → Class) (old : NodeState) (host : Host) (epoch : �
     its-asked h st = asked-of h c asked (answers_end h st).0
 
     nothing-read : (e : ReadAns) → ◌≡◌ {A = ReadAns × List ℕ} (e, []) (e, take 0 xs)
-    nothing-read e = ap (λ (ys : List ℕ). (e, ys)) (take_nothing xs)
+    nothing-read e = ap (λ (ys : List ℕ). (e, ys)) (take_none xs)
 
     unread : (h : List Event) → read_done c false (take 0 xs) (looks its h) ≡ looks its h
     unread h =
-        ap (λ (ys : List ℕ). read_done c false ys (looks its h)) (sym (take_nothing xs)) ∙ read_nothing c (looks its h)
+        ap (λ (ys : List ℕ). read_done c false ys (looks its h)) (sym (take_none xs)) ∙ read_nothing c (looks its h)
 
     pub read_at_end : asked ≡ askeds.Ended ends.Ok → FitsSetup its
         → AnswersNode class old old (events.HasRead c max (readers.Client answers.End) (take 0 xs))
@@ -301,7 +299,7 @@ module _ (class : List ℕ → Class) (old : NodeState) (host : Host) (epoch : �
           sym (nothing-read answers.End) ∙ read_ok (own_call (looks its h) c) max
               (sym is ∙ its-asked h st),
         ))
-        (λ h st. ap (λ (ys : List ℕ). read_done c true ys (looks its h)) (sym (take_nothing xs)) ∙ again h st)
+        (λ h st. ap (λ (ys : List ℕ). read_done c true ys (looks its h)) (sym (take_none xs)) ∙ again h st)
       where
         again : (h : List Event) → StandsNode class old h → read_done c true [] (looks its h) ≡ looks its h
         again h st =

@@ -1,7 +1,6 @@
 -- What a client reads of its call by what it finds of it.
-use Rattle.std.proofs.Common.{◌≡◌, ◌++◌, ℕ, if◌then◌else◌, Bool, true, false, List, [], ◌∷◌, nat_lt}
-use Rattle.std.proofs.Common.{Option, Some, None, refl, ◌∙◌, ap, sym, subst, arith}
-use Rattle.std.proofs.lemmas.Bool.Decides.{nat_tests}
+use Rattle.std.proofs.Common.{◌≡◌, ◌++◌, ℕ, if◌then◌else◌, Bool, true, false, List, [], ◌∷◌}
+use Rattle.std.proofs.Common.{Option, Some, None, refl, ◌∙◌, ap, sym, subst}
 use Rattle.rx_model.specs.declared.answers.Asked.{Asked}
 use Rattle.rx_model.specs.declared.answers.Asked.TheVariants as askeds
 use Rattle.rx_model.specs.declared.answers.CallRead.{CallRead}
@@ -15,7 +14,7 @@ use Rattle.rx_rules.specs.CallLooks.{CallLooks, after_read}
 use Rattle.rx_rules.specs.Life.{Life, after_end, is_calling}
 use Rattle.rx_rules.specs.Life as lives
 use Rattle.rx_rules.specs.Looks.{CallRecord, Looks, call_at, is_call, on_channel, on_life, on_looks}
-use Rattle.rx_rules.specs.Owing.{Owed, owed_for_done, owed_for_read}
+use Rattle.rx_rules.specs.Owing.{Owed, owed_for_read}
 use Rattle.rx_rules.specs.Received.{Received, used_of}
 use Rattle.rx_rules.specs.Received as packets
 use Rattle.rx_rules.specs.Rules.{asked_of, client_read, client_read_by, client_read_got, end_answer}
@@ -23,6 +22,7 @@ use Rattle.rx_history.proofs.Differ.{Differ, by_name}
 use Rattle.rx_node.proofs.CallChanges.{same_call}
 use Rattle.rx_node.proofs.ChannelChanges.{channel_same}
 use Rattle.rx_client.specs.Calling.{HasEnded}
+use Rattle.rx_node.proofs.IdleEvents.{nothing-behind, owed-same}
 
 -- ---- a call that ended
 
@@ -86,19 +86,8 @@ read_calling k max got bytes life is =
 
 -- ---- a read of one that ended well changes nothing
 
-read-behind : (xs : List ℕ) → xs ++ [] ≡ xs
-read-behind [] = refl
-read-behind (x ∷ xs) = ap (λ (ys : List ℕ). x ∷ ys) (read-behind xs)
-
 received-same : (r : Received) → r.ended ≡ true → packets.after_read true [] r ≡ r
-received-same r ended = λ i. record r { read = read-behind r.read i; ended = sym ended i }
-
-owed-same : (now : ℕ) (prompt : Bool) (n : ℕ) (owed : Option Owed) → owed_for_read now prompt n n owed ≡ owed
-owed-same now prompt n owed =
-    ap (λ (b : Bool). if b then owed_for_done now prompt owed else owed) (not-below n)
-  where
-    not-below : (n : ℕ) → nat_lt n n ≡ false
-    not-below n = grind (arith, nat_tests)
+received-same r ended = λ i. record r { read = nothing-behind r.read i; ended = sym ended i }
 
 looks-same : (now : ℕ) (k : CallLooks) → k.received.ended ≡ true → after_read now true [] k ≡ k
 looks-same now k ended =

@@ -1,5 +1,5 @@
 -- A client makes a connection, and starts a call.
-use Rattle.std.proofs.Common.{◌≡◌, ◌<◌, ◌≤◌, ◌+◌, ◌*◌, ◌/◌, ◌%◌, ◌^◌, ℕ, zero, suc, if◌then◌else◌, nat_le, Bool, true}
+use Rattle.std.proofs.Common.{◌≡◌, ◌<◌, ◌≤◌, ◌+◌, ◌*◌, ◌/◌, ◌%◌, ◌^◌, ℕ, if◌then◌else◌, nat_le, Bool, true}
 use Rattle.std.proofs.Common.{false, List, [], ◌∷◌, filter, length}
 use Rattle.std.proofs.Common.{Option, Some, None, Result, Ok, Err, refl, ◌∙◌, ap, sym, subst, arith}
 use Rattle.std.specs.Prelude.{slice_get}
@@ -22,7 +22,6 @@ use Rattle.rx_rules.specs.Rules.{Allowed, Legal, call_answer, call_among, call_o
 use Rattle.rx_rules.specs.Rules.{next_number}
 use Rattle.rx_rules.specs.Setup.{FitsSetup, Kind, Setup, Client, is_client, nonce_of}
 use Rattle.rx_rules.specs.Slots.{live}
-use Rattle.rx_rules.proofs.EveryLaws.{Every}
 use Rattle.rx_history.proofs.Conns.{GoodConn}
 use Rattle.rx_history.proofs.Fit.FitHistory.{node_stands}
 use Rattle.rx_history.proofs.Order.Orderly.{AmongFirst, HasFour, Orderly}
@@ -33,18 +32,13 @@ use Rattle.rx_table.specs.Records.{place_of}
 use Rattle.rx_node.specs.Mirrors.{IsChannel, Mirrors}
 use Rattle.rx_node.specs.Node.{NodeState, setup_of}
 use Rattle.rx_node.specs.Steps.{AnswersNode, StandsNode}
-use Rattle.rx_node.proofs.Steps.ChannelSteps.{IsThere, channel_started, conn_there}
+use Rattle.rx_node.proofs.Steps.ChannelSteps.{IsThere, channel_started, conn_there, every-at}
 use Rattle.rx_node.proofs.KeptKeys.{key_on_channel}
 use Rattle.rx_node.proofs.Steps.IdleSteps.{known_at, unknown_at}
 use Rattle.rx_client.specs.Calling.{HasNoneOpen, IsFirstOpen}
 use Rattle.rx_client.proofs.Answering.{allowed_client, answers_by}
 use Rattle.rx_client.proofs.ClientEvents.{unchanged}
 use Rattle.rx_client.proofs.OpenChannels.{opened_among, refused_among}
-
-every-at : {X : Type 0} (P : X → Type 0) (xs : List X) (i : ℕ) (x : X) → Every P xs → slice_get xs i ≡ Some x → P x
-every-at P [] i x all there = absurd (cc (there))
-every-at P (y ∷ ys) zero x all there = (let same : y ≡ x = cc (there) in subst P same all.0)
-every-at P (y ∷ ys) (suc i) x all there = every-at P ys i x all.1 there
 
 module _ (class : List ℕ → Class) (old : NodeState) (host : Host) (epoch : ℕ)
     (kind : old.kind ≡ Client host epoch) where

@@ -57,6 +57,7 @@ use Rattle.rx_history.proofs.Server.{Arrives, Standing, WriteFacts, nothing-writ
 use Rattle.rx_history.proofs.Server.{write-low}
 use Rattle.rx_history.proofs.Takes.{StopCause, TakenWhy, opens-by, start-still}
 use Rattle.rx_history.proofs.Turns.{Fine, Turn, still-turn}
+use Rattle.rx_history.proofs.Lives.{same_end}
 
 -- ---- why a client's call ends
 
@@ -255,13 +256,10 @@ cancel-fine code lives.Finished is = is
 cancel-fine code (lives.Broken before) is = is
 cancel-fine code (lives.Over before) is = is
 
-same-end : (a b : End) → Some a ≡ Some b → a ≡ b
-same-end a b is = cc
-
 cancel-ends : (Cause : End → Type 0) (code : ℤ) (x : Life) (end : End) → Cause (ends.Cancelled code)
     → end_of_life (after_cancel code x) ≡ Some end
     → (end_of_life x ≡ Some end) ⊎ Cause end
-cancel-ends Cause code lives.Calling end cause is = inr (subst Cause (same-end (ends.Cancelled code) end is) cause)
+cancel-ends Cause code lives.Calling end cause is = inr (subst Cause (same_end (ends.Cancelled code) end is) cause)
 cancel-ends Cause code (lives.Ended e) end cause is = inl is
 cancel-ends Cause code lives.Waiting end cause is = inl is
 cancel-ends Cause code lives.Accepted end cause is = inl is
@@ -269,7 +267,7 @@ cancel-ends Cause code lives.Finished end cause is = inl is
 cancel-ends Cause code (lives.Broken before) end cause is = inl is
 cancel-ends Cause code (lives.Over before) end cause is = inl is
 
-at-most : (a b : ℕ) → nat_le a b ≡ true → a ≤ b
+pub at-most : (a b : ℕ) → nat_le a b ≡ true → a ≤ b
 at-most a b h = grind (arith, nat_tests)
 
 -- a channel's number fits

@@ -242,7 +242,7 @@ pub record Called (s : Setup) (h : List Event) : Type 0 where
   pub fine : (c : CallName) → Fine (call_at (looks s h) c)
   pub spared : (x : Connection) → Spared x (looks s h)
 
-clients : (kind : Kind) (s : Setup) (host : Host) (epoch : ℕ) (l : Looks) (e : Event) → kind ≡ Client host epoch
+pub clients : (kind : Kind) (s : Setup) (host : Host) (epoch : ℕ) (l : Looks) (e : Event) → kind ≡ Client host epoch
     → AllowedAt kind s l e
     → AllowedClient s host epoch l e
 clients kind s host epoch l e is allowed = subst (λ (k : Kind). AllowedAt k s l e) is allowed

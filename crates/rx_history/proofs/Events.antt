@@ -83,7 +83,7 @@ pub record ReadFacts (k : CallRecord) (end : Bool) (bytes : List ℕ) : Type 0 w
   pub ended : end ≡ true → (k.looks.received.ended ≡ true) ⊎
       ((left_of (ends_in k.looks) ≡ []) × (whole_of (ends_in k.looks) ≡ true))
 
-take_none : (xs : List ℕ) → [] ≡ take 0 xs
+pub take_none : (xs : List ℕ) → [] ≡ take 0 xs
 take_none [] = refl
 take_none (x ∷ xs) = refl
 

@@ -44,7 +44,7 @@ life-broken : (Cause : End → Type 0) (x : Life) (code : ℤ) → LifeMove Caus
 life-broken Cause x code =
     record { waits = λ is. absurd cc; runs = λ is. absurd cc; fine = λ is. absurd cc; ends = λ end is. absurd cc }
 
-same_end : (a b : End) → Some a ≡ Some b → a ≡ b
+pub same_end : (a b : End) → Some a ≡ Some b → a ≡ b
 same_end a b is = cc
 
 life-aborted : (Cause : End → Type 0) (x : Life) (code : ℤ) → Cause (ends.Abort code)

@@ -34,7 +34,7 @@ use Rattle.rx_rules.proofs.FindLaws.{find_passes}
 use Rattle.rx_history.proofs.Laws.ForgotLaws.{with-forgotten}
 use Rattle.rx_rules.proofs.KeepsLaws.{Keeps, keeps-on_life, keeps-on_looks, keeps-refl, keeps-trans}
 use Rattle.rx_rules.proofs.LifeLaws.{accept_waits}
-use Rattle.rx_model.proofs.NameLaws.{connection_is}
+use Rattle.rx_model.proofs.NameLaws.{connection_is, not_true}
 use Rattle.rx_history.proofs.Laws.SoundLaws.{Sound, sound-keeps}
 use Rattle.rx_history.proofs.Laws.TakenLaws.{sound-with}
 use Rattle.rx_history.proofs.Given.GivenLaws.{keeps-finish, keeps-polled, keeps-read, keeps-silenced}
@@ -167,10 +167,6 @@ pub record NewCall (l : Looks) (x : Connection) (c : CallName) : Type 0 where
   pub number : c.number ≡ next_number conn.first (channel_at l (channel_of c)).number
   pub fresh : ((channel_at l (channel_of c)).number == 2 ^ 32 - 1) ≡ false
 
-not_false : (b : Bool) → not b ≡ true → b ≡ false
-not_false true is = absurd cc
-not_false false is = refl
-
 abbrev ok_call : CallName → Result CallName CallRefused
 ok_call c = Ok c
 
@@ -189,7 +185,7 @@ call-here l x r ch c there of fresh is =
       chan = (let same : c.chan ≡ ch.chan = ap (λ (d : Channel). d.chan) at in let low = of.1 in omega arith);
       number = ap (λ (d : CallName). d.number) is ∙ ap (λ (d : Channel). next_number r.first (channel_at l d).number)
           (sym at);
-      fresh = subst (λ (d : Channel). is_worn l d ≡ false) (sym at) (not_false (is_worn l ch) fresh);
+      fresh = subst (λ (d : Channel). is_worn l d ≡ false) (sym at) (not_true (is_worn l ch) fresh);
     }
 
 call-among : (s : Setup) (l : Looks) (x : Connection) (r : ConnLooks) (chs : List Channel) (c : CallName) → conn_at l x

@@ -20,7 +20,7 @@ use Rattle.rx_rules.proofs.ConnsLaws.{channel_number, conn_at-on_conn, conn_if, 
 use Rattle.rx_rules.proofs.EnterLaws.{fresh_channels}
 use Rattle.rx_rules.proofs.FindLaws.{find-last}
 use Rattle.rx_history.proofs.Events.{calls-prepared}
-use Rattle.rx_history.proofs.Places.{OnlyNew, find-only, fresh-number, is_none}
+use Rattle.rx_history.proofs.Places.{OnlyNew, find-only, fresh-number, is_none, last-only}
 
 -- ---- the number of a channel
 
@@ -32,16 +32,11 @@ only-new x new (Some r) n fresh only =
     ap (λ (q : ConnLooks). number_in q.channels n) only ∙ ap (λ (qs : List ChannelLooks). number_in qs n) fresh
     ∙ fresh-number x n
 
--- where one comes it is the new one
-pub last-new : (b : Bool) (new : ConnLooks) → OnlyNew new (cond b (Some new) None)
-last-new true new = refl
-last-new false new = tt
-
-placed-new : (x : Connection) (new : ConnLooks) (o : Option ConnLooks) (l : Looks) → conn_at l x ≡ None
+pub placed-new : (x : Connection) (new : ConnLooks) (o : Option ConnLooks) (l : Looks) → conn_at l x ≡ None
     → OnlyNew new (conn_at (placed new o l) x)
 placed-new x new None l none =
     rw (find-last (λ r. same_connection r.connection x) l.conns new none)
-    (last-new (same_connection new.connection x) new)
+    (last-only (same_connection new.connection x) new)
 placed-new x new (Some old) l none = find-only (λ r. same_connection r.connection x) new old l.conns none
 
 number-with_conn : (s : Setup) (kind : Kind) (x : Connection) (l : Looks) (n : ℕ) → conn_at l x ≡ None
@@ -52,7 +47,7 @@ number-with_conn s (Server service nonces) x l n none =
     (placed-new x (fresh_conn x x.host service 1 l) (if is_full s l then idle_conn l else None) l none)
     ∙ sym (ap (λ (o : Option ConnLooks). number_of o n) none)
 
-number-entered : (s : Setup) (x : Connection) (l : Looks) (n : ℕ)
+pub number-entered : (s : Setup) (x : Connection) (l : Looks) (n : ℕ)
     → number_of (conn_at (entered s x l) x) n ≡ number_of (conn_at l x) n
 number-entered s x l n =
     (elim (is_some (conn_at l x)) as (λ b. is_some (conn_at l x) ≡ b

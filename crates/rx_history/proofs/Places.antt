@@ -13,7 +13,7 @@ use Rattle.rx_rules.proofs.ConnsLaws.{number_in, number_of}
 use Rattle.rx_rules.proofs.EnterLaws.{fresh_channels}
 use Rattle.rx_rules.proofs.FindLaws.{find-before, find-last}
 use Rattle.rx_rules.proofs.KeepsLaws.{Fours, Keeps, Lives, keeps-refl, lives-refl}
-use Rattle.rx_model.proofs.NameLaws.{neither, connection_is, connection_itself}
+use Rattle.rx_model.proofs.NameLaws.{neither, connection_is, connection_itself, or_true}
 
 -- no record of this connection was forgotten
 abbrev pub Spared : Connection → Looks → Type 0
@@ -74,7 +74,7 @@ only-fours x new None fresh only = tt
 only-fours x new (Some r) fresh only = ap (λ (q : ConnLooks). length q.channels) only
     ∙ ap (λ (qs : List ChannelLooks). length qs) fresh
 
-last-only : (b : Bool) (new : ConnLooks) → OnlyNew new (cond b (Some new) None)
+pub last-only : (b : Bool) (new : ConnLooks) → OnlyNew new (cond b (Some new) None)
 last-only true new = refl
 last-only false new = tt
 
@@ -179,10 +179,6 @@ spared-entered y s x l spared =
 abbrev Within : List ConnLooks → Option ConnLooks → Type 0
 Within rs None = Unit {0}
 Within rs (Some r) = list_any (λ q. same_connection q.connection r.connection) rs ≡ true
-
-or_true : (b : Bool) → (b || true) ≡ true
-or_true true = refl
-or_true false = refl
 
 within-more : (q : ConnLooks) (rs : List ConnLooks) (o : Option ConnLooks) → Within rs o → Within (q ∷ rs) o
 within-more q rs None within = tt

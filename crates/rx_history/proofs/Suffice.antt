@@ -31,7 +31,7 @@ use Rattle.rx_history.proofs.Server.{read-server}
 
 -- ---- a server
 
-serve-wrote : (s : Setup) (l : Looks) (k : CallRecord) (life : Life) (ended : Bool) (offered : ℕ)
+pub serve-wrote : (s : Setup) (l : Looks) (k : CallRecord) (life : Life) (ended : Bool) (offered : ℕ)
     (got : Result ℕ ServeRefused) (bytes : List ℕ)
     → (life ≡ lives.Accepted → k.looks.sent.shut ≡ false)
     → got ≡ served_by life ended (min offered (room s l k.looks)) → HasBytes got bytes
@@ -75,7 +75,7 @@ server-after s l (events.Cancelled c code got) server allowed r = absurd allowed
 
 -- ---- a client
 
-say-wrote : (s : Setup) (l : Looks) (k : CallRecord) (offered : ℕ) (got : Result ℕ NotOpen) (bytes : List ℕ)
+pub say-wrote : (s : Setup) (l : Looks) (k : CallRecord) (offered : ℕ) (got : Result ℕ NotOpen) (bytes : List ℕ)
     → got ≡ client_write s l (Some k) offered → HasBytes got bytes → Wrote s l k bytes
 say-wrote s l k offered got bytes is has = of (is_live k.life) k.looks.sent.shut refl is
   where
@@ -89,7 +89,7 @@ say-wrote s l k offered got bytes is has = of (is_live k.life) k.looks.sent.shut
     of true true shut is = inl (subst (λ (r : Result ℕ NotOpen). HasBytes r bytes) is has)
     of false shut' shut is = inl (subst (λ (r : Result ℕ NotOpen). HasBytes r bytes) is has)
 
-client-wrote : (s : Setup) (l : Looks) (k : CallRecord) (o : Option CallRecord) (offered : ℕ)
+pub client-wrote : (s : Setup) (l : Looks) (k : CallRecord) (o : Option CallRecord) (offered : ℕ)
     (got : Result ℕ NotOpen) (bytes : List ℕ)
     → (o ≡ Some k) ⊎ (o ≡ None) → got ≡ client_write s l o offered → HasBytes got bytes → Wrote s l k bytes
 client-wrote s l k o offered got bytes (inl own) is has =

@@ -32,11 +32,11 @@ abbrev pub Differ : List CallName → Type 0
 Differ [] = Unit {0}
 Differ (c ∷ cs) = Apart c cs × Differ cs
 
-every-front : {X : Type 0} (P : X → Type 0) (xs ys : List X) → Every P (xs ++ ys) → Every P xs
+pub every-front : {X : Type 0} (P : X → Type 0) (xs ys : List X) → Every P (xs ++ ys) → Every P xs
 every-front P [] ys all = tt
 every-front P (x ∷ xs) ys all = (all.0, every-front P xs ys all.1)
 
-every-back : {X : Type 0} (P : X → Type 0) (xs ys : List X) → Every P (xs ++ ys) → Every P ys
+pub every-back : {X : Type 0} (P : X → Type 0) (xs ys : List X) → Every P (xs ++ ys) → Every P ys
 every-back P [] ys all = all
 every-back P (x ∷ xs) ys all = every-back P xs ys all.1
 
@@ -66,7 +66,7 @@ differ-new [] c d new = (tt, tt)
 differ-new (x ∷ xs) c d new =
     (every-append (λ y. same_name y x ≡ false) xs (c ∷ []) d.0 (name_sym c x ∙ new.0, tt), differ-new xs c d.1 new.1)
 
-calls-append : (xs ys : List JobState) → calls_of (xs ++ ys) ≡ calls_of xs ++ calls_of ys
+pub calls-append : (xs ys : List JobState) → calls_of (xs ++ ys) ≡ calls_of xs ++ calls_of ys
 calls-append xs ys = map-append (λ (j : JobState). j.call) xs ys
 
 -- ---- lives in a history

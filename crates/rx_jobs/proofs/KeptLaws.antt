@@ -6,12 +6,11 @@ use Rattle.std.specs.Int.{w32, from_be_bytes}
 use Rattle.std.specs.List.{slice_get}
 use Rattle.std.proofs.Math.Seq.{take-length}
 use Rattle.std.proofs.lemmas.Bool.{ltb-false, ltb-true, le-ltb, leb-true, le-leb}
-use Rattle.std.proofs.lemmas.List.{append-nil, drop-take, length-append, length-drop, length-take}
+use Rattle.std.proofs.lemmas.List.{drop-take, length-append, length-drop, length-take}
 use Rattle.std.proofs.lemmas.List.{length-take-le, take-append-drop, take-append-le, take-take, take_all}
 use Rattle.xdr_value.specs.Data.{Data, Procedure, Procs, Types}
 use Rattle.xdr_code.specs.declared.fault.Fault.TheVariants.{Deep, Short, Bad}
 use Rattle.xdr_code.specs.Reading.{AtFront}
-use Rattle.xdr_code.proofs.Bytes.{wide32}
 use Rattle.stub_table.specs.declared.codes.TheConstants.{SS_UNMARSHAL}
 use Rattle.stub_table.specs.Requests.{RequestAnswer, whole, more_wanted, refused, found_from, args_answer, found_answer}
 use Rattle.stub_table.specs.Requests.{is_open, opcode_answer, request_answer, seen_answer}
@@ -20,6 +19,7 @@ use Rattle.rx_script.specs.Served.{counted, counted_at, served_by, served_from, 
 use Rattle.rx_jobs.specs.Handlers.{Handlers, answer_to, behind_code, early_code, early_from}
 use Rattle.rx_jobs.specs.Handlers.{served_for, takes_upload, upload_code, wait_from, wait_of}
 use Rattle.rx_jobs.specs.Keeping.{found_uploads, has_upload, kept_of, most_kept, opcode_uploads}
+use Rattle.xdr_code.proofs.ItemLaws.{same_word}
 
 -- ---- fronts of requests
 
@@ -34,11 +34,6 @@ fits_by n xs false e = fits (ltb-false _ _ e)
 
 how_long : (n : ℕ) (xs : List ℕ) → Fits n xs
 how_long n xs = fits_by n xs (ltb n (length xs)) refl
-
--- four bytes say the same number, whatever follows
-same_word : (x y : List ℕ) → 4 ≤ length x → from_be_bytes w32 (x ++ y) ≡ from_be_bytes w32 x
-same_word x y long =
-    wide32.front x y long ∙ sym (ap (from_be_bytes w32) (sym (append-nil x)) ∙ wide32.front x [] long)
 
 -- and those of a front
 front_word : (n : ℕ) (xs : List ℕ) → 4 ≤ length (take n xs)

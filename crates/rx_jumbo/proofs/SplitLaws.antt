@@ -10,6 +10,7 @@ use Rattle.rx_jumbo.specs.Parts.{SplitsAt, checksum_place, header_of, has_part, 
 use Rattle.rx_jumbo.specs.Parts.{is_jumbo, last_part, part_at, part_place, parts_of, parts_to, unfollowed}
 use Rattle.rx_jumbo.proofs.Places.{checksum_before}
 use Rattle.rx_jumbo.proofs.FindLaws.{IsFirst, find_first, first_found, get_in_range}
+use Rattle.rx_model.proofs.NameLaws.{not_true}
 
 -- a choice that gives something took its first branch
 guard : (t : Bool) (x : Option ℕ) (i : ℕ) → cond t x None ≡ Some i → (t ≡ true) × (x ≡ Some i)
@@ -25,10 +26,6 @@ had b (Some j) i h =
     let g = guard (has_part b j) (Some j) i h in
     let same : j ≡ i = some_same j i g.1 in
     (g.1, ap (has_part b) (sym same) ∙ g.0)
-
-not_true : (t : Bool) → not t ≡ true → t ≡ false
-not_true true h = absurd cc
-not_true false h = refl
 
 -- where a last part is told, the datagram is split there
 pub splits_at : (b : List ℕ) (last : ℕ) → last_part b ≡ Some last → SplitsAt b last

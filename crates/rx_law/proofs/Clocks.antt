@@ -7,7 +7,7 @@ use Rattle.rx_history.specs.Sides.{moment, with_clock}
 use Rattle.rx_law.specs.Times.{AdvancesAlike, AdvancesAlways, GoAlike, GoAlways, is_clock}
 
 -- only a clock event moves a clock
-clock-stays : (e : Event) (n : ℕ) → is_clock e ≡ false → with_clock e n ≡ n
+pub clock-stays : (e : Event) (n : ℕ) → is_clock e ≡ false → with_clock e n ≡ n
 clock-stays (events.Clocked now) n is = absurd cc
 clock-stays (events.Linked to service first got) n is = refl
 clock-stays (events.Called cid got) n is = refl
@@ -21,7 +21,7 @@ clock-stays (events.Finished c code got) n is = refl
 clock-stays (events.Taken from bytes got) n is = refl
 clock-stays (events.Polled got) n is = refl
 
-moment-stays : (n : ℕ) (e : Noted) (h : List Noted) → is_clock e.event ≡ false → moment n (e ∷ h) ≡ moment n h
+pub moment-stays : (n : ℕ) (e : Noted) (h : List Noted) → is_clock e.event ≡ false → moment n (e ∷ h) ≡ moment n h
 moment-stays n e h is = of (e.node == n)
   where
     of : (b : Bool) → cond b (with_clock e.event (moment n h)) (moment n h) ≡ moment n h

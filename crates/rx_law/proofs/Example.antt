@@ -25,6 +25,7 @@ use Rattle.rx_rules.proofs.Replay.{unhex}
 use Rattle.rx_model.specs.Names.{Connection}
 use Rattle.rx_law.specs.Promises.{EndsOk, LawIn, ends_in}
 use Rattle.rx_law.proofs.World.{world-kept}
+use Rattle.rx_history.proofs.Fit.FitCall.{none-said}
 
 -- an address
 abbrev pub host : ℕ → ℕ → Host
@@ -120,13 +121,10 @@ are_bytes (b ∷ bs) all zero = is_below b (both _ _ all).0
     is_below b is = grind (arith, nat_tests)
 are_bytes (b ∷ bs) all (suc i) = are_bytes bs (both _ _ all).1 i
 
-no_bytes : IsBytes []
-no_bytes i = omega arith
-
 -- no security fits
 pub null_fits : FitsClass null
 null_fits =
-    record { index = omega arith; challenge = λ c nonce. (no_bytes, omega arith); respond = λ c asked. tt }
+    record { index = omega arith; challenge = λ c nonce. (none-said, omega arith); respond = λ c asked. tt }
 
 -- the limits of a node for which none are named
 pub default_fits : FitsLimits (record { conns = 1024; calls = 64; slots = 2048; window = 32 })

@@ -37,7 +37,7 @@ found bytes shut j (q ∷ qs) p a h =
       | false ↦ λ other e. found bytes shut j qs p a.1 e
     ]) refl h
 
-take_more : (m n : ℕ) (xs : List ℕ) → take m xs ++ take n (drop m xs) ≡ take (m + n) xs
+pub take_more : (m n : ℕ) (xs : List ℕ) → take m xs ++ take n (drop m xs) ≡ take (m + n) xs
 take_more zero n xs = (let e : n ≡ 0 + n = omega arith in ap (λ (m : ℕ). take m xs) e)
 take_more (suc m) zero [] = (let e : suc m ≡ suc m + 0 = omega arith in ap (λ (k : ℕ). take k []) e)
 take_more (suc m) (suc n) [] = (let e : suc (m + suc n) ≡ suc m + suc n = omega arith in ap (λ (k : ℕ). take k []) e)

@@ -1,7 +1,6 @@
 -- A server's judging of a message: what it knows of a call stays, and what it knows of one that starts.
 use Rattle.std.proofs.Common.{◌≡◌, ◌<◌, ℕ, zero, suc, if◌then◌else◌, nat_lt, is_some, Bool, true, false, List}
 use Rattle.std.proofs.Common.{[], ◌∷◌, Option, Some, None, option_map, refl, ◌∙◌, ap, subst, inl, arith}
-use Rattle.std.proofs.lemmas.Bool.Decides.{nat_tests}
 use Rattle.rx_model.specs.declared.answers.Took.{Took}
 use Rattle.rx_model.specs.declared.answers.Took.TheVariants as tooks
 use Rattle.rx_model.specs.declared.names.CallName.{CallName}
@@ -26,7 +25,7 @@ use Rattle.rx_law.proofs.Asks.{waits}
 use Rattle.rx_law.proofs.Firm.{Firm, Young, busy_in, busy_of, firm-same, firm-trans}
 use Rattle.rx_law.proofs.FirmAfter.{firm-data, firm-heard, firm-over, firm-started, firm-stopped}
 use Rattle.rx_law.proofs.Recalls.{Recalls}
-use Rattle.rx_history.proofs.Laws.TakenLaws.{keeps-data, keeps-heard, keeps-over, keeps-stopped, there-is}
+use Rattle.rx_history.proofs.Laws.TakenLaws.{keeps-data, keeps-heard, keeps-over, keeps-stopped, there-is, is-below}
 
 -- the answers that may start a call
 abbrev pub starts : Took → Bool
@@ -48,9 +47,6 @@ with-starts s tooks.NoSlot d m l is = refl
 with-starts s _ d m l is = absurd cc
 
 -- ---- another call starts
-
-is-below : (a b : ℕ) → nat_lt a b ≡ true → a < b
-is-below a b is = grind (arith, nat_tests)
 
 keeps-later : (s : Setup) (c d : CallName) (l : Looks) → same_name c d ≡ false
     → nat_lt (channel_at l (channel_of d)).number d.number ≡ true

@@ -240,7 +240,7 @@ well-fewer (e ∷ h) c =
       | false ↦ λ out. rw (well-within e c out) (omega arith)
     ]) refl
 
-zero-code : (code : ℤ) → is_zero code ≡ true → code ≡ pos 0
+pub zero-code : (code : ℤ) → is_zero code ≡ true → code ≡ pos 0
 zero-code (pos zero) is = refl
 zero-code (pos (suc n)) is = absurd cc
 zero-code (negsuc n) is = absurd cc
@@ -266,7 +266,7 @@ finish-zero c code later before one well =
           omega arith)
     ]) refl
 
-side-split : (n : ℕ) (later before : List Noted) → side n (later ++ before) ≡ side n later ++ side n before
+pub side-split : (n : ℕ) (later before : List Noted) → side n (later ++ before) ≡ side n later ++ side n before
 side-split n [] before = refl
 side-split n (e ∷ later) before =
     let rest = side-split n later before in

@@ -1,20 +1,19 @@
 -- Where nothing that comes is old, a server starts no call of a connection while it has a record.
 use Rattle.std.proofs.Common.{◌≡◌, ◌⊎◌, ◌==◌, ◌≤◌, ◌+◌, ℕ, zero, suc, cond, nat_lt, is_some, Bool, true, false, List}
 use Rattle.std.proofs.Common.{[], ◌∷◌}
-use Rattle.std.proofs.Common.{refl, subst, inl, inr, arith}
+use Rattle.std.proofs.Common.{refl, inl, inr, arith}
 use Rattle.std.proofs.lemmas.Bool.Decides.{nat_tests}
 use Rattle.rx_model.specs.declared.answers.Took.TheVariants as tooks
 use Rattle.rx_model.specs.declared.event.Event.{Event}
 use Rattle.rx_model.specs.declared.event.Event.TheVariants as events
 use Rattle.rx_model.specs.declared.event.Noted.{Noted}
 use Rattle.rx_model.specs.declared.names.CallName.{CallName}
-use Rattle.rx_model.specs.declared.names.Host.{Host}
 use Rattle.rx_model.specs.declared.wire.TheConstants.{LIFETIME_MS}
 use Rattle.rx_rules.specs.After.{looks}
 use Rattle.rx_rules.specs.Looks.{Looks}
 use Rattle.rx_model.specs.Names.{connection_of}
-use Rattle.rx_rules.specs.Rules.{AllowedAt, AllowedClient, Legal}
-use Rattle.rx_rules.specs.Setup.{Setup, Kind, Client}
+use Rattle.rx_rules.specs.Rules.{Legal}
+use Rattle.rx_rules.specs.Setup.{Setup}
 use Rattle.rx_law.specs.Promises.{at_client, at_server}
 use Rattle.rx_history.specs.Sides.{moment, side, with_clock}
 use Rattle.rx_history.specs.Starts.{StartsNew, StartsOnce}
@@ -30,6 +29,7 @@ use Rattle.rx_history.proofs.Laws.OnceLaw.{served}
 use Rattle.rx_history.proofs.ServerStands.{server-stands}
 use Rattle.rx_law.proofs.TimedClient.{client-timed}
 use Rattle.rx_law.proofs.TimedServer.{asks-new, server-timed}
+use Rattle.rx_law.proofs.World.{clients}
 
 -- what holds of the times of a call after a joint history
 abbrev pub TimedAt : TwoEnds → CallName → List Noted → Type 0
@@ -56,10 +56,6 @@ nothing-timed x c =
       gave = λ bytes m payload at gave. absurd gave;
       told = λ bytes m at gave. absurd gave;
     }
-
-clients : (s : Setup) (host : Host) (epoch : ℕ) (l : Looks) (e : Event) → s.kind ≡ Client host epoch
-    → AllowedAt s.kind s l e → AllowedClient s host epoch l e
-clients s host epoch l e kind allowed = subst (λ (k : Kind). AllowedAt k s l e) kind allowed
 
 module _ (x : TwoEnds) (c : CallName) (e : Noted) (h : List Noted) where
   -- an event of neither end

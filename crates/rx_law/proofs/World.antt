@@ -138,7 +138,7 @@ strays-client s host epoch l (events.Clocked now) kind allowed none = none
 strays-client s host epoch l (events.Accepted got) kind allowed none = absurd allowed
 strays-client s host epoch l (events.Finished d code got) kind allowed none = absurd allowed
 
-clients : (s : Setup) (host : Host) (epoch : ℕ) (l : Looks) (e : Event) → s.kind ≡ Client host epoch
+pub clients : (s : Setup) (host : Host) (epoch : ℕ) (l : Looks) (e : Event) → s.kind ≡ Client host epoch
     → AllowedAt s.kind s l e → AllowedClient s host epoch l e
 clients s host epoch l e kind allowed = subst (λ (k : Kind). AllowedAt k s l e) kind allowed
 

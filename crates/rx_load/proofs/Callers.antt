@@ -35,7 +35,7 @@ use Rattle.rx_plan.specs.Turned.{dispatches, turns_of}
 use Rattle.rx_plan.proofs.Callers.{IsClientNode, client_apart, heard_call, one_is, set_other, side_by, side_other}
 use Rattle.rx_plan.proofs.Callers.{side_own}
 use Rattle.rx_plan.proofs.ClientDims.{client_gives, client_takes}
-use Rattle.rx_plan.proofs.ClientEnds.{by_client, onward_after}
+use Rattle.rx_plan.proofs.ClientEnds.{onward_after}
 use Rattle.rx_plan.proofs.Driven.{set_own, set_twice, with_view}
 use Rattle.rx_plan.proofs.Driven as driven
 use Rattle.rx_plan.proofs.Following.{Asks, IsFollowed, followed}
@@ -44,6 +44,7 @@ use Rattle.rx_plan.proofs.Leading.{Leads, ends_lead, then_lead, turn_lead}
 use Rattle.rx_plan.proofs.Shaped.{IsCarried, Shapes}
 use Rattle.rx_load.specs.Loads.{load_handlers}
 use Rattle.rx_load.proofs.Knowing.{Knows, KnowsTurn, begins_turn, idle_rests, knows_on, knows_own, knows_same}
+use Rattle.rx_history.proofs.ClientHistory.{clients}
 
 -- a call of a load is asked as it's opened, with the bytes of its request
 abbrev pub Opened : ℕ → Type 0
@@ -96,7 +97,7 @@ both_lead P R part p r es a made = (p es a made, r es a made)
 client_here : (nodes : List Node) (h : List Noted) (node : ℕ) (e : Event) (n : IsClientNode nodes node)
     → IsAllowedAt nodes h node e → AllowedClient n.client.setup n.host n.epoch (looks n.client.setup (side node h)) e
 client_here nodes h node e n allowed =
-    by_client n.client.setup.kind n.client.setup n.host n.epoch (looks n.client.setup (side node h)) e n.kind
+    clients n.client.setup.kind n.client.setup n.host n.epoch (looks n.client.setup (side node h)) e n.kind
     (and-some (slice_get nodes node) n.client (λ m. Allowed m.setup (looks m.setup (side node h)) e) n.there allowed)
 
 -- what the network and the clocks do, and a poll, leaves what a caller knows

@@ -37,6 +37,7 @@ use Rattle.rx_asks.proofs.Asked.{AskedBy, asked_by, asks_unended}
 use Rattle.rx_asks.proofs.CallerEvents.{asked_dims, cancel_is, own_change, own_read, read_is}
 use Rattle.rx_asks.proofs.Kept.{GoesOn}
 use Rattle.rx_plan.proofs.ClientEnds.{Onward}
+use Rattle.rx_asks.proofs.Telling.{none-end}
 
 -- its call is there; an end that it knows is the call's; and while it knows none, the call is its channel's latest
 pub record Knows (l : Looks) (v : CallerState) : Type 0 where
@@ -51,10 +52,6 @@ pub record KnowsTurn (l : Looks) (v : CallerState) : Type 0 where
   pub knows : Knows l v
   pub over : v.end ≡ None → nat_lt REPLY_BYTES (length v.reply) ≡ true → knows.call.life ≡ lives.Calling
   pub rests : v.end ≡ None → v.phase ≡ phases.Resting → knows.call.life ≡ lives.Calling
-
-no_end : (o : Option End) → is_some o ≡ false → o ≡ None
-no_end None is = refl
-no_end (Some end) is = absurd cc
 
 -- ---- between its turns
 
@@ -333,7 +330,7 @@ knows_own s host epoch l v a e asked is allowed t = by b.ask refl (subst (λ (x 
     b = asked_by REPLY_BYTES v a asked
 
     open_ : v.end ≡ None
-    open_ = no_end v.end (asks_unended REPLY_BYTES v a asked)
+    open_ = none-end v.end (asks_unended REPLY_BYTES v a asked)
 
     long_of : (p q : Bool) → is_some v.end ≡ p → nat_lt REPLY_BYTES (length v.reply) ≡ q
         → (if p then None else if q then Some asks.Cancel else next_at v.phase v) ≡ Some asks.Cancel

@@ -5,9 +5,6 @@ use Rattle.std.specs.Prelude.{slice_index}
 use Rattle.rx_model.specs.Message.{IsBytes}
 use Rattle.rx_model.specs.Spelling.{IsCode}
 
-pub no_bytes : IsBytes []
-no_bytes i = omega arith
-
 -- the first of bytes are bytes
 pub take_bytes : (n : ℕ) (xs : List ℕ) → IsBytes xs → IsBytes (take n xs)
 take_bytes n [] bytes i = subst (λ (ys : List ℕ). slice_index ys i < 256) (none n) (omega arith)

@@ -32,7 +32,7 @@ calls_stay c f l same = ap (λ (ks : List CallRecord). record l { calls = ks }) 
         ap (λ (j : CallRecord). j ∷ map (changed_if c f) ks) (one k (same_name k.name c))
         ∙ ap (λ (js : List CallRecord). k ∷ js) (all ks)
 
-nothing-behind : (xs : List ℕ) → xs ++ [] ≡ xs
+pub nothing-behind : (xs : List ℕ) → xs ++ [] ≡ xs
 nothing-behind [] = refl
 nothing-behind (x ∷ xs) = ap (λ (ys : List ℕ). x ∷ ys) (nothing-behind xs)
 
@@ -48,7 +48,7 @@ write_nothing c l =
 read-same : (r : Received) → packets.after_read false [] r ≡ r
 read-same r = λ i. record r { read = nothing-behind r.read i }
 
-owed-same : (now : ℕ) (prompt : Bool) (n : ℕ) (owed : Option Owed) → owed_for_read now prompt n n owed ≡ owed
+pub owed-same : (now : ℕ) (prompt : Bool) (n : ℕ) (owed : Option Owed) → owed_for_read now prompt n n owed ≡ owed
 owed-same now prompt n owed =
     ap (λ (b : Bool). if b then owed_for_done now prompt owed else owed) (not-below n)
   where

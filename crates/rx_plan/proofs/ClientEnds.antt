@@ -19,20 +19,20 @@ use Rattle.rx_rules.specs.Judging.{facts_of, opened, outer_row, own_row, took_of
 use Rattle.rx_rules.specs.Life.{Life, after_end, is_live}
 use Rattle.rx_rules.specs.Life as lives
 use Rattle.rx_rules.specs.Looks.{CallRecord, Looks, call_at, channel_at, conn_at, is_call, on_call, on_life, on_looks}
-use Rattle.rx_rules.specs.Rules.{AllowedAt, AllowedClient, Legal}
-use Rattle.rx_rules.specs.Setup.{Client, FitsSetup, Kind, Setup, is_client, named, pace_of}
+use Rattle.rx_rules.specs.Rules.{AllowedClient, Legal}
+use Rattle.rx_rules.specs.Setup.{Client, FitsSetup, Setup, is_client, named, pace_of}
 use Rattle.rx_rules.proofs.CallsLaws.{KeepsNames, call_at-on_call, changed_if}
 use Rattle.rx_rules.proofs.ConnsLaws.{number_of}
 use Rattle.rx_history.specs.Streams.{end_at, end_by, end_of_life}
 use Rattle.rx_history.proofs.Client.{fresh-call}
-use Rattle.rx_history.proofs.ClientHistory.{client-calls}
+use Rattle.rx_history.proofs.ClientHistory.{client-calls, clients}
 use Rattle.rx_history.proofs.Conns.{Conns}
 use Rattle.rx_history.proofs.Openings.{channel_prepared}
 use Rattle.rx_history.proofs.Rows.RowsInFront.{above_served, may_start}
 use Rattle.rx_history.proofs.Laws.SoundLaws.{Below, Sound}
 use Rattle.rx_history.proofs.Takes.{call_at-any}
 use Rattle.rx_asks.specs.History.{IsCalled}
-use Rattle.rx_asks.proofs.Kept.{GoesOn, Kept, on-end, on-refl}
+use Rattle.rx_asks.proofs.Kept.{GoesOn, Kept, on-end, on-refl, on-trans}
 use Rattle.rx_asks.proofs.KeptEvents.{StartsNoCall, kept_after}
 use Rattle.rx_asks.proofs.KeptTaken.{StartsNone, StartsNoneBy, StartsNoneOf}
 use Rattle.rx_plan.proofs.Aborts.AbortCauses.{named_row}
@@ -50,16 +50,12 @@ onward_refl : (o : Option CallRecord) → Onward o o
 onward_refl None = tt
 onward_refl (Some k) = on-refl k.life
 
-goes_then : (x y z : Life) → GoesOn x y → GoesOn y z → GoesOn x z
-goes_then x y z p q =
-    record { called = λ is. q.called (p.called is); ended = λ end is. q.ended end (p.ended end is) }
-
 onward_then : (a b c : Option CallRecord) → Onward a b → Onward b c → Onward a c
 onward_then None None c p q = q
 onward_then None (Some b) c p q = absurd p
 onward_then (Some a) None c p q = absurd p
 onward_then (Some a) (Some b) None p q = q
-onward_then (Some a) (Some b) (Some c) p q = goes_then a.life b.life c.life p q
+onward_then (Some a) (Some b) (Some c) p q = on-trans a.life b.life c.life p q
 
 kept_onward : (a b : Option CallRecord) → Kept a b → Onward a b
 kept_onward None None kept = tt
@@ -245,11 +241,6 @@ onward_ended (Some a) (Some b) end on is = ap end_of_life (on.ended end (ended_l
     ended_life (lives.Broken code) is = absurd cc
     ended_life (lives.Over code) is = absurd cc
 
--- what a client may do
-pub by_client : (kind : Kind) (s : Setup) (host : Host) (epoch : ℕ) (l : Looks) (e : Event) → kind ≡ Client host epoch
-    → AllowedAt kind s l e → AllowedClient s host epoch l e
-by_client kind s host epoch l e is allowed = subst (λ (k : Kind). AllowedAt k s l e) is allowed
-
 module _ (s : Setup) (host : Host) (epoch : ℕ) (kind : s.kind ≡ Client host epoch) (fits : FitsSetup s) where
   step_of : (e : Event) (h : List Event) (c : CallName) → Legal s (e ∷ h)
       → Begins s host epoch kind (looks s h) (looks s (e ∷ h)) c
@@ -257,7 +248,7 @@ module _ (s : Setup) (host : Host) (epoch : ℕ) (kind : s.kind ≡ Client host 
   step_of e h c legal =
       let before = client-calls s host epoch h kind fits legal.1 in
       step s host epoch kind (looks s h) e c fits before.standing.conns before.sound
-      (by_client s.kind s host epoch (looks s h) e kind legal.0)
+      (clients s.kind s host epoch (looks s h) e kind legal.0)
 
   -- each call lives or ended
   pub calls_called : (h : List Event) (c : CallName) → Legal s h → IsCalledOr (call_at (looks s h) c)

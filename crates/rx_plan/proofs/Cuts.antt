@@ -8,7 +8,6 @@ use Rattle.rx_model.specs.declared.event.Noted.{Noted}
 use Rattle.rx_model.specs.declared.names.CallName.{CallName}
 use Rattle.rx_model.specs.Names.{same_name}
 use Rattle.rx_model.proofs.NameLaws.{both, name_is, same_number}
-use Rattle.rx_rules.specs.Rules.{Legal}
 use Rattle.rx_rules.specs.Setup.{Setup}
 use Rattle.rx_history.specs.Counts.{Once, finishes, times_finished}
 use Rattle.rx_history.specs.Sides.{side}
@@ -16,16 +15,6 @@ use Rattle.rx_history.specs.Starts.{StartsOnce}
 use Rattle.rx_plan.proofs.Finishing.{once_before}
 
 -- ---- splits of a history
-
-pub side_split : (n : ℕ) (later before : List Noted) → side n (later ++ before) ≡ side n later ++ side n before
-side_split n [] before = refl
-side_split n (e ∷ later) before = by (e.node == n) (side_split n later before)
-  where
-    by : (b : Bool) → side n (later ++ before) ≡ side n later ++ side n before
-        → cond b (e.event ∷ side n (later ++ before)) (side n (later ++ before))
-        ≡ cond b (e.event ∷ side n later) (side n later) ++ side n before
-    by true rest = ap (λ (es : List Event). e.event ∷ es) rest
-    by false rest = rest
 
 pub once_at : (later before : List Event) → Once (later ++ before) → Once before
 once_at [] before once = once
@@ -69,10 +58,6 @@ finish_in (e ∷ h) c n is = by (e.node == 0) (finishes e.event c) refl refl is 
           before = h;
           is = λ i. record { node = node_is i; event = f.1 i } ∷ h;
         })
-
-pub legal_at : (s : Setup) (later now : List Event) → Legal s (later ++ now) → Legal s now
-legal_at s [] now legal = legal
-legal_at s (e ∷ later) now legal = legal_at s later now legal.1
 
 pub starts_at : (s : Setup) (later now : List Event) (c : CallName) → StartsOnce s (later ++ now) c → StartsOnce s now c
 starts_at s [] now c starts = starts

@@ -27,7 +27,7 @@ use Rattle.rx_history.specs.Alone.{ForgotNone}
 use Rattle.rx_law.specs.Worlds.{TwoEnds, World}
 use Rattle.rx_history.proofs.Ends.{ends_of}
 use Rattle.rx_law.proofs.Joint.{between, Fed, Grown, client-grown, fed-at, fed-before, server-grown}
-use Rattle.rx_law.proofs.Law.{law-of}
+use Rattle.rx_law.proofs.Law.{law-of, side-split}
 use Rattle.rx_history.proofs.Laws.OnceLaw.{served}
 use Rattle.rx_law.proofs.StartsTimed.{starts-once}
 use Rattle.rx_law.proofs.World.{if-some, world-fed, world-fed-by}
@@ -42,12 +42,13 @@ use Rattle.rx_script.specs.Served.{bytes, refusal}
 use Rattle.rx_wire.specs.Turns.{noted}
 use Rattle.rx_plan.specs.Answering.{EndsAsServed}
 use Rattle.rx_plan.specs.Answers.{said}
-use Rattle.rx_plan.proofs.Cuts.{FinishIn, finish_in, legal_at, once_at, side_split, starts_at}
+use Rattle.rx_plan.proofs.Cuts.{FinishIn, finish_in, once_at, starts_at}
 use Rattle.rx_plan.proofs.Finishing.{Finishing, finishes_exactly, finishing, once_before}
 use Rattle.rx_plan.proofs.Callers.{side_other, side_own}
 use Rattle.rx_plan.proofs.Handling.{Serves, accepts_fresh}
 use Rattle.rx_plan.proofs.Passed.{Passed, passed_of}
 use Rattle.rx_plan.proofs.Passing.{own_changed, passes_told, told_of}
+use Rattle.rx_history.proofs.Laws.EnteredLaw.{legal-before}
 
 -- ---- a shut stream stays as it is
 
@@ -132,7 +133,7 @@ module _ (g : Handlers) (s : Setup) (later before : List Event) (c : CallName) (
       → IsReadOf request (streams.read (looks s before) c) (ends_of (call_at (looks s before) c)).ended
       → EndsAsServed g request (streams.said (looks s before) c) code
   server_ends request server legal once starts serves r =
-      let legal_now : Legal s (finish ∷ before) = legal_at s later (finish ∷ before) legal in
+      let legal_now : Legal s (finish ∷ before) = legal-before s later (finish ∷ before) legal in
       let starts_now = (starts_at s later (finish ∷ before) c starts).1 in
       let once_now = once_before finish before (once_at later (finish ∷ before) once) in
       let f : Finishing g c code before = finishing g c code (Ok tt) before serves later refl in
@@ -214,13 +215,13 @@ module _ (g : Handlers) (h : List Noted) (t : Turning) (y : Connection) (k : ℕ
   -- the server's side is cut there
   pub serves_split : side 0 h ≡ side 0 later ++ events.Finished c code (Ok tt) ∷ side 0 before
   serves_split =
-      ap (side 0) is ∙ side_split 0 later (noted 0 (events.Finished c code (Ok tt)) ∷ before)
+      ap (side 0) is ∙ side-split 0 later (noted 0 (events.Finished c code (Ok tt)) ∷ before)
       ∙ ap (λ (es : List Event). side 0 later ++ es) (side_own 0 (events.Finished c code (Ok tt)) before)
 
   -- and so is the client's
   pub calls_split : side k h ≡ side k later ++ side k before
   calls_split =
-      ap (side k) is ∙ side_split k later (noted 0 (events.Finished c code (Ok tt)) ∷ before)
+      ap (side k) is ∙ side-split k later (noted 0 (events.Finished c code (Ok tt)) ∷ before)
       ∙ ap (λ (es : List Event). side k later ++ es)
       (side_other k 0 (events.Finished c code (Ok tt)) before (λ same. fed.apart (sym same)))
 
@@ -308,7 +309,7 @@ module _ (g : Handlers) (h : List Noted) (t : Turning) (y : Connection) (k : ℕ
       let cut_server = serves_split g h t y k client server c fed on (pos 0) later before is in
       let cut_client = calls_split g h t y k client server c fed on (pos 0) later before is in
       let legal : Legal s (finish ∷ side 0 before) =
-      legal_at s (side 0 later) (finish ∷ side 0 before) (subst (Legal s) cut_server fed.server_legal) in
+      legal-before s (side 0 later) (finish ∷ side 0 before) (subst (Legal s) cut_server fed.server_legal) in
       let shut = shut_by_finish s (looks s (side 0 before)) c
       (served s.kind s (looks s (side 0 before)) finish fed.server_kind legal.0) in
       let stays = stays_shut s c (side 0 later) (finish ∷ side 0 before)

@@ -103,7 +103,7 @@ by_turning g (serves done m todo) a c code got before asked is sv =
     }
 by_turning g (over jobs) a c code got before asked is sv = absurd cc
 
-nothing_splits : {X : Type 0} (later before : List Event) (e : Event) → [] ≡ later ++ e ∷ before → X
+pub nothing_splits : {X : Type 0} (later before : List Event) (e : Event) → [] ≡ later ++ e ∷ before → X
 nothing_splits [] before e is = absurd cc
 nothing_splits (d ∷ later) before e is = absurd cc
 

@@ -2,7 +2,7 @@
 use Rattle.std.proofs.Common.{◌≡◌, ◌≤◌, nat_lt, cond, if◌then◌else◌, ◌+◌, ℕ, ℤ, suc, Bool, true}
 use Rattle.std.proofs.Common.{false, List, [], ◌∷◌, ◌++◌, length, Option, Some, None, option_map, Result, Ok, Err}
 use Rattle.std.proofs.Common.{refl, ◌∙◌, ap, sym, subst, arith}
-use Rattle.std.proofs.lemmas.List.{append-nil, map-append}
+use Rattle.std.proofs.lemmas.List.{append-nil}
 use Rattle.rx_model.specs.declared.answers.ReadGot.TheVariants as readers
 use Rattle.rx_model.specs.declared.answers.ServeRead.{ServeRead}
 use Rattle.rx_model.specs.declared.answers.ServeRead.TheVariants as reads
@@ -28,6 +28,7 @@ use Rattle.rx_history.specs.Counts.{accepts as is_accept_of, times_accepted}
 use Rattle.rx_script.specs.Served.{Served}
 use Rattle.rx_script.specs.Served as serveds
 use Rattle.rx_plan.proofs.Passing.{AcceptsFresh}
+use Rattle.rx_jobs.proofs.Driving.{calls-append, every-back, every-front}
 
 -- ---- events that nobody's program makes
 
@@ -112,17 +113,6 @@ heard-call g j (events.Finished c code got) = refl
 heard-call g j _ = refl
 
 -- ---- the calls of a turn
-
-every-front : {X : Type 0} (P : X → Type 0) (xs ys : List X) → Every P (xs ++ ys) → Every P xs
-every-front P [] ys all = tt
-every-front P (x ∷ xs) ys all = (all.0, every-front P xs ys all.1)
-
-every-back : {X : Type 0} (P : X → Type 0) (xs ys : List X) → Every P (xs ++ ys) → Every P ys
-every-back P [] ys all = all
-every-back P (x ∷ xs) ys all = every-back P xs ys all.1
-
-calls-append : (xs ys : List JobState) → calls_of (xs ++ ys) ≡ calls_of xs ++ calls_of ys
-calls-append xs ys = map-append (λ (j : JobState). j.call) xs ys
 
 module _ (P : CallName → Type 0) where
   kept-calls : (done : List JobState) (j : JobState) (b : Bool) → Every P (calls_of done) → P j.call
@@ -233,7 +223,7 @@ turn_accepted g (leaves t e h quiet s) = more-accepted e h (turn_calls t) (turn_
 -- ---- a call that wasn't accepted is nobody's
 
 -- a call of a job is its own
-own-want : (j : JobState) (w : Want) (e : Event) (c : CallName) → IsCall (ask_of j w) e → handles c e ≡ true
+pub own-want : (j : JobState) (w : Want) (e : Event) (c : CallName) → IsCall (ask_of j w) e → handles c e ≡ true
     → c ≡ j.call
 own-want j wants.Read e c is on =
     name_is c j.call (subst (λ (x : Event). handles c x ≡ true) is.2 on)

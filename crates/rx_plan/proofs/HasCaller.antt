@@ -24,9 +24,10 @@ use Rattle.rx_asks.proofs.KeptEvents.{StartsNoCall}
 use Rattle.rx_jobs.specs.Jobs.{Ask, IsCall, accept, finish, read, write}
 use Rattle.rx_plan.specs.Stages.{InvokedState}
 use Rattle.rx_plan.proofs.Callers.{set_other}
-use Rattle.rx_plan.proofs.ClientEnds.{IsThere, Onward, by_client, none_of, onward_after}
+use Rattle.rx_plan.proofs.ClientEnds.{IsThere, Onward, none_of, onward_after}
 use Rattle.rx_plan.proofs.Driven.{set_own, with_view}
 use Rattle.rx_plan.proofs.Handling.{IsQuiet}
+use Rattle.rx_history.proofs.ClientHistory.{clients}
 
 -- ---- events that start no call
 
@@ -176,7 +177,7 @@ each_event nodes h ks more node e allowed on starts each j n host epoch there ki
         of : NotCalled c e ⊎ HasCaller more node c → HasCaller more j c
         of (inl other) =
             before (there_before n.setup host epoch kind (side j h) e c
-            (by_client n.setup.kind n.setup host epoch (looks n.setup (side j h)) e kind here) other behind)
+            (clients n.setup.kind n.setup host epoch (looks n.setup (side j h)) e kind here) other behind)
         of (inr has) = subst (λ (i : ℕ). HasCaller more i c) same has
 
     by : (b : Bool) → (node == j) ≡ b → IsThere (looks n.setup (cond b (e ∷ side j h) (side j h))) c

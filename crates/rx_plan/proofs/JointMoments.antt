@@ -6,11 +6,11 @@ use Rattle.rx_model.specs.declared.names.CallName.{CallName}
 use Rattle.rx_model.proofs.NameLaws.{same_number}
 use Rattle.rx_rules.specs.Rules.{Legal}
 use Rattle.rx_rules.specs.Setup.{Setup}
-use Rattle.rx_history.specs.Sides.{Node, side}
+use Rattle.rx_history.specs.Sides.{side}
 use Rattle.rx_history.specs.Starts.{StartsOnce}
-use Rattle.rx_law.specs.Worlds.{Carried}
 use Rattle.rx_law.proofs.Joint.{legal-before}
 use Rattle.rx_wire.specs.Turns.{noted}
+use Rattle.rx_history.proofs.Laws.EnteredLaw.{legal-before as legal_parts}
 
 -- a moment of a joint history at which an event of a node came, with what its side was before
 pub record JointAt (k : ℕ) (h : List Noted) (e : Event) (before : List Event) : Type 0 where
@@ -44,34 +44,13 @@ joint_at k (n ∷ h) later e before is =
           side_is = cc;
         }
 
--- the side of two parts
-pub side_parts : (k : ℕ) (later now : List Noted) → side k (later ++ now) ≡ side k later ++ side k now
-side_parts k [] now = refl
-side_parts k (n ∷ later) now = of (n.node == k) (side_parts k later now)
-  where
-    of : (b : Bool) → side k (later ++ now) ≡ side k later ++ side k now
-        → cond b (n.event ∷ side k (later ++ now)) (side k (later ++ now))
-        ≡ cond b (n.event ∷ side k later) (side k later) ++ side k now
-    of true is = ap (λ (es : List Event). n.event ∷ es) is
-    of false is = is
-
 -- ---- earlier moments
-
--- what stands before a part of a legal history is legal
-pub legal_parts : (s : Setup) (later now : List Event) → Legal s (later ++ now) → Legal s now
-legal_parts s [] now legal = legal
-legal_parts s (e ∷ later) now legal = legal_parts s later now legal.1
 
 -- the same of a side of a joint one
 pub legal_cut : (s : Setup) (j : ℕ) (later now : List Noted) → Legal s (side j (later ++ now)) → Legal s (side j now)
 legal_cut s j [] now legal = legal
 legal_cut s j (e ∷ later) now legal =
     legal_cut s j later now (legal-before s (e.node == j) e.event (side j (later ++ now)) legal)
-
--- and its datagrams were carried
-pub carried_cut : (nodes : List Node) (later now : List Noted) → Carried nodes (later ++ now) → Carried nodes now
-carried_cut nodes [] now carried = carried
-carried_cut nodes (e ∷ later) now carried = carried_cut nodes later now carried.1
 
 -- and no call started anew
 pub starts_cut : (s : Setup) (c : CallName) (later now : List Noted) → StartsOnce s (side 0 (later ++ now)) c

@@ -9,16 +9,16 @@ use Rattle.rx_model.specs.Body.{Body}
 use Rattle.rx_model.specs.Body as bodies
 use Rattle.rx_model.specs.Message.{Message, has_flag}
 use Rattle.rx_model.specs.Names.{channel_of, connection_of, same_name}
-use Rattle.rx_model.proofs.NameLaws.{name_is}
+use Rattle.rx_model.proofs.NameLaws.{name_is, not_true}
 use Rattle.rx_rules.specs.Judging.{Facts, facts_of, is_for_servers, is_right, live_row, opened, own_row}
 use Rattle.rx_rules.specs.Judging.{outer_row, response_row, row_at, server_outer, side_row, took_named}
 use Rattle.rx_rules.specs.Looks.{CallRecord, Looks, call_at, channel_at, is_proved}
-use Rattle.rx_rules.specs.Records.{started_later}
 use Rattle.rx_rules.specs.Setup.{Client, IsServer, Kind, Server, Setup}
 use Rattle.rx_rules.proofs.FindLaws.{find_passes}
 use Rattle.rx_model.specs.declared.wire.TheConstants.{CLIENT_INITIATED}
 use Rattle.rx_history.proofs.Rows.RowsAborting.{Latest, above-starts, not_false, passed, side-stopped, skipped}
 use Rattle.rx_plan.proofs.Aborts.RowsOver.{same_numbers}
+use Rattle.rx_history.proofs.Laws.RightLaws.{unopened}
 
 -- ---- a message that is heard
 
@@ -103,16 +103,6 @@ wrong_at s l c m text (Some k) found at is =
     subst (λ (d : CallName). is_right s l d text ≡ false) name
     (wrong_row (is_right s l k.name text) (is_proved l (connection_of k.name)) own)
 
--- where it starts nothing, a message finds the look-ups as they are
-unopened : (test : Bool) (s : Setup) (c : CallName) (l : Looks) → test ≡ false
-    → (if test then started_later s c l else l) ≡ l
-unopened true s c l is = absurd cc
-unopened false s c l is = refl
-
-some_number : (b : Bool) → not b ≡ true → b ≡ false
-some_number true is = absurd cc
-some_number false is = refl
-
 pub response_wrong : (s : Setup) (l : Looks) (c : CallName) (m : Message) (text : List ℕ) → IsServer s.kind
     → m.number ≡ c.number → m.body ≡ bodies.Response text → took_named s l c m ≡ tooks.Stopped → IsWrong s l c text
 response_wrong s l c m text server number at is =
@@ -124,7 +114,7 @@ response_wrong s l c m text server number at is =
     let own : own_row s (opened s c l) c m ≡ tooks.Stopped =
     own-stopped s.kind (facts_of s l c m) (own_row s (opened s c l) c m) (rw at refl) server is in
     record {
-      some = ap (λ (n : ℕ). n == 0) (sym number) ∙ some_number (m.number == 0) latest.has;
+      some = ap (λ (n : ℕ). n == 0) (sym number) ∙ not_true (m.number == 0) latest.has;
       number = number_is s l c m number latest;
       wrong =
           wrong_at s l c m text (call_at l c) refl at

@@ -29,7 +29,7 @@ use Rattle.rx_between.proofs.Sense.{client_gives, passed_received, passed_sent, 
 use Rattle.rx_progress.specs.Moving.{LowestMoves, Moves, MovesHeld, MovesInWorld, MovesOn, MovesOnce, behind_message}
 use Rattle.rx_progress.proofs.Lowest.{client_leadless, moves, silent_leadless}
 
-server_side : (k : Kind) → IsServer k → is_client k ≡ false
+pub server_side : (k : Kind) → IsServer k → is_client k ≡ false
 server_side (Server service nonces) server = refl
 server_side (Client host epoch) server = absurd server
 

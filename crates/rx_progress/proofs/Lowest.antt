@@ -19,18 +19,20 @@ use Rattle.rx_rules.proofs.PacketLaws.{kept_within}
 use Rattle.rx_history.proofs.Laws.UsedLaws.{front_next}
 use Rattle.rx_between.specs.Acknowledged.{AreTrue}
 use Rattle.rx_between.specs.Agreed.{MakesSense}
-use Rattle.rx_between.proofs.Counting.{reach_fails, reach_least, reach_passes}
+use Rattle.rx_between.proofs.Counting.{reach_least, reach_passes}
 use Rattle.rx_between.proofs.Marks.{acked_kept, front_reaches}
 use Rattle.rx_between.proofs.SaysLate.{IsSilent}
 use Rattle.rx_progress.specs.Moving.{Moves, behind_message}
+use Rattle.rx_between.proofs.HonestRows.{either_false}
+use Rattle.rx_rules.proofs.ReachLaws.{reach_stops}
 
 -- ---- what the sender knows
 
 -- it isn't acknowledged
 lowest_open : (c : Sent) → lowest_of c ≤ given_of c → is_acked c (lowest_of c) ≡ false
-lowest_open c given = reach_fails (is_acked c) (given_of c) (omega arith)
+lowest_open c given = reach_stops (is_acked c) (given_of c) (omega arith)
 
-not_acked : (a b : Bool) → (a || b) ≡ false → a ≡ false
+pub not_acked : (a b : Bool) → (a || b) ≡ false → a ≡ false
 not_acked true b none = none
 not_acked false b none = refl
 
@@ -90,10 +92,6 @@ slot_there true true more a b = refl
 slot_there true false more a b = absurd cc
 slot_there false next more a b = absurd cc
 
-not_either : (a b : Bool) → a ≡ false → b ≡ false → (a || b) ≡ false
-not_either false b p q = q
-not_either true b p q = p
-
 equal_is : (m n : ℕ) → m ≡ n → (m == n) ≡ true
 equal_is m n same = ap (λ (k : ℕ). k == n) same ∙ number_itself n
 
@@ -104,12 +102,12 @@ row_kept : (client : Bool) (window left : ℕ) (p : Packet) (k : CallLooks) → 
     → arrival_row (arrival client window left p (found client k)) ≡ tooks.Kept
 row_kept true window left p k none next above away sense =
     kept_by _ _ _ _ _ sense
-    (not_either (nat_le p.seq (used_of k.received)) (is_some (packet_at k.received.kept p.seq)) above away)
+    (either_false (nat_le p.seq (used_of k.received)) (is_some (packet_at k.received.kept p.seq)) above away)
     (slot_there (not (has_lead (found true k))) (p.seq == front_of k.received.kept + 1) _ (ap not none)
     (equal_is p.seq (front_of k.received.kept + 1) next))
 row_kept false window left p k none next above away sense =
     kept_by _ _ _ _ _ sense
-    (not_either (nat_le p.seq (used_of k.received)) (is_some (packet_at k.received.kept p.seq)) above away)
+    (either_false (nat_le p.seq (used_of k.received)) (is_some (packet_at k.received.kept p.seq)) above away)
     (slot_there (not (has_lead k)) (p.seq == front_of k.received.kept + 1) _ (ap not none)
     (equal_is p.seq (front_of k.received.kept + 1) next))
 
@@ -118,14 +116,14 @@ row_kept false window left p k none next above away sense =
 -- a client's end that is drained has none, as reply data acknowledges its whole request
 pub client_leadless : (k : CallLooks) → used_of k.received ≡ front_of k.received.kept → has_lead (found true k) ≡ false
 client_leadless k drained =
-    not_either (nat_lt (used_of k.received) (front_of k.received.kept)) _ (grind (arith, nat_tests))
+    either_false (nat_lt (used_of k.received) (front_of k.received.kept)) _ (grind (arith, nat_tests))
     (let none : nat_lt 0 (pieces_of k.sent - pieces_of k.sent) ≡ false = grind (arith, nat_tests) in none)
 
 -- nor a server's that said nothing yet
 pub silent_leadless : (k : CallLooks) → IsSilent k.sent → used_of k.received ≡ front_of k.received.kept
     → has_lead (found false k) ≡ false
 silent_leadless k silent drained =
-    not_either (nat_lt (used_of k.received) (front_of k.received.kept)) _ (grind (arith, nat_tests))
+    either_false (nat_lt (used_of k.received) (front_of k.received.kept)) _ (grind (arith, nat_tests))
     (let empty : length k.sent.said ≡ 0 = ap length silent.0 in
     let none : pieces_of k.sent ≡ 0 =
     (λ i. pieces_by (empty i) (silent.1 i)) in

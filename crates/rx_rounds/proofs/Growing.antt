@@ -1,11 +1,11 @@
 -- A history only grows: each part of a run adds events before what is there.
-use Rattle.std.proofs.Common.{◌≡◌, ◌++◌, ◌==◌, ◌+◌, ◌&&◌, not, ℕ, zero, suc, Bool, true, false, cond, List, [], ◌∷◌}
+use Rattle.std.proofs.Common.{◌≡◌, ◌++◌, ◌==◌, ◌+◌, ◌&&◌, not, ℕ, zero, suc, Bool, true, false, List, [], ◌∷◌}
 use Rattle.std.proofs.Common.{Option, Some, None, refl, ap, sym, subst, ◌∙◌, length, append_assoc}
 use Rattle.std.specs.Prelude.{set, slice_get}
 use Rattle.rx_model.specs.declared.event.Event.{Event}
 use Rattle.rx_model.specs.declared.event.Noted.{Noted}
 use Rattle.rx_model.specs.declared.names.Host.{Host}
-use Rattle.rx_history.specs.Sides.{moment, side}
+use Rattle.rx_history.specs.Sides.{moment}
 use Rattle.rx_law.specs.Worlds.{Datagram}
 use Rattle.rx_asks.specs.declared.ask.TheConstants.{REPLY_BYTES}
 use Rattle.rx_asks.specs.Asks.{Asking, Cancels, IsAsked, Offers, Reads, Shuts, begun, calling}
@@ -47,17 +47,17 @@ polled_quiet (events.Called cid (Ok d)) is = is
 polled_quiet (events.Called cid (Err refused)) is = tt
 polled_quiet _ is = tt
 
-taken_quiet : (from : Host) (bytes : List ℕ) (e : Event) → IsTaken from bytes e → AnswersNone e
+pub taken_quiet : (from : Host) (bytes : List ℕ) (e : Event) → IsTaken from bytes e → AnswersNone e
 taken_quiet from bytes (events.Called cid (Ok d)) is = is
 taken_quiet from bytes (events.Called cid (Err refused)) is = tt
 taken_quiet from bytes _ is = tt
 
-clocked_quiet : (now : ℕ) (e : Event) → IsClocked now e → AnswersNone e
+pub clocked_quiet : (now : ℕ) (e : Event) → IsClocked now e → AnswersNone e
 clocked_quiet now (events.Called cid (Ok d)) is = is
 clocked_quiet now (events.Called cid (Err refused)) is = tt
 clocked_quiet now _ is = tt
 
-asked_quiet : (a : Asking) (e : Event) → IsAsked a e → AnswersNone e
+pub asked_quiet : (a : Asking) (e : Event) → IsAsked a e → AnswersNone e
 asked_quiet (Offers c bytes) (events.Called cid (Ok d)) is = is
 asked_quiet (Shuts c) (events.Called cid (Ok d)) is = is
 asked_quiet (Reads c max) (events.Called cid (Ok d)) is = is
@@ -217,13 +217,3 @@ grew_rounds g (suc n) s t made = by (λ u m. grew_rounds g n u t m) (any_lives s
         let b = then_to (round g s) (rounds g n) made.0 t m in
         grew_on s b.between t (grew_round g s b.between (round_to g s b.between b.front b.made))
         (others b.between (b.rest, b.goes))
-
--- the side of a node in a history that grew
-pub side_grew : (k : ℕ) (more h : List Noted) → side k (more ++ h) ≡ side k more ++ side k h
-side_grew k [] h = refl
-side_grew k (e ∷ more) h =
-    elim (e.node == k) as (λ b. cond b (e.event ∷ side k (more ++ h)) (side k (more ++ h)) ≡ cond b
-    (e.event ∷ side k more) (side k more) ++ side k h) [
-      | true ↦ ap (λ (es : List Event). e.event ∷ es) (side_grew k more h)
-      | false ↦ side_grew k more h
-    ]

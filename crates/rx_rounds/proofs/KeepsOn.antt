@@ -48,12 +48,9 @@ use Rattle.rx_plan.proofs.Aborts.AbortComes.{contains_in, giver_of}
 use Rattle.rx_plan.proofs.LaterComes.{gave_there}
 use Rattle.rx_rounds.proofs.One.OneConn.{Alone, EntersOnly, alone_after, shape}
 use Rattle.rx_rounds.specs.Bounds.{pieces}
-use Rattle.rx_rounds.proofs.Growing.{side_grew}
 use Rattle.rx_rounds.proofs.OtherCalls.{CallsOnly, there_is}
-
-first_holds : (a b : Bool) → (a && b) ≡ true → a ≡ true
-first_holds true b is = refl
-first_holds false b is = is
+use Rattle.rx_law.proofs.Law.{side-split}
+use Rattle.rx_plan.proofs.Soundness.SoundPlan.{and_left}
 
 -- a datagram for which a server enters a connection is data
 starts_data : (kind : Kind) (f : Facts) (call : Took) → IsServer kind → f.is_known ≡ false
@@ -142,7 +139,7 @@ module _ (nodes : List Node) (client server : Node) (c : CallName) (there : slic
       let starts = starts_data server.setup.kind (facts_of server.setup l d m)
       (own_row server.setup (opened server.setup d l) d m)
       serves (ap (λ (o : Option ConnLooks). is_some o) none) (ap enters row ∙ enter) in
-      let chunk = data-is m.body (first_holds (is_data m.body) _ starts) in
+      let chunk = data-is m.body (and_left (is_data m.body) _ starts) in
       data_only h l legal only from bytes m chunk.0
       (giver_of nodes (record { from = from; to = server.host; bytes = bytes }) h
       (contains_in (record { from = from; to = server.host; bytes = bytes }) (bag nodes h) contains.0 contains.1
@@ -314,7 +311,7 @@ module _ (nodes : List Node) (client server : Node) (c : CallName) (there : slic
       of (call_at (looks server.setup (side 0 h)) c) refl all b.request.pieces there_
     where
       split : (k : ℕ) (later_ now : List Noted) → h ≡ later_ ++ now → side k h ≡ side k later_ ++ side k now
-      split k later_ now is = ap (side k) is ∙ side_grew k later_ now
+      split k later_ now is = ap (side k) is ∙ side-split k later_ now
 
       found : (bs : List ℕ) (shut : Bool) (ps : List Packet) → bs ≡ bytes → shut ≡ true → ArePieces bs shut ps
           → (o : Option Piece)

@@ -14,7 +14,8 @@ use Rattle.rx_rules.specs.Rules.{AllowedClient, Legal}
 use Rattle.rx_rules.specs.Setup.{Setup, Client}
 use Rattle.rx_rules.proofs.EveryLaws.{Every}
 use Rattle.rx_asks.proofs.KeptEvents.{StartsNoCall}
-use Rattle.rx_plan.proofs.ClientEnds.{IsThere, Onward, by_client, none_of, onward_after}
+use Rattle.rx_plan.proofs.ClientEnds.{IsThere, Onward, none_of, onward_after}
+use Rattle.rx_history.proofs.ClientHistory.{clients}
 
 -- a call that is answered is this one
 abbrev pub CallsOnly : CallName → Event → Type 0
@@ -40,7 +41,7 @@ module _ (s : Setup) (host : Host) (epoch : ℕ) (kind : s.kind ≡ Client host 
       → call_at (looks s h) d ≡ None
   no_other [] d legal only other = refl
   no_other (e ∷ h) d legal only other =
-      let allowed = by_client s.kind s host epoch (looks s h) e kind legal.0 in
+      let allowed = clients s.kind s host epoch (looks s h) e kind legal.0 in
       none_on (call_at (looks s (e ∷ h)) d)
       (subst (λ (o : Option CallRecord). Onward o (call_at (looks s (e ∷ h)) d)) (no_other h d legal.1 only.1 other)
       (onward_after s host epoch (looks s h) d e allowed (starts_no (looks s h) e d allowed other only.0)))

@@ -260,7 +260,7 @@ polls_to x ls lc cs js s p es two made =
 
 -- ---- deliveries
 
-taken_is : (from : Host) (bytes : List ℕ) (e : Event) → IsTaken from bytes e
+pub taken_is : (from : Host) (bytes : List ℕ) (e : Event) → IsTaken from bytes e
     → (got : Took) × (e ≡ events.Taken from bytes got)
 taken_is from bytes (events.Taken a b got) is = (
   got,

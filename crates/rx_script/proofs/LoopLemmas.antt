@@ -1,5 +1,5 @@
 -- Going through lists, one element after the other.
-use Rattle.std.proofs.Common.{◌≡◌, ◌≢◌, suc, ◌+◌, Bool, true, false, cond, ◌||◌, List, [], ◌∷◌, ◌++◌, length, map, refl}
+use Rattle.std.proofs.Common.{◌≡◌, ◌≢◌, suc, ◌+◌, Bool, true, false, cond, ◌||◌, List, [], ◌∷◌, ◌++◌, map, refl}
 use Rattle.std.proofs.Common.{sym, ap, ◌∙◌}
 use Rattle.std.proofs.lemmas.Bool.{and_parts, and_right}
 use Rattle.stub_table.specs.declared.stream.Stream.TheVariants as streams
@@ -7,11 +7,10 @@ use Rattle.stub_table.specs.Streams.{goes_with}
 use Rattle.rx_model.specs.declared.names.Host.{Host}
 use Rattle.rx_model.specs.Names.{same_host}
 use Rattle.xdr_value.specs.declared.def.Arg.{Arg}
-use Rattle.xdr_value.specs.declared.value.Value.{Value}
 use Rattle.xdr_value.specs.Data.{Param, Datum, Data, Types, end, more}
 use Rattle.xdr_value.specs.Tests.{is_known, params_known}
 use Rattle.xdr_value.specs.Fits.{count}
-use Rattle.xdr_value.specs.View.{param_of, values_of}
+use Rattle.xdr_value.specs.View.{param_of}
 use Rattle.xdr_value.proofs.Lists.{append, append_end, append_more}
 pub use Rattle.xdr_value.proofs.Lists.{in_left}
 use Rattle.rx_script.specs.Answers.{values_by}
@@ -79,10 +78,6 @@ cond_or true c = refl
 cond_or false c = refl
 
 -- ---- lists of values
-
-pub count-values_of : (vs : List Value) → count (values_of vs) ≡ length vs
-count-values_of [] = refl
-count-values_of (v ∷ vs) = ap suc (count-values_of vs)
 
 -- lists of two lengths aren't one
 pub counts_differ : (vs ws : Data) → count vs ≢ count ws → same_values vs ws ≡ false

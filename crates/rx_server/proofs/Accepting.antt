@@ -12,7 +12,7 @@ use Rattle.rx_model.specs.Names.{Channel, connection_of}
 use Rattle.rx_model.proofs.NameLaws.{refuted}
 use Rattle.rx_rules.specs.After.{looks}
 use Rattle.rx_rules.specs.Classes.{Class}
-use Rattle.rx_rules.specs.Life.{Life, after_accept, is_waiting}
+use Rattle.rx_rules.specs.Life.{after_accept, is_waiting}
 use Rattle.rx_rules.specs.Life as lives
 use Rattle.rx_rules.specs.Looks.{CallRecord, Looks, is_call, is_proved, latest, latest_name, on_life}
 use Rattle.rx_rules.specs.Rules.{accept_answer, can_enter}
@@ -33,6 +33,8 @@ use Rattle.rx_server.proofs.Quiet.{served_allows}
 use Rattle.rx_server.proofs.ReadyLaws.{ready_without}
 use Rattle.rx_server.proofs.Serving.{answered_by, parts_stay, role_stays, serves_quiet, serving_with, setup_by}
 use Rattle.rx_server.proofs.Serving.{there_without}
+use Rattle.rx_rules.proofs.FindLaws.{find_passes}
+use Rattle.rx_rules.proofs.LifeLaws.{accepted_waits}
 
 -- ---- lists
 
@@ -65,15 +67,6 @@ find_mapped f q (x ∷ xs) = of (f x) refl (find_mapped f q xs)
           | false ↦ rest
         ])
 
--- the first that passes a test does
-pub found_passes : {X : Type 0} (p : X → Bool) (xs : List X) (x : X) → find p xs ≡ Some x → p x ≡ true
-found_passes p [] x is = absurd (cc (is))
-found_passes p (y ∷ ys) x is = of (p y) refl is (λ found. found_passes p ys x found)
-  where
-    of : (b : Bool) → p y ≡ b → cond b (Some y) (find p ys) ≡ Some x → (find p ys ≡ Some x → p x ≡ true) → p x ≡ true
-    of true passed is rest = (let same : y ≡ x = cc (is) in subst (λ (z : _). p z ≡ true) same passed)
-    of false other is rest = rest is
-
 -- ---- the answer
 
 enters-waits : (w p : Bool) → (w && p) ≡ true → w ≡ true
@@ -95,7 +88,7 @@ pub first_waits : (s : Setup) (l : Looks) (firsts : List ℕ) (key : ℕ) (ch : 
     → IsFirst s l firsts (Some key) → waits l (latest_name l ch) ≡ true
 first_waits s l firsts key ch at is =
     enters-waits (waits l (latest_name l ch)) (not s.class.challenges || is_proved l ch.connection)
-    (sym (enters_is s l key ch at) ∙ found_passes (enters_at s l) firsts key (sym is))
+    (sym (enters_is s l key ch at) ∙ find_passes (enters_at s l) firsts key (sym is))
 
 -- and is the answer
 pub accepts_its : (s : Setup) (l : Looks) (firsts : List ℕ) (key : ℕ) (ch : Channel) → IsChannel l key ch
@@ -106,15 +99,6 @@ accepts_its s l firsts key ch at stands is =
     ∙ accepts_first s l firsts (Some key) stands is
 
 -- ---- behind it
-
-accepted-not : (x : Life) → is_waiting (after_accept x) ≡ false
-accepted-not lives.Calling = refl
-accepted-not (lives.Ended end) = refl
-accepted-not lives.Waiting = refl
-accepted-not lives.Accepted = refl
-accepted-not lives.Finished = refl
-accepted-not (lives.Broken code) = refl
-accepted-not (lives.Over code) = refl
 
 -- it waits no longer
 pub accepted_not : (l : Looks) (key : ℕ) (ch : Channel) → IsChannel l key ch
@@ -132,7 +116,7 @@ accepted_not l key ch at =
 
     of : (o : Option CallRecord) → is_call (λ k. is_waiting k.life) (option_map accepted o) ≡ false
     of None = refl
-    of (Some k) = accepted-not k.life
+    of (Some k) = accepted_waits k.life
 
 module _ (class : List ℕ → Class) (sv : ServerState) (new : NodeState) (key : ℕ) (firsts : QueueState)
     (kept : KeepsNode sv.node new)

@@ -19,7 +19,7 @@ use Rattle.rx_rules.specs.CallLooks.{NodeView, after_chunk, after_taken, arrival
 use Rattle.rx_rules.specs.CallLooks.{packet_of}
 use Rattle.rx_rules.specs.Classes.{Class}
 use Rattle.rx_rules.specs.Judging.{live_row, opened}
-use Rattle.rx_rules.specs.Life.{Life, is_active, is_live}
+use Rattle.rx_rules.specs.Life.{is_active, is_live}
 use Rattle.rx_rules.specs.Life as lives
 use Rattle.rx_rules.specs.Looks.{CallRecord, ConnLooks, Looks, call_at, channel_at, is_call, is_proved}
 use Rattle.rx_rules.specs.Looks.{latest_name, on_channel, on_conn}
@@ -44,6 +44,7 @@ use Rattle.rx_server.proofs.FirstsLaws.{Both, conn_pair, firsts_behind, firsts_d
 use Rattle.rx_server.proofs.RestLaws.{Rests, data_rests, with_rests}
 use Rattle.rx_server.proofs.ReadyLaws.{falls_proved, ready_behind, ready_dims, ready_place}
 use Rattle.rx_server.proofs.Serving.{SameRole, challenges_by, serves_quiet}
+use Rattle.rx_node.proofs.LifeLaws.{live_if_active}
 
 -- ---- its packet 1 is kept once
 
@@ -373,15 +374,6 @@ module _ (class : List ℕ → Class) (sv : ServerState) (new : NodeState) (l : 
 
 -- ---- a call that is active
 
-active-live : (x : Life) → is_active x ≡ true → is_live x ≡ true
-active-live lives.Calling is = refl
-active-live lives.Waiting is = refl
-active-live lives.Accepted is = refl
-active-live lives.Finished is = refl
-active-live (lives.Ended end) is = absurd (cc (is))
-active-live (lives.Broken code) is = absurd (cc (is))
-active-live (lives.Over code) is = absurd (cc (is))
-
 -- it is there, and lives
 pub active_there : (l : Looks) (c : CallName) → is_call (λ k. is_active k.life) (call_at l c) ≡ true
     → (k : CallRecord) × (call_at l c ≡ Some k) × (is_live k.life ≡ true)
@@ -390,10 +382,10 @@ active_there l c is = of (call_at l c) refl is
     of : (o : Option CallRecord) → call_at l c ≡ o → is_call (λ k. is_active k.life) o ≡ true
         → (k : CallRecord) × (call_at l c ≡ Some k) × (is_live k.life ≡ true)
     of None there is = absurd (cc (is))
-    of (Some k) there is = (k, there, active-live k.life is)
+    of (Some k) there is = (k, there, live_if_active k.life is)
 
 -- the same of the one that is there
 pub live_there : (l : Looks) (c : CallName) (k : CallRecord) → is_call (λ k. is_active k.life) (call_at l c) ≡ true
     → call_at l c ≡ Some k → is_live k.life ≡ true
 live_there l c k is there =
-    active-live k.life (sym (ap (λ (o : Option CallRecord). is_call (λ j. is_active j.life) o) there) ∙ is)
+    live_if_active k.life (sym (ap (λ (o : Option CallRecord). is_call (λ j. is_active j.life) o) there) ∙ is)

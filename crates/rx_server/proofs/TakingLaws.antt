@@ -33,6 +33,7 @@ use Rattle.rx_history.proofs.Rows.RowsInFront.{may_start}
 use Rattle.rx_node.proofs.Steps.ChannelSteps.{IsThere, channel_started, latest_started}
 use Rattle.rx_node.proofs.UsedConns.{live_by, used_same}
 use Rattle.rx_server.proofs.RowLaws.{early, fresh_row, prepared_enters, prepared_known, row_placed}
+use Rattle.rx_history.proofs.Rows.RowsAborting.{not_false}
 
 -- ---- what a message that is let through shows
 
@@ -51,10 +52,6 @@ pub record LetThrough (f : Facts) : Type 0 where
   pub room : (f.is_above && (not f.is_live && f.is_crowded)) ≡ false
   pub active : (not f.is_above && not f.is_active) ≡ false
 
-not-not : (b : Bool) → not b ≡ false → b ≡ true
-not-not true is = refl
-not-not false is = absurd (cc (is))
-
 pub let_through : (f : Facts) → ((call : Took) → server_row (early f) call ≡ call) → LetThrough f
 let_through f passes =
     let a = beyond-full (not f.is_known && not (f.can_start && f.has_number)) tooks.Strange _ (λ is. cc (is))
@@ -69,7 +66,7 @@ let_through f passes =
     let k = beyond-full (not f.is_above && not f.is_active) tooks.Over _ (λ is. cc (is)) j.1 in
     record {
       known = a.0;
-      number = not-not f.has_number e.0;
+      number = not_false f.has_number e.0;
       below = g.0;
       starts = h.0;
       free = i.0;
@@ -83,7 +80,7 @@ let_through f passes =
     placed false rest is = is
 
 behind : (a b : Bool) → a ≡ true → (a && not b) ≡ false → b ≡ true
-behind true b is none = not-not b none
+behind true b is none = not_false b none
 behind false b is none = absurd (cc (is))
 
 -- ---- the call is looked for where its connection is ready

@@ -20,13 +20,14 @@ use Rattle.rx_rules.specs.Slots.{room}
 use Rattle.rx_history.proofs.Dimensions.Dims.{dims_looks}
 use Rattle.rx_node.specs.Mirrors.{IsChannel, Mirrors}
 use Rattle.rx_node.specs.Node.{KeepsNode, NodeState, setup_of}
-use Rattle.rx_node.proofs.Arguments.{no_bytes, take_bytes}
+use Rattle.rx_node.proofs.Arguments.{take_bytes}
 use Rattle.rx_node.proofs.IdleEvents.{write_nothing}
 use Rattle.rx_server.specs.Handling.{IsFound}
 use Rattle.rx_server.specs.Server.{ServerState, Serves}
 use Rattle.rx_server.proofs.Handling.{found_latest, refuses, same_parts}
 use Rattle.rx_server.proofs.Quiet.{Quiet}
 use Rattle.rx_server.proofs.Serving.{parts_stay}
+use Rattle.rx_history.proofs.Fit.FitCall.{none-said}
 
 -- ---- bytes
 
@@ -101,7 +102,7 @@ module _ (class : List ℕ → Class) (sv : ServerState) (c : CallName) where
   write-idle offered refused answers =
       record {
         parts = same_parts sv.node;
-        allowed = λ l serves. (answers l serves, no_bytes, refl);
+        allowed = λ l serves. (answers l serves, none-said, refl);
         mirrors = λ l serves. subst (λ (m : Looks). Mirrors class sv.node m) (sym (write_nothing c l)) serves.mirrors;
         dims = λ l. dims_looks c (after_write []) l (λ k is. is);
         rests = λ l. record { firsts = refl; entered = refl; proved = refl };

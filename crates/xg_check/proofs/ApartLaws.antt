@@ -35,7 +35,7 @@ abbrev pub Apart : List ConstantDef → List Mark → Type 0
 Apart cs [] = ⊤
 Apart cs (m ∷ ms) = AllByRecursion (λ n. are_same cs n m ≡ false) ms × Apart cs ms
 
-all_by : {A : Type 0} (P : A → Type 0) (xs : List A) → ((j : ℕ) (x : A) → slice_get xs j ≡ Some x → P x)
+pub all_by : {A : Type 0} (P : A → Type 0) (xs : List A) → ((j : ℕ) (x : A) → slice_get xs j ≡ Some x → P x)
     → AllByRecursion P xs
 all_by P [] h = tt
 all_by P (x ∷ xs) h = (h 0 x refl, all_by P xs (λ j y e. h (suc j) y e))

@@ -1,15 +1,14 @@
 -- Ways the other way round, one by one.
 use Rattle.std.proofs.Common.{◌≡◌, ℕ, zero, suc, ◌+◌, ◌<◌, ◌≤◌, List, [], ◌∷◌, ◌++◌, length, set, slice_get}
-use Rattle.std.proofs.Common.{Option, Some, refl, sym, ap, subst, ◌∙◌, arith, ◌⊎◌, inl, inr}
+use Rattle.std.proofs.Common.{Some, sym, ap, subst, ◌∙◌, arith, ◌⊎◌, inl, inr}
 use Rattle.std.proofs.lemmas.List.{length-set}
 use Rattle.std.proofs.lemmas.Option.{slice_get_within}
 use Rattle.std.specs.List.{AllByRecursion}
 use Rattle.xg_check.specs.Graphs.{IsGraph, Step, AreReversed}
 use Rattle.xg_check.specs.Searching.{AreBack, AreTurned}
 use Rattle.xg_check.proofs.SearchLaws.{at_front, at_end, of_pushed, set_here, set_there, same_or_not}
-
-pub the_same : {A : Type 0} (o : Option A) (x y : A) → o ≡ Some x → o ≡ Some y → x ≡ y
-the_same {A} o x y e h = let both : Some x ≡ Some y = sym e ∙ h in cc
+use Rattle.xg_check.proofs.ApartLaws.{all_by}
+use Rattle.xg_check.proofs.OrderLaws.{the_same}
 
 pub pushed_back : (lists : List (List ℕ)) (node other : ℕ) (ws : List ℕ) → slice_get lists other ≡ Some ws
     → AreBack lists (set lists other (ws ++ node ∷ [])) node (other ∷ [])
@@ -128,11 +127,6 @@ all_turned g back seen t le = record {
   turned = λ i j s. t.turned i j (omega (arith, slice_get_within g i s.next s.from, le)) s;
   turned_back = t.turned_back;
 }
-
-all_by : {A : Type 0} (P : A → Type 0) (xs : List A) → ((j : ℕ) (x : A) → slice_get xs j ≡ Some x → P x)
-    → AllByRecursion P xs
-all_by P [] h = tt
-all_by P (x ∷ xs) h = (h 0 x refl, all_by P xs (λ j y e. h (suc j) y e))
 
 -- ways that were turned lead to nodes that are there
 pub turned_graph : (g back : List (List ℕ)) (seen : ℕ) → AreTurned g back seen → IsGraph back

@@ -16,7 +16,7 @@ use Rattle.xg_check.specs.Counting.{number_at, IsMissing, StandsAgain}
 use Rattle.xg_check.specs.Answers.{IsFirstNamed, IsFirstOf, IsFirstPlace, IsFirstNumber, IsFaultOf}
 use Rattle.xg_check.specs.Meaning.{TwiceAt, UnknownAt, SizeAt, EndlessAt, OpcodeAt, OpcodeTwiceAt, opcodes_of}
 use Rattle.xg_check.specs.Meaning.{IsFaultless, MarkNamed}
-use Rattle.xg_check.proofs.OrderLaws.{item_at}
+use Rattle.xg_check.proofs.ValueLaws.{item_at}
 
 abbrev pub NumberedOps : Type 0
 NumberedOps = List (List ℕ × Option ℤ)

@@ -114,7 +114,7 @@ module _ (cs : List ConstantDef) where
       ∙ ap (λ (xs : List (Option ℤ)). list ++ xs) (sym (part_opcodes front count d.part rest e))
       ∙ ap (λ (ops : List (List ℕ × Option ℤ)). list ++ seconds ops) (sym here) ∙ was
 
-nothing_behind : {A : Type 0} (xs : List A) → xs ++ [] ≡ xs
+pub nothing_behind : {A : Type 0} (xs : List A) → xs ++ [] ≡ xs
 nothing_behind [] = refl
 nothing_behind {A} (x ∷ xs) = ap (λ (ys : List A). x ∷ ys) (nothing_behind xs)
 

@@ -7,7 +7,6 @@ use Rattle.std.specs.List.{AllByRecursion}
 use Rattle.std.proofs.lemmas.Slice.Eq.{bytes_eq-Decides}
 use Rattle.std.proofs.lemmas.Bool.{false≢true}
 use Rattle.std.proofs.lemmas.Option.{slice_get-map}
-use Rattle.std.proofs.lemmas.Bool.Decides.{same_from_decides}
 use Rattle.xdr_value.specs.declared.ty.Basic.{Basic}
 use Rattle.xdr_value.specs.Data.{named, Part as Field, Choice, Form as Shape, alias, enum, struct, choice, Types}
 use Rattle.xdr_value.specs.Heads.{form_named, part_kind, arm_kind}
@@ -33,6 +32,7 @@ use Rattle.xg_check.specs.Typed.{type_name, name_in, types_in, type_names, word_
 use Rattle.xg_check.specs.Typed.{held_places, default_places, part_places, type_ways}
 use Rattle.xg_check.specs.Meant.{base_kind, word_kind, form_kind, field_meant, held_meant, case_meant, arm_meant}
 use Rattle.xg_check.specs.Meant.{default_meant, part_type, types_meant}
+use Rattle.xg_check.proofs.KnownLaws.{tests_turn}
 
 -- ---- lists
 
@@ -72,11 +72,6 @@ entry cs (parts.StatIndex w) h = absurd (false≢true h)
 entry cs (parts.StartingOpcode w) h = absurd (false≢true h)
 entry cs (parts.Const n w) h = absurd (false≢true h)
 entry cs (parts.Proc n args k o) h = absurd (false≢true h)
-
-tests_turn : (a b : List ℕ) → bytes_eq a b ≡ bytes_eq b a
-tests_turn a b = same_from_decides (bytes_eq a b) (bytes_eq b a)
-    ((bytes_eq-Decides a b).0, (bytes_eq-Decides a b).1)
-    (λ e. sym ((bytes_eq-Decides b a).0 e), λ e. (bytes_eq-Decides b a).1 (sym e))
 
 pub record Found (cs : List ConstantDef) (ts : List Part) (s : List ℕ) (f : Shape) : Type 0 where
   pub place : ℕ

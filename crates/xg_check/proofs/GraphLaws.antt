@@ -75,7 +75,7 @@ leads_reached g next i j at (through a m b s rest) = reached_on g next m j (from
 
 -- ---- nodes of a graph
 
-all_at : {A : Type 0} (P : A → Type 0) (xs : List A) (i : ℕ) (x : A) → AllByRecursion P xs
+pub all_at : {A : Type 0} (P : A → Type 0) (xs : List A) (i : ℕ) (x : A) → AllByRecursion P xs
     → slice_get xs i ≡ Some x → P x
 all_at P [] i x h e = absurd cc
 all_at {A} P (y ∷ xs) zero x h e = let same : y ≡ x = cc in subst P same h.0

@@ -1,5 +1,5 @@
 -- What is found of a type from those that it holds: whether it takes no bytes, how many it has at least, and its tag.
-use Rattle.std.proofs.Common.{◌≡◌, ℕ, zero, suc, ◌+◌, ◌<◌, Bool, ◌&&◌, ◌||◌, max, List, [], ◌∷◌, ◌++◌, length}
+use Rattle.std.proofs.Common.{◌≡◌, ℕ, suc, ◌+◌, ◌<◌, Bool, ◌&&◌, ◌||◌, max, List, [], ◌∷◌, ◌++◌, length}
 use Rattle.std.proofs.Common.{slice_get, Option, Some, None, option_map, option_and_then, refl, ap, subst, ◌∙◌, arith}
 use Rattle.std.specs.List.{AllByRecursion}
 use Rattle.std.proofs.lemmas.Option.{slice_get-map, slice_get_within}
@@ -27,6 +27,7 @@ use Rattle.xg_check.proofs.EndlessLaws.{Among, among_front, among_rest}
 use Rattle.xg_check.proofs.WayLaws.{ways_inside}
 use Rattle.xg_check.proofs.FuelLaws.{settled}
 use Rattle.xg_check.proofs.OrderLaws.{the_same}
+use Rattle.xg_check.proofs.GraphLaws.{all_at}
 
 -- ---- ways
 
@@ -49,17 +50,11 @@ of_step ts i p at j s = (s.place, subst (λ (xs : List ℕ). slice_get xs s.plac
     is = the_same (slice_get (type_ways ts ways.Held) i) s.next (part_places ts ways.Held p) s.from
         (slice_get-map (part_places ts ways.Held) ts i ∙ ap (option_map (part_places ts ways.Held)) at)
 
-item_has : {A : Type 0} (P : A → Type 0) (xs : List A) (i : ℕ) (x : A) → AllByRecursion P xs
-    → slice_get xs i ≡ Some x → P x
-item_has P [] i x all e = absurd cc
-item_has P (y ∷ xs) zero x all e = let is : y ≡ x = cc in subst P is all.0
-item_has P (y ∷ xs) (suc i) x all e = item_has P xs i x all.1 e
-
 pub inside : (ts : List Part) (i j : ℕ) → Step (type_ways ts ways.Held) i j → j < length (type_ways ts ways.Held)
 inside ts i j s =
-    let next = item_has (λ (xs : List ℕ). AllByRecursion (λ k. k < length (type_ways ts ways.Held)) xs)
+    let next = all_at (λ (xs : List ℕ). AllByRecursion (λ k. k < length (type_ways ts ways.Held)) xs)
     (type_ways ts ways.Held) i s.next (ways_inside ts ways.Held) s.from in
-    item_has (λ (k : ℕ). k < length (type_ways ts ways.Held)) s.next s.place j next s.to
+    all_at (λ (k : ℕ). k < length (type_ways ts ways.Held)) s.next s.place j next s.to
 
 pub same_size : (ts : List Part) → length (type_ways ts ways.Held) ≡ length ts
 same_size ts = length-map ts (part_places ts ways.Held)

@@ -75,7 +75,7 @@ names_meant cs (i ∷ is) = by_part i.part (names_meant cs is)
     by_part (parts.Const n w) rest = rest
     by_part (parts.Proc n args k o) rest = rest
 
-tests_turn : (a b : List ℕ) → bytes_eq a b ≡ bytes_eq b a
+pub tests_turn : (a b : List ℕ) → bytes_eq a b ≡ bytes_eq b a
 tests_turn a b = same_from_decides (bytes_eq a b) (bytes_eq b a)
     ((bytes_eq-Decides a b).0, (bytes_eq-Decides a b).1)
     (λ e. sym ((bytes_eq-Decides b a).0 e), λ e. (bytes_eq-Decides b a).1 (sym e))

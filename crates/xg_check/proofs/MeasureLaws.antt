@@ -13,9 +13,10 @@ use Rattle.xg_check.specs.Encodings.{part_hollow, hollow_at, part_bytes, word_by
 use Rattle.xg_check.specs.Held.{flat, capped, held_count, hollow_word, IsCapped, TypeEnds, AreMeasured, AreEncodings}
 use Rattle.xg_check.proofs.GraphLaws.{marked_end, unmarked_goes_on}
 use Rattle.xg_check.proofs.SearchLaws.{same_or_not, set_here, set_there, mark_at}
-use Rattle.xg_check.proofs.OrderLaws.{the_same, item_at}
+use Rattle.xg_check.proofs.OrderLaws.{the_same}
 use Rattle.xg_check.proofs.EndlessLaws.{Among}
 use Rattle.xg_check.proofs.HeldLaws.{step_of, part_hollow_same, part_bytes_same, hollow_step, bytes_step}
+use Rattle.xg_check.proofs.ValueLaws.{item_at}
 
 -- what is known of a count, where the table has one
 pub known_of : Option ℕ → Option ℕ → Option ℕ

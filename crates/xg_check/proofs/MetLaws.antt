@@ -8,7 +8,6 @@ use Rattle.std.specs.Ordering.{int_eq}
 use Rattle.std.specs.HashSet.{HashSet, contains}
 use Rattle.std.specs.declared.hash.FoldHasher.{FoldHasher}
 use Rattle.std.specs.declared.hash.BuildHasherDefault.{BuildHasherDefault}
-use Rattle.std.proofs.lemmas.Slice.Eq.{bytes_eq-Decides}
 use Rattle.std.proofs.lemmas.Bool.Decides.{same_from_decides, Decides-eqb, Decides-int_eq}
 use Rattle.xg_parse.specs.declared.tree.ConstWord.{ConstWord}
 use Rattle.xg_parse.specs.declared.tree.TypeWord.{TypeWord}
@@ -21,6 +20,7 @@ use Rattle.xg_check.specs.Marks.{struct_type, union_type}
 use Rattle.xg_check.specs.Judged.{same_space, same_value, are_same}
 use Rattle.xg_check.specs.Held.{same_pair}
 use Rattle.xg_check.specs.Met.{is_met, is_case_at, same_text, same_listed, AreMet}
+use Rattle.xg_check.proofs.KnownLaws.{tests_turn}
 
 abbrev pub TextSet : Type 0
 TextSet = HashSet (Bor (List ℕ)) (BuildHasherDefault FoldHasher)
@@ -33,11 +33,11 @@ CaseSet = HashSet (ℕ × ℤ) (BuildHasherDefault FoldHasher)
 
 -- ---- tests
 
-or_more : (a b c : Bool) → (a || (b || c)) ≡ ((a || b) || c)
+pub or_more : (a b c : Bool) → (a || (b || c)) ≡ ((a || b) || c)
 or_more true b c = refl
 or_more false b c = refl
 
-or_none : (a : Bool) → (a || false) ≡ a
+pub or_none : (a : Bool) → (a || false) ≡ a
 or_none true = refl
 or_none false = refl
 
@@ -47,12 +47,7 @@ any_more test [] x = or_none (test x)
 any_more test (y ∷ xs) x = ap (λ (b : Bool). test y || b) (any_more test xs x)
     ∙ or_more (test y) (list_any test xs) (test x)
 
-texts_turn : (a b : List ℕ) → bytes_eq a b ≡ bytes_eq b a
-texts_turn a b = same_from_decides (bytes_eq a b) (bytes_eq b a)
-    ((bytes_eq-Decides a b).0, (bytes_eq-Decides a b).1)
-    (λ e. sym ((bytes_eq-Decides b a).0 e), λ e. (bytes_eq-Decides b a).1 (sym e))
-
-numbers_turn : (a b : ℕ) → nat_eq a b ≡ nat_eq b a
+pub numbers_turn : (a b : ℕ) → nat_eq a b ≡ nat_eq b a
 numbers_turn a b = same_from_decides (nat_eq a b) (nat_eq b a)
     ((Decides-eqb a b).0, (Decides-eqb a b).1)
     (λ e. sym ((Decides-eqb b a).0 e), λ e. (Decides-eqb b a).1 (sym e))
@@ -101,7 +96,7 @@ module _ (cs : List ConstantDef) (front : List Mark) (met : Met) (is : AreMet cs
       put_is q
       ∙ put (bytes_eq n q.now) (same_space s s && bytes_eq q.now n) (contains same_text old q)
       (is_met cs front (declares s q.now))
-      (texts_turn n q.now ∙ sym (ap (λ (b : Bool). b && bytes_eq q.now n) self)) (was q)
+      (tests_turn n q.now ∙ sym (ap (λ (b : Bool). b && bytes_eq q.now n) self)) (was q)
       ∙ sym (met_more cs front (declares s n) (declares s q.now))
 
   -- and those of another stay
@@ -184,7 +179,7 @@ module _ (cs : List ConstantDef) (front : List Mark) (met : Met) (is : AreMet cs
           (contains same_listed met.listed (i, q))
           (is_met cs front (declares (spaces.List i) q.now))
           (ap (λ (b : Bool). b && bytes_eq n q.now) (numbers_turn j i)
-          ∙ ap (λ (b : Bool). nat_eq i j && b) (texts_turn n q.now))
+          ∙ ap (λ (b : Bool). nat_eq i j && b) (tests_turn n q.now))
           (is.listed i q)
           ∙ sym (met_more cs front (declares (spaces.List j) n) (declares (spaces.List i) q.now))
 

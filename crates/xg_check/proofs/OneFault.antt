@@ -11,26 +11,24 @@ use Rattle.xg_check.specs.Meaning.{Meant, interface_of, marks_of, opcodes_of, Tw
 use Rattle.xg_check.specs.Meaning.{OpcodeAt, OpcodeTwiceAt, MarkNamed, IsFirstFault, Meaning}
 use Rattle.xg_check.specs.Answers.{IsChecked}
 use Rattle.xg_check.proofs.PlaceLaws.{one_first}
-
-same_some : {A : Type 0} (o : Option A) (x y : A) → o ≡ Some x → o ≡ Some y → x ≡ y
-same_some {A} o x y e h = let both : Some x ≡ Some y = sym e ∙ h in cc
+use Rattle.xg_check.proofs.OrderLaws.{the_same}
 
 mark_names : (tree : Tree) (j k : ℕ) (m n : List ℕ) → j ≡ k → MarkNamed tree j m → MarkNamed tree k n → m ≡ n
 mark_names tree j k m n e a b =
     let at : slice_get (marks_of tree) k ≡ Some a.0 = subst (λ (i : ℕ). slice_get (marks_of tree) i ≡ Some a.0) e a.1 in
-    let same : a.0 ≡ b.0 = same_some (slice_get (marks_of tree) k) a.0 b.0 at b.1 in
+    let same : a.0 ≡ b.0 = the_same (slice_get (marks_of tree) k) a.0 b.0 at b.1 in
     a.2 ∙ ap mark_name same ∙ sym b.2
 
 at_one_place : {A : Type 0} (xs : List A) (j k : ℕ) (m n : A) → j ≡ k → slice_get xs j ≡ Some m
     → slice_get xs k ≡ Some n
     → m ≡ n
 at_one_place {A} xs j k m n e a b =
-    same_some (slice_get xs k) m n (subst (λ (i : ℕ). slice_get xs i ≡ Some m) e a) b
+    the_same (slice_get xs k) m n (subst (λ (i : ℕ). slice_get xs i ≡ Some m) e a) b
 
 opcodes_at : (ops : List (List ℕ × Option ℤ)) (j k m n : ℕ) → j ≡ k → opcode_at ops j ≡ Some m
     → opcode_at ops k ≡ Some n → m ≡ n
 opcodes_at ops j k m n e a b =
-    same_some (opcode_at ops k) m n (subst (λ (i : ℕ). opcode_at ops i ≡ Some m) e a) b
+    the_same (opcode_at ops k) m n (subst (λ (i : ℕ). opcode_at ops i ≡ Some m) e a) b
 
 pub one_fault : (tree : Tree) (f g : CheckFault) → IsFirstFault tree f → IsFirstFault tree g → f ≡ g
 one_fault tree (faults.Twice m) (faults.Twice n) a b =

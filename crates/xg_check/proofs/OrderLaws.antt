@@ -1,14 +1,14 @@
 -- What the search for the nodes that end keeps, step by step.
 use Rattle.std.proofs.Common.{◌≡◌, ℕ, zero, suc, ◌+◌, ◌<◌, ◌≤◌, Bool, true, false, List, [], ◌∷◌, ◌++◌, length, set}
-use Rattle.std.proofs.Common.{replicate, slice_get, Option, Some, refl, sym, subst, ◌∙◌, arith, ◌⊎◌, inl, inr}
+use Rattle.std.proofs.Common.{replicate, slice_get, Option, Some, sym, subst, ◌∙◌, arith, ◌⊎◌, inl, inr}
 use Rattle.std.specs.List.{AllByRecursion}
 use Rattle.std.proofs.lemmas.List.{length-set, length-replicate}
 use Rattle.std.proofs.lemmas.Option.{slice_get_within}
 use Rattle.xg_check.specs.Graphs.{Step, AreOrdered}
-use Rattle.xg_check.specs.Searching.{marked_count}
 use Rattle.xg_check.specs.Ordering.{IsNew, AreEnded, IsIn, IsOrdering, IsLooked, Waits, AllLooked, AllWait, AllButSome}
-use Rattle.xg_check.proofs.SearchLaws.{at_front, at_end, of_pushed, set_here, set_there, same_or_not, not_both, mark_at}
+use Rattle.xg_check.proofs.SearchLaws.{at_front, at_end, of_pushed, set_here, set_there, same_or_not, not_both, mark_at, count-none}
 use Rattle.xg_check.proofs.SearchLaws.{marked_now}
+use Rattle.xg_check.proofs.ValueLaws.{item_at}
 
 pub the_same : {A : Type 0} (o : Option A) (x y : A) → o ≡ Some x → o ≡ Some y → x ≡ y
 the_same {A} o x y e h = let both : Some x ≡ Some y = sym e ∙ h in cc
@@ -291,16 +291,11 @@ released g at node e n w l ws all here had = record {
       | inr a ↦ waits i a
     ]
 
-item_of : {A : Type 0} (xs : List A) (i : ℕ) → i < length xs → (x : A) × (slice_get xs i ≡ Some x)
-item_of [] i h = absurd (omega (arith, h))
-item_of (x ∷ xs) zero h = (x, refl)
-item_of (x ∷ xs) (suc i) h = item_of xs i (omega (arith, h))
-
 still_inside : (r : ℕ) (n0 n1 : List ℕ) → ((k i : ℕ) → slice_get n0 k ≡ Some i → slice_get n1 k ≡ Some i)
     → r ≤ length n0 → r ≤ length n1
 still_inside zero n0 n1 grown le = omega arith
 still_inside (suc r) n0 n1 grown le =
-    let x = item_of n0 r (omega (arith, le)) in
+    let x = item_at n0 r (omega (arith, le)) in
     omega (arith, slice_get_within n1 r x.0 (grown r x.0 x.1))
 
 module _ (g : List (List ℕ)) (r x : ℕ) (some : List ℕ) (e0 e1 : List Bool) (n0 n1 : List ℕ) (w0 w1 : List (List ℕ))
@@ -380,10 +375,6 @@ of_replicate zero x y i e = absurd cc
 of_replicate (suc n) x y zero e = cc
 of_replicate (suc n) x y (suc i) e = of_replicate n x y i e
 
-count-none : (n : ℕ) → marked_count (replicate n false) ≡ 0
-count-none zero = refl
-count-none (suc n) = count-none n
-
 pub nothing_looked : (g : List (List ℕ)) (e : List Bool) (n : List ℕ) (w : List (List ℕ)) (l : List ℕ)
     → IsNew (length g) e n w l → AllLooked g 0 e n w l
 nothing_looked g e n w l new =
@@ -422,8 +413,3 @@ nothing_looked g e n w l new =
       };
       each = λ i lt. absurd (omega (arith, lt));
     }
-
-pub item_at : {A : Type 0} (xs : List A) (i : ℕ) → i < length xs → (x : A) × (slice_get xs i ≡ Some x)
-item_at [] i h = absurd (omega (arith, h))
-item_at (x ∷ xs) zero h = (x, refl)
-item_at (x ∷ xs) (suc i) h = item_at xs i (omega (arith, h))

@@ -284,7 +284,7 @@ none_marked zero i e = absurd cc
 none_marked (suc n) zero e = absurd cc
 none_marked (suc n) (suc i) e = none_marked n i e
 
-count-none : (n : ℕ) → marked_count (replicate n false) ≡ 0
+pub count-none : (n : ℕ) → marked_count (replicate n false) ≡ 0
 count-none zero = refl
 count-none (suc n) = count-none n
 

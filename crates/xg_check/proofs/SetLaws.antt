@@ -4,7 +4,7 @@ use Rattle.std.proofs.Common.{◌++◌, length, take, get_or, slice_get, Option,
 use Rattle.std.proofs.Common.{inr}
 use Rattle.std.specs.Ordering.{int_eq}
 use Rattle.std.proofs.lemmas.Bool.{false_from_ne_true, lt-ltb, ltb-true}
-use Rattle.std.proofs.lemmas.Bool.Decides.{same_from_decides, Decides-eqb}
+use Rattle.std.proofs.lemmas.Bool.Decides.{Decides-eqb}
 use Rattle.std.proofs.lemmas.List.{take_more}
 use Rattle.std.proofs.lemmas.Option.{slice_get_past}
 use Rattle.xg_parse.specs.declared.tree.MembItem.{MembItem}
@@ -12,11 +12,7 @@ use Rattle.xg_parse.specs.declared.tree.Part.{Part}
 use Rattle.xg_check.specs.Constants.{ConstantDef, value_named}
 use Rattle.xg_check.specs.Tags.{is_value, members_have, enum_has}
 use Rattle.xg_check.proofs.PlaceLaws.{less_or_more}
-
-turn : (a b : ℕ) → nat_eq a b ≡ nat_eq b a
-turn a b = same_from_decides (nat_eq a b) (nat_eq b a)
-    ((Decides-eqb a b).0, (Decides-eqb a b).1)
-    (λ e. sym ((Decides-eqb b a).0 e), λ e. (Decides-eqb b a).1 (sym e))
+use Rattle.xg_check.proofs.MetLaws.{numbers_turn, or_more, or_none}
 
 added : (c d o : Bool) → c ≡ d → cond c true o ≡ (o || d)
 added true true true e = refl
@@ -30,22 +26,14 @@ added false true o e = absurd cc
 pub pair_added : (place i : ℕ) (v z : ℤ) (o : Bool)
     → cond (nat_eq place i && int_eq v z) true o ≡ (o || (nat_eq i place && is_value (Some v) z))
 pair_added place i v z o = added (nat_eq place i && int_eq v z) (nat_eq i place && int_eq v z) o
-    (ap (λ (b : Bool). b && int_eq v z) (turn place i))
-
-or_false : (b : Bool) → (b || false) ≡ b
-or_false true = refl
-or_false false = refl
-
-or_along : (a b c : Bool) → (a || (b || c)) ≡ ((a || b) || c)
-or_along true b c = refl
-or_along false b c = refl
+    (ap (λ (b : Bool). b && int_eq v z) (numbers_turn place i))
 
 members_both : (cs : List ConstantDef) (xs ys : List MembItem) (z : ℤ)
     → members_have cs (xs ++ ys) z ≡ (members_have cs xs z || members_have cs ys z)
 members_both cs [] ys z = refl
 members_both cs (x ∷ xs) ys z =
     ap (λ (b : Bool). is_value (value_named cs x.name) z || b) (members_both cs xs ys z)
-    ∙ or_along (is_value (value_named cs x.name) z) (members_have cs xs z) (members_have cs ys z)
+    ∙ or_more (is_value (value_named cs x.name) z) (members_have cs xs z) (members_have cs ys z)
 
 -- a member more
 pub members_more : (cs : List ConstantDef) (ms : List MembItem) (i : ℕ) (d : MembItem) (z : ℤ) → i < length ms
@@ -55,7 +43,7 @@ members_more cs ms i d z lt =
     ap (λ (xs : List MembItem). members_have cs xs z) (take_more ms i d lt)
     ∙ members_both cs (take i ms) (get_or ms i d ∷ []) z
     ∙ ap (λ (b : Bool). members_have cs (take i ms) z || b)
-    (or_false (is_value (value_named cs (get_or ms i d).name) z))
+    (or_none (is_value (value_named cs (get_or ms i d).name) z))
 
 spread : (o e h v : Bool) → ((o || (e && h)) || (e && v)) ≡ (o || (e && (h || v)))
 spread true e h v = refl
@@ -98,12 +86,12 @@ types_more f i place was new e n = n ∙ elim (less_or_more i place) [
   | inl lt ↦
       let before : was ≡ f i = e ∙ ap (λ (b : Bool). b && f i) (less i place lt) in
       let differ : nat_eq i place ≡ false = apart i place (λ same. omega (arith, same, lt)) in
-      ap (λ (b : Bool). was || (b && f place)) differ ∙ or_false was ∙ before
+      ap (λ (b : Bool). was || (b && f place)) differ ∙ or_none was ∙ before
       ∙ ap (λ (b : Bool). b && f i) (sym (less i (place + 1) (omega (arith, lt))))
   | inr (inl gt) ↦
       let before : was ≡ false = e ∙ ap (λ (b : Bool). b && f i) (not_less i place (omega (arith, gt))) in
       let differ : nat_eq i place ≡ false = apart i place (λ same. omega (arith, same, gt)) in
-      ap (λ (b : Bool). was || (b && f place)) differ ∙ or_false was ∙ before
+      ap (λ (b : Bool). was || (b && f place)) differ ∙ or_none was ∙ before
       ∙ ap (λ (b : Bool). b && f i) (sym (not_less i (place + 1) (omega (arith, gt))))
   | inr (inr same) ↦
       let before : was ≡ false = e ∙ ap (λ (b : Bool). b && f i) (not_less i place (omega (arith, same))) in

@@ -40,12 +40,13 @@ use Rattle.xg_check.proofs.ApartLaws.{of_args, types_differ}
 use Rattle.xg_check.proofs.KnownLaws.{AllKnown, all_known, known_front, known_rest, names_meant, word_known, form_known}
 use Rattle.xg_check.proofs.KnownLaws.{fields_known, args_known, choices_known}
 use Rattle.xg_check.proofs.EndlessLaws.{none_endless, only_types, types_are}
-use Rattle.xg_check.proofs.ValueLaws.{AllRight, all_right, right_front, right_rest, all_at, all_both, constants_differ}
+use Rattle.xg_check.proofs.ValueLaws.{AllRight, all_right, right_front, right_rest, all_both, constants_differ}
 use Rattle.xg_check.proofs.ValueLaws.{known_exists, wider, members_int}
 use Rattle.xg_check.proofs.TagLaws.{AreSmall, tag_seen, tags_are, one_each, a_tag_seen, case_seen}
 use Rattle.xg_check.proofs.CaseLaws.{WordsApart, words_apart, of_union, arms_of, choices_differ, choices_in_range}
 use Rattle.xg_check.proofs.CaseLaws.{some_choice}
 use Rattle.xg_check.proofs.ProcLaws.{numbers_meant, numbers_differ, procs_differ, arg_names}
+use Rattle.xg_check.proofs.GraphLaws.{all_at}
 
 -- ---- members of enums have values of int
 

@@ -11,6 +11,7 @@ use Rattle.xg_check.specs.Opcodes.{opcode_behind, with_opcode, opcodes_behind}
 use Rattle.xg_check.specs.Meant.{with_proc, procs_behind, proc_meant}
 use Rattle.xg_check.specs.Counting.{part_proc}
 use Rattle.xg_check.specs.Held.{flat}
+use Rattle.xg_check.proofs.CountLaws.{nothing_behind}
 
 abbrev pub Ops : Type 0
 Ops = List (List ℕ × Option ℤ)
@@ -95,10 +96,6 @@ module _ (cs : List ConstantDef) (front : List Part) (list : List (Option ℤ)) 
         (part_left d.part (opcodes_behind cs (d.part ∷ front) (drop (i + 1) items))
         (length (part_proc cs opcode d.part))
         refl here_opcodes)
-
-nothing_behind : {A : Type 0} (xs : List A) → xs ++ [] ≡ xs
-nothing_behind [] = refl
-nothing_behind {A} (x ∷ xs) = ap (λ (ys : List A). x ∷ ys) (nothing_behind xs)
 
 -- all items
 pub procs_last : (cs : List ConstantDef) (front : List Part) (items : List Item) (i : ℕ) (procs total : Procs)

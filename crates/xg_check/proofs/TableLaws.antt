@@ -20,9 +20,10 @@ use Rattle.xg_check.specs.Tags.{place_tag, word_tag, form_tag, part_tag, tag_wit
 use Rattle.xg_check.specs.Held.{held_tag, AreTagged}
 use Rattle.xg_check.proofs.GraphLaws.{marked_end}
 use Rattle.xg_check.proofs.SearchLaws.{same_or_not, set_here, set_there, mark_at}
-use Rattle.xg_check.proofs.OrderLaws.{the_same, item_at}
+use Rattle.xg_check.proofs.OrderLaws.{the_same}
 use Rattle.xg_check.proofs.EndlessLaws.{Among}
 use Rattle.xg_check.proofs.HeldLaws.{step_of, of_step, part_tag_same, tag_step}
+use Rattle.xg_check.proofs.ValueLaws.{item_at}
 
 of_replicate : {A : Type 0} (n i : ℕ) (x y : A) → slice_get (replicate n x) i ≡ Some y → x ≡ y
 of_replicate zero i x y e = absurd cc

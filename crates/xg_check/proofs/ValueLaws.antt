@@ -18,7 +18,7 @@ use Rattle.xg_check.specs.declared.marks.Space.TheVariants as spaces
 use Rattle.xg_check.specs.Places.{place_of}
 use Rattle.xg_check.specs.Graphs.{Step, Leads, at_once, through}
 use Rattle.xg_check.specs.Constants.{Given, word, first, next, ConstantDef, given_or, members_from, part_constants}
-use Rattle.xg_check.specs.Constants.{constants_in, constant_names, value_at, value_of, value_named, ways_from}
+use Rattle.xg_check.specs.Constants.{constants_in, constant_names, value_at, value_of, value_named}
 use Rattle.xg_check.specs.Constants.{constant_ways}
 use Rattle.xg_check.specs.Marks.{Mark, optional_constant, member_marks, field_marks, arg_marks, part_marks, marks_from}
 use Rattle.xg_check.specs.Judged.{Scope, is_unknown_constant, is_no_int, IsConstantWrong, ring, no_int, IsWrong}
@@ -26,7 +26,8 @@ use Rattle.xg_check.specs.Judged.{IsSizeFault, IsTwice}
 use Rattle.xg_check.proofs.ApartLaws.{apart, declared_in, distinct_in, declared_both, none_of, no_constant, of_decl}
 use Rattle.xg_check.proofs.ApartLaws.{of_arms, of_members}
 use Rattle.xg_check.proofs.KnownLaws.{AllKnown, known_front, known_rest}
-use Rattle.xg_check.proofs.RingLaws.{GivenKnown, word_exists}
+use Rattle.xg_check.proofs.RingLaws.{GivenKnown, word_exists, length_ways}
+use Rattle.xg_check.proofs.GraphLaws.{all_at}
 
 -- ---- marks of which none is wrong
 
@@ -49,12 +50,6 @@ right_rest s [] ys h = h
 right_rest s (x ∷ xs) ys h = right_rest s xs ys h.1
 
 -- ---- lists
-
-pub all_at : {A : Type 0} (P : A → Type 0) (xs : List A) (i : ℕ) (x : A) → AllByRecursion P xs
-    → slice_get xs i ≡ Some x → P x
-all_at P [] i x h e = absurd cc
-all_at {A} P (y ∷ xs) zero x h e = let same : y ≡ x = cc in subst P same h.0
-all_at P (y ∷ xs) (suc i) x h e = all_at P xs i x h.1 e
 
 pub all_both : {A : Type 0} (P : A → Type 0) (xs ys : List A) → AllByRecursion P xs → AllByRecursion P ys
     → AllByRecursion P (xs ++ ys)
@@ -228,14 +223,10 @@ first_step : (g : List (List ℕ)) (i j : ℕ) → Leads g i j → (k : ℕ) × 
 first_step g i j (at_once a b s) = (j, s)
 first_step g i j (through a m b s rest) = (m, s)
 
-item_at : {A : Type 0} (xs : List A) (i : ℕ) → i < length xs → (x : A) × (slice_get xs i ≡ Some x)
+pub item_at : {A : Type 0} (xs : List A) (i : ℕ) → i < length xs → (x : A) × (slice_get xs i ≡ Some x)
 item_at [] i h = absurd (omega (arith, h))
 item_at (x ∷ xs) zero h = (x, refl)
 item_at (x ∷ xs) (suc i) h = item_at xs i (omega (arith, h))
-
-length_ways : (all : List ConstantDef) (k : ℕ) (cs : List ConstantDef) → length (ways_from all k cs) ≡ length cs
-length_ways all k [] = refl
-length_ways all k (c ∷ cs) = ap suc (length_ways all (suc k) cs)
 
 pub known_exists : (s : Scope) (items : List Item) → s.constants ≡ constants_in items
     → AllKnown s (marks_from 0 items) → AllRight s (marks_from 0 items)

@@ -24,7 +24,7 @@ use Rattle.rx_rules.specs.Rules.{AllowedClient, Legal, can_say, client_read, cli
 use Rattle.rx_rules.specs.Rules.{done_where, own_call}
 use Rattle.rx_rules.specs.Setup.{Client, FitsSetup, Setup, pace_of}
 use Rattle.rx_history.specs.Starts.{StartsNew}
-use Rattle.rx_history.proofs.ClientHistory.{client-calls}
+use Rattle.rx_history.proofs.ClientHistory.{client-calls, clients}
 use Rattle.rx_history.proofs.Server.{spared-starts}
 use Rattle.rx_history.proofs.Takes.{call_at-any}
 use Rattle.rx_asks.specs.declared.ask.TheConstants.{REPLY_BYTES}
@@ -36,7 +36,6 @@ use Rattle.rx_asks.proofs.Driving.{none_starts, tells_driven}
 use Rattle.rx_asks.proofs.Kept.{Kept, Spoken}
 use Rattle.rx_asks.proofs.KeptEvents.{kept_after}
 use Rattle.rx_plan.proofs.Callers.{heard_call}
-use Rattle.rx_plan.proofs.ClientEnds.{by_client}
 use Rattle.rx_asks.proofs.CallerEvents.{own_change, own_is, own_read}
 
 -- ---- of a caller and its call
@@ -216,14 +215,14 @@ module _ (s : Setup) (host : Host) (epoch : ℕ) (kind : s.kind ≡ Client host 
       let tells = tells_driven s host epoch REPLY_BYTES request w h' kind fits legal.1 drives in
       let t = there_is (call_at (looks s h') w.call) tells.called in
       subst (λ (n : CallName). HoldsBy (heard w e) (call_at (looks s (e ∷ h')) n)) (sym (heard_call w e))
-      (holds_made w h' t.call a e legal.1 t.there asked is (by_client s.kind s host epoch (looks s h') e kind legal.0)
+      (holds_made w h' t.call a e legal.1 t.there asked is (clients s.kind s host epoch (looks s h') e kind legal.0)
       (subst (HoldsBy w) t.there (holds_driven request w h' legal.1 drives)))
   holds_driven request v h legal (leaves w e h' leaves_it drives) =
       let l : Looks = looks s h' in
       let tells = tells_driven s host epoch REPLY_BYTES request w h' kind fits legal.1 drives in
       let before = client-calls s host epoch h' kind fits legal.1 in
       let behind = client-calls s host epoch (e ∷ h') kind fits legal in
-      let allowed = by_client s.kind s host epoch l e kind legal.0 in
+      let allowed = clients s.kind s host epoch l e kind legal.0 in
       let new : StartsNew s l e w.call =
       spared-starts (Unit {0}) w.call s l e (before.sound w.call) (behind.spared (connection_of w.call)) in
       holds_kept w (call_at l w.call) (call_at (after s e l) w.call)

@@ -1,9 +1,9 @@
 -- The reads of a caller's turn: it reads all that stands without a gap, to the end of the reply or until more is to
 -- come; or it gives its call up.
 use Rattle.std.proofs.Common.{◌≡◌, ◌≤◌, ◌-◌, ◌++◌, ℕ, suc, zero, min, Bool, true, false, List, [], ◌∷◌, refl, ap, sym}
-use Rattle.std.proofs.Common.{subst, ◌∙◌, Some, Ok, length, take, drop, arith, append-nil, length-take, length-drop}
+use Rattle.std.proofs.Common.{subst, ◌∙◌, Some, Ok, length, take, drop, arith, append-nil, length-drop}
 use Rattle.std.proofs.Common.{nat_lt}
-use Rattle.std.proofs.lemmas.List.{drop_min, drop-drop, length-append}
+use Rattle.std.proofs.lemmas.List.{drop-drop, length-append}
 use Rattle.rx_model.specs.declared.answers.CallRead.{CallRead}
 use Rattle.rx_model.specs.declared.answers.CallRead.TheVariants as callreads
 use Rattle.rx_model.specs.declared.answers.End.TheVariants as ends
@@ -36,16 +36,13 @@ use Rattle.rx_closing.proofs.Callers.CallerTurn.{event_at, next_is, reads_on}
 use Rattle.rx_closing.proofs.Ends.TurnLaws.{turn_trans}
 use Rattle.rx_closing.proofs.Server.OwnReads.{unread_same}
 use Rattle.rx_closing.proofs.Steps.{TurnsOn, turns_none, turns_read}
+use Rattle.rx_rounds.proofs.Reading.ReadsOut.{drop_take}
 
 -- ---- what is left to read
 
 none_to_read : (u : List ℕ) → length u ≤ 0 → u ≡ []
 none_to_read [] few = refl
 none_to_read (b ∷ bs) few = absurd (omega arith)
-
--- what was read once more, of what was there to read
-drop_take : (m : ℕ) (ys : List ℕ) → drop (length (take m ys)) ys ≡ drop m ys
-drop_take m ys = ap (λ (n : ℕ). drop n ys) (length-take m ys) ∙ drop_min m ys
 
 unread_behind : (now max : ℕ) (k : CallLooks)
     → unread_of (after_read now false (take max (unread_of k.received)) k).received ≡ drop max (unread_of k.received)

@@ -28,19 +28,9 @@ use Rattle.rx_closing.proofs.Callers.CallerTurn.{At, CallerLeft, Goes, Next, all
 use Rattle.rx_closing.proofs.Callers.CallerTurn.{fills_up, looks_behind, next_is}
 use Rattle.rx_closing.proofs.Ends.TurnLaws.{turn_trans}
 use Rattle.rx_closing.proofs.Steps.{TurnsOn, turns_none, turns_shut, turns_write}
+use Rattle.rx_asks.proofs.Telling.{first-of}
 
 -- ---- bytes that were accepted
-
--- the first bytes of the first, and those behind them
-first_of : (n m : ℕ) (xs : List ℕ) → take n (take m xs) ++ drop (length (take n (take m xs))) xs ≡ xs
-first_of zero zero [] = refl
-first_of zero zero (x ∷ xs) = refl
-first_of zero (suc m) [] = refl
-first_of zero (suc m) (x ∷ xs) = refl
-first_of (suc n) zero [] = refl
-first_of (suc n) zero (x ∷ xs) = refl
-first_of (suc n) (suc m) [] = refl
-first_of (suc n) (suc m) (x ∷ xs) = ap (λ (ys : List ℕ). x ∷ ys) (first_of n m xs)
 
 module _ (node : ℕ) (client : Node) (host : Host) (epoch : ℕ) (kind : client.setup.kind ≡ Client host epoch)
     (c : CallName) (cs : List CallName) (now : ℕ) (request : List ℕ) (k0 : CallLooks) (name : CallName)
@@ -147,7 +137,7 @@ module _ (node : ℕ) (client : Node) (host : Host) (epoch : ℕ) (kind : client
       all : f.sent.said ++ rest ≡ request
       all =
           append_assoc k.sent.said bytes rest
-          ∙ ap (λ (ys : List ℕ). k.sent.said ++ ys) (first_of count 4096 offering) ∙ said
+          ∙ ap (λ (ys : List ℕ). k.sent.said ++ ys) (first-of count 4096 offering) ∙ said
 
       Again : Type 0
       Again = (k2 : CallLooks) (rest2 : List ℕ) (s2 : Stage) → length rest2 ≤ fuel → k2.sent.shut ≡ false

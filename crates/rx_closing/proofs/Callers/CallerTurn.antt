@@ -27,12 +27,12 @@ use Rattle.rx_plan.specs.Parts.{To}
 use Rattle.rx_plan.specs.Programs.{Turn}
 use Rattle.rx_plan.specs.Stages.{Stage, with_event}
 use Rattle.rx_plan.proofs.Callers.{side_own}
-use Rattle.rx_plan.proofs.ClientEnds.{by_client}
 use Rattle.rx_rounds.proofs.Making.{turn_goes}
 use Rattle.rx_closing.proofs.Callers.AmongCallers.{among_stays}
 use Rattle.rx_asks.proofs.CallerEvents.{asked_dims, asked_now}
 use Rattle.rx_closing.proofs.Frame.{AreAmong}
 use Rattle.rx_closing.proofs.Steps.{TurnsOn}
+use Rattle.rx_history.proofs.ClientHistory.{clients}
 
 -- a call of a client that lives, and one that ended
 abbrev pub calls : CallName → CallLooks → CallRecord
@@ -100,7 +100,7 @@ module _ (node : ℕ) (client : Node) (host : Host) (epoch : ℕ) (kind : client
       let n = turn_goes (calling REPLY_BYTES) node v w a s t go.0 asked go.1 in
       let same : n.event ≡ e =
       only n.event n.allowed.0
-      (by_client client.setup.kind client.setup host epoch (looks_at s) n.event kind
+      (clients client.setup.kind client.setup host epoch (looks_at s) n.event kind
       (here s n.event first n.allowed.1)) in
       record {
         asked = subst (IsAsked a) same n.allowed.0;

@@ -24,6 +24,7 @@ use Rattle.rx_closing.proofs.Ends.BothEnds.{GivenBy, IsFit}
 use Rattle.rx_closing.proofs.Ends.OwedPlain.{PlainOwed, plain_ack, plain_for, plain_read}
 use Rattle.rx_closing.proofs.Steps.{TakesIn, TurnsOn, takes_none, takes_one, turns_none, turns_read, turns_shut}
 use Rattle.rx_closing.proofs.Steps.{turns_write}
+use Rattle.rx_closing.proofs.Ends.TurnLaws.{counting_shut}
 
 -- ---- a message
 
@@ -266,10 +267,6 @@ counts-on : (n m : ℕ) (shut : Bool) → counting_by n shut ≤ counting_by (n 
 counts-on n m true = omega arith
 counts-on n m false = omega arith
 
-counts-shut : (n : ℕ) (shut : Bool) → counting_by n shut ≤ counting_by n true
-counts-shut n true = omega arith
-counts-shut n false = omega arith
-
 -- bytes were accepted
 pub fit_write : (now : ℕ) (bytes : List ℕ) (k : CallLooks) → IsFit now k → IsFit now (after_write bytes k)
 fit_write now bytes k fit =
@@ -314,7 +311,7 @@ fit_shut now k fit =
       plain = fit.plain;
       acked = fit.acked;
       counts = (let low = fit.counts in
-          let more = counts-shut (length k.sent.said) k.sent.shut in
+          let more = counting_shut (length k.sent.said) k.sent.shut in
           omega (arith, low, more));
     }
 

@@ -12,13 +12,13 @@ use Rattle.rx_rules.specs.Sent.{Giving, Sent, counting_by, counting_of, given_of
 use Rattle.rx_rules.specs.Setup.{Setup, is_client}
 use Rattle.rx_history.proofs.Laws.UsedLaws.{used_reads}
 use Rattle.rx_between.specs.Agreed.{AreGiven}
-use Rattle.rx_between.proofs.Counting.{reach_le}
 use Rattle.rx_closing.proofs.Ends.BothEnds.{Ends, Round, Stood}
 use Rattle.rx_closing.proofs.Ends.FrozenPolls.{has_ack, has_piece, has_ping, polls_due, polls_tell, same_end}
 use Rattle.rx_closing.proofs.Ends.FrozenTakes.{OwesNow, Ready, client_frees, owes-as, ready_on, server_frees}
 use Rattle.rx_closing.proofs.Ends.FrozenTakes.{takes_tell}
 use Rattle.rx_closing.proofs.Ends.LowestAgain.{takes_givings}
 use Rattle.rx_closing.proofs.Steps.{GivesOut, TakesIn, TurnsOn, turns_none, turns_read, turns_shut, turns_write}
+use Rattle.rx_rules.proofs.ReachLaws.{reach_within}
 
 -- ---- a turn
 
@@ -164,8 +164,8 @@ counts_within s = of s.shut
 room-by : (sent : Sent) (received : Received) → AreGiven sent received → given_of sent ≤ counting_of sent
     → used_of received ≤ pieces_of sent
 room-by sent received given counts =
-    let done = reach_le (is_done received) (front_of received.kept) in
-    let front = reach_le (λ j. is_some (packet_at received.kept j)) (greatest received.kept) in
+    let done = reach_within (is_done received) (front_of received.kept) in
+    let front = reach_within (λ j. is_some (packet_at received.kept j)) (greatest received.kept) in
     let within = counts_within sent in
     omega (arith, done, front, within, given, counts)
 

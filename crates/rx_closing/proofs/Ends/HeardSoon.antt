@@ -8,7 +8,6 @@ use Rattle.rx_rules.specs.CallLooks.{CallLooks}
 use Rattle.rx_rules.specs.Owing.{Owed}
 use Rattle.rx_rules.specs.Received.{Packet, Received, front_of, is_done, used_of}
 use Rattle.rx_rules.specs.Setup.{Setup, is_client}
-use Rattle.rx_between.proofs.Counting.{reach_le}
 use Rattle.rx_progress.specs.Moving.{IsDrained}
 use Rattle.rx_closing.proofs.Ends.BothEnds.{Ends, IsFit}
 use Rattle.rx_closing.proofs.Ends.EndFacts.{takes_fit, turns_fit}
@@ -21,6 +20,7 @@ use Rattle.rx_closing.proofs.Ends.NextGiven.{none_pinged, view_at}
 use Rattle.rx_closing.proofs.Ends.Speaks.{DueBy, Hears, SameHeard, TurnHears, none_said, polls_leave, polls_speak}
 use Rattle.rx_closing.proofs.Ends.Speaks.{takes_hear, took_none, turn_hears}
 use Rattle.rx_closing.proofs.Steps.{Passes}
+use Rattle.rx_rules.proofs.ReachLaws.{reach_within}
 
 -- ---- a round
 
@@ -154,7 +154,7 @@ module _ (cs ss : Setup) (client : is_client cs.kind ≡ true) (e f : Ends) (r :
 
     owed-is : f.client.owed_ack ≡ r.passes.kc1.owed_ack
     owed-is =
-        client-same.owed (let top = reach_le (is_done f.client.received) (front_of f.client.received.kept) in
+        client-same.owed (let top = reach_within (is_done f.client.received) (front_of f.client.received.kept) in
         let turn : front_of f.client.received.kept ≡ front_of r.passes.kc2.received.kept =
         ap (λ (ps : List Packet). front_of ps) client-same.kept in
         let received : r.passes.kc2.received ≡ e.client.received =

@@ -17,11 +17,12 @@ use Rattle.rx_rules.proofs.PacketLaws.{kept_within}
 use Rattle.rx_between.specs.Acknowledged.{AreTrue}
 use Rattle.rx_between.specs.Agreed.{MakesSense}
 use Rattle.rx_between.specs.Told.{Grows}
-use Rattle.rx_between.proofs.Counting.{reach_fails, reach_le, reach_least, reach_passes, reach_short}
+use Rattle.rx_between.proofs.Counting.{reach_least, reach_passes, reach_short}
 use Rattle.rx_between.proofs.Grows.{grows_on, grows_same, taken_grows}
 use Rattle.rx_between.proofs.Marks.{used_kept}
 use Rattle.rx_progress.proofs.Lowest.{moves}
 use Rattle.rx_closing.proofs.Steps.{TakesIn, takes_none, takes_one}
+use Rattle.rx_rules.proofs.ReachLaws.{reach_stops, reach_within}
 
 -- ---- fronts
 
@@ -124,7 +125,7 @@ lowest-known : (sent : Sent) (r : Received) → sent.acked ≤ used_of r → low
 lowest-known sent r hard given away =
     (let far : ℕ = reach (is_acked sent) (given_of sent) in
     let open_ = or_parts (nat_le (lowest_of sent) sent.acked) (sent.soft (lowest_of sent))
-    (reach_fails (is_acked sent) (given_of sent) given) in
+    (reach_stops (is_acked sent) (given_of sent) given) in
     let above : used_of r < lowest_of sent =
     elim (cases_lt (used_of r) (lowest_of sent)) as (λ e. used_of r < lowest_of sent) [
       | inl after ↦ after
@@ -135,7 +136,7 @@ lowest-known sent r hard given away =
     (not-below (lowest_of sent) (used_of r) above)
     open_.1 in
     let short = reach_short (is_acked (knowing sent r)) (given_of sent) (lowest_of sent) (omega arith) fails in
-    let wide = reach_least (is_acked (knowing sent r)) (given_of sent) far (reach_le (is_acked sent) (given_of sent))
+    let wide = reach_least (is_acked (knowing sent r)) (given_of sent) far (reach_within (is_acked sent) (given_of sent))
     (λ j from to. more j (reach_passes (is_acked sent) (given_of sent) j from to)) in
     let same : reach (is_acked (knowing sent r)) (given_of sent) ≡ far = omega (arith, short, wide) in
     ap (λ (n : ℕ). suc n) same)

@@ -1,5 +1,5 @@
 -- What an end that isn't prompt gives next, with its cause; and what isn't due of it where it gives nothing.
-use Rattle.std.proofs.Common.{◌≡◌, ◌<◌, ◌≤◌, ◌⊎◌, ◌+◌, ◌++◌, cond, if◌then◌else◌, ℕ, suc, Bool, true, false, List, []}
+use Rattle.std.proofs.Common.{◌≡◌, ◌<◌, ◌≤◌, ◌⊎◌, ◌+◌, ◌++◌, if◌then◌else◌, ℕ, suc, Bool, true, false, List, []}
 use Rattle.std.proofs.Common.{◌∷◌, Option, Some, None, option_map, filter, nat_le, refl, ap, sym, subst, inl, inr}
 use Rattle.std.proofs.Common.{⊎_elim, arith}
 use Rattle.std.proofs.lemmas.Bool.{cases_lt, le-leb, leb-true}
@@ -15,6 +15,8 @@ use Rattle.rx_rules.specs.Sent.{LastGiving, Sent, given_of, last_giving, lowest_
 use Rattle.rx_rules.specs.Setup.{Setup, is_client, receiving_window}
 use Rattle.rx_between.proofs.Each.EachItem.{In, in_behind, in_filter, in_front, least_in, least_none}
 use Rattle.rx_closing.proofs.Steps.{IsViewAt}
+use Rattle.rx_between.proofs.Within.{in_either}
+use Rattle.rx_closing.proofs.Living.InLists.{in_filter_back}
 
 -- ---- a node's view
 
@@ -26,23 +28,6 @@ pub is_view_at : (s : Setup) (now : ℕ) → IsViewAt s now (view_at s now)
 is_view_at s now = record { client = refl; window = refl; moment = refl }
 
 -- ---- lists
-
-in_filtered : {X : Type 0} (p : X → Bool) (x : X) (xs : List X) → In x (filter p xs) → In x xs × (p x ≡ true)
-in_filtered p x [] there = absurd there
-in_filtered {X = X} p x (y ∷ ys) there =
-    (elim (p y) as (λ b. p y ≡ b → In x (cond b (y ∷ filter p ys) (filter p ys)) → In x (y ∷ ys) × (p x ≡ true)) [
-      | true ↦ λ passes is. ⊎_elim
-          (λ (same : x ≡ y). (inl same, subst (λ (z : X). p z ≡ true) (sym same) passes))
-          (λ (rest : In x (filter p ys)). (let r = in_filtered p x ys rest in (inr r.0, r.1))) is
-      | false ↦ λ fails is. (let r = in_filtered p x ys is in (inr r.0, r.1))
-    ]) refl there
-
-in_either : {X : Type 0} (x : X) (xs ys : List X) → In x (xs ++ ys) → In x xs ⊎ In x ys
-in_either x [] ys there = inr there
-in_either {X = X} x (z ∷ xs) ys there =
-    ⊎_elim (λ (same : x ≡ z). inl (inl same))
-    (λ (rest : In x (xs ++ ys)).
-    ⊎_elim (λ (front : In x xs). inl (inr front)) (λ (behind : In x ys). inr behind) (in_either x xs ys rest)) there
 
 -- ---- what it gives
 
@@ -136,7 +121,7 @@ module _ (v : NodeView) (k : CallLooks) (steady : k.cwnd.prompt ≡ false) where
           → option_map (λ (i : CallItem). i.sending) o ≡ Some x → NextOf v k x
       of None least is = absurd cc
       of (Some i) least is =
-          (let found = in_filtered (λ (j : CallItem). nat_le j.rank v.now) i (call_items v.client k)
+          (let found = in_filter_back (λ (j : CallItem). nat_le j.rank v.now) i (call_items v.client k)
           (least_in (λ (j : CallItem). j.rank) i due least) in
           subst (λ (y : Sending). NextOf v k y) (some_is i.sending x is)
           (of-items i found.0 (leb-true i.rank v.now found.1)))

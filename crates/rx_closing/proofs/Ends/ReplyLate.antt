@@ -24,6 +24,7 @@ use Rattle.rx_between.proofs.Each.EachEvent.{each_step}
 use Rattle.rx_between.proofs.Each.EachStep.{CallStep, EndStep, Starts, finishes, gives, is_own, reads, shuts, stays}
 use Rattle.rx_between.proofs.Each.EachStep.{takes}
 use Rattle.rx_between.proofs.Each.EachStep.{writes}
+use Rattle.rx_between.proofs.OwnRows.{above_can}
 
 -- nothing of the reply is kept, or the request is shut
 abbrev pub IsLate : CallLooks → Type 0
@@ -51,11 +52,6 @@ kept_strange a is = of a.is_strange refl is
     of true strange row = absurd cc
     of false plain row = refl
 
-given_now : (client given : Bool) → client ≡ true → (client && not given) ≡ false → given ≡ true
-given_now true true is none = refl
-given_now true false is none = absurd cc
-given_now false given is none = absurd cc
-
 kept_shut : (v : NodeView) (m : Message) (payload : List ℕ) (k : CallLooks) → v.client ≡ true
     → call_row v m (bodies.Chunk payload) k ≡ tooks.Kept → k.sent.shut ≡ true
 kept_shut v m payload k client row =
@@ -63,7 +59,7 @@ kept_shut v m payload k client row =
     (arrival v.client v.window (v.left + freed v.client k) (packet_of m payload) (found v.client k)) row in
     let late = (neither (is_no_seq m.seq) (v.client && not (is_all_given (found v.client k).sent)) plain).1 in
     let given : is_all_given (found v.client k).sent ≡ true =
-    given_now v.client (is_all_given (found v.client k).sent) client late in
+    above_can v.client (is_all_given (found v.client k).sent) client late in
     sym (found_shut v.client k)
     ∙ (and_parts (found v.client k).sent.shut
     (given_of (found v.client k).sent == pieces_of (found v.client k).sent) given).0

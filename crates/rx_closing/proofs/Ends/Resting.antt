@@ -14,12 +14,13 @@ use Rattle.rx_rules.specs.Sent.{pieces_by, pieces_of}
 use Rattle.rx_rules.specs.Setup.{Setup}
 use Rattle.rx_between.specs.Acknowledged.{AreTrue}
 use Rattle.rx_between.specs.Agreed.{AreGiven}
-use Rattle.rx_between.proofs.Counting.{count_none, reach_le}
+use Rattle.rx_between.proofs.Counting.{count_none}
 use Rattle.rx_between.proofs.Marks.{front_reaches}
 use Rattle.rx_closing.proofs.Ends.BothEnds.{GivenBy, IsFit, RestsOn, Stood}
 use Rattle.rx_closing.proofs.Ends.FrozenPolls.{has_piece, polls_end, polls_same, polls_steady}
 use Rattle.rx_closing.proofs.Ends.NextGiven.{none_again, none_fresh, view_at}
 use Rattle.rx_closing.proofs.Steps.{GivesOut}
+use Rattle.rx_rules.proofs.ReachLaws.{reach_within}
 
 -- ---- what may be given
 
@@ -86,7 +87,7 @@ module _ (s : Setup) (now start : ℕ) (a a1 : CallLooks) (xs : List Sending) (m
   rests gives none fit known late truth given drained all_known =
       let below = none_flying s now start a a1 xs ms gives none fit known late in
       let reaches = front_reaches a.sent r truth in
-      let within = reach_le (λ j. is_some (packet_at r.kept j)) (greatest r.kept) in
+      let within = reach_within (λ j. is_some (packet_at r.kept j)) (greatest r.kept) in
       let front : front_of r.kept ≡ given_of a.sent = omega (arith, below, reaches, within, given) in
       let acked : a.sent.acked ≡ given_of a.sent = omega (arith, all_known, drained, front) in
       record {

@@ -8,7 +8,7 @@ use Rattle.std.proofs.lemmas.Bool.Decides.{nat_tests}
 use Rattle.rx_model.specs.declared.names.CallName.{CallName}
 use Rattle.rx_model.specs.Names.{same_name}
 use Rattle.rx_model.proofs.NameLaws.{name_is, name_itself, number_itself}
-use Rattle.rx_rules.specs.CallLooks.{CallLooks, after_write, has_lead, held, lead}
+use Rattle.rx_rules.specs.CallLooks.{CallLooks, after_write, held, lead}
 use Rattle.rx_rules.specs.Life.{Life, is_active, is_live}
 use Rattle.rx_rules.specs.Life as lives
 use Rattle.rx_rules.specs.Looks.{CallRecord, Looks, call_at, on_looks}
@@ -24,11 +24,12 @@ use Rattle.rx_history.proofs.OneCall.{common_one}
 use Rattle.rx_history.proofs.Reaches.{count_passes}
 use Rattle.rx_history.proofs.Room.RoomStarts.{RoomyAt}
 use Rattle.rx_closing.proofs.Ends.Least.{min_first, min_is, min_second, min_third}
+use Rattle.rx_rounds.proofs.Room.{lead_low}
 
 -- ---- in numbers
 
 -- so many bytes are within the pieces that they open
-within_opened : (n : ℕ) → n ≤ 1412 * opened n
+pub within_opened : (n : ℕ) → n ≤ 1412 * opened n
 within_opened n = omega arith
 
 -- a write that took all the room fills its last piece
@@ -61,9 +62,6 @@ module _ (most common_ common2 packets open_ e e2 : ℕ) where
       omega arith
 
 -- ---- slots
-
-pub lead_most : (k : CallLooks) → lead k ≤ 1
-lead_most k = elim (has_lead k) as (λ b. cond b 1 0 ≤ 1) [ true ↦ omega arith | false ↦ omega arith ]
 
 -- a lead is held
 pub lead_held : (k : CallLooks) → lead k ≤ held k
@@ -176,7 +174,7 @@ module _ (s : Setup) (l : Looks) (c : CallName) (r : CallRecord) (bytes : List �
           subst (λ (m : ℕ). lead k ≤ m) holds (lead_held k) in
           let none : more2 ≡ 0 =
           none_common (shared_slots s) (common l) (common l2) packets (opened n - k.sent.acked) (lead k) (lead k2) q
-          roomy.within few (lead_most k) sums leads same slots in
+          roomy.within few (lead_low k) sums leads same slots in
           min_second (sending_window s - (opened n + q - k.sent.acked)) more2 (4294967294 - (opened n + q)) none
 
 -- ---- an end that is drained and holds no piece
@@ -359,7 +357,7 @@ module _ (s : Setup) (l : Looks) (c : CallName) (r : CallRecord) where
       let counts : counting_of k.sent ≡ (n - 1) / 1412 = ap (λ (b : Bool). counting_by n b) unshut in
       let some : 1 ≤ shared_slots s = (let more = fits.some_slots in omega arith) in
       let low : k.sent.acked < (n - 1) / 1412 =
-      count_numbers n k.sent.acked (sending_window s) (shared_slots s) (lead k) fits.wide some (lead_most k) known small
+      count_numbers n k.sent.acked (sending_window s) (shared_slots s) (lead k) fits.wide some (lead_low k) known small
       room_ in
       subst (λ (m : ℕ). k.sent.acked < m) (sym counts) low
     where

@@ -136,7 +136,7 @@ turn_front now k f turn = ap front_of (turn_keeps now k f turn).kept
 
 -- ---- what rises
 
-pieces_rise : (m n : ℕ) (b : Bool) → m ≤ n → pieces_by m b ≤ pieces_by n b
+pub pieces_rise : (m n : ℕ) (b : Bool) → m ≤ n → pieces_by m b ≤ pieces_by n b
 pieces_rise m n true low = omega arith
 pieces_rise m n false low = omega arith
 
@@ -144,11 +144,11 @@ counting_rises : (m n : ℕ) (b : Bool) → m ≤ n → counting_by m b ≤ coun
 counting_rises m n true low = omega arith
 counting_rises m n false low = omega arith
 
-pieces_shut : (n : ℕ) (b : Bool) → pieces_by n b ≤ pieces_by n true
+pub pieces_shut : (n : ℕ) (b : Bool) → pieces_by n b ≤ pieces_by n true
 pieces_shut n true = omega arith
 pieces_shut n false = omega arith
 
-counting_shut : (n : ℕ) (b : Bool) → counting_by n b ≤ counting_by n true
+pub counting_shut : (n : ℕ) (b : Bool) → counting_by n b ≤ counting_by n true
 counting_shut n true = omega arith
 counting_shut n false = omega arith
 

@@ -25,7 +25,6 @@ use Rattle.rx_law.proofs.Joint.{Fed, between}
 use Rattle.rx_law.proofs.WorldLaw.{world-law}
 use Rattle.rx_between.specs.Acknowledged.{AreTrue, received_by, sent_by}
 use Rattle.rx_between.specs.Agreed.{AreGiven, Agrees}
-use Rattle.rx_between.proofs.Counting.{reach_le}
 use Rattle.rx_between.proofs.LawsAgree.{agree_in_world}
 use Rattle.rx_between.proofs.LawsTrue.{fed_in}
 use Rattle.rx_asks.specs.History.{Tells}
@@ -36,6 +35,7 @@ use Rattle.rx_plan.proofs.Handling.{Serves}
 use Rattle.rx_rounds.specs.Bounds.{both_pieces, pieces, served_pieces}
 use Rattle.rx_closing.proofs.Far.FarServed.{BeginsServed, said_served}
 use Rattle.rx_closing.proofs.Frame.{far, far_of, flag, rank_of}
+use Rattle.rx_rules.proofs.ReachLaws.{reach_within}
 
 -- ---- numbers alone
 
@@ -90,7 +90,7 @@ within_by most sent received few counts truth given =
     let count : counting_of sent ≤ pieces_of sent = counting_low (length sent.said) sent.shut in
     let used : used_of received ≤ front_of received.kept = used_within received in
     let front : front_of received.kept ≤ greatest received.kept =
-    reach_le (λ k. is_some (packet_at received.kept k)) (greatest received.kept) in
+    reach_within (λ k. is_some (packet_at received.kept k)) (greatest received.kept) in
     let n = numbers (pieces_of sent) (counting_of sent) (given_of sent) sent.acked (used_of received)
     (front_of received.kept) (greatest received.kept) few count counts given front used truth.hard in
     record { pieces = few; given = n.0; acked = n.1; front = n.2; used = n.3 }

@@ -2,7 +2,6 @@
 use Rattle.std.proofs.Common.{◌≡◌, ◌≤◌, ◌+◌, ◌-◌, ◌==◌, ◌++◌, not, if◌then◌else◌, nat_lt, is_some, ℕ, zero, suc, Bool}
 use Rattle.std.proofs.Common.{true, false, List, length, refl, ap, sym, subst, arith, length-append}
 use Rattle.std.proofs.lemmas.Bool.{and_parts, or_parts, eqb-true}
-use Rattle.std.proofs.lemmas.Bool.Decides.{nat_tests}
 use Rattle.rx_model.specs.declared.answers.Took.{Took}
 use Rattle.rx_model.specs.declared.answers.Took.TheVariants as tooks
 use Rattle.rx_model.specs.declared.event.Event.{Event}
@@ -28,8 +27,10 @@ use Rattle.rx_between.proofs.Each.EachStep.{EndStep, finishes, gives, reads, shu
 use Rattle.rx_between.proofs.GivenSeqs.{step_given}
 use Rattle.rx_between.proofs.Grows.{row_new, step_grows}
 use Rattle.rx_between.proofs.Marks.{packet-more}
-use Rattle.rx_closing.proofs.Ends.TurnLaws.{flag_rises}
+use Rattle.rx_closing.proofs.Ends.TurnLaws.{flag_rises, pieces_rise, pieces_shut}
 use Rattle.rx_closing.proofs.Frame.{flag}
+use Rattle.rx_closing.proofs.Room.HeldLow.{below_by}
+use Rattle.rx_history.proofs.Rows.RowsAborting.{not_false}
 
 -- ---- what is to be shown
 
@@ -69,10 +70,6 @@ acks_found : (client : Bool) (k : CallLooks) → (client ≡ true → is_all_giv
 acks_found true k all low = acks_all k.sent (all refl) low
 acks_found false k all low = acks_same k.sent k.sent refl (omega arith) low
 
--- an ACK that makes sense
-at_most : (m n : ℕ) → nat_lt m n ≡ false → n ≤ m
-at_most m n above = grind (arith, nat_tests)
-
 acks_ack : (a : AckBody) (s : Sent) → is_strange_ack a.first a.marks s ≡ false → s.acked ≤ given_of s
     → Acks s (after_ack a.first a.marks a.window s)
 acks_ack a s sense low = of (nat_lt (a.first - 1) s.acked) refl
@@ -81,7 +78,7 @@ acks_ack a s sense low = of (nat_lt (a.first - 1) s.acked) refl
     given =
         (let parts = or_parts (a.first == 0) _ sense in
         let rest = or_parts (nat_lt (given_of s) (a.first - 1)) _ parts.1 in
-        at_most (given_of s) (a.first - 1) rest.0)
+        below_by (given_of s) (a.first - 1) rest.0)
 
     of : (b : Bool) → nat_lt (a.first - 1) s.acked ≡ b → Acks s (if b then s else record s {
       acked = a.first - 1;
@@ -89,7 +86,7 @@ acks_ack a s sense low = of (nat_lt (a.first - 1) s.acked) refl
       peer_window = with_window a.window s.peer_window;
     })
     of true below = acks_same s s refl (omega arith) low
-    of false above = record { rises = at_most (a.first - 1) s.acked above; within = given }
+    of false above = record { rises = below_by (a.first - 1) s.acked above; within = given }
 
 -- ---- a message
 
@@ -116,10 +113,6 @@ not_strange a got row judged = of a.is_strange refl row
     of true is row = absurd (subst IsJudged (sym row) judged)
     of false is row = is
 
-denied : (b : Bool) → not b ≡ false → b ≡ true
-denied true is = refl
-denied false is = absurd cc
-
 -- data comes to a client only where its request was all given
 data_all : (client : Bool) (window left : ℕ) (p : Packet) (k : CallLooks) (got : Took)
     → arrival_row (arrival client window left p (found client k)) ≡ got → IsJudged got → client ≡ true
@@ -127,7 +120,7 @@ data_all : (client : Bool) (window left : ℕ) (p : Packet) (k : CallLooks) (got
 data_all true window left p k got row judged client =
     let strange = not_strange (arrival true window left p (found true k)) got row judged in
     let parts = or_parts (is_no_seq p.seq) (not (is_all_given k.sent)) strange in
-    denied (is_all_given k.sent) parts.1
+    not_false (is_all_given k.sent) parts.1
 data_all false window left p k got row judged client = absurd cc
 
 chunk_acks : (v : NodeView) (got : Took) (m : Message) (body : Body) (k : CallLooks) → call_row v m body k ≡ got
@@ -189,14 +182,6 @@ record Says (a b : Sent) : Type 0 where
   pieces : pieces_of a ≤ pieces_of b
   shut : flag a.shut ≤ flag b.shut
 
-pub more_pieces : (n m : ℕ) (shut : Bool) → n ≤ m → pieces_by n shut ≤ pieces_by m shut
-more_pieces n m true low = omega (arith, low)
-more_pieces n m false low = omega (arith, low)
-
-shut_pieces : (n : ℕ) (shut : Bool) → pieces_by n shut ≤ pieces_by n true
-shut_pieces n true = omega arith
-shut_pieces n false = omega arith
-
 flag_low : (b : Bool) → flag b ≤ flag true
 flag_low true = omega arith
 flag_low false = omega arith
@@ -235,13 +220,13 @@ says_to a b c is says = subst (λ (k : CallLooks). Says a.sent k.sent) (sym is) 
 write_says : (bytes : List ℕ) (k : CallLooks) → Says k.sent (after_write bytes k).sent
 write_says bytes k =
     record {
-      pieces = more_pieces (length k.sent.said) (length (k.sent.said ++ bytes)) k.sent.shut
+      pieces = pieces_rise (length k.sent.said) (length (k.sent.said ++ bytes)) k.sent.shut
           (let more = length-append k.sent.said bytes in omega arith);
       shut = omega arith;
     }
 
 shut_says : (k : CallLooks) → Says k.sent (after_shut k).sent
-shut_says k = record { pieces = shut_pieces (length k.sent.said) k.sent.shut; shut = flag_low k.sent.shut }
+shut_says k = record { pieces = pieces_shut (length k.sent.said) k.sent.shut; shut = flag_low k.sent.shut }
 
 step_says : (s : Setup) (l : Looks) (e : Event) (c : CallName) (a b : CallLooks) → EndStep s l e c a b
     → Says a.sent b.sent

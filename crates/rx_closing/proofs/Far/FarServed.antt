@@ -4,7 +4,6 @@ use Rattle.std.proofs.Common.{◌≡◌, ◌⊎◌, ◌++◌, cond, ℕ, Bool, t
 use Rattle.std.proofs.Common.{ap, sym, subst, inl, inr}
 use Rattle.rx_model.specs.declared.event.Event.{Event}
 use Rattle.rx_model.specs.declared.names.CallName.{CallName}
-use Rattle.rx_model.proofs.NameLaws.{name_is}
 use Rattle.rx_rules.specs.After.{looks}
 use Rattle.rx_rules.specs.Looks.{CallRecord, call_at}
 use Rattle.rx_rules.specs.Rules.{Legal}
@@ -14,19 +13,18 @@ use Rattle.rx_history.specs.Starts.{StartsOnce}
 use Rattle.rx_history.proofs.Laws.OnceLaw.{served}
 use Rattle.rx_between.specs.Acknowledged.{received_by, sent_by}
 use Rattle.rx_script.specs.Served.{bytes}
-use Rattle.rx_jobs.specs.declared.job.Want.{Want}
 use Rattle.rx_jobs.specs.declared.job.Want.TheVariants as wants
 use Rattle.rx_jobs.specs.Dispatching.{Turning, accepts, dispatching, over, serves}
 use Rattle.rx_jobs.specs.Handlers.{Handlers, served_for}
 use Rattle.rx_jobs.specs.History.{Drives, gives, handles, life_of}
-use Rattle.rx_jobs.specs.Jobs.{Ask, accept, IsCall, JobState, Moving, ask_of, serving, want_in}
+use Rattle.rx_jobs.specs.Jobs.{Ask, accept, IsCall, Moving, serving, want_in}
 use Rattle.rx_jobs.specs.Lives.{HasCount, Lives, Writes, bytes_read, bytes_written, has_end}
 use Rattle.rx_jobs.specs.Lives as lives
 use Rattle.rx_jobs.proofs.Driving.{Acts, drives_lived}
 use Rattle.rx_jobs.proofs.LifeLaws.{lives_exact}
 use Rattle.rx_jobs.proofs.LifeKeeps.{wanted}
 use Rattle.rx_plan.proofs.Finishing.{count_of, once_before, serves_drives}
-use Rattle.rx_plan.proofs.Handling.{Serves, accepts_fresh, quiet-off}
+use Rattle.rx_plan.proofs.Handling.{Serves, accepts_fresh, quiet-off, own-want}
 use Rattle.rx_plan.proofs.Handling as handling
 use Rattle.rx_plan.proofs.Passed.{Passed, passed_of}
 use Rattle.rx_plan.proofs.Passing.{passes_told, told_of}
@@ -37,18 +35,11 @@ use Rattle.rx_plan.proofs.Passing.{passes_told, told_of}
 abbrev pub WroteServed : Handlers → List Event → Type 0
 WroteServed g life = (bytes_written life ≡ []) ⊎ Writes g life
 
--- a call of a job is its own
-own_want : (j : JobState) (w : Want) (e : Event) (c : CallName) → IsCall (ask_of j w) e → handles c e ≡ true
-    → c ≡ j.call
-own_want j wants.Read e c is on = name_is c j.call (subst (λ (x : Event). handles c x ≡ true) is.2 on)
-own_want j wants.Write e c is on = name_is c j.call (subst (λ (x : Event). handles c x ≡ true) is.1 on)
-own_want j (wants.Finish code) e c is on = name_is c j.call (subst (λ (x : Event). handles c x ≡ true) is.1 on)
-
 own_ask : (g : Handlers) (m : Moving) (a : Ask) (e : Event) (c : CallName) → (serving g).asks m ≡ Some a → IsCall a e
     → handles c e ≡ true → c ≡ m.job.call
 own_ask g m a e c asked is on =
     (let w = wanted m.job (want_in m.phase m.job) a asked in
-    own_want m.job w.0 e c (subst (λ (b : Ask). IsCall b e) (sym w.2) is) on)
+    own-want m.job w.0 e c (subst (λ (b : Ask). IsCall b e) (sym w.2) is) on)
 
 -- an accept is nobody's read, write or finish
 accept_off : (e : Event) (c : CallName) → IsCall accept e → handles c e ≡ false

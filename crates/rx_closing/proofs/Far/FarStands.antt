@@ -19,10 +19,10 @@ use Rattle.rx_law.proofs.Joint.{Fed}
 use Rattle.rx_between.specs.Told.{Grows}
 use Rattle.rx_between.proofs.LawsTrue.{fed_in}
 use Rattle.rx_plan.specs.Stages.{Stage}
-use Rattle.rx_plan.proofs.Cuts.{side_split}
 use Rattle.rx_closing.proofs.Far.FarGrows.{Further, FurtherOf, GoesOn, further_on}
 use Rattle.rx_closing.proofs.Far.FarParts.{Advances, StayKept}
 use Rattle.rx_closing.proofs.Frame.{OneOf, asked_in, far, far_of, flag, rank_of, served_in}
+use Rattle.rx_law.proofs.Law.{side-split}
 
 -- ---- numbers alone
 
@@ -58,7 +58,7 @@ module _ (p g k f u s e l q h m o v t d n : ℕ) where
 
 -- ---- at one end
 
-rank_low : (x y : Life) → GoesOn x y → rank_of x ≤ rank_of y
+pub rank_low : (x y : Life) → GoesOn x y → rank_of x ≤ rank_of y
 rank_low x y (inl same) = (let is = ap rank_of same in omega arith)
 rank_low x y (inr later) = (let less = later.rank in omega (arith, less))
 
@@ -176,7 +176,7 @@ module _ (c : CallName) (k : ℕ) (client server : Node) (t : Stage) (scene : On
 
   module _ (s : Stage) (later : List Noted) (is : t.history ≡ later ++ s.history) where
     split : (node : ℕ) → side node t.history ≡ side node later ++ side node s.history
-    split node = ap (side node) is ∙ side_split node later s.history
+    split node = ap (side node) is ∙ side-split node later s.history
 
     -- at a later stage the client has it further
     pub asked_further : FurtherOf (asked_in c k client s) (asked_in c k client t)

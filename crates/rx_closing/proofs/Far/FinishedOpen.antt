@@ -28,7 +28,7 @@ use Rattle.rx_rules.specs.Life as lives
 use Rattle.rx_rules.specs.Looks.{CallRecord, Looks, call_at, is_proved, on_call, on_channel}
 use Rattle.rx_rules.specs.Rules.{AllowedServer, HasBytes, Legal, served_by, served_finish, served_write}
 use Rattle.rx_rules.specs.Sent.{Sent, counting_by, counting_of, given_of, is_all_acked, pieces_by, pieces_of}
-use Rattle.rx_rules.specs.Setup.{Kind, Server, Client, FitsSetup, IsServer, Setup, is_client, named}
+use Rattle.rx_rules.specs.Setup.{Server, Client, FitsSetup, IsServer, Setup, is_client, named}
 use Rattle.rx_rules.specs.Slots.{node_view, room}
 use Rattle.rx_history.proofs.Differ.{every_found}
 use Rattle.rx_history.proofs.LifeFalls.{is_begun}
@@ -47,6 +47,7 @@ use Rattle.rx_plan.proofs.Passing.{own_changed}
 use Rattle.rx_closing.proofs.Far.FarBounds.{counts_of}
 use Rattle.rx_closing.proofs.Far.FarGrows.{acked_given}
 use Rattle.rx_closing.proofs.Far.FinishedRead.{FinishedBy, finished_by, finishes_now, was_finished}
+use Rattle.rx_progress.proofs.LawsMoves.{server_side}
 
 -- ---- what leaves all that was acknowledged as it was
 
@@ -147,11 +148,6 @@ abbrev OpenOf : Option CallRecord → Type 0
 OpenOf None = Unit {0}
 OpenOf (Some r) = r.life ≡ lives.Finished → is_all_acked r.looks.sent ≡ false
 
--- a server isn't a client
-pub server_view : (kind : Kind) → IsServer kind → is_client kind ≡ false
-server_view (Server service nonces) is = refl
-server_view (Client host epoch) is = absurd is
-
 module _ (s : Setup) (server : IsServer s.kind) (fits : FitsSetup s) (c : CallName) (e : Event) (h : List Event)
     (legal : Legal s (e ∷ h)) (once : StartsOnce s (e ∷ h) c) (a b : CallRecord)
     (there : call_at (looks s h) c ≡ Some a) (behind : call_at (looks s (e ∷ h)) c ≡ Some b)
@@ -172,7 +168,7 @@ module _ (s : Setup) (server : IsServer s.kind) (fits : FitsSetup s) (c : CallNa
   unshut : a.life ≡ lives.Accepted → a.looks.sent.shut ≡ false
   unshut life =
       (every_found (TightOf (is_client s.kind)) (λ (x : CallRecord). same_name x.name c) (looks s h).calls a
-      (roomy_history s h legal.1).tight there).unshut (server_view s.kind server) (ap is_begun life)
+      (roomy_history s h legal.1).tight there).unshut (server_side s.kind server) (ap is_begun life)
 
   -- nothing of what a shut stream adds was given
   shut_more : (n m : ℕ) → m ≤ counting_by n false → m < pieces_by n true
@@ -230,7 +226,7 @@ module _ (s : Setup) (server : IsServer s.kind) (fits : FitsSetup s) (c : CallNa
           cc (both)
 
       serving : t.view.client ≡ false
-      serving = t.view_is.client ∙ server_view s.kind server
+      serving = t.view_is.client ∙ server_side s.kind server
 
       chunk : (got : Took) → t.got ≡ got
           → ((k : CallLooks) → (after_taken t.view got t.message k).sent

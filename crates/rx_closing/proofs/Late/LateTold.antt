@@ -23,7 +23,6 @@ use Rattle.rx_script.specs.declared.plan.Numbered.{Numbered}
 use Rattle.rx_jobs.specs.Handlers.{Handlers}
 use Rattle.rx_plan.specs.Answering.{AreServable}
 use Rattle.rx_plan.specs.Stages.{Stage}
-use Rattle.rx_plan.proofs.JointMoments.{side_parts}
 use Rattle.rx_between.proofs.Each.EachItem.{In}
 use Rattle.rx_rounds.proofs.Rounded.{RoundMade}
 use Rattle.rx_closing.specs.Living.{looks_of}
@@ -54,6 +53,7 @@ use Rattle.rx_closing.proofs.Working.EndRounds.{serves}
 use Rattle.rx_closing.proofs.Working.LoneOf.{taken_none}
 use Rattle.rx_closing.proofs.Working.StandsFrom.{StandsFrom, asked_at, one_at, round_for, stands_at}
 use Rattle.rx_closing.proofs.Working.WorkHere.{stands_from}
+use Rattle.rx_law.proofs.Law.{side-split}
 
 -- ---- an end that gives and takes nothing
 
@@ -204,7 +204,7 @@ module _ (g : Handlers) (ls : List Numbered) (servable : AreServable g) (server 
     heard =
         (let own : side (suc k) r.delivered.history
         ≡ side (suc k) adds.delivered.more ++ side (suc k) r.polled.stage.history =
-        ap (side (suc k)) adds.delivered.is ∙ side_parts (suc k) adds.delivered.more r.polled.stage.history in
+        ap (side (suc k)) adds.delivered.is ∙ side-split (suc k) adds.delivered.more r.polled.stage.history in
         let fits = if-some (slice_get r.delivered.nodes (suc k)) client (λ q. FitsSetup q.setup)
         one_delivered.client_there (one_delivered.world.sides.nodes_are.fits (suc k)) in
         let legal = if-some (slice_get r.delivered.nodes (suc k)) client

@@ -91,7 +91,7 @@ invoke p = record { proc = p; args = end; up = None; down = p.split }
 can_touch : CanSend [] touch end None
 can_touch = (((tt, omega arith), omega arith), tt)
 
-can_late : CanSend [] late end None
+pub can_late : CanSend [] late end None
 can_late = (((tt, omega arith), omega arith), tt)
 
 can_get : CanSend [] get end None
@@ -326,7 +326,7 @@ abbrev pub has_full : List Noted → Bool
 has_full [] = false
 has_full (e ∷ es) = is_full e.event || has_full es
 
-full_among : (before : List Noted) (e : Noted) (later : List Noted) → is_full e.event ≡ true
+pub full_among : (before : List Noted) (e : Noted) (later : List Noted) → is_full e.event ≡ true
     → has_full (before ++ e ∷ later) ≡ true
 full_among [] e later is = rw is refl
 full_among (d ∷ before) e later is = or-right (is_full d.event) (full_among before e later is)

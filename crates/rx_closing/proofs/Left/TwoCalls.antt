@@ -2,7 +2,7 @@
 -- nothing ends a call at its client, that each node has room for both, and that the server has a place for each
 -- message.
 use Rattle.std.proofs.Common.{◌≡◌, ◌==◌, ◌++◌, ◌||◌, ◌∙◌, ℕ, zero, suc, Bool, true, false, List, [], ◌∷◌}
-use Rattle.std.proofs.Common.{length, slice_get, refl, ap, sym, subst, Option, None, Ok, All, IfSome, arith}
+use Rattle.std.proofs.Common.{length, slice_get, refl, ap, sym, subst, Option, Ok, All, IfSome, arith}
 use Rattle.std.specs.Prelude.{codes}
 use Rattle.std.proofs.lemmas.List.Elements.{All-from_recursion}
 use Rattle.xdr_value.specs.Data.{end}
@@ -25,14 +25,13 @@ use Rattle.rx_script.specs.Served.{bytes}
 use Rattle.rx_asks.specs.declared.ask.Phase.TheVariants as phases
 use Rattle.rx_jobs.specs.Handlers.{Handlers, served_for}
 use Rattle.rx_wire.specs.Turns.{noted}
-use Rattle.rx_reply.specs.Sent.{CanSend}
 use Rattle.rx_plan.specs.Answering.{AnswersNoZero, AreServable, request_for}
 use Rattle.rx_plan.specs.Stages.{InvokedState, Stage}
 use Rattle.rx_plan.proofs.Replying.{served_invoke}
 use Rattle.rx_rounds.proofs.Rounded.{caller_at}
 use Rattle.rx_closing.specs.Living.{all_live}
 use Rattle.rx_closing.specs.Silence.{CameAmong}
-use Rattle.rx_closing.proofs.Left.LeftScene.{at_c, at_client, client, four, g, has_full, invoke, is_full, late, nodes}
+use Rattle.rx_closing.proofs.Left.LeftScene.{at_c, at_client, client, four, g, has_full, invoke, is_full, late, nodes, can_late, full_among}
 use Rattle.rx_closing.proofs.Left.LeftScene.{servable, server}
 use Rattle.rx_closing.specs.Several.{HasRoomFor, HasRoomForAll}
 
@@ -55,9 +54,6 @@ long_servable =
           All-from_recursion (λ (b : Answering). All AnswersNoZero b.lines) long.script
           (All-from_recursion AnswersNoZero on_late.lines (tt, tt), tt);
     }
-
-can_late : CanSend [] late end None
-can_late = (((tt, omega arith), omega arith), tt)
 
 pub long_serves : served_for long (request_for long (invoke late)) ≡ bytes []
 long_serves = served_invoke long (invoke late) 1 long_servable refl can_late (record { up = refl; down = refl })
@@ -121,15 +117,6 @@ lives_on c before (e ∷ later) none lives = by (e.node == 1) refl (lives_on c b
     by false is rest = rw is rest
 
 -- ---- a server that has a place for each message of a call
-
-full_among : (before : List Noted) (e : Noted) (later : List Noted) → is_full e.event ≡ true
-    → has_full (before ++ e ∷ later) ≡ true
-full_among [] e later is = rw is refl
-full_among (d ∷ before) e later is = or-right (is_full d.event) (full_among before e later is)
-  where
-    or-right : (a : Bool) {b : Bool} → b ≡ true → a || b ≡ true
-    or-right true is_ = refl
-    or-right false is_ = is_
 
 pub never_full : (c : CallName) (es : List Noted) → has_full es ≡ false
     → CameAmong 0 server.setup (λ got. got ≡ tooks.Full) c es → ⊥

@@ -1,34 +1,26 @@
 -- A world at an earlier moment is a world, and a call of a stage is one at each earlier stage of the same nodes.
 use Rattle.std.proofs.Common.{◌≡◌, ◌⊎◌, ◌++◌, ℕ, suc, List, [], ◌∷◌, Option, Some, None, ap, sym, subst, ◌∙◌}
 use Rattle.std.specs.Prelude.{IfSome, slice_get}
-use Rattle.rx_model.specs.declared.event.Event.{Event}
 use Rattle.rx_model.specs.declared.event.Noted.{Noted}
 use Rattle.rx_model.specs.declared.names.CallName.{CallName}
 use Rattle.rx_rules.specs.Rules.{Legal}
-use Rattle.rx_rules.specs.Setup.{Setup}
 use Rattle.rx_history.specs.Sides.{Node, side}
 use Rattle.rx_law.specs.Promises.{ServerForgotNone}
 use Rattle.rx_law.specs.Times.{Timely}
-use Rattle.rx_law.specs.Worlds.{AreOf, Carried, World}
+use Rattle.rx_law.specs.Worlds.{AreOf, World}
 use Rattle.rx_plan.specs.Stages.{Stage}
-use Rattle.rx_plan.proofs.JointMoments.{side_parts}
 use Rattle.rx_closing.proofs.Frame.{IsPlain, OneOf}
 use Rattle.rx_closing.proofs.Rounds.Chains.{Adds}
 use Rattle.rx_closing.proofs.Rounds.KeptBefore.{kept_before}
+use Rattle.rx_history.proofs.Laws.EnteredLaw.{legal-before}
+use Rattle.rx_law.proofs.Law.{side-split}
+use Rattle.rx_plan.proofs.Bags.{carried_before}
 
 -- ---- a world
-
-legal_before : (s : Setup) (more h : List Event) → Legal s (more ++ h) → Legal s h
-legal_before s [] h legal = legal
-legal_before s (e ∷ more) h legal = legal_before s more h legal.1
 
 of_before : (nodes : List Node) (more h : List Noted) → AreOf nodes (more ++ h) → AreOf nodes h
 of_before nodes [] h are = are
 of_before nodes (e ∷ more) h are = of_before nodes more h are.1
-
-carried_before : (nodes : List Node) (more h : List Noted) → Carried nodes (more ++ h) → Carried nodes h
-carried_before nodes [] h carried = carried
-carried_before nodes (e ∷ more) h carried = carried_before nodes more h carried.1
 
 pub world_before : (nodes : List Node) (more h : List Noted) → World nodes (more ++ h) → World nodes h
 world_before nodes more h w =
@@ -46,7 +38,7 @@ world_before nodes more h w =
         → IfSome o (λ n. Legal n.setup (side k h))
     by k None legal = tt
     by k (Some n) legal =
-        legal_before n.setup (side k more) (side k h) (subst (Legal n.setup) (side_parts k more h) legal)
+        legal-before n.setup (side k more) (side k h) (subst (Legal n.setup) (side-split k more h) legal)
 
 -- ---- a call
 

@@ -34,6 +34,7 @@ use Rattle.rx_closing.proofs.Frame.{Crowd, OneOf, asked_in, served_in}
 use Rattle.rx_closing.proofs.Living.Before.{world_before}
 use Rattle.rx_closing.proofs.Rounds.ClientsApart.{own_call_kind}
 use Rattle.rx_closing.proofs.Rounds.EventParts.{kind_client}
+use Rattle.rx_between.proofs.BothTrue.{no-client}
 
 -- ---- who gave what a call starts with
 
@@ -63,10 +64,6 @@ none_made : (kind : Kind) (s : Setup) (l : Looks) (cid : ℕ) (c : CallName) →
     → AllowedAt kind s l (events.Called cid (Ok c)) → ⊥
 none_made (Server service nonces) s l cid c server allowed = allowed
 none_made (Client host epoch) s l cid c server allowed = server
-
-no_server : (kind : Kind) → IsServer kind → is_client kind ≡ true → ⊥
-no_server (Server service nonces) server client = absurd cc
-no_server (Client host epoch) server client = server
 
 module _ (nodes : List Node) (server : Node) (first : slice_get nodes 0 ≡ Some server) where
   serves : (h : List Noted) → World nodes h → IsServer server.setup.kind
@@ -112,7 +109,7 @@ module _ (nodes : List Node) (server : Node) (first : slice_get nodes 0 ≡ Some
       by : (j : ℕ) → slice_get nodes j ≡ Some g.node → ClientOf nodes c
       by zero there =
           absurd (let same : g.node ≡ server = one_node g.node server (sym there ∙ first) in
-          no_server g.node.setup.kind (subst (λ (n : Node). IsServer n.setup.kind) (sym same) (serves h w)) up)
+          no-client g.node.setup.kind (subst (λ (n : Node). IsServer n.setup.kind) (sym same) (serves h w)) up)
         where
           one_node : (a b : Node) → ◌≡◌ {A = Option Node} (Some a) (Some b) → a ≡ b
           one_node a b same = cc

@@ -38,7 +38,7 @@ use Rattle.rx_plan.proofs.Callers.{side_other, side_own}
 use Rattle.rx_plan.proofs.Soundness.Sound.{IsCalm}
 use Rattle.rx_plan.proofs.Soundness.SoundRounds.{clocked_calm}
 use Rattle.rx_plan.proofs.Soundness.SoundTurns.{caller_calm, handler_calm}
-use Rattle.rx_rounds.proofs.Growing.{AnswersNone, job_quiet}
+use Rattle.rx_rounds.proofs.Growing.{AnswersNone, job_quiet, asked_quiet, clocked_quiet, taken_quiet}
 use Rattle.rx_between.proofs.Each.EachStep.{Starts, is_start}
 use Rattle.rx_between.proofs.Onward.{no-opening}
 use Rattle.rx_between.proofs.PollSays.{IsStream}
@@ -48,8 +48,8 @@ use Rattle.rx_closing.proofs.Living.AmongSteps.{among_on}
 use Rattle.rx_closing.proofs.Living.ClientOf.{flagged}
 use Rattle.rx_closing.proofs.Polls.LiveGivings.{poll_lives}
 use Rattle.rx_closing.proofs.Rounds.Chains.{Adds, adds_none, adds_one}
-use Rattle.rx_closing.proofs.Rounds.EventParts.{asked_none, clocked_none, kind_client, kind_other, server_host}
-use Rattle.rx_closing.proofs.Rounds.EventParts.{taken_none, taken_parts}
+use Rattle.rx_closing.proofs.Rounds.EventParts.{kind_client, kind_other, server_host}
+use Rattle.rx_closing.proofs.Rounds.EventParts.{taken_parts}
 use Rattle.rx_closing.proofs.Rounds.RoundEvents.{Carries, IsNext}
 
 -- ---- what polls gave
@@ -295,7 +295,7 @@ module _ (nodes : List Node) (are : AreNodes nodes) (cs : List CallName) where
       → IsTaken d.from d.bytes e → d.to ≡ n.host → IsSome h d → IsCrowd h → (b : CallName) (r : CallRecord)
       → Starts n.setup (looks n.setup (side node h)) e b r → In b cs
   starts_some h node n d e next is to one l b r (name, inr made) =
-      absurd (subst AnswersNone made.event (taken_none d.from d.bytes e is))
+      absurd (subst AnswersNone made.event (taken_quiet d.from d.bytes e is))
   starts_some h node n d e next is to one l b r (name, inl opens) = by (is_client n.setup.kind) refl
     where
       same : (opens.takes.judges.from ≡ d.from) × (opens.takes.judges.bytes ≡ d.bytes)
@@ -343,7 +343,7 @@ module _ (nodes : List Node) (are : AreNodes nodes) (cs : List CallName) where
         gives = gives_some;
         takes = takes_some;
         clocks = λ h node n now e next is l.
-            crowd_calm h node n e next (clocked_calm now e is) (clocked_none now e is) l;
+            crowd_calm h node n e next (clocked_calm now e is) (clocked_quiet now e is) l;
         serves = λ h n a e next is l. crowd_calm h 0 n e next (handler_calm a e is) (job_quiet a e is) l;
-        calls = λ h node n a e next is l. crowd_calm h node n e next (caller_calm a e is) (asked_none a e is) l;
+        calls = λ h node n a e next is l. crowd_calm h node n e next (caller_calm a e is) (asked_quiet a e is) l;
       }

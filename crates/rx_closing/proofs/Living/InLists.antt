@@ -10,6 +10,7 @@ use Rattle.rx_rules.proofs.EveryLaws.{Every}
 use Rattle.rx_history.proofs.Differ.{Differ, by_name}
 use Rattle.rx_between.proofs.Each.EachItem.{In}
 use Rattle.rx_closing.specs.Living.{joined_names}
+use Rattle.rx_between.proofs.Within.{in_either}
 
 -- what holds of each holds of one
 pub every_in : {X : Type 0} (P : X → Type 0) (xs : List X) (x : X) → Every P xs → In x xs → P x
@@ -49,16 +50,6 @@ in_map_back f y [] there = absurd there
 in_map_back f y (x ∷ xs) (inl same) = record { it = x; inside = inl refl; is = same }
 in_map_back f y (x ∷ xs) (inr rest) =
     (let r = in_map_back f y xs rest in record { it = r.it; inside = inr r.inside; is = r.is })
-
--- one of two lists
-pub in_either : {X : Type 0} (x : X) (xs ys : List X) → In x (xs ++ ys) → In x xs ⊎ In x ys
-in_either x [] ys there = inr there
-in_either x (y ∷ xs) ys (inl same) = inl (inl same)
-in_either x (y ∷ xs) ys (inr rest) = by (in_either x xs ys rest)
-  where
-    by : In x xs ⊎ In x ys → In x (y ∷ xs) ⊎ In x ys
-    by (inl first) = inl (inr first)
-    by (inr second) = inr second
 
 -- one of lists of names joined
 pub record InOneOf (c : CallName) (css : List (List CallName)) : Type 0 where

@@ -12,15 +12,15 @@ use Rattle.rx_rules.specs.Setup.{FitsSetup, Setup}
 use Rattle.rx_history.specs.Sides.{Node, side}
 use Rattle.rx_between.specs.Told.{StartsNoneAnew}
 use Rattle.rx_plan.specs.Stages.{Stage}
-use Rattle.rx_plan.proofs.Cuts.{side_split}
-use Rattle.rx_plan.proofs.JointMoments.{legal_parts}
 use Rattle.rx_closing.specs.Living.{looks_of}
 use Rattle.rx_closing.proofs.Far.FarGrows.{FurtherOf, GoesOn, further_on}
-use Rattle.rx_closing.proofs.Far.FarStands.{scene_fed}
+use Rattle.rx_closing.proofs.Far.FarStands.{scene_fed, rank_low}
 use Rattle.rx_closing.proofs.Frame.{OneOf, asked_in, rank_of, served_in}
 use Rattle.rx_closing.proofs.Messages.Lasts.{live_last}
 use Rattle.rx_closing.proofs.Messages.Rows.{IsLast}
 use Rattle.rx_closing.proofs.Rounds.Chains.{Adds}
+use Rattle.rx_history.proofs.Laws.EnteredLaw.{legal-before}
+use Rattle.rx_law.proofs.Law.{side-split}
 
 -- ---- at a node
 
@@ -30,10 +30,6 @@ pub anew_before : (s : Setup) (later h : List Event) (c : CallName) → StartsNo
 anew_before s [] h c none = none
 anew_before s (e ∷ later) h c (inl client) = inl client
 anew_before s (e ∷ later) h c (inr server) = anew_before s later h c (inr (server.0, server.1.1))
-
-rank_low : (x y : Life) → GoesOn x y → rank_of x ≤ rank_of y
-rank_low x y (inl same) = (let is = ap rank_of same in omega arith)
-rank_low x y (inr later) = (let less = later.rank in omega arith)
 
 -- a life that goes on and comes back to what it was has stayed so
 stays_so : (x y z : Life) → GoesOn x y → GoesOn y z → z ≡ x → y ≡ x
@@ -57,7 +53,7 @@ module _ (s : Setup) (c : CallName) (back front h : List Event) where
   life_within fits legal anew a b at_first at_last same =
       between_of a b (call_at (looks s (front ++ h)) c)
       (subst (λ (o : Option CallRecord). FurtherOf o (call_at (looks s (front ++ h)) c)) at_first
-      (further_on s front h c fits (legal_parts s back (front ++ h) legal) (anew_before s back (front ++ h) c anew)))
+      (further_on s front h c fits (legal-before s back (front ++ h) legal) (anew_before s back (front ++ h) c anew)))
       (subst (λ (o : Option CallRecord). FurtherOf (call_at (looks s (front ++ h)) c) o) at_last
       (further_on s back (front ++ h) c fits legal anew))
       same
@@ -76,11 +72,11 @@ module _ (n : Node) (j : ℕ) (c : CallName) (s u t : Stage) where
       (r.0, subst (λ (es : List Event). call_at (looks n.setup es) c ≡ Some r.0) (sym mid) r.1, r.2))
     where
       mid : side j u.history ≡ side j front.more ++ side j s.history
-      mid = ap (side j) front.is ∙ side_split j front.more s.history
+      mid = ap (side j) front.is ∙ side-split j front.more s.history
 
       all : side j t.history ≡ side j back.more ++ (side j front.more ++ side j s.history)
       all =
-          ap (side j) back.is ∙ side_split j back.more u.history
+          ap (side j) back.is ∙ side-split j back.more u.history
           ∙ ap (λ (es : List Event). side j back.more ++ es) mid
 
 -- ---- at the two ends of a call
@@ -111,8 +107,8 @@ module _ (c : CallName) (k : ℕ) (client server : Node) (t : Stage) (one : OneO
 
     legal_at : (n : Node) (j : ℕ) → Legal n.setup (side j t.history) → Legal n.setup (side j u.history)
     legal_at n j legal =
-        legal_parts n.setup (side j back.more) (side j u.history)
-        (subst (Legal n.setup) (ap (side j) back.is ∙ side_split j back.more u.history) legal)
+        legal-before n.setup (side j back.more) (side j u.history)
+        (subst (Legal n.setup) (ap (side j) back.is ∙ side-split j back.more u.history) legal)
 
     -- one that lives is its channel's latest
     pub asked_last_at : (m : CallRecord) → asked_in c k client u ≡ Some m → is_live m.life ≡ true

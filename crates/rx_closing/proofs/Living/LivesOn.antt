@@ -26,14 +26,14 @@ use Rattle.rx_between.proofs.Onward.{NoneAnew}
 use Rattle.rx_plan.specs.Network.{delivers}
 use Rattle.rx_plan.specs.Parts.{each}
 use Rattle.rx_plan.specs.Stages.{Stage}
-use Rattle.rx_plan.proofs.Cuts.{side_split}
-use Rattle.rx_plan.proofs.JointMoments.{legal_parts}
 use Rattle.rx_rounds.proofs.Rounded.{Made}
 use Rattle.rx_closing.proofs.Far.AtWork.{one_record}
 use Rattle.rx_closing.proofs.Far.FarGrows.{FurtherOf, further_on, none_anew}
 use Rattle.rx_closing.proofs.Living.LifeBetween.{anew_before}
 use Rattle.rx_closing.proofs.Messages.Delivered.{DeliveredBy, FirstOf, GrewBy, delivers_first, delivers_grow}
 use Rattle.rx_closing.proofs.Messages.Delivered.{delivers_none, takes_from}
+use Rattle.rx_history.proofs.Laws.EnteredLaw.{legal-before}
+use Rattle.rx_law.proofs.Law.{side-split}
 
 -- ---- one datagram
 
@@ -145,13 +145,13 @@ module _ (n : Node) (j : ℕ) (c : CallName) (fits : FitsSetup n.setup) where
       grew = delivers_grow ds f.between t f.others
 
       into : side j f.between.history ≡ side j f.first.more ++ side j s.history
-      into = ap (side j) f.first.grown ∙ side_split j f.first.more s.history
+      into = ap (side j) f.first.grown ∙ side-split j f.first.more s.history
 
       rest : side j t.history ≡ side j grew.more ++ side j f.between.history
-      rest = ap (side j) grew.is ∙ side_split j grew.more f.between.history
+      rest = ap (side j) grew.is ∙ side-split j grew.more f.between.history
 
       legal_ : Legal n.setup (side j f.between.history)
-      legal_ = legal_parts n.setup (side j grew.more) (side j f.between.history) (subst (Legal n.setup) rest legal)
+      legal_ = legal-before n.setup (side j grew.more) (side j f.between.history) (subst (Legal n.setup) rest legal)
 
       anew_ : StartsNoneAnew n.setup (side j f.between.history) c
       anew_ =

@@ -15,6 +15,7 @@ use Rattle.rx_rules.specs.Received.{Arrival, arrival_row}
 use Rattle.rx_rules.specs.Sent.{is_all_given, is_strange_ack}
 use Rattle.rx_rules.specs.Setup.{Setup, Kind, Client, Server}
 use Rattle.rx_rules.specs.Slots.{node_view}
+use Rattle.rx_model.proofs.NameLaws.{both}
 
 -- ---- answers
 
@@ -68,10 +69,6 @@ pass : (b : Bool) (row rest : Took) → is_busy row ≡ false → is_busy (if b 
 pass true row rest calm is = absurd (let no : false ≡ true = sym calm ∙ is in cc)
 pass false row rest calm is = (refl, is)
 
-pub both_true : (a b : Bool) → (a && b) ≡ true → (a ≡ true) × (b ≡ true)
-both_true true b is = (refl, is)
-both_true false b is = absurd cc
-
 -- why a server answers so
 pub record Crowds (f : Facts) : Type 0 where
   pub above : f.is_above ≡ true
@@ -120,8 +117,8 @@ server_crowds f call calm is =
     seventh : (b : Bool) → (f.is_above && (not f.is_live && f.is_crowded)) ≡ b
         → (f.is_above && not f.can_start) ≡ false → is_busy (if b then tooks.NoRoom else r8) ≡ true → Crowds f
     seventh true holds starts busy =
-        (let one = both_true f.is_above (not f.is_live && f.is_crowded) holds in
-        let two = both_true (not f.is_live) f.is_crowded one.1 in
+        (let one = both f.is_above (not f.is_live && f.is_crowded) holds in
+        let two = both (not f.is_live) f.is_crowded one.1 in
         record { above = one.0; starts = can f.is_above f.can_start one.0 starts; why = inr two.1 })
     seventh false fails starts busy =
         absurd (let last = pass (not f.is_above && not f.is_active) tooks.Over call refl busy in
@@ -130,7 +127,7 @@ server_crowds f call calm is =
     sixth : (b : Bool) → (f.is_above && f.is_handled) ≡ b
         → ((f.is_above && not f.can_start) ≡ false) × (is_busy (if b then tooks.Busy else r7) ≡ true) → Crowds f
     sixth true holds p =
-        (let one = both_true f.is_above f.is_handled holds in
+        (let one = both f.is_above f.is_handled holds in
         record { above = one.0; starts = can f.is_above f.can_start one.0 p.0; why = inl one.1 })
     sixth false fails p = seventh (f.is_above && (not f.is_live && f.is_crowded)) refl p.0 p.1
 

@@ -4,11 +4,9 @@ use Rattle.std.proofs.Common.{◌≡◌, ◌≢◌, ◌<◌, ◌≤◌, ◌⊎�
 use Rattle.std.proofs.Common.{Option, Some, refl, ◌∙◌, ap, sym, subst, inl, inr, ⊎_elim, append_assoc, option_map}
 use Rattle.std.proofs.Common.{length, arith}
 use Rattle.std.specs.Prelude.{slice_get, IsSomeAnd, unwrap_or}
-use Rattle.rx_model.specs.declared.answers.Took.{Took}
 use Rattle.rx_model.specs.declared.event.Event.{Event}
 use Rattle.rx_model.specs.declared.event.Event.TheVariants as events
 use Rattle.rx_model.specs.declared.event.Noted.{Noted}
-use Rattle.rx_model.specs.declared.names.Host.{Host}
 use Rattle.rx_model.specs.Names.{same_host}
 use Rattle.rx_model.proofs.NameLaws.{number_itself, same_number}
 use Rattle.rx_rules.specs.After.{looks}
@@ -25,23 +23,16 @@ use Rattle.rx_plan.specs.Network.{all_nodes, below, comes_to, delivers, is_for}
 use Rattle.rx_plan.specs.Parts.{To, by_test, each, ends}
 use Rattle.rx_plan.specs.Stages.{Stage, event, with_event}
 use Rattle.rx_plan.proofs.Aborts.AbortCauses.{taken_is as answer_is}
-use Rattle.rx_rounds.proofs.Clocks.ClocksMove.{AreApart, IsNone, apart_from}
+use Rattle.rx_rounds.proofs.Clocks.ClocksMove.{AreApart, IsNone, apart_from, apart_behind, none_behind}
 use Rattle.rx_between.proofs.Each.EachItem.{In, in_behind, in_front}
 use Rattle.rx_rounds.proofs.Making.{ends_to, event_to, then_to}
-use Rattle.rx_rounds.proofs.Clocks.NodeClock.{in_parts}
 use Rattle.rx_rounds.proofs.Rounded.{Made}
-use Rattle.rx_closing.proofs.Polls.InParts.{nth_low, nth_there}
+use Rattle.rx_closing.proofs.Polls.InParts.{nth_there}
+use Rattle.rx_between.proofs.Within.{in_either}
+use Rattle.rx_rounds.proofs.Clocks.GivesOrMoves.{nth_low}
+use Rattle.rx_rounds.proofs.Two.{taken_is}
 
 -- ---- the numbers of the nodes
-
-none_behind : (k n : ℕ) (ns : List ℕ) → IsNone k ns → n ≢ k → IsNone k (ns ++ n ∷ [])
-none_behind k n [] none apart = (apart, tt)
-none_behind k n (m ∷ ns) none apart = (none.0, none_behind k n ns none.1 apart)
-
-apart_behind : (n : ℕ) (ns : List ℕ) → AreApart ns → IsNone n ns → AreApart (ns ++ n ∷ [])
-apart_behind n [] apart none = (tt, tt)
-apart_behind n (m ∷ ns) apart none =
-    (none_behind m n ns apart.0 (λ is. none.0 (sym is)), apart_behind n ns apart.1 none.1)
 
 none_below : (n k : ℕ) → n ≤ k → IsNone k (below n)
 none_below zero k low = tt
@@ -77,21 +68,6 @@ pub record TookAt (k : ℕ) (n : Node) (d : Datagram) (before behind : List Note
   pub front : at ≡ mid ++ before
   pub still : side k at ≡ side k before
   pub own : side k behind ≡ takes_from n.setup d (looks n.setup (side k before)) ∷ side k before
-
-taken_is : (from : Host) (bytes : List ℕ) (e : Event) → IsTaken from bytes e
-    → (got : Took) × (e ≡ events.Taken from bytes got)
-taken_is from bytes (events.Taken a b got) is = (got, λ i. events.Taken (is.0 i) (is.1 i) got)
-taken_is from bytes (events.Polled got) is = absurd is
-taken_is from bytes (events.Linked a b c d) is = absurd is
-taken_is from bytes (events.Called a b) is = absurd is
-taken_is from bytes (events.Wrote a b c d) is = absurd is
-taken_is from bytes (events.Shut a b) is = absurd is
-taken_is from bytes (events.HasRead a b c d) is = absurd is
-taken_is from bytes (events.Ended a b) is = absurd is
-taken_is from bytes (events.Cancelled a b c) is = absurd is
-taken_is from bytes (events.Accepted a) is = absurd is
-taken_is from bytes (events.Finished a b c) is = absurd is
-taken_is from bytes (events.Clocked a) is = absurd is
 
 -- the node of a number where the datagram comes
 pub record Comes (k : ℕ) (n : Node) (d : Datagram) (s t : Stage) : Type 0 where
@@ -285,7 +261,7 @@ low_of : (n k : ℕ) → In k (below n) → k < n
 low_of zero k there = absurd there
 low_of (suc n) k there =
     ⊎_elim (λ (front : In k (below n)). (let low = low_of n k front in omega arith)) last
-    (in_parts k (below n) (n ∷ []) there)
+    (in_either k (below n) (n ∷ []) there)
   where
     last : In k (n ∷ []) → k < suc n
     last (inl same) = omega arith

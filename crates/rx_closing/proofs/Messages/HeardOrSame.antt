@@ -25,13 +25,13 @@ use Rattle.rx_between.proofs.Onward.{NoneAnew}
 use Rattle.rx_plan.specs.Network.{delivers}
 use Rattle.rx_plan.specs.Parts.{each}
 use Rattle.rx_plan.specs.Stages.{Stage}
-use Rattle.rx_plan.proofs.Cuts.{side_split}
-use Rattle.rx_plan.proofs.JointMoments.{legal_parts}
 use Rattle.rx_rounds.proofs.Rounded.{Made}
 use Rattle.rx_closing.proofs.Far.FarGrows.{none_anew}
 use Rattle.rx_closing.proofs.Living.LifeBetween.{anew_before}
 use Rattle.rx_closing.proofs.Messages.Delivered.{DeliveredBy, delivers_first, delivers_grow, delivers_none, takes_from}
 use Rattle.rx_closing.proofs.Messages.HearsCalls.{heard_own}
+use Rattle.rx_history.proofs.Laws.EnteredLaw.{legal-before}
+use Rattle.rx_law.proofs.Law.{side-split}
 
 -- an end that heard something at a moment, or is as it was
 abbrev pub HeardOr : ℕ → CallLooks → CallLooks → Type 0
@@ -108,15 +108,15 @@ module _ (n : Node) (j : ℕ) (c : CallName) (fits : FitsSetup n.setup) where
       → Legal n.setup (side j s.history)
   legal_then s t ds made legal =
       (let g = delivers_grow ds s t made in
-      legal_parts n.setup (side j g.more) (side j s.history)
-      (subst (Legal n.setup) (ap (side j) g.is ∙ side_split j g.more s.history) legal))
+      legal-before n.setup (side j g.more) (side j s.history)
+      (subst (Legal n.setup) (ap (side j) g.is ∙ side-split j g.more s.history) legal))
 
   anew_then : (s t : Stage) (ds : List Datagram) → Made (each delivers ds) s t
       → StartsNoneAnew n.setup (side j t.history) c → StartsNoneAnew n.setup (side j s.history) c
   anew_then s t ds made anew =
       (let g = delivers_grow ds s t made in
       anew_before n.setup (side j g.more) (side j s.history) c
-      (subst (λ (es : List Event). StartsNoneAnew n.setup es c) (ap (side j) g.is ∙ side_split j g.more s.history)
+      (subst (λ (es : List Event). StartsNoneAnew n.setup es c) (ap (side j) g.is ∙ side-split j g.more s.history)
       anew))
 
   -- all of them

@@ -34,7 +34,7 @@ use Rattle.rx_history.proofs.Moments.{now-prepared}
 use Rattle.rx_history.proofs.Room.RoomTaken.{challenged-calls}
 use Rattle.rx_between.proofs.Each.EachChange.{taken_alike}
 use Rattle.rx_between.proofs.Each.EachStep.{is_own}
-use Rattle.rx_between.proofs.OwnRows.{OwnRows, RowOf, own_rows}
+use Rattle.rx_between.proofs.OwnRows.{OwnRows, RowOf, own_rows, own_past}
 use Rattle.rx_between.proofs.Prepared.{prepared_number}
 use Rattle.rx_closing.specs.Silence.{is_hearing}
 use Rattle.rx_closing.proofs.Messages.Rows.{latest_is, opens_none}
@@ -118,11 +118,6 @@ heard_own v (tooks.Bad bad) m k own row = absurd cc
 
 -- ---- the rows in front, at a client
 
-past_row : (b : Bool) (row rest got : Took) → is_own got ≡ true → is_own row ≡ false
-    → (if b then row else rest) ≡ got → (b ≡ false) × (rest ≡ got)
-past_row true row rest got own other is = absurd (not_own row got other own is)
-past_row false row rest got own other is = (refl, is)
-
 -- the message is of the channel's latest call, which is at work
 record PastRows (f : Facts) : Type 0 where
   below : f.is_below ≡ false
@@ -131,11 +126,11 @@ record PastRows (f : Facts) : Type 0 where
 
 past_rows : (f : Facts) (call got : Took) → is_own got ≡ true → client_row f call ≡ got → PastRows f
 past_rows f call got own is =
-    let a = past_row f.stops_all tooks.Stopped _ got own refl is in
-    let b = past_row (not f.has_number) tooks.Strange _ got own refl a.1 in
-    let d = past_row f.is_below tooks.Old _ got own refl b.1 in
-    let e = past_row f.is_above tooks.Strange _ got own refl d.1 in
-    let g = past_row (not f.is_active) tooks.Over call got own refl e.1 in
+    let a = own_past f.stops_all tooks.Stopped _ got own refl is in
+    let b = own_past (not f.has_number) tooks.Strange _ got own refl a.1 in
+    let d = own_past f.is_below tooks.Old _ got own refl b.1 in
+    let e = own_past f.is_above tooks.Strange _ got own refl d.1 in
+    let g = own_past (not f.is_active) tooks.Over call got own refl e.1 in
     record { below = d.0; above = e.0; active = un_not f.is_active g.0 }
   where
     un_not : (b : Bool) → not b ≡ false → b ≡ true

@@ -21,14 +21,11 @@ use Rattle.rx_closing.proofs.Far.FarStands.{scene_fed}
 use Rattle.rx_closing.proofs.Frame.{IsPlain, OneOf}
 use Rattle.rx_closing.proofs.Messages.Arrives.{Meet}
 use Rattle.rx_closing.proofs.Rounds.Chains.{Adds}
+use Rattle.rx_jobs.proofs.Driving.{every-back}
 
 home_is : (c : CallName) (n : Node) (q : Kind) → q ≡ Client c.host c.epoch → IsClientAt n.host q → n.host ≡ c.host
 home_is c n q is at =
     (let own : c.host ≡ n.host = subst (IsClientAt n.host) is at in sym own)
-
-every_later : {X : Type 0} (P : X → Type 0) (more xs : List X) → Every P (more ++ xs) → Every P xs
-every_later P [] xs all = all
-every_later P (x ∷ more) xs all = every_later P more xs all.1
 
 module _ (c : CallName) (k : ℕ) (client server : Node) (s : Stage) (one : OneOf c k client server s) where
   plain : (j : ℕ) (n : Node) → slice_get s.nodes j ≡ Some n → IsPlain n
@@ -60,7 +57,7 @@ module _ (c : CallName) (k : ℕ) (client server : Node) (s : Stage) (one : OneO
       conns_hold client.setup c.host c.epoch one.client_is (λ a i. a ≡ server.host) (side (suc k) u.history)
       (links_side (suc k) server.host s.nodes u.history
       (ap (option_map (λ (n : Node). n.host)) one.server_there)
-      (every_later (λ (e : Noted). LinksHost s.nodes e.event) back.more u.history
+      (every-back (λ (e : Noted). LinksHost s.nodes e.event) back.more u.history
       (subst (λ (h : List Noted). Every (λ (e : Noted). LinksHost s.nodes e.event) h) back.is linked)))
 
   -- and for its service

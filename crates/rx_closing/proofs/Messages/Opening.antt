@@ -15,6 +15,7 @@ use Rattle.rx_rules.specs.Looks.{CallRecord}
 use Rattle.rx_rules.specs.Setup.{Setup, pace_of}
 use Rattle.rx_between.specs.Agreed.{MakesSense}
 use Rattle.rx_between.proofs.Each.EachStep.{is_start}
+use Rattle.rx_progress.proofs.Lowest.{not_acked}
 
 -- the call as it starts at a server
 abbrev pub begun_record : Setup → CallName → ℕ → CallRecord
@@ -45,10 +46,6 @@ seq_some : (n : ℕ) → ((n == 0) || nat_lt 4294967294 n) ≡ false → 1 ≤ n
 seq_some zero other = absurd cc
 seq_some (suc n) other = omega arith
 
-or_first : (a b : Bool) → (a || b) ≡ false → a ≡ false
-or_first true b is = absurd cc
-or_first false b is = refl
-
 pub can_begin : (v : NodeView) (m : Message) (payload : List ℕ) (pace : Pace) (now : ℕ) → v.client ≡ false
     → MakesSense (call_row v m (bodies.Chunk payload) (fresh_call pace now))
     → CanBegin v m (call_row v m (bodies.Chunk payload) (fresh_call pace now))
@@ -63,10 +60,10 @@ can_begin v m payload pace now client sense =
     of sense =
         let a = sense_start (((m.seq == 0) || nat_lt 4294967294 m.seq) || false) (nat_le m.seq 0 || false)
         (nat_lt (0 + v.window) m.seq) (false || (has_flag LAST_PACKET m.flags && nat_lt m.seq 0)) _ sense
-        (λ other. (let some : 1 ≤ m.seq = seq_some m.seq (or_first _ false other) in
+        (λ other. (let some : 1 ≤ m.seq = seq_some m.seq (not_acked _ false other) in
         let above : nat_le m.seq 0 ≡ false = grind (arith, nat_tests) in rw above refl)) in
         record {
-          low = seq_some m.seq (or_first _ false a.0);
+          low = seq_some m.seq (not_acked _ false a.0);
           high = (let no' = a.1 in grind (arith, nat_tests));
           starts = a.2;
         }

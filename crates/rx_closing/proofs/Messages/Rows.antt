@@ -1,7 +1,7 @@
 -- The rows of a DATA or an ACK of a call at a node where the call is its channel's latest, and what it makes of the
 -- call.
 use Rattle.std.proofs.Common.{◌≡◌, ◌≤◌, ◌&&◌, ◌==◌, cond, if◌then◌else◌, not, nat_lt, ℕ, ℤ, Bool, true, false, Option}
-use Rattle.std.proofs.Common.{Some, None, refl, ◌∙◌, ap, sym, arith, is_some, List}
+use Rattle.std.proofs.Common.{Some, None, refl, ◌∙◌, ap, sym, arith, is_some}
 use Rattle.std.proofs.lemmas.Bool.{le-ltb}
 use Rattle.rx_model.specs.declared.answers.Took.{Took}
 use Rattle.rx_model.specs.declared.answers.Took.TheVariants as tooks
@@ -17,23 +17,17 @@ use Rattle.rx_model.specs.declared.event.Event.TheVariants as events
 use Rattle.rx_model.proofs.NameLaws.{number_itself, same_number}
 use Rattle.rx_rules.specs.CallLooks.{call_row}
 use Rattle.rx_rules.specs.Judging.{Facts, client_row, facts_of, is_for_clients, is_for_servers, is_peer, live_row}
-use Rattle.rx_rules.specs.Judging.{opened, outer_row, own_row, row_at, server_row, side_row, took_named, took_of}
+use Rattle.rx_rules.specs.Judging.{opened, outer_row, own_row, row_at, server_row, side_row, took_named}
 use Rattle.rx_rules.specs.Life.{is_active}
 use Rattle.rx_rules.specs.Looks.{CallRecord, ConnLooks, Looks, call_at, call_named, channel_at, conn_at, is_call}
 use Rattle.rx_rules.specs.Looks.{latest}
 use Rattle.rx_rules.specs.Records.{started_later}
 use Rattle.rx_rules.specs.Setup.{Client, Kind, Server, Setup, named}
 use Rattle.rx_rules.specs.Slots.{node_view}
-use Rattle.rx_rules.specs.Rules.{AllowedAt}
 use Rattle.rx_rules.proofs.ConnsLaws.{channel_number, number_of}
 use Rattle.rx_between.proofs.PollSays.{IsStream}
 
 -- ---- rows in front
-
-pub taken_answer : (kind : Kind) (s : Setup) (l : Looks) (from : Host) (bytes : List ℕ) (got : Took)
-    → AllowedAt kind s l (events.Taken from bytes got) → got ≡ took_of s l from bytes
-taken_answer (Server service nonces) s l from bytes got allowed = allowed.1
-taken_answer (Client host epoch) s l from bytes got allowed = allowed.1
 
 -- a call that is its channel's latest
 pub record IsLast (l : Looks) (c : CallName) (k : CallRecord) : Type 0 where
@@ -107,7 +101,7 @@ opens_none s l c number =
 pub server_past : (f : Facts) (call : Took) → PassesRows f → f.is_active ≡ true → server_row f call ≡ call
 server_past f call p active = rw (p.known, p.stops, p.has, p.below, p.above, active) refl
 
-client_past : (f : Facts) (call : Took) → PassesRows f → f.is_active ≡ true → client_row f call ≡ call
+pub client_past : (f : Facts) (call : Took) → PassesRows f → f.is_active ≡ true → client_row f call ≡ call
 client_past f call p active = rw (p.stops, p.has, p.below, p.above, active) refl
 
 side_past : (kind : Kind) (f : Facts) (call : Took) → PassesRows f → f.is_active ≡ true → side_row kind f call ≡ call

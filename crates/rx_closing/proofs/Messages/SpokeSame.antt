@@ -23,14 +23,14 @@ use Rattle.rx_between.proofs.Onward.{NoneAnew}
 use Rattle.rx_plan.specs.Network.{delivers}
 use Rattle.rx_plan.specs.Parts.{each}
 use Rattle.rx_plan.specs.Stages.{Stage}
-use Rattle.rx_plan.proofs.Cuts.{side_split}
-use Rattle.rx_plan.proofs.JointMoments.{legal_parts}
 use Rattle.rx_rounds.proofs.Rounded.{Made}
 use Rattle.rx_closing.proofs.Far.FarGrows.{none_anew}
 use Rattle.rx_closing.proofs.Living.LifeBetween.{anew_before}
 use Rattle.rx_closing.proofs.Messages.Delivered.{DeliveredBy, FirstOf, GrewBy, delivers_first, delivers_grow}
 use Rattle.rx_closing.proofs.Messages.Delivered.{delivers_none, takes_from}
 use Rattle.rx_closing.proofs.Rounds.SpokeRises.{taken-spoke}
+use Rattle.rx_history.proofs.Laws.EnteredLaw.{legal-before}
+use Rattle.rx_law.proofs.Law.{side-split}
 
 -- ---- one datagram
 
@@ -109,10 +109,10 @@ module _ (n : Node) (j : ℕ) (c : CallName) (fits : FitsSetup n.setup) where
       (let f : FirstOf d ds s t = delivers_first d ds s t made in
       let grew : GrewBy f.between t = delivers_grow ds f.between t f.others in
       let rest : side j t.history ≡ side j grew.more ++ side j f.between.history =
-      ap (side j) grew.is ∙ side_split j grew.more f.between.history in
+      ap (side j) grew.is ∙ side-split j grew.more f.between.history in
       let one : SameSpoke a (call_at (at_stage f.between) c) =
       one_spoke d s f.between there f.first
-      (legal_parts n.setup (side j grew.more) (side j f.between.history) (subst (Legal n.setup) rest legal))
+      (legal-before n.setup (side j grew.more) (side j f.between.history) (subst (Legal n.setup) rest legal))
       (anew_before n.setup (side j grew.more) (side j f.between.history) c
       (subst (λ (es : List Event). StartsNoneAnew n.setup es c) rest anew)) a at in
       let more : SameSpoke one.call (call_at (at_stage t) c) =

@@ -37,8 +37,6 @@ use Rattle.rx_between.proofs.PollSays.{IsStream}
 use Rattle.rx_plan.specs.Network.{delivers}
 use Rattle.rx_plan.specs.Parts.{each}
 use Rattle.rx_plan.specs.Stages.{Stage}
-use Rattle.rx_plan.proofs.Cuts.{side_split}
-use Rattle.rx_plan.proofs.JointMoments.{legal_parts}
 use Rattle.rx_rounds.proofs.RoundParts.{delivers_split}
 use Rattle.rx_rounds.proofs.Rounded.{Made}
 use Rattle.rx_rounds.proofs.Two.{sent}
@@ -53,6 +51,8 @@ use Rattle.rx_closing.proofs.Messages.Rows.{IsLast}
 use Rattle.rx_closing.proofs.Messages.Sifted.{Sifted, sifts_none, sifts_other, sifts_own}
 use Rattle.rx_closing.proofs.Rounds.Chains.{Adds}
 use Rattle.rx_closing.proofs.Steps.{TakesIn, takes_none, takes_one}
+use Rattle.rx_history.proofs.Laws.EnteredLaw.{legal-before}
+use Rattle.rx_law.proofs.Law.{side-split}
 
 -- ---- a datagram that isn't a call's
 
@@ -169,13 +169,13 @@ module _ (n : Node) (j : ℕ) (c : CallName) (open_ : n.setup.class ≡ null) (f
     (Else : Datagram → Type 0) (other : (d : Datagram) → Else d → IsNotFor n c d) where
   legal_of : (u : Stage) → Adds u.history h → Legal n.setup (side j u.history)
   legal_of u a =
-      legal_parts n.setup (side j a.more) (side j u.history)
-      (subst (Legal n.setup) (ap (side j) a.is ∙ side_split j a.more u.history) legal)
+      legal-before n.setup (side j a.more) (side j u.history)
+      (subst (Legal n.setup) (ap (side j) a.is ∙ side-split j a.more u.history) legal)
 
   anew_of : (u : Stage) → Adds u.history h → StartsNoneAnew n.setup (side j u.history) c
   anew_of u a =
       anew_before n.setup (side j a.more) (side j u.history) c
-      (subst (λ (es : List Event). StartsNoneAnew n.setup es c) (ap (side j) a.is ∙ side_split j a.more u.history)
+      (subst (λ (es : List Event). StartsNoneAnew n.setup es c) (ap (side j) a.is ∙ side-split j a.more u.history)
       anew)
 
   one_record : (a b : CallRecord) (o : Option CallRecord) → o ≡ Some a → o ≡ Some b → a ≡ b

@@ -32,8 +32,6 @@ use Rattle.rx_between.proofs.Onward.{NoneAnew}
 use Rattle.rx_plan.specs.Network.{delivers}
 use Rattle.rx_plan.specs.Parts.{each}
 use Rattle.rx_plan.specs.Stages.{Stage}
-use Rattle.rx_plan.proofs.Cuts.{side_split}
-use Rattle.rx_plan.proofs.JointMoments.{legal_parts}
 use Rattle.rx_jobs.specs.Handlers.{Handlers}
 use Rattle.rx_between.proofs.Each.EachItem.{In}
 use Rattle.rx_rounds.proofs.RoundParts.{delivers_split}
@@ -56,6 +54,8 @@ use Rattle.rx_closing.proofs.Messages.Sifted.{IsOwn, sifts_none, sifts_own}
 use Rattle.rx_closing.proofs.Rounds.Chains.{Adds, RoundAdds, adds_both, round_adds}
 use Rattle.rx_closing.proofs.Telling.AbortOwed.{Owing}
 use Rattle.rx_closing.proofs.Telling.ToldOver.{owing_round, server_over}
+use Rattle.rx_history.proofs.Laws.EnteredLaw.{legal-before}
+use Rattle.rx_law.proofs.Law.{side-split}
 
 -- ---- a datagram leaves the life of a call that isn't at work
 
@@ -174,8 +174,8 @@ module _ (n : Node) (c : CallName) (fits : FitsSetup n.setup) (serves : IsServer
       → Legal n.setup (side 0 s.history)
   legal_then s t ds made legal =
       (let g = delivers_grow ds s t made in
-      legal_parts n.setup (side 0 g.more) (side 0 s.history)
-      (subst (Legal n.setup) (ap (side 0) g.is ∙ side_split 0 g.more s.history) legal))
+      legal-before n.setup (side 0 g.more) (side 0 s.history)
+      (subst (Legal n.setup) (ap (side 0) g.is ∙ side-split 0 g.more s.history) legal))
 
   once_before : (later h : List Event) → StartsOnce n.setup (later ++ h) c → StartsOnce n.setup h c
   once_before [] h once = once
@@ -186,7 +186,7 @@ module _ (n : Node) (c : CallName) (fits : FitsSetup n.setup) (serves : IsServer
   once_then s t ds made once =
       (let g = delivers_grow ds s t made in
       once_before (side 0 g.more) (side 0 s.history)
-      (subst (λ (es : List Event). StartsOnce n.setup es c) (ap (side 0) g.is ∙ side_split 0 g.more s.history) once))
+      (subst (λ (es : List Event). StartsOnce n.setup es c) (ap (side 0) g.is ∙ side-split 0 g.more s.history) once))
 
   -- what all of them leave
   pub idle_left : (ds : List Datagram) (s t : Stage) → slice_get s.nodes 0 ≡ Some n → Made (each delivers ds) s t

@@ -25,7 +25,7 @@ pub record FirstOf (g : Handlers) (n : ℕ) (s t : Stage) : Type 0 where
 pub first_of : (g : Handlers) (n : ℕ) (s t : Stage) → Chain g (suc n) s t → FirstOf g n s t
 first_of g n s t (chain_more m x v z made rest) = record { middle = v; made = made; rest = rest }
 
-none_of : (g : Handlers) (s t : Stage) → Chain g zero s t → s ≡ t
+pub none_of : (g : Handlers) (s t : Stage) → Chain g zero s t → s ≡ t
 none_of g s t (chain_none z) = refl
 
 -- its last one

@@ -13,7 +13,7 @@ use Rattle.rx_model.specs.declared.names.CallName.{CallName}
 use Rattle.rx_model.specs.declared.names.Host.{Host}
 use Rattle.rx_model.specs.Names.{channel_of}
 use Rattle.rx_model.specs.declared.answers.CallRead.{CallRead}
-use Rattle.rx_model.proofs.NameLaws.{name_itself}
+use Rattle.rx_model.proofs.NameLaws.{name_itself, both}
 use Rattle.rx_rules.specs.After.{acknowledged, finish_done, finished, is_end, is_zero, looks, owing_abort, read_done}
 use Rattle.rx_rules.specs.CallLooks.{after_read, after_shut}
 use Rattle.rx_rules.specs.Life.{Life, after_cancel, after_end, after_finish, is_active, is_calling, is_live}
@@ -33,10 +33,9 @@ use Rattle.rx_jobs.specs.declared.job.TheConstants.{OFFER_BYTES}
 use Rattle.rx_jobs.specs.Jobs.{Ask, IsCall, accept, finish, read, write}
 use Rattle.rx_plan.proofs.ClientEnds.{IsCalledOr, calls_called}
 use Rattle.rx_between.proofs.Each.EachChange.{changed_twice}
-use Rattle.rx_between.proofs.Onward.{clients}
-use Rattle.rx_closing.proofs.Messages.CrowdedRows.{both_true}
 use Rattle.rx_closing.proofs.Owing.ChannelsStay.{IsMute}
 use Rattle.rx_closing.proofs.Owing.MayGo.{GoesFor}
+use Rattle.rx_history.proofs.ClientHistory.{clients}
 
 -- ---- lives
 
@@ -231,7 +230,7 @@ module _ (A K : CallName → Type 0) (s : Setup) (h : List Event) (fits : FitsSe
           → Goes (events.HasRead d most (readers.Client got) bytes) ⊎ Ends l (read_done d end bytes l)
       by false quiet = inl quiet
       by true ends_ =
-          (let p = both_true end (is_call (λ k. is_calling k.life) (call_at l d)) ends_ in
+          (let p = both end (is_call (λ k. is_calling k.life) (call_at l d)) ends_ in
           let f = found (λ k. is_calling k.life) (call_at l d) p.1 in
           inr (record {
             name = d;

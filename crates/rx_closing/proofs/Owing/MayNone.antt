@@ -14,9 +14,10 @@ use Rattle.rx_history.proofs.Order.OrderlyHistory.{orderly_history}
 use Rattle.rx_plan.proofs.ChannelsHold.{Channels}
 use Rattle.rx_between.proofs.Each.EachItem.{In}
 use Rattle.rx_closing.proofs.Owing.MayOwe.{EachMay, MayOwe, Sits}
-use Rattle.rx_closing.proofs.Owing.OutOwesNone.{conn_found, every_in, every_nth}
+use Rattle.rx_closing.proofs.Owing.OutOwesNone.{conn_found, every_nth}
 use Rattle.rx_closing.proofs.Owing.OwesNone.{IsQuiet, OwesNone}
 use Rattle.rx_closing.proofs.Rounds.RoundEvents.{every_at as in_every, every_weaker, nth_every}
+use Rattle.rx_closing.proofs.Living.InLists.{in_every as every_in}
 
 -- ---- what is owed
 

@@ -34,7 +34,6 @@ use Rattle.rx_plan.specs.Stages.{Stage}
 use Rattle.rx_between.proofs.PollSays.{IsStream}
 use Rattle.rx_between.proofs.Each.EachItem.{In}
 use Rattle.rx_rounds.proofs.Rounded.{RoundMade}
-use Rattle.rx_closing.proofs.Far.FinishedOpen.{server_view}
 use Rattle.rx_closing.proofs.Frame.{served_in}
 use Rattle.rx_closing.proofs.Living.CrowdRounds.{IsCrowd, IsSome, among_at, crowd_carried, fits_at, legal_at}
 use Rattle.rx_closing.proofs.Living.Crowds.{crowd_now}
@@ -53,6 +52,7 @@ use Rattle.rx_closing.proofs.Rounds.EventParts.{kind_client, kind_other}
 use Rattle.rx_closing.proofs.Rounds.RoundEvents.{At, Carries, Gave, IsNext, calls_lead, deliveries_lead, polls_lead}
 use Rattle.rx_closing.proofs.Rounds.RoundEvents.{serve_lead, settles_lead}
 use Rattle.rx_closing.proofs.Together.Members.{Member, names_of}
+use Rattle.rx_progress.proofs.LawsMoves.{server_side}
 
 -- ---- lives
 
@@ -183,7 +183,7 @@ module _ (server : Node) (ms : List Member) (s t : Stage) (a : AreStill server m
             subst (λ (k : Node). call_at (looks k.setup (side 0 s.history)) x.call ≡ Some q.0) zeroth.1
             (subst (λ (i : ℕ). call_at (looks n.setup (side i s.history)) x.call ≡ Some q.0) zeroth.0 q.1) in
             inr (record {
-              kind = server_view n.setup.kind
+              kind = server_side n.setup.kind
                   (and-some (slice_get s.nodes 0) n (λ k. IsServer k.setup.kind)
                   (subst (λ (i : ℕ). slice_get s.nodes i ≡ Some n) zeroth.0 next.there) are.server);
               served = q.0;

@@ -37,7 +37,6 @@ use Rattle.rx_closing.proofs.Frame.{IsPlain, asked_in}
 use Rattle.rx_closing.proofs.Living.ClientOf.{flagged}
 use Rattle.rx_closing.proofs.Living.CrowdRounds.{IsCrowd, SaidFor, fits_at, legal_at, named_for, unflagged}
 use Rattle.rx_closing.proofs.Messages.CrowdedRows.{is_busy}
-use Rattle.rx_closing.proofs.Messages.Rows.{taken_answer}
 use Rattle.rx_closing.proofs.Owing.AreStill.{AreStill, IsEnd, adds_less, end_of, was}
 use Rattle.rx_closing.proofs.Owing.ChannelsStay.{IsMute, null_mute}
 use Rattle.rx_closing.proofs.Owing.MayGo.{GoesFor, ReadsFor, TakesFor}
@@ -49,6 +48,7 @@ use Rattle.rx_closing.proofs.Owing.TooMuch.{too_much}
 use Rattle.rx_closing.proofs.Rounds.Chains.{Adds}
 use Rattle.rx_closing.proofs.Rounds.RoundEvents.{IsNext}
 use Rattle.rx_closing.proofs.Together.Members.{Member, names_of}
+use Rattle.rx_between.proofs.Followed.{taken_is}
 
 -- ---- lives
 
@@ -121,7 +121,7 @@ module _ (server : Node) (ms : List Member) (s t : Stage) (a : AreStill server m
         of (Server service nonces) home = absurd home
 
     took : got ≡ took_of n.setup l sender bytes
-    took = taken_answer n.setup.kind n.setup l sender bytes got next.allowed
+    took = taken_is n.setup.kind n.setup l sender bytes got next.allowed
 
     module _ (m : Message) (reads : reading_of bytes ≡ Ok m)
         (passes : outer_row n.setup n.setup.kind l sender m ≡ None) where

@@ -40,6 +40,7 @@ use Rattle.rx_closing.proofs.Owing.ChannelsStay.{hold_after}
 use Rattle.rx_closing.proofs.Owing.OwesNone.{IsQuiet, OwesNone}
 use Rattle.rx_closing.proofs.Rounds.RoundEvents.{every_at as in_every, nth_every}
 use Rattle.rx_closing.proofs.Telling.AbortOwed.{in_four}
+use Rattle.rx_closing.proofs.Living.InLists.{in_every as every_in}
 
 -- ---- no CHALLENGE and no RESPONSE is ever owed
 
@@ -131,10 +132,6 @@ module _ (s : Setup) (mute : IsMute s.class) where
       hold_after IsUnasked unasked_lasts s mute (looks s h) e (goes_unasked (looks s h) e) (never_asked h)
 
 -- ---- lists
-
-pub every_in : {X : Type 0} (P : X → Type 0) (xs : List X) → ((x : X) → In x xs → P x) → Every P xs
-every_in P [] each = tt
-every_in P (x ∷ xs) each = (each x (inl refl), every_in P xs (λ y there. each y (inr there)))
 
 -- what holds of each element at its place holds of all
 pub every_nth : {X : Type 0} (P : X → Type 0) (xs : List X) → ((n : ℕ) (x : X) → slice_get xs n ≡ Some x → P x)

@@ -16,7 +16,7 @@ use Rattle.rx_model.specs.Body as bodies
 use Rattle.rx_model.specs.Message.{Message}
 use Rattle.rx_model.specs.Names.{channel_of, connection_of}
 use Rattle.rx_model.specs.Reading.{reading_of}
-use Rattle.rx_model.proofs.NameLaws.{name_itself}
+use Rattle.rx_model.proofs.NameLaws.{name_itself, both as both_true}
 use Rattle.rx_rules.specs.After.{looks, prepared, taken_with}
 use Rattle.rx_rules.specs.Judging.{Facts, facts_of, is_data, opened, outer_row, own_row, server_row, side_row, took_of}
 use Rattle.rx_rules.specs.Life.{Life, after_code, is_active, is_handled, is_live}
@@ -45,15 +45,15 @@ use Rattle.rx_between.proofs.Each.EachItem.{In}
 use Rattle.rx_closing.proofs.Frame.{IsSpacious, served_in}
 use Rattle.rx_closing.proofs.Living.CrowdRounds.{IsCrowd, SaidFor, among_at, fits_at, legal_at, named_for}
 use Rattle.rx_closing.proofs.Living.Few.{fewer_live}
-use Rattle.rx_closing.proofs.Messages.CrowdedRows.{Crowds, both_true, is_busy, row_calm, side_crowds}
+use Rattle.rx_closing.proofs.Messages.CrowdedRows.{Crowds, is_busy, row_calm, side_crowds}
 use Rattle.rx_closing.proofs.Messages.Judged.{taken_by}
-use Rattle.rx_closing.proofs.Messages.Rows.{taken_answer}
 use Rattle.rx_closing.proofs.Owing.AreStill.{AreStill, IsEnd, adds_less, end_of, ends_never, named_in, was}
 use Rattle.rx_closing.proofs.Owing.EndsThere.{Ends}
 use Rattle.rx_closing.proofs.Owing.StillOwed.{IsLively}
 use Rattle.rx_closing.proofs.Rounds.Chains.{Adds}
 use Rattle.rx_closing.proofs.Rounds.RoundEvents.{IsNext}
 use Rattle.rx_closing.proofs.Together.Members.{Member, names_of}
+use Rattle.rx_between.proofs.Followed.{taken_is}
 
 -- ---- rows
 
@@ -155,7 +155,7 @@ module _ (server : Node) (ms : List Member) (s t : Stage) (a : AreStill server m
         (subst (λ (i : ℕ). slice_get s.nodes i ≡ Some n) zeroth next.there) are.server
 
     took : got ≡ took_of n.setup l sender bytes
-    took = taken_answer n.setup.kind n.setup l sender bytes got next.allowed
+    took = taken_is n.setup.kind n.setup l sender bytes got next.allowed
 
     module _ (m : Message) (reads : reading_of bytes ≡ Ok m)
         (passes : outer_row n.setup n.setup.kind l sender m ≡ None) where

@@ -1,6 +1,6 @@
 -- A node that owes nothing but what its calls' ends give.
 use Rattle.std.proofs.Common.{◌≡◌, ◌++◌, ◌&&◌, not, ℕ, Bool, true, false, cond, List, [], ◌∷◌, refl, ap, sym, subst}
-use Rattle.std.proofs.Common.{inl, inr, ⊎_elim, Option, Some, None, option_map, filter, map}
+use Rattle.std.proofs.Common.{⊎_elim, Option, Some, None, option_map, filter, map}
 use Rattle.rx_model.specs.declared.names.CallName.{CallName}
 use Rattle.rx_model.specs.Body.{Body}
 use Rattle.rx_model.specs.Body as bodies
@@ -14,8 +14,9 @@ use Rattle.rx_rules.specs.Records.{is_silent}
 use Rattle.rx_rules.specs.Setup.{Setup, is_client, receiving_window}
 use Rattle.rx_between.proofs.PollSays.{IsStream}
 use Rattle.rx_between.proofs.Each.EachItem.{In, is_due, least_in}
-use Rattle.rx_rounds.proofs.Clocks.NodeClock.{in_mapped, in_parts}
+use Rattle.rx_rounds.proofs.Clocks.NodeClock.{in_mapped}
 use Rattle.rx_closing.proofs.Polls.OnePoll.{sending_stream}
+use Rattle.rx_between.proofs.Within.{in_either, in_filtered}
 
 -- a channel that owes nothing
 pub record OwesNothing (q : ChannelLooks) : Type 0 where
@@ -65,7 +66,7 @@ none_class s l c q true i none there =
     (λ (h : In i (owed_item c (option_map bodies.Response q.owed_response))).
     none_owed c (option_map bodies.Response q.owed_response) i
     (mapped_none bodies.Response q.owed_response none.response) h)
-    (in_parts i (owed_item c (challenge_body s l c q.owed_challenge))
+    (in_either i (owed_item c (challenge_body s l c q.owed_challenge))
     (owed_item c (option_map bodies.Response q.owed_response)) there)
 
 -- so are those of a channel that owes nothing
@@ -90,10 +91,10 @@ channel_stream s l ch i none there =
     (λ (h : In i acks). absurd (none_owed c (where_owed q.owed_ackall bodies.AckAll) i
     (ap (λ (b : Bool). where_owed b bodies.AckAll) none.ackall) h))
     (λ (h : In i own). own_stream s l (latest l ch) i h)
-    (in_parts i acks own h3))
-    (in_parts i classes (acks ++ own) h2))
-    (in_parts i busies (classes ++ (acks ++ own)) h1))
-    (in_parts i aborts (busies ++ (classes ++ (acks ++ own))) there))
+    (in_either i acks own h3))
+    (in_either i classes (acks ++ own) h2))
+    (in_either i busies (classes ++ (acks ++ own)) h1))
+    (in_either i aborts (busies ++ (classes ++ (acks ++ own))) there))
 
 channels_stream : (s : Setup) (l : Looks) (chs : List Channel) (i : Item)
     → ((ch : Channel) → OwesNothing (channel_at l ch)) → In i (items_on s l chs) → IsStream i.body
@@ -102,18 +103,7 @@ channels_stream s l (ch ∷ chs) i none there =
     ⊎_elim
     (λ (h : In i (channel_items s l ch)). channel_stream s l ch i (none ch) h)
     (λ (h : In i (items_on s l chs)). channels_stream s l chs i none h)
-    (in_parts i (channel_items s l ch) (items_on s l chs) there)
-
--- what is left of a list was in it
-pub in_filtered : {X : Type 0} (p : X → Bool) (x : X) (xs : List X) → In x (filter p xs) → In x xs
-in_filtered p x [] there = absurd there
-in_filtered {X = X} p x (y ∷ xs) there =
-    (elim (p y) as (λ b. In x (cond b (y ∷ filter p xs) (filter p xs)) → In x (y ∷ xs)) [
-      | true ↦ λ here. ⊎_elim (λ (same : x ≡ y). inl same)
-          (λ (rest : In x (filter p xs)). inr (in_filtered p x xs rest))
-          here
-      | false ↦ λ rest. inr (in_filtered p x xs rest)
-    ]) there
+    (in_either i (channel_items s l ch) (items_on s l chs) there)
 
 -- what such a node gives next is of a stream
 pub bare_next : (s : Setup) (l : Looks) (i : Item) → ((ch : Channel) → OwesNothing (channel_at l ch))

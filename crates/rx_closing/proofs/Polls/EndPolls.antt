@@ -30,7 +30,7 @@ use Rattle.rx_law.specs.Worlds.{Datagram}
 use Rattle.rx_between.proofs.PollSays.{IsStream}
 use Rattle.rx_plan.specs.Rounds.{Polled, Polling, polls_out}
 use Rattle.rx_between.proofs.Each.EachItem.{none_of}
-use Rattle.rx_rounds.proofs.Polls.PolledOut.{polled_out}
+use Rattle.rx_rounds.proofs.Polls.PolledOut.{polled_out, quiet_life}
 use Rattle.rx_rounds.proofs.Rounded.{Made}
 use Rattle.rx_rounds.proofs.Two.{Polls, out_to, sent}
 use Rattle.rx_closing.specs.Living.{looks_of}
@@ -39,7 +39,7 @@ use Rattle.rx_closing.proofs.Owing.ChannelsStay.{IsMute}
 use Rattle.rx_closing.proofs.Polls.NodePolls.{live_seen}
 use Rattle.rx_closing.proofs.Polls.NodeTurn.{IsGivenBy, Out, node_turn}
 use Rattle.rx_closing.proofs.Polls.OneGives.{GaveCall, GaveOther, rest_gives, work_gives}
-use Rattle.rx_closing.proofs.Polls.OnePoll.{ConnIs, active_before, active_lives, next_same, quiet_life, silenced_at}
+use Rattle.rx_closing.proofs.Polls.OnePoll.{ConnIs, active_before, active_lives, next_same, silenced_at}
 use Rattle.rx_closing.proofs.Polls.OnePoll.{still_there}
 use Rattle.rx_closing.proofs.Polls.Polled.{EndPolled, EndRested, EndWorked, NoStreamOf, NotOf, RestsAt, WorksAt}
 use Rattle.rx_closing.proofs.Polls.Polled.{end_rests, end_works, name_in}

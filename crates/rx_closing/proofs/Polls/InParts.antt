@@ -56,11 +56,6 @@ nth_there [] k low = (let no : ⊥ = omega arith in absurd no)
 nth_there (x ∷ xs) zero low = (x, refl)
 nth_there (x ∷ xs) (suc k) low = nth_there xs k (omega arith)
 
-pub nth_low : {X : Type 0} (xs : List X) (k : ℕ) (x : X) → slice_get xs k ≡ Some x → k < length xs
-nth_low [] k x there = absurd cc
-nth_low (y ∷ xs) zero x there = omega arith
-nth_low (y ∷ xs) (suc k) x there = (let low = nth_low xs k x there in omega arith)
-
 -- what was given in two parts
 pub then_both : (first second third x y : List Datagram) → second ≡ first ++ x → third ≡ second ++ y
     → third ≡ first ++ (x ++ y)

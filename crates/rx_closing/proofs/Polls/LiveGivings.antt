@@ -27,12 +27,9 @@ use Rattle.rx_between.proofs.Each.EachItem as each
 use Rattle.rx_between.proofs.GivenAcks.{sends_there}
 use Rattle.rx_between.proofs.PollSays.{IsStream}
 use Rattle.rx_closing.proofs.Ends.RoomLaws.{active_lives}
+use Rattle.rx_plan.proofs.Soundness.SoundPlan.{and_left}
 
 -- ---- lives
-
-pub and_first : (a b : Bool) → (a && b) ≡ true → a ≡ true
-and_first true b is = refl
-and_first false b is = is
 
 -- a call that lives behind the end of the silent ones lived before it
 pub live_unsilenced : (now : ℕ) (k : CallRecord) → is_live (unless_silent now k).life ≡ true → is_live k.life ≡ true
@@ -42,7 +39,7 @@ live_unsilenced now k living = of (is_silent now k) refl living
         → is_live (cond b (record k { life = after_silence (silence_of now k) k.life }) k).life ≡ true
         → is_live k.life ≡ true
     of true silent living =
-        active_lives k.life (and_first (is_active k.life) (nat_le SILENCE_MS (silence_of now k)) silent)
+        active_lives k.life (and_left (is_active k.life) (nat_le SILENCE_MS (silence_of now k)) silent)
     of false awake living = living
 
 -- a call that lives

@@ -1,6 +1,6 @@
 -- A turn of polls of one node: its events, and what is left of it.
 use Rattle.std.proofs.Common.{◌≡◌, ◌≢◌, ◌==◌, ◌++◌, ℕ, Bool, true, false, cond, List, [], ◌∷◌, refl, ap, sym, subst}
-use Rattle.std.proofs.Common.{◌∙◌, append_assoc, append-nil, inl, inr, Option, Some, None, map}
+use Rattle.std.proofs.Common.{◌∙◌, append_assoc, append-nil, inl, inr, Option, Some, None}
 use Rattle.std.specs.Prelude.{slice_get, IsSomeAnd}
 use Rattle.rx_model.specs.declared.event.Event.{Event}
 use Rattle.rx_model.specs.declared.event.Event.TheVariants as events
@@ -9,7 +9,7 @@ use Rattle.rx_model.specs.declared.names.Host.{Host}
 use Rattle.rx_rules.specs.After.{looks}
 use Rattle.rx_rules.specs.Items.{poll_answer, poll_with}
 use Rattle.rx_rules.specs.Looks.{CallRecord, Looks}
-use Rattle.rx_rules.specs.Records.{is_silent, silenced, unless_silent}
+use Rattle.rx_rules.specs.Records.{silenced}
 use Rattle.rx_rules.specs.Rules.{Allowed, Legal}
 use Rattle.rx_rules.specs.Setup.{Setup}
 use Rattle.rx_rules.proofs.EveryLaws.{Every, every-append}
@@ -24,17 +24,10 @@ use Rattle.rx_plan.specs.Programs.{Turn, cut_there, goes, is_endless, is_over}
 use Rattle.rx_plan.specs.Rounds.{Polling, polling}
 use Rattle.rx_plan.specs.Stages.{Stage, with_event}
 use Rattle.rx_rounds.proofs.Making.{turn_over}
-use Rattle.rx_rounds.proofs.Polls.PolledOut.{IsPolledOut, polled_out}
+use Rattle.rx_rounds.proofs.Polls.PolledOut.{IsPolledOut, polled_out, still_awake}
 use Rattle.rx_rounds.proofs.Two.{polled_is, sent}
 
 -- ---- a node that was polled out
-
-still_awake : (now : ℕ) (ks : List CallRecord) → Every (λ (k : CallRecord). is_silent now k ≡ false) ks
-    → map (unless_silent now) ks ≡ ks
-still_awake now [] awake = refl
-still_awake now (k ∷ ks) awake =
-    (let same : unless_silent now k ≡ k = rw (awake.0) refl in
-    λ i. same i ∷ still_awake now ks awake.1 i)
 
 -- it gives nothing again
 pub out_again : (s : Setup) (l : Looks) → poll_answer s l ≡ None → poll_answer s (silenced l) ≡ None

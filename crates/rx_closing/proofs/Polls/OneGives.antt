@@ -16,13 +16,12 @@ use Rattle.rx_rules.specs.CallItems.{Sending, after_sending, next_sending}
 use Rattle.rx_rules.specs.CallLooks.{NodeView}
 use Rattle.rx_rules.specs.Items.{Item, item_of, message_on, poll_answer}
 use Rattle.rx_rules.specs.Life.{is_active}
-use Rattle.rx_rules.specs.Looks.{CallRecord, Looks, call_at, channel_at, conn_at, latest_name, on_looks}
+use Rattle.rx_rules.specs.Looks.{CallRecord, Looks, call_at, channel_at, conn_at, on_looks}
 use Rattle.rx_rules.specs.Records.{is_silent, silenced, unless_silent}
 use Rattle.rx_rules.specs.Rules.{AllowedAt, Legal}
 use Rattle.rx_rules.specs.Setup.{Client, FitsSetup, Kind, Server, Setup, client_host, is_client, named}
 use Rattle.rx_rules.specs.Setup.{receiving_window}
 use Rattle.rx_rules.specs.Slots.{node_view}
-use Rattle.rx_rules.proofs.FindLaws.{find_passes}
 use Rattle.rx_history.specs.Givings.{GivesItem, GivesPlain, GivesStray}
 use Rattle.rx_history.proofs.Calls.{call-changed}
 use Rattle.rx_history.proofs.Given.GivingItems.{item_leaves, item_name, stray_leaves}
@@ -37,6 +36,7 @@ use Rattle.rx_closing.proofs.Polls.OnePoll.{sending_side, sending_stream, silenc
 use Rattle.rx_closing.proofs.Polls.OwedItems.{next_apart, not_both}
 use Rattle.rx_closing.proofs.Polls.Polled.{IsHushed, QuietBut, RestsAt, WorksAt}
 use Rattle.rx_closing.proofs.Steps.{IsGiven, IsViewAt}
+use Rattle.rx_between.proofs.GivenAcks.{sends_there}
 
 -- it gave what the call's end gives next
 pub record GaveCall (s : Setup) (c : CallName) (peer : Host) (service : ℕ) (l : Looks) (r : CallRecord) (to : Host)
@@ -68,14 +68,6 @@ pub record GaveOther (s : Setup) (c : CallName) (l : Looks) (to : Host) (bytes :
   pub hush : IsHushed c l → IsHushed c behind
 
 -- ---- one poll
-
--- the call that gives an item is the one of its name
-some_sends : (s : Setup) (l : Looks) (i : Item) (d : Sends s l i) → call_at l d.call.name ≡ Some d.call
-some_sends s l i d =
-    let own : d.call.name ≡ latest_name l d.channel =
-    name_is d.call.name (latest_name l d.channel)
-    (find_passes (λ j. same_name j.name (latest_name l d.channel)) l.calls d.call d.there) in
-    subst (λ (n : CallName). call_at l n ≡ Some d.call) (sym own) d.there
 
 -- a poll that is answered by the rules is legal
 pub polled_legal : (s : Setup) (h : List Event) (to : Host) (bytes : List ℕ) → Legal s h
@@ -217,7 +209,7 @@ module _ (s : Setup) (h : List Event) (fits : FitsSetup s) (legal : Legal s h) (
       → same_name c g.item.name ≡ true → (d.call.name ≡ c) × WorksAt c l d.call
   sends_works p g d same =
       let own : d.call.name ≡ c = sym (name_is c g.item.name same ∙ sends_name p g d) in
-      let before = active_before l d.call.name d.call (some_sends s (silenced l) g.item d) d.active in (
+      let before = active_before l d.call.name d.call (sends_there s (silenced l) g.item d) d.active in (
         own,
         record {
           there = subst (λ (n : CallName). call_at l n ≡ Some d.call) own before.0;

@@ -22,17 +22,9 @@ use Rattle.rx_rules.proofs.CallsLaws.{call_at-on_calls}
 use Rattle.rx_rules.proofs.ConnsLaws.{KeepsConns, conn_at-on_conn, conn_if}
 use Rattle.rx_between.proofs.PollSays.{IsStream}
 use Rattle.rx_between.proofs.Each.EachChange.{some_is as some_call}
+use Rattle.rx_rounds.proofs.Polls.PolledOut.{quiet_life}
 
 -- ---- silence
-
-pub quiet_life : (d : ℕ) (life : Life) → is_active (after_silence d life) ≡ false
-quiet_life d lives.Calling = refl
-quiet_life d (lives.Ended end) = refl
-quiet_life d lives.Waiting = refl
-quiet_life d lives.Accepted = refl
-quiet_life d lives.Finished = refl
-quiet_life d (lives.Broken code) = refl
-quiet_life d (lives.Over code) = refl
 
 -- what is active lives
 pub active_lives : (life : Life) → is_active life ≡ true → is_live life ≡ true

@@ -12,9 +12,9 @@ use Rattle.rx_rules.specs.Looks.{ChannelLooks, Looks, call_named, channel_at, is
 use Rattle.rx_rules.specs.Setup.{Setup}
 use Rattle.rx_between.proofs.PollSays.{IsStream}
 use Rattle.rx_between.proofs.Each.EachItem.{In, IsOther, is_due, least_in}
-use Rattle.rx_rounds.proofs.Clocks.NodeClock.{in_parts}
-use Rattle.rx_closing.proofs.Polls.Bare.{in_filtered, own_stream}
+use Rattle.rx_closing.proofs.Polls.Bare.{own_stream}
 use Rattle.rx_closing.proofs.Polls.Polled.{QuietBut}
+use Rattle.rx_between.proofs.Within.{in_either, in_filtered}
 
 -- no body is both
 pub not_both : (body : Body) → IsStream body → IsOther body → ⊥
@@ -57,7 +57,7 @@ module _ (c : CallName) where
         (λ (h : In i (owed_item (call_named ch n) (option_map bodies.Response q.owed_response))).
         owed_apart ch n (option_map bodies.Response q.owed_response) i
         (λ at. ap (option_map bodies.Response) (quiet at).response) h name)
-        (in_parts i (owed_item (call_named ch n) (challenge_body s l (call_named ch n) q.owed_challenge))
+        (in_either i (owed_item (call_named ch n) (challenge_body s l (call_named ch n) q.owed_challenge))
         (owed_item (call_named ch n) (option_map bodies.Response q.owed_response)) there)
 
     channel_apart : (ch : Channel) (i : Item) → (ch ≡ channel_of c → QuietBut c (channel_at l ch))
@@ -82,10 +82,10 @@ module _ (c : CallName) where
         (λ (h : In i acks). owed_apart ch q.number (where_owed q.owed_ackall bodies.AckAll) i
         (λ at. ap (λ (b : Bool). where_owed b bodies.AckAll) (quiet at).ackall) h name)
         (λ (h : In i own). not_both i.body (own_stream s l (latest l ch) i h) other)
-        (in_parts i acks own h3))
-        (in_parts i classes (acks ++ own) h2))
-        (in_parts i busies (classes ++ (acks ++ own)) h1))
-        (in_parts i aborts (busies ++ (classes ++ (acks ++ own))) there))
+        (in_either i acks own h3))
+        (in_either i classes (acks ++ own) h2))
+        (in_either i busies (classes ++ (acks ++ own)) h1))
+        (in_either i aborts (busies ++ (classes ++ (acks ++ own))) there))
 
     channels_apart : (chs : List Channel) (i : Item) → QuietBut c (channel_at l (channel_of c))
         → In i (items_on s l chs) → i.name ≡ c → IsOther i.body → ⊥
@@ -95,7 +95,7 @@ module _ (c : CallName) where
         (λ (h : In i (channel_items s l ch)). channel_apart ch i
         (λ at. subst (λ (d : Channel). QuietBut c (channel_at l d)) (sym at) quiet) h name other)
         (λ (h : In i (items_on s l chs)). channels_apart chs i quiet h name other)
-        (in_parts i (channel_items s l ch) (items_on s l chs) there)
+        (in_either i (channel_items s l ch) (items_on s l chs) there)
 
     -- what a node gives next, of no stream, isn't of the call
     pub next_apart : (i : Item) → next_item s l ≡ Some i → QuietBut c (channel_at l (channel_of c)) → IsOther i.body

@@ -29,12 +29,13 @@ use Rattle.rx_closing.proofs.Polls.EndPolls.{IsHome}
 use Rattle.rx_closing.proofs.Polls.GivenFor.{end_quiet, end_sifted, not_for, own_side, sifts_behind, sifts_front}
 use Rattle.rx_closing.proofs.Polls.GivenFor.{sifts_more}
 use Rattle.rx_closing.proofs.Polls.NodeTurn.{IsGivenBy}
-use Rattle.rx_closing.proofs.Polls.OnePoll.{ConnIs, quiet_life}
+use Rattle.rx_closing.proofs.Polls.OnePoll.{ConnIs}
 use Rattle.rx_closing.proofs.Polls.Polled.{EndPolled, EndRested, EndWorked, IsHushed, NoStreamOf, NotOf, RestsAt}
 use Rattle.rx_closing.proofs.Polls.Polled.{RoundPolled, WorksAt, end_rests, end_works}
 use Rattle.rx_closing.proofs.Polls.RoundGiven.{RoundGiven, round_given}
 use Rattle.rx_closing.proofs.Quiet.QuietChannel.{hushed_call}
 use Rattle.rx_closing.proofs.Rounds.RoundEvents.{every_weaker}
+use Rattle.rx_rounds.proofs.Polls.PolledOut.{quiet_life}
 
 -- ---- a node at which the call is active owes nothing else of it
 

@@ -1,5 +1,5 @@
 -- Each node that is there acted in the polls of a round: it did something since the clocks last moved.
-use Rattle.std.proofs.Common.{◌≡◌, ◌<◌, ◌++◌, ◌==◌, cond, length, zero, ℕ, suc, Bool, true, false, List, [], ◌∷◌}
+use Rattle.std.proofs.Common.{◌≡◌, ◌<◌, ◌++◌, ◌==◌, length, zero, ℕ, suc, false, List, [], ◌∷◌}
 use Rattle.std.proofs.Common.{Option, Some, None, refl, ◌∙◌, ap, sym, subst, inl, inr, arith, append_assoc, option_map}
 use Rattle.std.specs.Prelude.{slice_get}
 use Rattle.rx_model.specs.declared.event.Event.{Event}
@@ -7,7 +7,7 @@ use Rattle.rx_model.specs.declared.event.Event.TheVariants as events
 use Rattle.rx_model.specs.declared.event.Noted.{Noted}
 use Rattle.rx_model.specs.declared.names.Host.{Host}
 use Rattle.rx_rules.proofs.EveryLaws.{Every, every-append}
-use Rattle.rx_history.specs.Sides.{Node, moment, with_clock}
+use Rattle.rx_history.specs.Sides.{Node, moment}
 use Rattle.rx_law.specs.Times.{is_clock}
 use Rattle.rx_wire.specs.Turns.{noted}
 use Rattle.rx_plan.specs.Parts.{Came, To, each}
@@ -19,6 +19,7 @@ use Rattle.rx_between.proofs.Each.EachItem.{In}
 use Rattle.rx_rounds.proofs.Making.{ends_to, then_to, to_is, turn_goes}
 use Rattle.rx_rounds.proofs.Rounded.{Made}
 use Rattle.rx_rounds.proofs.Two.{more, out_to, polled_is}
+use Rattle.rx_law.proofs.Clocks.{moment-stays}
 
 -- ---- a node that acted since the clocks last moved
 
@@ -47,22 +48,10 @@ acted_on j es h still a =
       still = every-append (λ (n : Noted). is_clock n.event ≡ false) es a.since still a.still;
     }
 
--- the moments stay
-clock_still : (e : Event) (m : ℕ) → is_clock e ≡ false → with_clock e m ≡ m
-clock_still (events.Clocked now) m none = absurd cc
-clock_still e m none = refl
-
-one_still : (j : ℕ) (e : Noted) (h : List Noted) → is_clock e.event ≡ false → moment j (e ∷ h) ≡ moment j h
-one_still j e h none = of (e.node == j)
-  where
-    of : (b : Bool) → cond b (with_clock e.event (moment j h)) (moment j h) ≡ moment j h
-    of true = clock_still e.event (moment j h) none
-    of false = refl
-
 -- over all of them
 pub moments_still : (j : ℕ) (es h : List Noted) → AreStill es → moment j (es ++ h) ≡ moment j h
 moments_still j [] h still = refl
-moments_still j (e ∷ es) h still = one_still j e (es ++ h) still.0 ∙ moments_still j es h still.1
+moments_still j (e ∷ es) h still = moment-stays j e (es ++ h) still.0 ∙ moments_still j es h still.1
 
 -- ---- the polls of a round
 
@@ -180,7 +169,7 @@ low zs z x zero is = omega arith
 low [] z x (suc i) is = absurd cc
 low (w ∷ zs) z x (suc i) is = (let rest = low zs w x i is in omega arith)
 
-nth_many : {X : Type 0} (xs : List X) (k : ℕ) (x : X) → slice_get xs k ≡ Some x
+pub nth_many : {X : Type 0} (xs : List X) (k : ℕ) (x : X) → slice_get xs k ≡ Some x
     → (count : ℕ) × (length xs ≡ suc count) × (k < suc count)
 nth_many [] k x there = absurd cc
 nth_many (y ∷ xs) k x there = (length xs, refl, low xs y x k there)

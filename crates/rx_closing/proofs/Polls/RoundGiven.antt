@@ -23,20 +23,21 @@ use Rattle.rx_rounds.proofs.Clocks.ClocksMove.{order_apart}
 use Rattle.rx_rounds.proofs.Clocks.ClocksMove.{order_is}
 use Rattle.rx_between.proofs.Each.EachItem.{In, in_behind, in_front}
 use Rattle.rx_rounds.proofs.Making.{ends_to, then_to}
-use Rattle.rx_rounds.proofs.Clocks.NodeClock.{in_parts}
 use Rattle.rx_rounds.proofs.Rounded.{Made}
 use Rattle.rx_closing.specs.Living.{looks_of}
 use Rattle.rx_closing.proofs.Frame.{IsPlain, OneOf}
 use Rattle.rx_closing.proofs.Messages.Delivered.{node_is}
 use Rattle.rx_closing.proofs.Owing.ChannelsStay.{IsMute, null_mute}
 use Rattle.rx_closing.proofs.Polls.EndPolls.{EndTurn, IsHome, end_polls}
-use Rattle.rx_closing.proofs.Polls.InParts.{apart_parts, from_parts, in_none, none_in, nth_low, nth_there, rest_both}
+use Rattle.rx_closing.proofs.Polls.InParts.{apart_parts, from_parts, in_none, none_in, nth_there, rest_both}
 use Rattle.rx_closing.proofs.Polls.InParts.{then_four}
 use Rattle.rx_closing.proofs.Polls.NodePolls.{server_conn}
 use Rattle.rx_closing.proofs.Polls.NodeTurn.{IsGivenBy, OutAt}
 use Rattle.rx_closing.proofs.Polls.OnePoll.{ConnIs}
 use Rattle.rx_closing.proofs.Polls.OtherPolls.{OtherAt, other_outs, other_stays}
 use Rattle.rx_closing.proofs.Polls.Polled.{EndPolled, NotOf}
+use Rattle.rx_between.proofs.Within.{in_either}
+use Rattle.rx_rounds.proofs.Clocks.GivesOrMoves.{nth_low}
 
 -- what the polls of a round gave, and what they left
 pub record RoundGiven (c : CallName) (k : ℕ) (client server : Node) (peer : Host) (service : ℕ) (s : Stage)
@@ -254,8 +255,8 @@ module _ (c : CallName) (k : ℕ) (client server : Node) (s : Stage) (p : Polled
             (λ (h1 : In j (suc k ∷ behind_client)). ⊎_elim is_client
             (λ (h2 : In j behind_client). ⊎_elim in_rest
             (λ (h3 : In j (0 ∷ [])). ⊎_elim is_server (λ none. absurd none) h3)
-            (in_parts j last (0 ∷ []) h2)) h1)
-            (in_parts j first (suc k ∷ behind_client) here)
+            (in_either j last (0 ∷ []) h2)) h1)
+            (in_either j first (suc k ∷ behind_client) here)
 
     seen : Made polls s p → RoundGiven c k client server peer service s p
     seen made =

@@ -38,11 +38,12 @@ use Rattle.rx_closing.proofs.Living.CrowdRounds.{SaidFor}
 use Rattle.rx_closing.proofs.Owing.ChannelsStay.{IsMute, null_mute}
 use Rattle.rx_closing.proofs.Owing.OwesNone.{OwesNone, owes_none_after}
 use Rattle.rx_closing.proofs.Polls.Bare.{bare_next}
-use Rattle.rx_closing.proofs.Polls.InParts.{none_in, nth_low, nth_there}
+use Rattle.rx_closing.proofs.Polls.InParts.{none_in, nth_there}
 use Rattle.rx_closing.proofs.Polls.NodeTurn.{node_turn}
 use Rattle.rx_closing.proofs.Polls.Polled.{NoStreamOf, RoundPolled, name_in}
 use Rattle.rx_closing.proofs.Rounds.RoundEvents.{every_at}
 use Rattle.rx_closing.proofs.Unknown.UnservedMeet.{bare_of}
+use Rattle.rx_rounds.proofs.Clocks.GivesOrMoves.{nth_low}
 
 -- ---- one node
 

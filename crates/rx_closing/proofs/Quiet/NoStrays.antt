@@ -19,17 +19,19 @@ use Rattle.rx_law.proofs.Joint.{legal-before}
 use Rattle.rx_law.proofs.World.{Giver, Mine, and-some, gave-mine, if-some}
 use Rattle.rx_wire.specs.Turns.{noted}
 use Rattle.rx_plan.proofs.Aborts.AbortComes.{contains_in, giver_of}
-use Rattle.rx_plan.proofs.JointMoments.{JointAt, carried_cut, joint_at, legal_cut, side_parts}
+use Rattle.rx_plan.proofs.JointMoments.{JointAt, joint_at, legal_cut}
 use Rattle.rx_plan.proofs.Keys.PlanKeys.{served_side, service_at}
 use Rattle.rx_plan.proofs.QuietEvents.{AreServed}
 use Rattle.rx_plan.proofs.RowsAsked.{IsOther, unserved_other}
 use Rattle.rx_plan.proofs.Keys.ServicesStay.{IsOwnData, LinksTo, data_given}
 use Rattle.rx_plan.proofs.Keys.StraysCame.{CameStray, strays_came}
-use Rattle.rx_plan.proofs.Keys.StrayKeys.{every_front}
 use Rattle.rx_closing.proofs.Frame.{IsPlain}
 use Rattle.rx_closing.proofs.Polls.OtherPolls.{client_strayless}
 use Rattle.rx_closing.proofs.Rounds.EventParts.{kind_client}
 use Rattle.rx_closing.proofs.Unknown.UnservedMeet.{ServiceOf}
+use Rattle.rx_jobs.proofs.Driving.{every-back}
+use Rattle.rx_law.proofs.Law.{side-split}
+use Rattle.rx_plan.proofs.Bags.{carried_before}
 
 -- a row of another service or class that is for this service is of another class
 other_index : (a b c d : ℕ) → ((a == b) && (c == d)) ≡ false → a ≡ b → c ≡ d → ⊥
@@ -70,7 +72,7 @@ module _ (nodes : List Node) (h : List Noted) (world : World nodes h)
         contains =
             if-some (slice_get nodes 0) server
             (λ n. IsFrom (bag nodes j.past) n.host (events.Taken came.from came.bytes came.got)) first
-            (carried_cut nodes j.later (now ∷ j.past) (subst (Carried nodes) j.is world.carried)).0
+            (carried_before nodes j.later (now ∷ j.past) (subst (Carried nodes) j.is world.carried)).0
 
         legal_then : (i : ℕ) (n : Node) → slice_get nodes i ≡ Some n → Legal n.setup (side i j.past)
         legal_then i n at =
@@ -100,10 +102,10 @@ module _ (nodes : List Node) (h : List Noted) (world : World nodes h)
 
         links_then : Every (LinksTo service) (side g.index j.past)
         links_then =
-            every_front (LinksTo service) (side g.index (j.later ++ now ∷ [])) (side g.index j.past)
+            every-back (LinksTo service) (side g.index (j.later ++ now ∷ [])) (side g.index j.past)
             (subst (Every (LinksTo service))
             (ap (side g.index) (j.is ∙ sym (append_assoc j.later (now ∷ []) j.past))
-            ∙ side_parts g.index (j.later ++ now ∷ []) j.past)
+            ∙ side-split g.index (j.later ++ now ∷ []) j.past)
             (served_side g.index service nodes h (service_at nodes server service nonces first serving) links))
 
         data_is : IsOwnData g.node.setup kind.0 kind.1.0 kind.1.1 service came.message

@@ -13,7 +13,7 @@ use Rattle.rx_model.specs.declared.event.Event.TheVariants as events
 use Rattle.rx_model.specs.declared.names.CallName.{CallName}
 use Rattle.rx_model.specs.Names.{channel_of}
 use Rattle.rx_model.specs.Reading.{reading_of}
-use Rattle.rx_model.proofs.NameLaws.{name_itself, same_number}
+use Rattle.rx_model.proofs.NameLaws.{name_itself, same_number, both as both_true}
 use Rattle.rx_rules.specs.After.{acknowledged, after, finished, is_end, is_zero, looks, owing_abort, owing_ackall}
 use Rattle.rx_rules.specs.After.{read_done}
 use Rattle.rx_rules.specs.CallLooks.{CallLooks, after_read, after_shut}
@@ -29,7 +29,6 @@ use Rattle.rx_history.proofs.ServerStands.{running-at}
 use Rattle.rx_asks.specs.History.{IsCalled}
 use Rattle.rx_plan.proofs.Aborts.AbortCauses.{cancelled_live, taken_is}
 use Rattle.rx_plan.proofs.ClientEnds.{IsCalledOr, calls_called}
-use Rattle.rx_closing.proofs.Messages.CrowdedRows.{both_true}
 use Rattle.rx_closing.proofs.Owing.ChannelsStay.{IsMute}
 use Rattle.rx_closing.proofs.Quiet.QuietSteps.{GoesSo, Hushes, Leaves}
 use Rattle.rx_closing.proofs.Quiet.QuietTakes.{latest_own, life_at, live_own, not_active, reads_leave}

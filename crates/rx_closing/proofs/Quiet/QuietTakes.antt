@@ -1,7 +1,6 @@
 -- A datagram that comes makes the channel of an active call owe nothing of it.
-use Rattle.std.proofs.Common.{◌≡◌, ◌<◌, ◌&&◌, ◌==◌, not, nat_lt, cond, if◌then◌else◌, ℕ, Bool, true, false, List}
-use Rattle.std.proofs.Common.{Option, Some, None, option_map, Result, Ok, Err, refl, ap, sym, subst, ◌∙◌, arith}
-use Rattle.std.proofs.lemmas.Bool.Decides.{nat_tests}
+use Rattle.std.proofs.Common.{◌≡◌, ◌<◌, ◌&&◌, ◌==◌, not, cond, if◌then◌else◌, ℕ, Bool, true, false, List}
+use Rattle.std.proofs.Common.{Option, Some, None, option_map, Result, Ok, Err, refl, ap, sym, subst, ◌∙◌}
 use Rattle.rx_model.specs.declared.answers.BadMsg.{BadMsg}
 use Rattle.rx_model.specs.declared.answers.Took.{Took}
 use Rattle.rx_model.specs.declared.answers.Took.TheVariants as tooks
@@ -34,11 +33,9 @@ use Rattle.rx_closing.proofs.Messages.Rows.{IsLast}
 use Rattle.rx_closing.proofs.Owing.ChannelsStay.{IsMute}
 use Rattle.rx_closing.proofs.Polls.OnePoll.{active_lives}
 use Rattle.rx_closing.proofs.Quiet.QuietSteps.{Hushes, Leaves, ReadsSo, StopsSo, TakesSo}
+use Rattle.rx_history.proofs.Laws.TakenLaws.{is-below}
 
 -- ---- numbers and names
-
-pub above_less : (a b : ℕ) → nat_lt a b ≡ true → a < b
-above_less a b is = grind (arith, nat_tests)
 
 -- calls of one channel and of one number are one
 pub same_call : (d c : CallName) → channel_of d ≡ channel_of c → d.number ≡ c.number → d ≡ c
@@ -167,7 +164,7 @@ module _ (s : Setup) (mute : IsMute s.class) (fits : FitsSetup s) (c : CallName)
         (row_calm s (opened s d l) (call_at (opened s d l) d) m) (ap is_busy row ∙ busy) in
         let number : (channel_at l (channel_of d)).number ≡ c.number =
         ap (λ (ch : Channel). (channel_at l ch).number) same ∙ last.number in
-        subst (λ (n : ℕ). n < d.number) number (above_less (channel_at l (channel_of d)).number d.number crowds.above)
+        subst (λ (n : ℕ). n < d.number) number (is-below (channel_at l (channel_of d)).number d.number crowds.above)
 
     busy_leaves : is_busy got ≡ true → Leaves c d (owing_busy d.number)
     busy_leaves busy same p here =

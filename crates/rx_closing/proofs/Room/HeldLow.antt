@@ -22,7 +22,7 @@ use Rattle.rx_rules.specs.Life.{is_active}
 use Rattle.rx_rules.specs.Looks.{CallRecord, Looks, call_at}
 use Rattle.rx_rules.specs.Received.{Arrival, Packet, arrival_row, count_above, greatest, packet_at, used_of}
 use Rattle.rx_rules.specs.Rules.{AllowedAt, Legal}
-use Rattle.rx_rules.specs.Sent.{Sent, after_ack, held_pieces, opened, pieces_by, pieces_of, room_by}
+use Rattle.rx_rules.specs.Sent.{Sent, held_pieces, opened, pieces_by, pieces_of, room_by}
 use Rattle.rx_rules.specs.Setup.{FitsSetup, Setup, pace_of, sending_window}
 use Rattle.rx_rules.specs.Slots.{beside, left_slots}
 use Rattle.rx_history.proofs.Given.HeldNumbers.{shut-pieces}
@@ -32,9 +32,11 @@ use Rattle.rx_history.proofs.Laws.UsedLaws.{used_keeps, used_reads}
 use Rattle.rx_between.proofs.Each.EachEvent.{each_step}
 use Rattle.rx_between.proofs.Each.EachStep.{CallStep, EndStep, Starts, finishes, gives, reads, shuts, stays, takes}
 use Rattle.rx_between.proofs.Each.EachStep.{writes}
-use Rattle.rx_closing.proofs.Ends.RoomLaws.{piece_leads}
+use Rattle.rx_closing.proofs.Ends.RoomLaws.{piece_leads, within_opened}
 use Rattle.rx_closing.proofs.Room.OnceKept.{OnceEach, count_within}
 use Rattle.rx_closing.proofs.Room.WroteRoom.{wrote_by}
+use Rattle.rx_history.proofs.Given.HeldLaws.{ack-pieces}
+use Rattle.rx_history.proofs.Rows.RowsKept.{above-by}
 
 -- ---- an end
 
@@ -93,17 +95,8 @@ chunk_calm v m _ k = (
   (omega arith, refl, omega arith),
 )
 
-ack_less : (first : ℕ) (marks : List Bool) (window : Option ℕ) (s : Sent)
-    → held_pieces (after_ack first marks window s) ≤ held_pieces s
-ack_less first marks window s =
-    (elim (nat_lt (first - 1) s.acked) as (λ b. nat_lt (first - 1) s.acked ≡ b
-    → held_pieces (after_ack first marks window s) ≤ held_pieces s) [
-      | true ↦ λ stale. rw stale (omega arith)
-      | false ↦ λ fresh. rw fresh (let low : s.acked ≤ first - 1 = grind (arith, nat_tests) in omega arith)
-    ]) refl
-
 body_calm : (now : ℕ) (m : Message) (body : Body) (k : CallLooks) → IsCalm k (after_body now m body k)
-body_calm now m (bodies.Ack a) k = (ack_less a.first a.marks a.window k.sent, refl, omega arith)
+body_calm now m (bodies.Ack a) k = (ack-pieces a.first a.marks a.window k.sent, refl, omega arith)
 body_calm now m bodies.AckAll k = (zero_less (pieces_of k.sent) (held_pieces k.sent), refl, omega arith)
   where
     zero_less : (n m : ℕ) → n - n ≤ m
@@ -126,10 +119,7 @@ fresh_arrival a is = of a.is_strange a.is_repeat a.is_beyond refl refl is
     of false false true repeats beyond is = absurd cc
     of false false false repeats beyond is = record { new = repeats; within = beyond }
 
-above_by : (seq used : ℕ) → nat_le seq used ≡ false → used < seq
-above_by seq used high = grind (arith, nat_tests)
-
-below_by : (top seq : ℕ) → nat_lt top seq ≡ false → seq ≤ top
+pub below_by : (top seq : ℕ) → nat_lt top seq ≡ false → seq ≤ top
 below_by top seq low = grind (arith, nat_tests)
 
 kept_low : (window : ℕ) (v : NodeView) (m : Message) (body : Body) (k : CallLooks) → v.window ≡ window
@@ -138,7 +128,7 @@ kept_low window v m (bodies.Chunk payload) k wide row low =
     let p : Packet = packet_of m payload in
     let f = fresh_arrival (arrival v.client v.window (v.left + freed v.client k) p (found v.client k)) row in
     let new = neither (nat_le p.seq (used_of k.received)) (is_some (packet_at k.received.kept p.seq)) f.new in
-    let above : used_of k.received < p.seq = above_by p.seq (used_of k.received) new.0 in
+    let above : used_of k.received < p.seq = above-by p.seq (used_of k.received) new.0 in
     let under : p.seq ≤ used_of k.received + v.window = below_by (used_of k.received + v.window) p.seq f.within in
     let more = used_keeps p p.seq k.received above new.1 in
     let less = found_less v.client k in
@@ -187,9 +177,6 @@ shut_low window k some low =
 -- a write that is within the room opens no more than the window lets
 opens_most : (n m o q : ℕ) → n ≤ 1412 * o → m ≤ 1412 * (o + q) - n → opened (n + m) ≤ o + q
 opens_most n m o q within low = omega arith
-
-within_opened : (n : ℕ) → n ≤ 1412 * opened n
-within_opened n = omega arith
 
 opens_within : (o q a window more last : ℕ) → o - a ≤ window → q ≤ window - (o - a) → o + q - a ≤ window
 opens_within o q a window more last few low = omega arith

@@ -8,12 +8,10 @@ use Rattle.rx_rules.specs.Sent.{counting_by, counting_of, opened}
 use Rattle.rx_rules.specs.Setup.{FitsLimits, Setup, sending_window, shared_slots}
 use Rattle.rx_rules.specs.Slots.{common, left_slots, room}
 use Rattle.rx_closing.proofs.Ends.Least.{min_is}
-use Rattle.rx_closing.proofs.Ends.RoomLaws.{lead_most}
+use Rattle.rx_closing.proofs.Ends.RoomLaws.{within_opened}
+use Rattle.rx_rounds.proofs.Room.{lead_low}
 
 -- ---- in numbers
-
-within_opened : (n : ℕ) → n ≤ 1412 * opened n
-within_opened n = omega arith
 
 -- by a window of 32 at least, with room for one piece more beside it
 left_numbers : (n a window more : ℕ) → 32 ≤ window → 1 ≤ more → a ≤ opened n → opened n < 4294967294
@@ -53,7 +51,7 @@ pub counts_left : (s : Setup) (l : Looks) (k : CallLooks) → FitsLimits s.limit
     → room s l k ≡ 0 → k.sent.acked < counting_of k.sent
 counts_left s l k fits left unshut known small none =
     let n : ℕ = length k.sent.said in
-    let most = lead_most k in
+    let most = lead_low k in
     let more : 1 ≤ left_slots s l + 1 - lead k = omega (arith, left, most) in
     let counts : counting_of k.sent ≡ (n - 1) / 1412 = ap (λ (b : Bool). counting_by n b) unshut in
     let low : k.sent.acked < (n - 1) / 1412 =

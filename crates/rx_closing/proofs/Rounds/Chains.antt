@@ -30,13 +30,14 @@ use Rattle.rx_plan.specs.Parts.{To, Then, by_test, ends}
 use Rattle.rx_plan.specs.Rounds.{round, rounds}
 use Rattle.rx_plan.specs.Stages.{Stage}
 use Rattle.rx_plan.proofs.ClientEnds.{IsCalledOr, IsThere, calls_called, end_stays, there_stays}
-use Rattle.rx_plan.proofs.JointMoments.{legal_parts, side_parts}
 use Rattle.rx_plan.proofs.Bags.{behind}
 use Rattle.rx_rounds.proofs.Making.{ends_to, then_to}
 use Rattle.rx_rounds.proofs.Rounded.{RoundMade, round_to}
 use Rattle.rx_closing.specs.Living.{call_lives_at, looks_of}
 use Rattle.rx_closing.proofs.Rounds.RoundEvents.{Carries, calls_lead, deliveries_lead, polls_lead, serve_lead}
 use Rattle.rx_closing.proofs.Rounds.RoundEvents.{settles_lead}
+use Rattle.rx_history.proofs.Laws.EnteredLaw.{legal-before}
+use Rattle.rx_law.proofs.Law.{side-split}
 
 -- ---- rounds one after another
 
@@ -321,7 +322,7 @@ module _ (s : Setup) (host : Host) (epoch : ℕ) (kind : s.kind ≡ Client host 
   lived_between later more h legal first last = by (is_live t.call.life) refl
     where
       then_ : Legal s (more ++ h)
-      then_ = legal_parts s later (more ++ h) legal
+      then_ = legal-before s later (more ++ h) legal
 
       t : IsThere (looks s (more ++ h)) c
       t = stays_there more h then_ (there_living h first)
@@ -344,11 +345,11 @@ module _ (c : CallName) (k : ℕ) (client : Node) (host : Host) (epoch : ℕ) (s
       (subst (λ (h : List Event). is_call (λ r. is_live r.life) (call_at (looks client.setup h) c) ≡ true) whole last))
     where
       middle : side k u.history ≡ side k a.more ++ side k s.history
-      middle = ap (side k) a.is ∙ side_parts k a.more s.history
+      middle = ap (side k) a.is ∙ side-split k a.more s.history
 
       whole : side k t.history ≡ side k b.more ++ (side k a.more ++ side k s.history)
       whole =
-          ap (side k) b.is ∙ side_parts k b.more u.history ∙ ap (λ (h : List Event). side k b.more ++ h) middle
+          ap (side k) b.is ∙ side-split k b.more u.history ∙ ap (λ (h : List Event). side k b.more ++ h) middle
 
 -- events are added behind a history
 pub behind_adds_all : (es h : List Noted) → Adds h (behind es h)

@@ -13,7 +13,7 @@ use Rattle.rx_history.proofs.Laws.OnceLaw.{forgot-after, served}
 use Rattle.rx_law.specs.Promises.{ServerForgotNone}
 use Rattle.rx_law.specs.Times.{AreFresh, GoAlike, Timely}
 use Rattle.rx_law.specs.Worlds.{Sides}
-use Rattle.rx_plan.proofs.JointMoments.{side_parts}
+use Rattle.rx_law.proofs.Law.{side-split}
 
 -- ---- a server that forgot nothing
 
@@ -33,8 +33,8 @@ forgot_none_before nodes more h sides none = of (slice_get nodes 0) sides.nodes_
         → IfSome o (λ n. ForgotNone n.setup (side 0 h))
     of None server legal none = tt
     of (Some n) server legal none =
-        forgot_before n.setup (side 0 more) (side 0 h) server (subst (Legal n.setup) (side_parts 0 more h) legal)
-        (subst (ForgotNone n.setup) (side_parts 0 more h) none)
+        forgot_before n.setup (side 0 more) (side 0 h) server (subst (Legal n.setup) (side-split 0 more h) legal)
+        (subst (ForgotNone n.setup) (side-split 0 more h) none)
 
 -- ---- no old datagrams
 

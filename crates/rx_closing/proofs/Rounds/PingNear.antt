@@ -22,7 +22,6 @@ use Rattle.rx_history.proofs.Order.OrderlyEnter.{latest_is}
 use Rattle.rx_law.proofs.World.{if-some}
 use Rattle.rx_jobs.specs.Handlers.{Handlers}
 use Rattle.rx_plan.specs.Stages.{Stage}
-use Rattle.rx_plan.proofs.JointMoments.{side_parts}
 use Rattle.rx_between.proofs.Each.EachItem.{In, in_channel, in_filter, in_items, is_due, least_none}
 use Rattle.rx_rounds.proofs.Polls.PolledOut.{IsPolledOut}
 use Rattle.rx_rounds.proofs.Rounded.{RoundMade}
@@ -38,6 +37,7 @@ use Rattle.rx_closing.proofs.Rounds.Clocks.{polled_lives, polled_one, round_sett
 use Rattle.rx_closing.proofs.Rounds.RoundMoments.{MomentsStay, moments_stay}
 use Rattle.rx_closing.proofs.Rounds.Settles.{Settles, settles_call, settles_moment}
 use Rattle.rx_closing.proofs.Rounds.SpokeRises.{spoke_rises}
+use Rattle.rx_law.proofs.Law.{side-split}
 
 -- ---- a node that was polled out
 
@@ -128,7 +128,7 @@ module _ (c : CallName) (k : ℕ) (client server : Node) (g : Handlers) (s t : S
   spoke_on : first.0.looks.spoke ≤ second.0.looks.spoke
   spoke_on =
       (let own : side (suc k) r.called.history ≡ side (suc k) to_called.more ++ side (suc k) r.polled.stage.history =
-      ap (side (suc k)) to_called.is ∙ side_parts (suc k) to_called.more r.polled.stage.history in
+      ap (side (suc k)) to_called.is ∙ side-split (suc k) to_called.more r.polled.stage.history in
       let on = spoke_rises client.setup (side (suc k) to_called.more) (side (suc k) r.polled.stage.history) c first.0
       fits (subst (Legal client.setup) own (legal_at r.called at_called)) first.1 in
       let there : asked_in c k client r.called ≡ Some on.call =

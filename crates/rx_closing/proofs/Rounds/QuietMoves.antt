@@ -28,7 +28,6 @@ use Rattle.rx_closing.specs.Living.{looks_of}
 use Rattle.rx_closing.proofs.Far.FarStands.{both_far, both_low}
 use Rattle.rx_closing.proofs.Frame.{AreAmong, OneOf}
 use Rattle.rx_closing.proofs.Living.Before.{one_before}
-use Rattle.rx_closing.proofs.Polls.LiveGivings.{and_first}
 use Rattle.rx_closing.proofs.Polls.OnePoll.{active_lives}
 use Rattle.rx_closing.proofs.Rounds.Chains.{Adds, RoundAdds, adds_both, round_adds, round_more}
 use Rattle.rx_closing.proofs.Rounds.ClientsApart.{one_client, own_call_kind}
@@ -38,6 +37,7 @@ use Rattle.rx_closing.proofs.Rounds.RoundMoments.{moments_stay}
 use Rattle.rx_closing.proofs.Rounds.Settles.{some_nodes, wait_short}
 use Rattle.rx_closing.proofs.Rounds.SilentMoves.{silent_moves}
 use Rattle.rx_closing.proofs.Together.Members.{Member, names_of}
+use Rattle.rx_plan.proofs.Soundness.SoundPlan.{and_left}
 
 -- ---- a silent call
 
@@ -144,7 +144,7 @@ silent_member ms server t world among ones some = at some.0 (slice_get t.nodes s
         let legal = if-some (slice_get t.nodes j) n (λ m. Legal m.setup (side j t.history)) there
         (world.sides.legal j) in
         let f = found_own l.calls (is_silent l.now) (roomy_history n.setup (side j t.history) legal).differ is in
-        let active : is_active (f.0).life ≡ true = and_first (is_active (f.0).life) _ f.2 in
+        let active : is_active (f.0).life ≡ true = and_left (is_active (f.0).life) _ f.2 in
         let here = if-some (slice_get t.nodes j) n (λ m. AreAmong (names_of ms) (looks_of t j m)) there (among j) in
         let m = member_named ms (f.0).name (here (f.0).name f.0 f.1 (active_lives (f.0).life active)) in
         record {

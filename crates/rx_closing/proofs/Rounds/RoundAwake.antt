@@ -13,11 +13,11 @@ use Rattle.rx_rules.specs.Setup.{FitsSetup}
 use Rattle.rx_history.specs.Sides.{Node, moment, side}
 use Rattle.rx_history.proofs.Moments.{now-side}
 use Rattle.rx_law.proofs.World.{if-some}
-use Rattle.rx_plan.proofs.Cuts.{side_split}
 use Rattle.rx_plan.specs.Stages.{Stage}
 use Rattle.rx_closing.specs.Living.{looks_of}
 use Rattle.rx_closing.proofs.Frame.{OneOf}
 use Rattle.rx_closing.proofs.Rounds.SpokeHolds.{awake_stays}
+use Rattle.rx_law.proofs.Law.{side-split}
 
 module _ (c : CallName) (k : ℕ) (client server : Node) (s t : Stage) (scene : OneOf c k client server t)
     (later : List Noted) where
@@ -31,7 +31,7 @@ module _ (c : CallName) (k : ℕ) (client server : Node) (s t : Stage) (scene : 
       let legal = if-some (slice_get t.nodes j) n (λ m. Legal m.setup (side j t.history)) there
       (scene.world.sides.legal j) in
       let own : side j t.history ≡ side j later ++ side j s.history =
-      ap (side j) grew ∙ side_split j later s.history in
+      ap (side j) grew ∙ side-split j later s.history in
       let now : (looks n.setup (side j later ++ side j s.history)).now ≡ (looks n.setup (side j s.history)).now =
       ap (λ (h : List Event). (looks n.setup h).now) (sym own) ∙ now-side n.setup j t.history ∙ still
       ∙ sym (now-side n.setup j s.history) in

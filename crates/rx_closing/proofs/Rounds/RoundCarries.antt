@@ -1,6 +1,6 @@
 -- What holds behind each event of a driven plan holds behind each part of a round.
 use Rattle.std.proofs.Common.{◌≡◌, ◌==◌, ◌&&◌, not, ℕ, Bool, List, [], ◌∷◌, length, set, Option, Some, None, refl}
-use Rattle.std.proofs.Common.{subst, true, ◌+◌, ap, slice_get, suc, zero}
+use Rattle.std.proofs.Common.{subst, true, ◌+◌, slice_get}
 use Rattle.rx_model.specs.declared.event.Event.{Event}
 use Rattle.rx_model.specs.declared.names.Host.{Host}
 use Rattle.rx_asks.specs.Asks.{begun as caller_begun, calling, heard}
@@ -20,18 +20,12 @@ use Rattle.rx_plan.specs.Rounds.{Polled, clients_first, may_move, moves_by, move
 use Rattle.rx_plan.specs.Rounds.{polls_out, settles}
 use Rattle.rx_plan.specs.Stages.{InvokedState, IsAllowedNext, Stage, event, event_with, host_at, is_client, with_event}
 use Rattle.rx_plan.specs.Turned.{dispatches, turns_all, turns_at, turns_of, turns_where}
-use Rattle.rx_plan.proofs.Driven.{Carries, Seen, seen, seen_behind, set_own, with_view}
+use Rattle.rx_plan.proofs.Driven.{Carries, Seen, seen, seen_behind, set_own, with_view, set_twice}
 use Rattle.rx_plan.proofs.Leading.{IsSteady, Leads, each_lead, ends_lead, heard_steady, one_lead, steady_over}
 use Rattle.rx_plan.proofs.Leading.{test_lead, then_lead, turn_lead}
 use Rattle.rx_plan.proofs.QuietEvents.{IsQuietOf, quiet_clocked, quiet_polled, quiet_taken}
 use Rattle.rx_plan.proofs.Soundness.Sound.{IfTo}
 use Rattle.rx_rounds.proofs.Rounded.{RoundMade}
-
--- a place that changes twice
-set_twice : {X : Type 0} (xs : List X) (n : ℕ) (x y : X) → set (set xs n x) n y ≡ set xs n y
-set_twice [] n x y = refl
-set_twice (z ∷ xs) zero x y = refl
-set_twice (z ∷ xs) (suc n) x y = ap (λ zs. z ∷ zs) (set_twice xs n x y)
 
 module _ (g : Handlers) (Asks : ℕ → List ℕ → Type 0) (Q : Seen → Type 0) (carries : Carries g Asks Q) where
   -- it holds of a stage

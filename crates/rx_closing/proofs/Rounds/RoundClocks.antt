@@ -4,13 +4,11 @@ use Rattle.std.proofs.Common.{◌≡◌, ◌≢◌, ◌<◌, ◌≤◌, ◌+◌,
 use Rattle.std.proofs.Common.{◌∷◌, refl, ap, sym, subst, ◌∙◌, inr, Option, Some, None, option_map, length, arith}
 use Rattle.std.proofs.lemmas.Bool.{ne_eqb}
 use Rattle.std.specs.Prelude.{IsSomeAnd, slice_get, ◌||◌}
-use Rattle.std.specs.List.{list_any}
 use Rattle.rx_model.specs.declared.names.CallName.{CallName}
 use Rattle.rx_rules.specs.After.{looks}
 use Rattle.rx_rules.specs.Items.{due}
 use Rattle.rx_rules.specs.Looks.{CallRecord, Looks}
 use Rattle.rx_rules.specs.Records.{is_silent}
-use Rattle.rx_rules.proofs.EveryLaws.{Every}
 use Rattle.rx_history.specs.Sides.{Node, moment, side}
 use Rattle.rx_history.proofs.Moments.{now-side}
 use Rattle.rx_jobs.specs.Handlers.{Handlers}
@@ -19,7 +17,7 @@ use Rattle.rx_plan.specs.Parts.{To}
 use Rattle.rx_plan.specs.Rounds.{may_move, settles}
 use Rattle.rx_plan.specs.Stages.{Stage}
 use Rattle.rx_rounds.specs.Clocks.{MovesOn, SomeSilent, has_silent}
-use Rattle.rx_rounds.proofs.Clocks.GivesOrMoves.{all_may, due_gives, quiet_moves, wait_of_one, wait_within}
+use Rattle.rx_rounds.proofs.Clocks.GivesOrMoves.{all_may, due_gives, quiet_moves, wait_of_one, wait_within, none_pass}
 use Rattle.rx_rounds.proofs.Clocks.NodeClock.{AreAwake}
 use Rattle.rx_rounds.proofs.Rounded.{Made, RoundMade, settles_not, settles_still}
 use Rattle.rx_closing.specs.Living.{looks_of}
@@ -36,15 +34,6 @@ may_near s w low early =
     let size : 2 ^ 62 ≡ 4611686018427387904 = refl in omega arith))
 
 -- ---- a quiet round, and the next
-
--- none passes
-none_pass : {X : Type 0} (p : X → Bool) (xs : List X) → list_any p xs ≡ false → Every (λ (x : X). p x ≡ false) xs
-none_pass p [] none = tt
-none_pass {X = X} p (x ∷ xs) none =
-    (elim (p x) as (λ b. p x ≡ b → (b || list_any p xs) ≡ false → Every (λ (y : X). p y ≡ false) (x ∷ xs)) [
-      | true ↦ λ passes some. absurd cc
-      | false ↦ λ fails rest. (fails, none_pass p xs rest)
-    ]) refl none
 
 -- of two rounds that follow one another one gives something, or a call is silent between them: where something is due
 -- at some node behind the turns of the first, and no clock is near its end

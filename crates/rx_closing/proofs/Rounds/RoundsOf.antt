@@ -1,6 +1,6 @@
 -- Rounds one after another, as they begin and end with a call that lives at its client among others: what is known of
 -- the first of them, and of the rest.
-use Rattle.std.proofs.Common.{◌≡◌, ℕ, zero, suc, List, refl, subst}
+use Rattle.std.proofs.Common.{◌≡◌, ℕ, suc, List, subst}
 use Rattle.rx_model.specs.declared.names.CallName.{CallName}
 use Rattle.rx_history.specs.Sides.{Node}
 use Rattle.rx_script.specs.declared.plan.Numbered.{Numbered}
@@ -16,14 +16,10 @@ use Rattle.rx_closing.proofs.Frame.{Crowd, IsKept, OneOf}
 use Rattle.rx_closing.proofs.Living.Crowds.{round_crowds}
 use Rattle.rx_closing.proofs.Living.RoundOnes.{chain_one}
 use Rattle.rx_closing.proofs.Owing.AllBare.{FirstOf, first_of}
-use Rattle.rx_closing.proofs.Rounds.Chains.{Chain, chain_adds, chain_none, round_adds, round_more}
+use Rattle.rx_closing.proofs.Rounds.Chains.{Chain, chain_adds, round_adds, round_more}
 use Rattle.rx_closing.proofs.Rounds.Clocks.{Lives, lives_within, round_settles}
 use Rattle.rx_closing.proofs.Unknown.UnservedMeet.{IsAsked, scene_asked}
 use Rattle.rx_closing.proofs.Working.EndRounds.{RoundFor}
-
--- where no round is made the stage is the same
-pub none_made : (g : Handlers) (s t : Stage) → Chain g zero s t → s ≡ t
-none_made g s t (chain_none z) = refl
 
 module _ (g : Handlers) (ls : List Numbered) (cs : List CallName) (c : CallName) (k : ℕ) (client server : Node) where
   -- so many rounds, as which begin no calls live but some, with room for them; the call lives as they begin and as they

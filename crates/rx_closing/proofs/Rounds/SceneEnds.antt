@@ -16,8 +16,8 @@ use Rattle.rx_closing.specs.Living.{looks_of}
 use Rattle.rx_closing.proofs.Ends.BothEnds.{IsFit, Linked}
 use Rattle.rx_closing.proofs.Ends.FitAlways.{fit_always}
 use Rattle.rx_closing.proofs.Ends.LinkedAt.{linked_at}
-use Rattle.rx_closing.proofs.Far.FinishedOpen.{server_view}
 use Rattle.rx_closing.proofs.Frame.{IsPlain, OneOf, asked_in, served_in}
+use Rattle.rx_progress.proofs.LawsMoves.{server_side}
 
 module _ (c : CallName) (k : ℕ) (client server : Node) (s : Stage) (scene : OneOf c k client server s) where
   fed : Fed (ends_in (connection_of c) (suc k) client server) s.history
@@ -30,7 +30,7 @@ module _ (c : CallName) (k : ℕ) (client server : Node) (s : Stage) (scene : On
   client_kind = ap is_client scene.client_is
 
   pub server_kind : is_client server.setup.kind ≡ false
-  server_kind = server_view server.setup.kind fed.server_kind
+  server_kind = server_side server.setup.kind fed.server_kind
 
   -- each is fit
   pub client_fits_at : (a : CallRecord) → asked_in c k client s ≡ Some a

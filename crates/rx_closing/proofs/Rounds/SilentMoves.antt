@@ -41,12 +41,12 @@ use Rattle.rx_closing.proofs.Far.FarStands.{StandsAt, asked_further, asked_low, 
 use Rattle.rx_closing.proofs.Far.FarStands.{served_low, stands_each}
 use Rattle.rx_closing.proofs.Frame.{OneOf, asked_in, far_of, served_in}
 use Rattle.rx_closing.proofs.Living.Before.{one_before}
-use Rattle.rx_closing.proofs.Polls.LiveGivings.{and_first}
 use Rattle.rx_closing.proofs.Polls.OnePoll.{sending_heard}
 use Rattle.rx_closing.proofs.Polls.PolledAll.{all_polled_out}
 use Rattle.rx_closing.proofs.Rounds.Chains.{Adds}
 use Rattle.rx_closing.proofs.Rounds.RoundClocks.{SilentAt}
 use Rattle.rx_closing.proofs.Silence.DiesSilent.{both_second}
+use Rattle.rx_plan.proofs.Soundness.SoundPlan.{and_left}
 
 -- ---- the polls of a round as single events
 
@@ -231,7 +231,7 @@ silent_moves c k client server s p made nodes adds one silent = ⊎_elim at_clie
         (let d = silent_done s p made (suc k) client old.client_there (fits_at (suc k) client one.client_there)
         (legal_at (suc k) client old.client_there) c r.0 r.1 r.2 in
         let up = rises r.0 d.0 (asked_in c k client s) (asked_in c k client p.stage) r.1 d.1
-        (asked_further c k client server p.stage one s adds.more adds.is) (and_first (is_active (r.0).life) _ r.2) d.2
+        (asked_further c k client server p.stage one s adds.more adds.is) (and_left (is_active (r.0).life) _ r.2) d.2
         in
         let low = served_low c k client server p.stage one s adds.more adds.is in
         omega (arith, up, low))
@@ -242,7 +242,7 @@ silent_moves c k client server s p made nodes adds one silent = ⊎_elim at_clie
         (let d = silent_done s p made 0 server old.server_there (fits_at 0 server one.server_there)
         (legal_at 0 server old.server_there) c r.0 r.1 r.2 in
         let up = rises r.0 d.0 (served_in c server s) (served_in c server p.stage) r.1 d.1
-        (served_further c k client server p.stage one s adds.more adds.is) (and_first (is_active (r.0).life) _ r.2) d.2
+        (served_further c k client server p.stage one s adds.more adds.is) (and_left (is_active (r.0).life) _ r.2) d.2
         in
         let low = asked_low c k client server p.stage one s adds.more adds.is in
         omega (arith, up, low))

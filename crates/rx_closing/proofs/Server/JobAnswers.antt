@@ -37,7 +37,7 @@ use Rattle.rx_plan.proofs.Passed.{Passed, passed_of}
 use Rattle.rx_plan.proofs.Passing.{AcceptsFresh, own_changed, passes_told}
 use Rattle.rx_rounds.proofs.Refusals.Codes.{served_no_zero}
 use Rattle.rx_closing.proofs.Server.HandlerKeeps.{has_handler}
-use Rattle.rx_closing.proofs.Server.StayingJobs.{zero_is}
+use Rattle.rx_law.proofs.Law.{zero-code}
 
 -- ---- along a history
 
@@ -122,7 +122,7 @@ module _ (g : Handlers) (s : Setup) (server : IsServer s.kind) (fits : FitsSetup
           by_code true is = refl
           by_code false is =
               absurd (served_no_zero g (bytes_read (life_of c h) ++ []) servable
-              (is [] (λ i. omega arith) ∙ ap refusal (zero_is code zero_)))
+              (is [] (λ i. omega arith) ∙ ap refusal (zero-code code zero_)))
 
           of : ((has_gone (life_of c h) ≡ true) × (code ≡ pos 0)) ⊎ MayFinish g (life_of c h) code
               → has_end (life_of c h) ≡ true

@@ -35,7 +35,8 @@ use Rattle.rx_closing.proofs.Server.JobSeen.{AreOthers}
 use Rattle.rx_closing.proofs.Server.JobsStay.{jobs_hold}
 use Rattle.rx_closing.proofs.Server.OneJob.{JobsFit, OneJob, none_fits, one_fits}
 use Rattle.rx_closing.proofs.Server.OwnStep.{settled_as, waits_none}
-use Rattle.rx_closing.proofs.Server.StayingJobs.{apart_none, is_some_call, zero_is}
+use Rattle.rx_closing.proofs.Server.StayingJobs.{apart_none, is_some_call}
+use Rattle.rx_law.proofs.Law.{zero-code}
 
 module _ (g : Handlers) (s : Setup) (server : IsServer s.kind) (fits : FitsSetup s) (servable : AreServable g)
     (c : CallName) where
@@ -61,7 +62,7 @@ module _ (g : Handlers) (s : Setup) (server : IsServer s.kind) (fits : FitsSetup
       by true is = refl
       by false is =
           absurd (served_no_zero g (read ++ []) servable
-          (is [] (λ i. omega arith) ∙ ap refusal (zero_is code zero_)))
+          (is [] (λ i. omega arith) ∙ ap refusal (zero-code code zero_)))
 
   held_job : (h : List Event) (r : CallRecord) (j : JobState) → Legal s h → StartsOnce s h c → AcceptsFresh c h
       → call_at (looks s h) c ≡ Some r → j.call ≡ c → Waits g h j → HasKept g h j → IsHeld r j

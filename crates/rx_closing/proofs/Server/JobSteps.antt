@@ -14,6 +14,7 @@ use Rattle.rx_wire.specs.Turns.{noted}
 use Rattle.rx_plan.specs.Parts.{Came, To}
 use Rattle.rx_plan.specs.Programs.{Turn, cut_there, goes, is_endless, is_over}
 use Rattle.rx_plan.specs.Stages.{IsAllowedNext, Stage, with_event}
+use Rattle.rx_rounds.proofs.Making.{to_is}
 
 -- from here on the step of a job goes to this end
 abbrev pub StepGoes : Handlers → Moving → Stage → Moving → Stage → Type 0
@@ -22,9 +23,6 @@ StepGoes g m s n t = (es : List Noted) × Turn (serving g) 0 m s es (To (n, t))
 -- a turn does
 abbrev pub TurnGoes : Handlers → Turning → Stage → Turning → Stage → Type 0
 TurnGoes g v s w t = (es : List Noted) × Turn (dispatching g) 0 v s es (To (w, t))
-
-to_same : {A : Type 0} (a b : A) → ◌≡◌ {A = Came A} (To a) (To b) → a ≡ b
-to_same a b is = cc
 
 -- ---- where a job asks, and where it rests
 
@@ -148,7 +146,7 @@ over_now g done s w t turn = of (over done) s turn.0 (To (w, t)) turn.1 refl ref
         → v ≡ over done → out ≡ To (w, t) → (w ≡ over done) × (t ≡ s)
     of v s es out (cut_there x y) at is = absurd cc
     of v s es out (is_over x y none) at is =
-        (let same = to_same (v, s) (w, t) is in (
+        (let same = to_is (v, s) (w, t) is in (
           sym (ap (λ (z : Turning × Stage). z.0) same) ∙ at,
           sym (ap (λ (z : Turning × Stage). z.1) same),
         ))
@@ -296,7 +294,7 @@ step_rests g m s n t rests step = of m s step.0 (To (n, t)) step.1 rests refl
         → (serving g).asks m ≡ None → out ≡ To (n, t) → (n ≡ m) × (t ≡ s)
     of m s es out (cut_there x y) rests is = absurd cc
     of m s es out (is_over x y none) rests is =
-        (let same = to_same {A = Moving × Stage} (m, s) (n, t) is in (
+        (let same = to_is {A = Moving × Stage} (m, s) (n, t) is in (
           sym (ap (λ (z : Moving × Stage). z.0) same),
           sym (ap (λ (z : Moving × Stage). z.1) same),
         ))

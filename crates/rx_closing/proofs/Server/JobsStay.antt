@@ -26,7 +26,7 @@ use Rattle.rx_jobs.specs.History.{calls_of, life_of}
 use Rattle.rx_jobs.specs.Jobs.{Ask, IsCall, JobState, Moving, ask_of, begun, is_staying, serving, want_in}
 use Rattle.rx_jobs.specs.Jobs as asks
 use Rattle.rx_jobs.specs.Lives.{Lives}
-use Rattle.rx_jobs.proofs.Driving.{Differ, Lived, drives_lived}
+use Rattle.rx_jobs.proofs.Driving.{Differ, Lived, drives_lived, calls-append}
 use Rattle.rx_jobs.proofs.LifeKeeps.{wanted}
 use Rattle.rx_plan.specs.Answering.{AreServable}
 use Rattle.rx_plan.proofs.Finishing.{once_before, serves_drives}
@@ -37,7 +37,7 @@ use Rattle.rx_closing.proofs.Server.FirstsHold.{is_among}
 use Rattle.rx_closing.proofs.Server.HandlerKeeps.{handler_keeps, has_handler}
 use Rattle.rx_closing.proofs.Server.JobAnswers.{finish_none, read_stays, rule, write_stays}
 use Rattle.rx_closing.proofs.Server.JobCalls.{heard_call}
-use Rattle.rx_closing.proofs.Server.StayingJobs.{IsApart, among_append, asks_stays, calls_append, differ_alone}
+use Rattle.rx_closing.proofs.Server.StayingJobs.{IsApart, among_append, asks_stays, differ_alone}
 use Rattle.rx_closing.proofs.Server.StayingJobs.{is_some_call, left_among, proceed_calls, settle_calls, staying_calls}
 
 module _ (g : Handlers) (s : Setup) (server : IsServer s.kind) (fits : FitsSetup s) (servable : AreServable g)
@@ -54,7 +54,7 @@ module _ (g : Handlers) (s : Setup) (server : IsServer s.kind) (fits : FitsSetup
       → Holds (heard_accept g jobs got) (events.Accepted got ∷ h)
   accept_holds jobs None h legal once holds = ap (is_among c) (proceed_calls g jobs) ∙ holds
   accept_holds jobs (Some d) h legal once holds =
-      ap (is_among c) (calls_append jobs (begun d ∷ [])) ∙ among_append c (calls_of jobs) (d ∷ [])
+      ap (is_among c) (calls-append jobs (begun d ∷ [])) ∙ among_append c (calls_of jobs) (d ∷ [])
       ∙ by (same_name d c) refl
     where
       l : Looks

@@ -1,11 +1,9 @@
 -- The jobs of a turn that stay in it, by the names of their calls.
-use Rattle.std.proofs.Common.{◌≡◌, ◌∷◌, ◌++◌, ◌&&◌, ◌||◌, ℤ, pos, Bool, true, false, List, [], refl, ap, sym, ◌∙◌}
-use Rattle.std.proofs.Common.{Option, Some, None, option_map, append-nil, append_assoc, negsuc, suc, zero}
-use Rattle.std.proofs.lemmas.List.{map-append}
+use Rattle.std.proofs.Common.{◌≡◌, ◌∷◌, ◌++◌, ◌&&◌, ◌||◌, ℤ, Bool, true, false, List, [], refl, ap, sym, ◌∙◌}
+use Rattle.std.proofs.Common.{Option, Some, None, option_map, append-nil, append_assoc}
 use Rattle.rx_model.specs.declared.names.CallName.{CallName}
 use Rattle.rx_model.specs.Names.{same_name}
 use Rattle.rx_model.proofs.NameLaws.{name_sym}
-use Rattle.rx_rules.specs.After.{is_zero}
 use Rattle.rx_rules.specs.Life.{is_handled}
 use Rattle.rx_rules.specs.Looks.{CallRecord}
 use Rattle.rx_rules.proofs.EveryLaws.{Every}
@@ -15,7 +13,7 @@ use Rattle.rx_jobs.specs.Dispatching.{Turning, accepts, by_ask, kept, left, over
 use Rattle.rx_jobs.specs.Handlers.{Handlers}
 use Rattle.rx_jobs.specs.History.{calls_of}
 use Rattle.rx_jobs.specs.Jobs.{Ask, JobState, Moving, ask_of, is_staying, moving, serving, want_in}
-use Rattle.rx_jobs.proofs.Driving.{Differ}
+use Rattle.rx_jobs.proofs.Driving.{Differ, calls-append}
 use Rattle.rx_closing.proofs.Server.FirstsHold.{is_among}
 use Rattle.rx_closing.proofs.Server.HandlerKeeps.{has_handler}
 use Rattle.rx_closing.proofs.Server.JobCalls.{moving_call}
@@ -60,9 +58,6 @@ staying_calls (accepts jobs) = calls_of jobs
 staying_calls (serves done m todo) = calls_of done ++ (calls_of (left m) ++ calls_of todo)
 staying_calls (over jobs) = calls_of jobs
 
-pub calls_append : (xs ys : List JobState) → calls_of (xs ++ ys) ≡ calls_of xs ++ calls_of ys
-calls_append xs ys = map-append (λ (j : JobState). j.call) xs ys
-
 pub settle_calls : (g : Handlers) (done : List JobState) (m : Moving) (todo : List JobState)
     → staying_calls (settle g done m todo) ≡ calls_of done ++ (calls_of (left m) ++ calls_of todo)
 settle_calls g done m [] = by ((serving g).asks m)
@@ -71,7 +66,7 @@ settle_calls g done m [] = by ((serving g).asks m)
         ≡ calls_of done ++ (calls_of (left m) ++ [])
     by (Some a) = refl
     by None =
-        calls_append done (left m)
+        calls-append done (left m)
         ∙ ap (λ (cs : List CallName). calls_of done ++ cs) (sym (append-nil (calls_of (left m))))
 settle_calls g done m (j ∷ js) = by (settle_calls g (done ++ left m) (moving g j) js) ((serving g).asks m)
   where
@@ -84,7 +79,7 @@ settle_calls g done m (j ∷ js) = by (settle_calls g (done ++ left m) (moving g
     by next None =
         next
         ∙ ap (λ (d : CallName). calls_of (done ++ left m) ++ (d ∷ calls_of js)) (moving_call g j)
-        ∙ ap (λ (cs : List CallName). cs ++ (j.call ∷ calls_of js)) (calls_append done (left m))
+        ∙ ap (λ (cs : List CallName). cs ++ (j.call ∷ calls_of js)) (calls-append done (left m))
         ∙ append_assoc (calls_of done) (calls_of (left m)) (j.call ∷ calls_of js)
 
 pub proceed_calls : (g : Handlers) (jobs : List JobState) → staying_calls (proceed g [] jobs) ≡ calls_of jobs
@@ -115,11 +110,6 @@ left_among c m = by (is_staying m.phase)
         either true = refl
         either false = refl
     by false = refl
-
-pub zero_is : (code : ℤ) → is_zero code ≡ true → code ≡ pos 0
-zero_is (pos zero) is = refl
-zero_is (pos (suc n)) is = absurd cc
-zero_is (negsuc n) is = absurd cc
 
 pub is_some_call : (o : Option CallRecord) → has_handler o ≡ true
     → (r : CallRecord) × (o ≡ Some r) × (is_handled r.life ≡ true)

@@ -17,7 +17,6 @@ use Rattle.rx_script.specs.declared.plan.Numbered.{Numbered}
 use Rattle.rx_jobs.specs.Handlers.{Handlers}
 use Rattle.rx_wire.specs.Turns.{noted}
 use Rattle.rx_plan.specs.Stages.{Stage}
-use Rattle.rx_plan.proofs.JointMoments.{legal_parts, side_parts}
 use Rattle.rx_rounds.proofs.Rounded.{RoundMade}
 use Rattle.rx_closing.specs.Living.{call_lives_at}
 use Rattle.rx_closing.specs.Closing.{RoundsBehind}
@@ -38,6 +37,8 @@ use Rattle.rx_closing.proofs.Together.AllRounds.{all_here_on, kept_front}
 use Rattle.rx_closing.proofs.Together.Members.{AllHere, names_of}
 use Rattle.rx_closing.proofs.Together.MembersHere.{AllMembers, AreSpacious, members}
 use Rattle.rx_closing.proofs.Unknown.UnservedMeet.{IsAsked, scene_asked}
+use Rattle.rx_history.proofs.Laws.EnteredLaw.{legal-before}
+use Rattle.rx_law.proofs.Law.{side-split}
 
 module _ (g : Handlers) (ls : List Numbered) (n : ℕ) (s t : Stage) (b : RoundsBehind g ls n s t)
     (spacious : AreSpacious s) (c : CallName) (k : ℕ) (client : Node) (d : DeadHeard g ls n s t b c k client) where
@@ -101,10 +102,10 @@ module _ (g : Handlers) (ls : List Numbered) (n : ℕ) (s t : Stage) (b : Rounds
       let now = heard_it.heard in
       let same = ap (λ (q : CallRecord). q.looks.heard) one in
       let grew : side (suc k) d.before ≡ side (suc k) since.more ++ side (suc k) u.history =
-      ap (side (suc k)) since.is ∙ side_parts (suc k) since.more u.history in
+      ap (side (suc k)) since.is ∙ side-split (suc k) since.more u.history in
       let up = now_later client.setup (side (suc k) since.more) (side (suc k) u.history)
       (subst (Legal client.setup) grew
-      (legal_parts client.setup (side (suc k) part) (d.e ∷ side (suc k) d.before) legal).1) in
+      (legal-before client.setup (side (suc k) part) (d.e ∷ side (suc k) d.before) legal).1) in
       let then_ = ap (λ (h : List Event). (looks client.setup h).now) grew in
       let first = now-side client.setup (suc k) u.history in
       omega (arith, high, now, same, up, then_, first))
@@ -152,7 +153,7 @@ module _ (g : Handlers) (ls : List Numbered) (n : ℕ) (s t : Stage) (b : Rounds
   pub heard_low : (v : Stage) → (o : Stop v) → (asked_at v o).call.looks.heard ≤ asked_z.call.looks.heard
   heard_low v o =
       (let a = chain_adds g o.i v z o.rest in
-      let own = ap (side (suc k)) a.is ∙ side_parts (suc k) a.more v.history in
+      let own = ap (side (suc k)) a.is ∙ side-split (suc k) a.more v.history in
       let on = heard_rises client.setup (side (suc k) a.more) (side (suc k) v.history) c (asked_at v o).call fit
       (subst (Legal client.setup) own (legal_at z ends)) (asked_at v o).there in
       let one : on.call ≡ asked_z.call =

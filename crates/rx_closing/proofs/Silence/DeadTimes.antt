@@ -28,7 +28,6 @@ use Rattle.rx_script.specs.declared.plan.Numbered.{Numbered}
 use Rattle.rx_plan.specs.Stages.{Stage}
 use Rattle.rx_plan.proofs.Allowed.{sides_of}
 use Rattle.rx_plan.proofs.ClientEnds.{IsCalledOr, calls_called, end_stays}
-use Rattle.rx_plan.proofs.JointMoments.{side_parts}
 use Rattle.rx_closing.specs.Living.{all_live, call_lives_at, looks_of}
 use Rattle.rx_closing.specs.Closing.{RoundsBehind}
 use Rattle.rx_closing.proofs.Frame.{AreAmong, IsPlain, OneOf, asked_in}
@@ -47,6 +46,7 @@ use Rattle.rx_closing.proofs.Rounds.RoundMoments.{moments_stay}
 use Rattle.rx_closing.proofs.Rounds.SpokeHolds.{HeardOn, heard_rises}
 use Rattle.rx_closing.proofs.Silence.DiesSilent.{dies_silent}
 use Rattle.rx_closing.proofs.Unknown.UnservedMeet.{IsAsked, scene_asked}
+use Rattle.rx_law.proofs.Law.{side-split}
 
 -- one that ended stays so behind any events
 pub ended_on : (s : Setup) (host : Host) (epoch : ℕ) → s.kind ≡ Client host epoch → FitsSetup s
@@ -223,7 +223,7 @@ module _ (g : Handlers) (ls : List Numbered) (n : ℕ) (s t : Stage) (b : Rounds
 
   split : (v : Stage) (h : List Noted) → (a : Adds h v.history)
       → side (suc k) v.history ≡ side (suc k) a.more ++ side (suc k) h
-  split v h a = ap (side (suc k)) a.is ∙ side_parts (suc k) a.more h
+  split v h a = ap (side (suc k)) a.is ∙ side-split (suc k) a.more h
 
   abbrev client_fits : FitsSetup client.setup
   client_fits = fits g ls n s t b c k client there living

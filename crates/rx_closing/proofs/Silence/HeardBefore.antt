@@ -23,7 +23,6 @@ use Rattle.rx_script.specs.declared.plan.Numbered.{Numbered}
 use Rattle.rx_jobs.specs.Handlers.{Handlers}
 use Rattle.rx_plan.specs.Stages.{Stage}
 use Rattle.rx_plan.proofs.ClientEnds.{IsCalledOr, calls_called}
-use Rattle.rx_plan.proofs.JointMoments.{legal_parts, side_parts}
 use Rattle.rx_plan.proofs.Callers.{side_own}
 use Rattle.rx_closing.specs.Living.{call_lives_at, looks_of}
 use Rattle.rx_closing.specs.Closing.{RoundsBehind}
@@ -37,6 +36,8 @@ use Rattle.rx_closing.proofs.Rounds.SpokeHolds.{now_rises}
 use Rattle.rx_closing.proofs.Silence.DeadTimes.{begins, called_dead, called_legal, ended_on, fits, from_called, legal_t}
 use Rattle.rx_closing.proofs.Silence.DeadTimes.{to_called}
 use Rattle.rx_closing.proofs.Silence.DiesSilent.{dies_silent}
+use Rattle.rx_history.proofs.Laws.EnteredLaw.{legal-before}
+use Rattle.rx_law.proofs.Law.{side-split}
 
 -- clocks don't go back
 pub now_later : (s : Setup) (later h : List Event) → Legal s (later ++ h) → (looks s h).now ≤ (looks s (later ++ h)).now
@@ -50,7 +51,7 @@ now_later s (e ∷ later) h legal =
 pub side_there : (j : ℕ) (e : Event) (h part before : List Noted) → h ≡ part ++ (noted j e ∷ before)
     → side j h ≡ side j part ++ (e ∷ side j before)
 side_there j e h part before is =
-    ap (side j) is ∙ side_parts j part (noted j e ∷ before)
+    ap (side j) is ∙ side-split j part (noted j e ∷ before)
     ∙ ap (λ (es : List Event). side j part ++ es) (side_own j e before)
 
 -- what a client heard by it
@@ -58,7 +59,7 @@ pub hears_at : (s : Setup) (host : Host) (epoch : ℕ) → s.kind ≡ Client hos
     → CameWith s (λ got. is_hearing got ≡ true) c e → (later h : List Event) → Legal s (later ++ (e ∷ h))
     → HearsNow s h e c
 hears_at s host epoch kind c e came later h legal =
-    (let own : Legal s (e ∷ h) = legal_parts s later (e ∷ h) legal in
+    (let own : Legal s (e ∷ h) = legal-before s later (e ∷ h) legal in
     let taken : Legal s (events.Taken came.from came.datagram came.got ∷ h) =
     subst (λ (x : Event). Legal s (x ∷ h)) came.is own in
     subst (λ (x : Event). HearsNow s h x c) (sym came.is)
@@ -100,7 +101,7 @@ module _ (g : Handlers) (ls : List Numbered) (n : ℕ) (s t : Stage) (b : Rounds
       active_calls hears.call.life
       (subst IsCalledOr hears.there
       (calls_called client.setup c.host c.epoch kind fit (side (suc k) before) c
-      (legal_parts client.setup (side (suc k) later) (e ∷ side (suc k) before) legal_all).1)) hears.active
+      (legal-before client.setup (side (suc k) later) (e ∷ side (suc k) before) legal_all).1)) hears.active
 
   called_to : Adds o.ends.called.history t.history
   called_to = from_called g ls n s t b c k client there living o
@@ -115,11 +116,11 @@ module _ (g : Handlers) (ls : List Numbered) (n : ℕ) (s t : Stage) (b : Rounds
   not_later : Adds o.ends.called.history before → ⊥
   not_later a =
       (let own : side (suc k) before ≡ side (suc k) a.more ++ side (suc k) o.ends.called.history =
-      ap (side (suc k)) a.is ∙ side_parts (suc k) a.more o.ends.called.history in
+      ap (side (suc k)) a.is ∙ side-split (suc k) a.more o.ends.called.history in
       let ended = ended_on client.setup c.host c.epoch kind fit (side (suc k) a.more)
       (side (suc k) o.ends.called.history) c (ends.Dead silence)
       (subst (Legal client.setup) own
-      (legal_parts client.setup (side (suc k) later) (e ∷ side (suc k) before) legal_all).1) dead_called in
+      (legal-before client.setup (side (suc k) later) (e ∷ side (suc k) before) legal_all).1) dead_called in
       let no : ◌≡◌ {A = Option End} None (Some (ends.Dead silence)) =
       sym (ap end_by hears.there ∙ ap end_of_life hears_calling)
       ∙ ap (λ (h : List Event). end_at (looks client.setup h) c) own ∙ ended in
@@ -139,10 +140,10 @@ module _ (g : Handlers) (ls : List Numbered) (n : ℕ) (s t : Stage) (b : Rounds
       ∙ (moments_stay g o.last o.behind o.ends).called (suc k) in
       let heard = hears.heard in
       let since : side (suc k) before ≡ side (suc k) a.more ++ side (suc k) o.last.history =
-      ap (side (suc k)) a.is ∙ side_parts (suc k) a.more o.last.history in
+      ap (side (suc k)) a.is ∙ side-split (suc k) a.more o.last.history in
       let up = now_later client.setup (side (suc k) a.more) (side (suc k) o.last.history)
       (subst (Legal client.setup) since
-      (legal_parts client.setup (side (suc k) later) (e ∷ side (suc k) before) legal_all).1) in
+      (legal-before client.setup (side (suc k) later) (e ∷ side (suc k) before) legal_all).1) in
       let first = now-side client.setup (suc k) o.last.history in
       let then_ = ap (λ (h : List Event). (looks client.setup h).now) since in
       omega (arith, long, now, heard, up, first, then_))

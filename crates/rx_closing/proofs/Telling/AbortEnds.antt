@@ -44,7 +44,6 @@ use Rattle.rx_between.proofs.Onward.{client_anew, no-opening}
 use Rattle.rx_between.proofs.ReadOut.{AreClients, clients_step, ended_stays}
 use Rattle.rx_between.proofs.Followed.{some_stays}
 use Rattle.rx_between.proofs.Each.EachItem.{In}
-use Rattle.rx_rounds.proofs.Growing.{side_grew}
 use Rattle.rx_rounds.proofs.Rounded.{Made}
 use Rattle.rx_closing.proofs.Conns.PeersTo.{IsTo, peer_of, peers_after}
 use Rattle.rx_closing.proofs.Messages.Arrives.{Meet}
@@ -54,6 +53,7 @@ use Rattle.rx_closing.proofs.Messages.Lasts.{live_last}
 use Rattle.rx_closing.proofs.Messages.Rows.{IsLast, abort_took, client_front_by, known_by}
 use Rattle.rx_closing.proofs.Telling.AbortGiven.{Found}
 use Rattle.rx_closing.proofs.Telling.AbortOwed.{AbortOf}
+use Rattle.rx_law.proofs.Law.{side-split}
 
 -- ---- a client's calls
 
@@ -286,7 +286,7 @@ module _ (c : CallName) (k : ℕ) (client server : Node) (service nonces : ℕ) 
           let ended : HasEnded (call_at (at_stage u) c) =
           ends_at d s u a from (subst (λ (x : Datagram). DeliveredBy x s u) (sym same) one) before grown_u asking in
           let own : side (suc k) t.history ≡ side (suc k) rest ++ side (suc k) u.history =
-          ap (side (suc k)) rest_is ∙ side_grew (suc k) rest u.history in
+          ap (side (suc k)) rest_is ∙ side-split (suc k) rest u.history in
           let f = fed_at t later grown in
           subst (λ (es : List Event). HasEnded (call_at (looks client.setup es) c)) (sym own)
           (ended_on client.setup c.host c.epoch meet.client_is f.client_fits c (side (suc k) rest)

@@ -27,31 +27,9 @@ use Rattle.rx_rounds.proofs.Making.{ends_to, then_to, to_is}
 use Rattle.rx_rounds.proofs.Rounded.{Made}
 use Rattle.rx_rounds.proofs.Two.{more, out_to, polled_is, sent}
 use Rattle.rx_closing.proofs.Telling.AbortOwed.{AbortOf, Owing, owes_none, poll_owes}
+use Rattle.rx_rounds.proofs.Polls.QuietPolls.{given_grows}
 
 -- ---- the polls of the server
-
--- what was given only grows
-pub given_grows : (from : Host) (node : ℕ) (v w : Polling) (s t : Stage) (es : List Noted)
-    → Turn (polling from) node v s es (To (w, t)) → (gs : List Datagram) × (w.given ≡ v.given ++ gs)
-given_grows from node v w s t es turn = of v s es (To (w, t)) turn refl
-  where
-    one : (v : Polling) (got : Option (Host × List ℕ)) (gs : List Datagram)
-        → w.given ≡ ((polling from).heard v (events.Polled got)).given ++ gs
-        → (hs : List Datagram) × (w.given ≡ v.given ++ hs)
-    one v None gs is = (gs, is)
-    one v (Some d) gs is = (sent from d.0 d.1 ∷ gs, is ∙ append_assoc v.given (sent from d.0 d.1 ∷ []) gs)
-
-    of : (v : Polling) (s : Stage) (es : List Noted) (out : Came (Polling × Stage))
-        → Turn (polling from) node v s es out
-        → out ≡ To (w, t) → (gs : List Datagram) × (w.given ≡ v.given ++ gs)
-    of v s es out (cut_there a b) is = absurd cc
-    of v s es out (is_over a b none) is =
-        ([], ap (λ (z : Polling × Stage). z.0.given) (sym (to_is (v, s) (w, t) is)) ∙ sym (append-nil v.given))
-    of v s es out (goes a b ask e rest o asked allowed turn_on) is =
-        let r = of ((polling from).heard v e) (with_event node e s) rest o turn_on is in
-        let p = polled_is e allowed.0 in
-        one v p.0 r.0 (subst (λ (f : Event). w.given ≡ ((polling from).heard v f).given ++ r.0) p.1 r.1)
-    of v s es out (is_endless a b fs turn_cut long) is = absurd cc
 
 -- another node's side stays
 pub turn_side : (from : Host) (node j : ℕ) (v w : Polling) (s t : Stage) (es : List Noted) → node ≢ j

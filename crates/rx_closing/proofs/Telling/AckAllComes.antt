@@ -45,11 +45,12 @@ use Rattle.rx_closing.proofs.Messages.Rows.{IsLast}
 use Rattle.rx_closing.proofs.Owing.BareRound.{OwesAckAll}
 use Rattle.rx_closing.proofs.Rounds.Chains.{Adds, adds_both}
 use Rattle.rx_closing.proofs.Telling.AckAllTaken.{ackall_heard, ackall_own, ackall_took, delivered_by, finished_over}
-use Rattle.rx_closing.proofs.Telling.AckAllTaken.{first_true, heard_there, shut_finished}
+use Rattle.rx_closing.proofs.Telling.AckAllTaken.{heard_there, shut_finished}
 use Rattle.rx_closing.proofs.Telling.DebtComes.{DebtCame, RoundOf, debt_comes, legal_before, round_meets, round_of}
 use Rattle.rx_closing.proofs.Telling.DebtComes.{round_serves, served_before, served_behind, served_taken}
 use Rattle.rx_closing.proofs.Telling.DebtTaken.{debt_front, debt_name, debt_own}
 use Rattle.rx_closing.proofs.Telling.OwedComes.{IsAckAll, ackall_debt, ackall_owed}
+use Rattle.rx_plan.proofs.Soundness.SoundPlan.{and_left}
 
 -- ---- a round
 
@@ -168,7 +169,7 @@ module _ (c : CallName) (k : ℕ) (client server : Node) (g : Handlers) (s t : S
         heard = ackall_heard y.looks.sent sensed
 
         shut : y.looks.sent.shut ≡ true
-        shut = first_true y.looks.sent.shut _ heard.0
+        shut = and_left y.looks.sent.shut _ heard.0
 
         finished : y.life ≡ lives.Finished
         finished =

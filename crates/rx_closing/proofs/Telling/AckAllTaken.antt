@@ -66,10 +66,6 @@ ackall_own sent is = of (is_all_given sent) is
     of true is = (let no : tooks.Heard ≡ tooks.Foreign = is in cc (no))
     of false is = (let no : tooks.Strange ≡ tooks.Foreign = is in cc (no))
 
-pub first_true : (a b : Bool) → (a && b) ≡ true → a ≡ true
-first_true true b is = refl
-first_true false b is = absurd (cc (is))
-
 -- the call behind it
 pub heard_there : (s : Setup) (l : Looks) (c : CallName) (k : CallRecord) (m : Message) → IsLast l c k
     → m.body ≡ bodies.AckAll

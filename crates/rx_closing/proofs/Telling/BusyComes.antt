@@ -35,7 +35,6 @@ use Rattle.rx_law.specs.Promises.{ends_in}
 use Rattle.rx_law.specs.Worlds.{Datagram}
 use Rattle.rx_jobs.specs.Handlers.{Handlers}
 use Rattle.rx_plan.specs.Stages.{Stage}
-use Rattle.rx_plan.proofs.Cuts.{side_split}
 use Rattle.rx_plan.proofs.JointMoments.{legal_cut}
 use Rattle.rx_between.proofs.Each.EachChange.{some_is}
 use Rattle.rx_between.proofs.Each.EachItem.{In}
@@ -50,7 +49,7 @@ use Rattle.rx_closing.proofs.Living.LifeBetween.{asked_between, asked_last_at}
 use Rattle.rx_closing.proofs.Messages.Arrives.{Meet}
 use Rattle.rx_closing.proofs.Messages.Judged.{judged_by, taken_by}
 use Rattle.rx_closing.proofs.Messages.OneMeets.{one_peers}
-use Rattle.rx_closing.proofs.Messages.Rows.{IsLast, PassesRows, client_front_by, known_by, latest_is, opens_none}
+use Rattle.rx_closing.proofs.Messages.Rows.{IsLast, client_front_by, known_by, latest_is, opens_none, client_past}
 use Rattle.rx_closing.proofs.Messages.Rows.{passes_rows}
 use Rattle.rx_closing.proofs.Rounds.Chains.{Adds, adds_both}
 use Rattle.rx_closing.proofs.Rounds.Lately.{moments_rise}
@@ -59,11 +58,9 @@ use Rattle.rx_closing.proofs.Telling.BusyGiven.{BusyOf, Owes, busy_gives, busy_n
 use Rattle.rx_closing.proofs.Telling.DebtComes.{RoundOf, round_meets, round_of, round_serves}
 use Rattle.rx_closing.proofs.Telling.DebtTaken.{TakenIn, taken_in}
 use Rattle.rx_closing.proofs.Telling.PollsGive.{gives_in}
+use Rattle.rx_law.proofs.Law.{side-split}
 
 -- ---- a client takes a BUSY
-
-client_goes : (f : Facts) (call : Took) → PassesRows f → f.is_active ≡ true → client_row f call ≡ call
-client_goes f call p active = rw (p.stops, p.has, p.below, p.above, active) refl
 
 client_side : (s : Setup) (host : Host) (epoch : ℕ) (f : Facts) (call : Took) → s.kind ≡ Client host epoch
     → side_row s.kind f call ≡ client_row f call
@@ -75,7 +72,7 @@ busy_took : (s : Setup) (host : Host) (epoch : ℕ) (l : Looks) (c : CallName) (
     → m.body ≡ bodies.Busy → took_named s l c m ≡ tooks.Heard
 busy_took s host epoch l c k m kind last active own at =
     client_side s host epoch (facts_of s l c m) (own_row s (opened s c l) c m) kind
-    ∙ client_goes (facts_of s l c m) (own_row s (opened s c l) c m)
+    ∙ client_past (facts_of s l c m) (own_row s (opened s c l) c m)
     (passes_rows s l c m last.number last.some own (ap (is_stray m) at))
     (ap (is_call (λ (r : CallRecord). is_active r.life)) (latest_is l c last.number ∙ last.there) ∙ active)
     ∙ ap (λ (n : Looks). own_row s n c m) (opens_none s l c last.number)
@@ -231,7 +228,7 @@ module _ (c : CallName) (k : ℕ) (client server : Node) (g : Handlers) (s t : S
         n = heard_there v m.0 last (ap is_active calling)
 
         own_side : side (suc k) r.delivered.history ≡ side (suc k) v.back.more ++ side (suc k) v.behind.history
-        own_side = ap (side (suc k)) v.back.is ∙ side_split (suc k) v.back.more v.behind.history
+        own_side = ap (side (suc k)) v.back.is ∙ side-split (suc k) v.back.more v.behind.history
 
         on : HeardOn client.setup (side (suc k) v.back.more ++ side (suc k) v.behind.history) c n.0
         on =

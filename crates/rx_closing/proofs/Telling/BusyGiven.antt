@@ -34,11 +34,11 @@ use Rattle.rx_law.proofs.World.{gave-mine}
 use Rattle.rx_law.specs.Worlds.{Datagram}
 use Rattle.rx_between.proofs.PollSays.{IsStream}
 use Rattle.rx_between.proofs.Each.EachItem.{In, in_behind, in_filter, in_front, in_items, is_due, least_in, least_none}
-use Rattle.rx_rounds.proofs.Clocks.NodeClock.{in_parts}
 use Rattle.rx_rounds.proofs.Polls.PolledOut.{polled_out}
 use Rattle.rx_rounds.proofs.Two.{sent}
-use Rattle.rx_closing.proofs.Polls.Bare.{in_filtered, own_stream}
+use Rattle.rx_closing.proofs.Polls.Bare.{own_stream}
 use Rattle.rx_closing.proofs.Telling.AbortOwed.{channel_apart, channel_keeps, conn_channel, found_in, in_all}
+use Rattle.rx_between.proofs.Within.{in_either, in_filtered}
 
 -- ---- the item of a BUSY
 
@@ -96,7 +96,7 @@ module _ (s : Setup) (l : Looks) where
       (λ is. where_other _ _ (λ same. (let no : bodies.Challenge _ ≡ bodies.Busy = same in cc (no))) is) h busy)
       (λ (h : In i (owed_item d (option_map bodies.Response q.owed_response))).
       owed_other d (option_map bodies.Response q.owed_response) i (response_other q.owed_response) h busy)
-      (in_parts i (owed_item d (challenge_body s l d q.owed_challenge))
+      (in_either i (owed_item d (challenge_body s l d q.owed_challenge))
       (owed_item d (option_map bodies.Response q.owed_response)) there)
 
   channel_owed : (ch : Channel) (i : Item) → In i (channel_items s l ch) → i.body ≡ bodies.Busy → IsOwed i
@@ -122,17 +122,17 @@ module _ (s : Setup) (l : Looks) where
       (where_other q.owed_ackall bodies.AckAll
       (λ same. (let no : bodies.AckAll ≡ bodies.Busy = same in cc (no)))) h busy))
       (λ (h : In i own). absurd (not_stream i.body busy (own_stream s l (latest l ch) i h)))
-      (in_parts i acks own h3))
-      (in_parts i classes (acks ++ own) h2))
-      (in_parts i busies (classes ++ (acks ++ own)) h1))
-      (in_parts i aborts (busies ++ (classes ++ (acks ++ own))) there))
+      (in_either i acks own h3))
+      (in_either i classes (acks ++ own) h2))
+      (in_either i busies (classes ++ (acks ++ own)) h1))
+      (in_either i aborts (busies ++ (classes ++ (acks ++ own))) there))
 
   channels_owed : (chs : List Channel) (i : Item) → In i (items_on s l chs) → i.body ≡ bodies.Busy → IsOwed i
   channels_owed [] i there busy = absurd there
   channels_owed (ch ∷ chs) i there busy =
       ⊎_elim (λ (h : In i (channel_items s l ch)). channel_owed ch i h busy)
       (λ (h : In i (items_on s l chs)). channels_owed chs i h busy)
-      (in_parts i (channel_items s l ch) (items_on s l chs) there)
+      (in_either i (channel_items s l ch) (items_on s l chs) there)
 
   next_owed : (i : Item) → next_item s l ≡ Some i → i.body ≡ bodies.Busy → IsOwed i
   next_owed i is busy =

@@ -22,7 +22,6 @@ use Rattle.rx_script.specs.declared.plan.Numbered.{Numbered}
 use Rattle.rx_jobs.specs.Handlers.{Handlers}
 use Rattle.rx_plan.specs.Answering.{AreServable}
 use Rattle.rx_plan.specs.Stages.{Stage}
-use Rattle.rx_plan.proofs.JointMoments.{side_parts}
 use Rattle.rx_between.specs.Agreed.{HasEnded}
 use Rattle.rx_between.proofs.Each.EachItem.{In}
 use Rattle.rx_rounds.proofs.Rounded.{RoundMade}
@@ -47,7 +46,7 @@ use Rattle.rx_closing.proofs.Rounds.Clocks.{round_clock}
 use Rattle.rx_closing.proofs.Rounds.KnowsRound.{knows_later, polled_awake}
 use Rattle.rx_closing.proofs.Rounds.PingNear.{ping_near}
 use Rattle.rx_closing.proofs.Rounds.RoundMoments.{MomentsStay, moments_stay}
-use Rattle.rx_closing.proofs.Rounds.RoundsOf.{FirstFor, RoundsOf, begins_asked, begins_one, first_for, none_made}
+use Rattle.rx_closing.proofs.Rounds.RoundsOf.{FirstFor, RoundsOf, begins_asked, begins_one, first_for}
 use Rattle.rx_closing.proofs.Rounds.SceneEnds.{client_fits_at}
 use Rattle.rx_closing.proofs.Rounds.SpokeHolds.{heard_rises}
 use Rattle.rx_closing.proofs.Telling.AbortComes.{abort_ends}
@@ -55,6 +54,8 @@ use Rattle.rx_closing.proofs.Telling.AbortOwed.{Owing}
 use Rattle.rx_closing.proofs.Telling.DoneCode.{done_code}
 use Rattle.rx_closing.proofs.Unknown.UnservedMeet.{IsAsked}
 use Rattle.rx_closing.proofs.Working.EndRounds.{AskedGives, RoundFor, asked_gives, ones, out_none, seen_polls, serves}
+use Rattle.rx_closing.proofs.Owing.AllBare.{none_of}
+use Rattle.rx_law.proofs.Law.{side-split}
 
 -- ---- what was said
 
@@ -175,7 +176,7 @@ module _ (g : Handlers) (ls : List Numbered) (servable : AreServable g) (cs : Li
       heard =
           (let own : side (suc k) r.delivered.history
           ≡ side (suc k) adds.delivered.more ++ side (suc k) r.polled.stage.history =
-          ap (side (suc k)) adds.delivered.is ∙ side_parts (suc k) adds.delivered.more r.polled.stage.history in
+          ap (side (suc k)) adds.delivered.is ∙ side-split (suc k) adds.delivered.more r.polled.stage.history in
           let on = heard_rises client.setup (side (suc k) adds.delivered.more) (side (suc k) r.polled.stage.history) c
           w.at.polled.call (scene_fed c k client server r.delivered o.delivered).client_fits
           (subst (Legal client.setup) own (scene_fed c k client server r.delivered o.delivered).client_legal)
@@ -222,7 +223,7 @@ module _ (g : Handlers) (ls : List Numbered) (servable : AreServable g) (cs : Li
 
   -- where its server owes its code there is no further one
   owed_last : (n : ℕ) (s t : Stage) → Rounds n s t → Owing c (looks_of s 0 server) → s ≡ t
-  owed_last zero s t all owing = none_made g s t all.chain
+  owed_last zero s t all owing = none_of g s t all.chain
   owed_last (suc n) s t all owing =
       (let f = first_for g ls cs c k client server n s t all in
       let a = begins_asked g ls cs c k client server (suc n) s t all in
@@ -271,7 +272,7 @@ module _ (g : Handlers) (ls : List Numbered) (servable : AreServable g) (cs : Li
   done_from : (most n : ℕ) (s t : Stage) → Rounds n s t → IsDone c server s → SpokeBy most s
       → moment (suc k) s.history ≤ most + 2000 → moment (suc k) t.history ≤ most + 4000
   done_from most zero s t all d spoke near =
-      (let at = ap (λ (v : Stage). moment (suc k) v.history) (none_made g s t all.chain) in omega (arith, at, near))
+      (let at = ap (λ (v : Stage). moment (suc k) v.history) (none_of g s t all.chain) in omega (arith, at, near))
   done_from most (suc n) s t all d spoke near =
       (let f = first_for g ls cs c k client server n s t all in
       done_step most n s t all f d spoke near

@@ -25,17 +25,14 @@ use Rattle.rx_rounds.proofs.Keeping.{kept_turn}
 use Rattle.rx_rounds.proofs.Making.{ends_to, then_to}
 use Rattle.rx_rounds.proofs.Rounded.{Made}
 use Rattle.rx_rounds.proofs.Two.{more, out_to, polled_is, sent}
-use Rattle.rx_closing.proofs.Telling.AbortGiven.{given_grows, turn_side}
+use Rattle.rx_closing.proofs.Telling.AbortGiven.{turn_side}
+use Rattle.rx_closing.proofs.Polls.PollsAct.{nth_many}
+use Rattle.rx_rounds.proofs.Polls.QuietPolls.{given_grows}
 
 nth_low : {X : Type 0} (xs : List X) (z x : X) (i : ℕ) → slice_get (z ∷ xs) i ≡ Some x → i < suc (length xs)
 nth_low xs z x zero is = omega arith
 nth_low [] z x (suc i) is = absurd cc
 nth_low (w ∷ xs) z x (suc i) is = (let rest = nth_low xs w x i is in omega arith)
-
-nth_many : {X : Type 0} (xs : List X) (k : ℕ) (x : X) → slice_get xs k ≡ Some x
-    → (count : ℕ) × (length xs ≡ suc count) × (k < suc count)
-nth_many [] k x there = absurd cc
-nth_many (y ∷ xs) k x there = (length xs, refl, nth_low xs y x k there)
 
 -- `Owes` holds of a node's side until a poll gives a datagram of which `Says` holds, and a node of which it holds gives
 -- something

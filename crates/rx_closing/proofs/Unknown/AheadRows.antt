@@ -31,9 +31,9 @@ use Rattle.rx_between.specs.Agreed.{MakesSense}
 use Rattle.rx_between.proofs.Each.EachChange.{taken_alike}
 use Rattle.rx_between.proofs.Each.EachStep.{is_start}
 use Rattle.rx_between.proofs.Prepared.{prepared_number}
-use Rattle.rx_closing.proofs.Far.FinishedOpen.{server_view}
 use Rattle.rx_closing.proofs.Messages.Opening.{CanBegin, begun_record, can_begin}
 use Rattle.rx_closing.proofs.Owing.TooMuch.{server_side}
+use Rattle.rx_progress.proofs.LawsMoves.{server_side as server_view}
 
 -- ---- the rows of a server
 

@@ -13,7 +13,7 @@ use Rattle.rx_model.specs.declared.wire.TheConstants.{RX_CALL_DEAD}
 use Rattle.rx_model.specs.Message.{Message}
 use Rattle.rx_model.specs.Names.{Channel, channel_of, same_host}
 use Rattle.rx_model.specs.Reading.{reading_of}
-use Rattle.rx_model.proofs.NameLaws.{host_is}
+use Rattle.rx_model.proofs.NameLaws.{host_is, both}
 use Rattle.rx_rules.specs.After.{looks}
 use Rattle.rx_rules.specs.CallLooks.{CallLooks, is_delivered}
 use Rattle.rx_rules.specs.Judging.{facts_of, is_data, opened, outer_row, own_row, took_of}
@@ -35,7 +35,7 @@ use Rattle.rx_plan.specs.Parts.{each}
 use Rattle.rx_plan.specs.Stages.{Stage}
 use Rattle.rx_rounds.proofs.Rounded.{Made}
 use Rattle.rx_closing.proofs.Far.FarGrows.{none_anew}
-use Rattle.rx_closing.proofs.Messages.CrowdedRows.{both_true, is_busy, row_calm, side_crowds}
+use Rattle.rx_closing.proofs.Messages.CrowdedRows.{is_busy, row_calm, side_crowds}
 use Rattle.rx_closing.proofs.Messages.Delivered.{DeliveredBy, delivers_first, delivers_none, takes_from}
 use Rattle.rx_closing.proofs.Messages.Lasts.{live_last, some_number}
 use Rattle.rx_closing.proofs.Messages.OwingStays.{HoldsOwed, OwesBusy, busy_stays, holds_same, holds_then}
@@ -267,7 +267,7 @@ module _ (n : Node) (c : CallName) (fits : FitsSetup n.setup) (serves : IsServer
       let row = row_named n.setup l from bytes (took_of n.setup l from bytes) m refl reads front in
       let crowds = side_crowds n.setup.kind (facts_of n.setup l e m) (own_row n.setup (opened n.setup e l) e m)
       (row_calm n.setup (opened n.setup e l) (call_at (opened n.setup e l) e) m) (ap is_busy row ∙ busy) in
-      (both_true (is_data m.body) _ crowds.starts).0)
+      (both (is_data m.body) _ crowds.starts).0)
 
   busy_of : (got : Took) → (got ≡ tooks.Busy) ⊎ (got ≡ tooks.NoRoom) → is_busy got ≡ true
   busy_of got (inl is) = ap is_busy is

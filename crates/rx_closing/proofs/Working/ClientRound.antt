@@ -50,8 +50,9 @@ use Rattle.rx_closing.proofs.Rounds.Settles.{settles_call, settles_moment}
 use Rattle.rx_closing.proofs.Server.TurnHere.{client_stays}
 use Rattle.rx_closing.proofs.Steps.{TurnsOn}
 use Rattle.rx_closing.proofs.Unknown.UnservedMeet.{IsAsked}
-use Rattle.rx_closing.proofs.Working.EndRounds.{Gave, RoundFor, counting_low, gave_of, ones, seen_polls, serves}
+use Rattle.rx_closing.proofs.Working.EndRounds.{Gave, RoundFor, gave_of, ones, seen_polls, serves}
 use Rattle.rx_closing.proofs.Working.WorkMeet.{ServesFor}
+use Rattle.rx_closing.proofs.Far.FarBounds.{counting_low}
 
 -- ---- a round
 

@@ -12,7 +12,7 @@ use Rattle.rx_rules.specs.CallLooks.{CallLooks}
 use Rattle.rx_rules.specs.Life.{is_active}
 use Rattle.rx_rules.specs.Looks.{CallRecord, call_at}
 use Rattle.rx_rules.specs.Records.{is_silent}
-use Rattle.rx_rules.specs.Sent.{counting_by, counting_of, pieces_by, pieces_of}
+use Rattle.rx_rules.specs.Sent.{counting_of, pieces_of}
 use Rattle.rx_rules.specs.Setup.{Setup}
 use Rattle.rx_rules.specs.After.{looks}
 use Rattle.rx_history.specs.Sides.{Node, moment, side}
@@ -55,6 +55,7 @@ use Rattle.rx_closing.proofs.Server.TurnHere.{client_stays, server_drained, serv
 use Rattle.rx_closing.proofs.Steps.{GivesOut, TakesIn, TurnsOn, gives_none, gives_one}
 use Rattle.rx_closing.proofs.Unknown.UnservedMeet.{IsAsked}
 use Rattle.rx_closing.proofs.Working.WorkMeet.{ServesFor, scene_for, work_conn}
+use Rattle.rx_closing.proofs.Far.FarBounds.{counting_low}
 
 -- ---- one end
 
@@ -79,10 +80,6 @@ pub gave_none_of : (s : Setup) (now : ℕ) (a b : CallLooks) (out : List Sending
 gave_none_of s now a b out gave (gives_none k idle) none = refl
 gave_none_of s now a b out gave (gives_one k f x m xs ms next given rest) none =
     absurd (let no : x ∷ xs ≡ [] = none in cc (no))
-
-pub counting_low : (n : ℕ) (b : Bool) → counting_by n b ≤ pieces_by n b
-counting_low n true = omega arith
-counting_low n false = omega arith
 
 -- a record that works before the polls and behind them
 pub record Gave (s : Setup) (c : CallName) (peer : Host) (service now : ℕ) (from : Host) (h later : List Event)

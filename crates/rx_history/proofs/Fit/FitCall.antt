@@ -46,7 +46,7 @@ CallsFit ks = (c : CallName) → CallFits (find (λ k. same_name k.name c) ks)
 pub life_fits : (k : CallRecord) (life : Life) → FitsLife life → FitsCall k → FitsCall (record k { life = life })
 life_fits k life is f = record { received = f.received; owed = f.owed; said = f.said; life = is; number = f.number }
 
-none-said : IsBytes []
+pub none-said : IsBytes []
 none-said i = omega arith
 
 -- it starts

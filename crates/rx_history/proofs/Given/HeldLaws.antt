@@ -31,7 +31,7 @@ beside_found true k =
     (held_pieces k.sent) (pieces_of k.sent - pieces_of k.sent) (omega arith)
 beside_found false k = omega arith
 
-ack-pieces : (first : ℕ) (marks : List Bool) (window : Option ℕ) (s : Sent)
+pub ack-pieces : (first : ℕ) (marks : List Bool) (window : Option ℕ) (s : Sent)
     → held_pieces (after_ack first marks window s) ≤ held_pieces s
 ack-pieces first marks window s =
     (elim (nat_lt (first - 1) s.acked) as (λ b. nat_lt (first - 1) s.acked ≡ b

@@ -75,7 +75,7 @@ shown-history s key c (e ∷ h) server class legal =
     (shown-history s key c h server class legal.1)
 
 -- what stands before a part of a legal history is legal
-legal-before : (s : Setup) (later before : List Event) → Legal s (later ++ before) → Legal s before
+pub legal-before : (s : Setup) (later before : List Event) → Legal s (later ++ before) → Legal s before
 legal-before s [] before legal = legal
 legal-before s (e ∷ later) before legal = legal-before s later before legal.1
 

@@ -57,7 +57,7 @@ not_above true is = absurd cc
 not_above false is = refl
 
 -- where it starts nothing, a message finds the look-ups as they are
-unopened : (test : Bool) (s : Setup) (c : CallName) (l : Looks) → test ≡ false
+pub unopened : (test : Bool) (s : Setup) (c : CallName) (l : Looks) → test ≡ false
     → (if test then started_later s c l else l) ≡ l
 unopened true s c l is = absurd cc
 unopened false s c l is = refl

@@ -184,7 +184,7 @@ pub there-is : (o : Option ConnLooks) → is_some o ≡ true → (r : ConnLooks)
 there-is None is = absurd cc
 there-is (Some r) is = (r, refl)
 
-is-below : (a b : ℕ) → nat_lt a b ≡ true → a < b
+pub is-below : (a b : ℕ) → nat_lt a b ≡ true → a < b
 is-below a b is = grind (arith, nat_tests)
 
 sound-opened : (s : Setup) (c d : CallName) (l : Looks) (n : ℕ) → is_some (conn_at l (connection_of d)) ≡ true

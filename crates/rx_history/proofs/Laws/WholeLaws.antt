@@ -1,14 +1,14 @@
 -- A stream that was read to its end: all its packets are there and done with, and no further one is kept.
 use Rattle.std.proofs.Common.{◌≡◌, ◌≤◌, ◌<◌, ◌==◌, ◌+◌, ℕ, zero, suc, if◌then◌else◌, is_some, nat_le, Bool, true, false}
-use Rattle.std.proofs.Common.{List, [], ◌++◌, length, Option, Some, None, refl, ◌∙◌, ap, sym, subst, arith}
+use Rattle.std.proofs.Common.{List, [], ◌++◌, length, Option, Some, None, refl, ◌∙◌, ap, subst, arith}
 use Rattle.std.proofs.Common.{drop, length-append, length-drop}
 use Rattle.std.proofs.lemmas.Bool.Decides.{nat_tests}
 use Rattle.rx_rules.specs.Received.{Packet, Piece, Received, after_read, bytes_to, end_of, front_of, is_above}
 use Rattle.rx_rules.specs.Received.{is_complete, is_done}
-use Rattle.rx_rules.specs.Received.{is_done_by, is_within, last_seq, packet_at, payload_of, unread_of, used_of}
+use Rattle.rx_rules.specs.Received.{is_done_by, is_within, last_seq, packet_at, unread_of, used_of}
 use Rattle.rx_model.proofs.NameLaws.{same_number}
 use Rattle.rx_history.proofs.Reaches.{reach_least}
-use Rattle.rx_rules.proofs.PacketLaws.{front_all}
+use Rattle.rx_rules.proofs.PacketLaws.{front_all, end_is}
 use Rattle.rx_history.proofs.Laws.UsedLaws.{above_front, used_reads}
 
 -- where nothing is left behind so many, there are no more
@@ -36,13 +36,6 @@ whole_keeps p r w above away clash = of (last_seq r.kept) (above_front p r above
     of None high within clash = absurd cc
     of (Some last) high within clash = grind (arith, nat_tests)
 
-end-is : (ps : List Packet) (k : ℕ) → end_of ps k ≡ length (bytes_to ps k)
-end-is ps zero = refl
-end-is ps (suc k) =
-    let before : end_of ps k ≡ length (bytes_to ps k) = end-is ps k in
-    ap (λ (n : ℕ). n + length (payload_of (packet_at ps (suc k)))) before
-    ∙ sym (length-append (bytes_to ps k) (payload_of (packet_at ps (suc k))))
-
 end-rises : (ps : List Packet) (k n : ℕ) → k ≤ n → end_of ps k ≤ end_of ps n
 end-rises ps k zero low = (let is : k ≡ 0 = omega arith in rw is (omega arith))
 end-rises ps k (suc n) low =
@@ -64,7 +57,7 @@ end_reads bytes r none complete =
     read : end_of r.kept (front_of r.kept) ≤ length (r.read ++ bytes)
     read =
         let all = none_left (length r.read) (bytes_to r.kept (front_of r.kept)) none in
-        let is : end_of r.kept (front_of r.kept) ≡ length (bytes_to r.kept (front_of r.kept)) = end-is r.kept
+        let is : end_of r.kept (front_of r.kept) ≡ length (bytes_to r.kept (front_of r.kept)) = end_is r.kept
         (front_of r.kept) in
         let size = length-append r.read bytes in
         omega arith

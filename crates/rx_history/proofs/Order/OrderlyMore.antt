@@ -12,8 +12,9 @@ use Rattle.rx_rules.proofs.EnterLaws.{fresh_channels}
 use Rattle.rx_rules.proofs.EveryLaws.{Every, every-append}
 use Rattle.rx_rules.proofs.FindLaws.{find-before, find-last, list_any-none}
 use Rattle.rx_history.proofs.Differ.{by_connection, differ_more, every_other}
-use Rattle.rx_history.proofs.Openings.{last-new, only-new}
+use Rattle.rx_history.proofs.Openings.{only-new}
 use Rattle.rx_history.proofs.Order.Orderly.{AmongFirst, HasFour, Orderly, OrderlyConns}
+use Rattle.rx_history.proofs.Places.{last-only}
 
 -- a new connection in a free place
 pub conns_more : (s : Setup) (new : ConnLooks) (l : Looks) → HasFour new → conn_at l new.connection ≡ None
@@ -49,7 +50,7 @@ number_more new l y n fresh = of (conn_at l y) refl
         (find-before (λ r. same_connection r.connection y) l.conns new r is)
     of None is =
         ap (λ (o : Option ConnLooks). number_of o n) (find-last (λ r. same_connection r.connection y) l.conns new is)
-        ∙ only-new new.connection new _ n fresh (last-new (same_connection new.connection y) new)
+        ∙ only-new new.connection new _ n fresh (last-only (same_connection new.connection y) new)
 
 -- a node stays in order
 pub orderly_more : (s : Setup) (new : ConnLooks) (l : Looks) → new.channels ≡ fresh_channels new.connection

@@ -88,7 +88,7 @@ where_one false body n other is = tt
 
 -- ---- an acknowledgement
 
-marks-count : (kept : List Packet) (used n : ℕ) → length (marks_from kept used n) ≡ n
+pub marks-count : (kept : List Packet) (used n : ℕ) → length (marks_from kept used n) ≡ n
 marks-count kept used zero = refl
 marks-count kept used (suc n) =
     (let before : length (marks_from kept used n) ≡ n = marks-count kept used n in

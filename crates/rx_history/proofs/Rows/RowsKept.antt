@@ -54,7 +54,7 @@ arrival-kept a is =
     of true is = refl
     of false is = absurd cc
 
-above-by : (seq used : ℕ) → nat_le seq used ≡ false → used < seq
+pub above-by : (seq used : ℕ) → nat_le seq used ≡ false → used < seq
 above-by seq used high = grind (arith, nat_tests)
 
 given-shut : (client : Bool) (p : Packet) (k : CallLooks) → client ≡ true

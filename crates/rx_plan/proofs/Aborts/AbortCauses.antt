@@ -19,7 +19,7 @@ use Rattle.rx_model.specs.Names.{channel_of, connection_of, same_name}
 use Rattle.rx_model.specs.Reading.{reading_of}
 use Rattle.rx_model.proofs.NameLaws.{connection_is, name_is, same_number}
 use Rattle.rx_rules.specs.After.{enters, is_zero, looks, prepared}
-use Rattle.rx_rules.specs.Judging.{is_data, else_row, outer_row, took_named, took_of, took_reading}
+use Rattle.rx_rules.specs.Judging.{else_row, outer_row, took_named, took_of, took_reading}
 use Rattle.rx_rules.specs.Life.{is_live}
 use Rattle.rx_rules.specs.Looks.{CallRecord, ConnLooks, Looks, call_at, channel_at}
 use Rattle.rx_rules.specs.Looks.{is_call, latest_name}
@@ -41,7 +41,9 @@ use Rattle.rx_plan.specs.Causes.{Silences}
 use Rattle.rx_plan.proofs.ChannelsHold.{IsOwnLatest}
 use Rattle.rx_plan.proofs.Aborts.OwedCodes.{ConnOwes, MayOwe, MayOweBy, MayOweFor, Owed, owed_after}
 use Rattle.rx_plan.proofs.Aborts.RowsOver.{busy_above, follow_data, latest_number, may_follow}
-use Rattle.rx_plan.proofs.Told.Codes.{MayGive, MayStop, MayTake, MayTakeFrom, Told, above_is, told_after, told_of}
+use Rattle.rx_plan.proofs.Told.Codes.{MayGive, MayStop, MayTake, MayTakeFrom, Told, told_after, told_of}
+use Rattle.rx_history.proofs.Laws.TakenLaws.{is-below}
+use Rattle.rx_law.proofs.Asks.{data-is}
 
 -- ---- the events that give a call a code
 
@@ -140,16 +142,6 @@ owed_weaker K J [] more all = tt
 owed_weaker K J (r ∷ rs) more all =
     ((λ n q there code owes. more _ code (all.0 n q there code owes)), owed_weaker K J rs more all.1)
 
--- its payload
-data_is : (body : Body) → is_data body ≡ true → (payload : List ℕ) × (body ≡ bodies.Chunk payload)
-data_is (bodies.Chunk payload) is = (payload, refl)
-data_is bodies.Busy is = absurd cc
-data_is (bodies.Ack a) is = absurd cc
-data_is (bodies.Abort code) is = absurd cc
-data_is bodies.AckAll is = absurd cc
-data_is (bodies.Challenge bytes) is = absurd cc
-data_is (bodies.Response bytes) is = absurd cc
-
 module _ (s : Setup) (h : List Event) (from : Host) (bytes : List ℕ) (got : Took) (m : Message)
     (is : got ≡ took_of s (looks s h) from bytes) (reads : reading_of bytes ≡ Ok m)
     (front : outer_row s s.kind (looks s h) from m ≡ None) where
@@ -183,10 +175,10 @@ module _ (s : Setup) (h : List Event) (from : Host) (bytes : List ℕ) (got : To
   later_gives c follows same above =
       let name : c ≡ latest_name ready (channel_of d) = name_is c (latest_name ready (channel_of d)) same in
       let number : c.number ≡ (channel_at ready (channel_of d)).number = ap (λ (n : CallName). n.number) name in
-      let low = above_is (channel_at ready (channel_of d)).number d.number above in
+      let low = is-below (channel_at ready (channel_of d)).number d.number above in
       let high : nat_lt (channel_at (looks s h) (channel_of d)).number m.number ≡ true =
       ap (λ (n : ℕ). nat_lt n d.number) (sym (channel_prepared s got d (looks s h))) ∙ above in
-      let got_data = data_is m.body
+      let got_data = data-is m.body
       (follow_data s (looks s h) d m got (named_row s (looks s h) from bytes got m is reads front) follows high) in
       inl (inr (inl (record {
         message = m;

@@ -26,7 +26,7 @@ use Rattle.rx_history.specs.Streams.{end_at, said}
 use Rattle.rx_law.specs.Worlds.{Carried, Gave, IsFrom, TwoEnds, World, bag}
 use Rattle.rx_history.proofs.Client.{StoppedBy}
 use Rattle.rx_law.proofs.Joint.{Fed, fed-at, legal-before, not-both, server-name}
-use Rattle.rx_law.proofs.Law.{law-of}
+use Rattle.rx_law.proofs.Law.{law-of, side-split}
 use Rattle.rx_law.proofs.World.{if-some}
 use Rattle.rx_jobs.specs.Handlers.{Handlers, served_for}
 use Rattle.rx_script.specs.Served.{refusal}
@@ -41,11 +41,13 @@ use Rattle.rx_plan.proofs.Aborts.ClientAborts.{HasEnded}
 use Rattle.rx_plan.proofs.ClientEnds.{IsThere, end_stays, lived, there_stays}
 use Rattle.rx_plan.proofs.Told.From.{FinishedIn, ToldIn, Why, code_from, finished_over, silenced_over}
 use Rattle.rx_plan.proofs.FirstEnd.{FirstEnd, first_end}
-use Rattle.rx_plan.proofs.JointMoments.{carried_cut, legal_cut, side_parts, starts_cut}
+use Rattle.rx_plan.proofs.JointMoments.{legal_cut, starts_cut}
 use Rattle.rx_plan.proofs.LaterComes.{later_there, none_later}
 use Rattle.rx_plan.proofs.Keys.ServicesStay.{LinksTo}
-use Rattle.rx_plan.proofs.Keys.StrayKeys.{every_front, stray_key}
+use Rattle.rx_plan.proofs.Keys.StrayKeys.{stray_key}
 use Rattle.rx_plan.proofs.Keys.WrongKeys.{keys_differ}
+use Rattle.rx_jobs.proofs.Driving.{every-back}
+use Rattle.rx_plan.proofs.Bags.{carried_before}
 
 -- ---- earlier moments of a joint history
 
@@ -133,8 +135,8 @@ module _ (g : Handlers) (nodes : List Node) (h : List Noted) (w : World nodes h)
 
       carried : Carried nodes rest
       carried =
-          carried_cut nodes t.later rest
-          (subst (Carried nodes) t.is (carried_cut nodes later before (subst (Carried nodes) cut w.carried)))
+          carried_before nodes t.later rest
+          (subst (Carried nodes) t.is (carried_before nodes later before (subst (Carried nodes) cut w.carried)))
 
       contains : IsFrom (bag nodes t.before) server.host (events.Taken t.from t.bytes t.got)
       contains =
@@ -226,9 +228,9 @@ module _ (g : Handlers) (nodes : List Node) (h : List Noted) (w : World nodes h)
           x.code_is,
           stray_key nodes k client server (connection_of c) there kind first w.sides.nodes_are w.apart before
               keyed.service keyed.nonces keyed.serving legal_at
-              (carried_cut nodes later before (subst (Carried nodes) cut w.carried))
-              (every_front (LinksTo keyed.service) (side k later) (side k before)
-              (subst (Every (LinksTo keyed.service)) (ap (side k) cut ∙ side_parts k later before) keyed.links)) own
+              (carried_before nodes later before (subst (Carried nodes) cut w.carried))
+              (every-back (LinksTo keyed.service) (side k later) (side k before)
+              (subst (Every (LinksTo keyed.service)) (ap (side k) cut ∙ side-split k later before) keyed.links)) own
               other keyed.own_class keyed.other_class x.stray x.host
               (sym (ap (λ (n : Message). n.epoch) x.is) ∙ its_epoch named_c) x.came,
         )))

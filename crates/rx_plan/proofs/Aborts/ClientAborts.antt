@@ -37,9 +37,10 @@ use Rattle.rx_law.proofs.World.{Mine, gave-mine}
 use Rattle.rx_asks.specs.History.{IsCalled}
 use Rattle.rx_plan.proofs.Aborts.AbortCauses.{cancelled_live, live_latest, owed_weaker, ready_latest, taken_is}
 use Rattle.rx_plan.proofs.Aborts.AbortsGiven.{IsOfCall, IsStray, poll_tells}
-use Rattle.rx_plan.proofs.ClientEnds.{IsCalledOr, by_client, calls_called, end_stays}
+use Rattle.rx_plan.proofs.ClientEnds.{IsCalledOr, calls_called, end_stays}
 use Rattle.rx_plan.proofs.Aborts.OwedCodes.{MayOwe, MayOweBy, MayOweFor, Owed, owed_after}
 use Rattle.rx_plan.proofs.Passing.{own_changed}
+use Rattle.rx_history.proofs.ClientHistory.{clients}
 
 -- a call ended, whatever code is told of it
 pub record HasEnded (l : Looks) (c : CallName) (code : ℤ) : Type 0 where
@@ -183,7 +184,7 @@ module _ (s : Setup) (host : Host) (epoch : ℕ) (kind : s.kind ≡ Client host 
   ended_owes [] legal = tt
   ended_owes (e ∷ h) legal =
       owed_after (HasEnded (looks s (e ∷ h))) s (looks s h) e
-      (event_owes h e (by_client s.kind s host epoch (looks s h) e kind legal.0) legal)
+      (event_owes h e (clients s.kind s host epoch (looks s h) e kind legal.0) legal)
       (owed_weaker (HasEnded (looks s h)) (HasEnded (looks s (e ∷ h))) (looks s h).conns
       (λ c code ended. later_ended e h c code legal ended) (ended_owes h legal.1))
 

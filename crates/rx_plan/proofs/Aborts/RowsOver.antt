@@ -19,6 +19,7 @@ use Rattle.rx_rules.specs.Setup.{Client, Kind, Server, Setup}
 use Rattle.rx_rules.specs.Slots.{node_view}
 use Rattle.rx_history.proofs.Fit.FitConnTaken.{may_abort}
 use Rattle.rx_history.proofs.Rows.RowsAborting.{aborts_latest, passed}
+use Rattle.rx_plan.proofs.Soundness.SoundPlan.{and_left}
 
 -- ---- the channel's number
 
@@ -126,10 +127,6 @@ above-can true true high is = refl
 above-can true false high is = absurd cc
 above-can false can high is = absurd cc
 
-both-left : (a b : Bool) → (a && b) ≡ true → a ≡ true
-both-left true b is = refl
-both-left false b is = absurd cc
-
 side-follow : (kind : Kind) (f : Facts) (call got : Took) → may_follow got ≡ true → side_row kind f call ≡ got
     → f.is_above ≡ true → f.can_start ≡ true
 side-follow (Server service nonces) f call got follows is above =
@@ -152,5 +149,5 @@ side-follow (Client host epoch) f call got follows is above =
 pub follow_data : (s : Setup) (l : Looks) (c : CallName) (m : Message) (got : Took) → took_named s l c m ≡ got
     → may_follow got ≡ true → nat_lt (channel_at l (channel_of c)).number m.number ≡ true → is_data m.body ≡ true
 follow_data s l c m got is follows above =
-    both-left (is_data m.body) _
+    and_left (is_data m.body) _
     (side-follow s.kind (facts_of s l c m) (own_row s (opened s c l) c m) got follows is above)

@@ -26,6 +26,7 @@ use Rattle.rx_plan.proofs.Allowed.{allowed_before, sides_of}
 use Rattle.rx_plan.proofs.Bags.{behind_none, carried_before}
 use Rattle.rx_plan.proofs.Soundness.Sound.{Good}
 use Rattle.rx_plan.proofs.Soundness.SoundPlan.{IsSound, Kept, plan_kept}
+use Rattle.rx_plan.proofs.Finishing.{nothing_splits}
 
 -- ---- nodes and sides
 
@@ -117,14 +118,10 @@ law_in_none nodes =
           (law_of_none (ends_in x k client server) c);
     }
 
-none_accepted : {X : Type 0} (later before : List Event) (e : Event) → [] ≡ later ++ e ∷ before → X
-none_accepted [] before e is = absurd cc
-none_accepted (d ∷ later) before e is = absurd cc
-
 enters_none : (o : Option Node) → IfSome o (λ n.
     (key : List ℕ) → n.setup.class ≡ token key → (c : CallName) → Entered n.setup key c [])
 enters_none None = tt
-enters_none (Some n) = λ key same c later before is. none_accepted later before _ is
+enters_none (Some n) = λ key same c later before is. nothing_splits later before _ is
 
 promised_none : (ls : List Numbered) → Promised ls []
 promised_none ls =

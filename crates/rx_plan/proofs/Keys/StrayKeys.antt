@@ -20,11 +20,14 @@ use Rattle.rx_wire.specs.Turns.{noted}
 use Rattle.rx_plan.specs.Causes.{OneHasKey}
 use Rattle.rx_plan.specs.Follows.{class_of}
 use Rattle.rx_plan.proofs.Aborts.AbortComes.{contains_in, giver_of}
-use Rattle.rx_plan.proofs.JointMoments.{JointAt, carried_cut, joint_at, legal_cut, side_parts}
+use Rattle.rx_plan.proofs.JointMoments.{JointAt, joint_at, legal_cut}
 use Rattle.rx_plan.proofs.RowsAsked.{IsOther, unserved_other}
 use Rattle.rx_plan.proofs.Keys.ServicesStay.{IsOwnData, LinksTo, data_given}
 use Rattle.rx_plan.proofs.Keys.StraysCame.{CameStray}
 use Rattle.rx_plan.proofs.Keys.WrongKeys.{giver_is}
+use Rattle.rx_jobs.proofs.Driving.{every-back}
+use Rattle.rx_law.proofs.Law.{side-split}
+use Rattle.rx_plan.proofs.Bags.{carried_before}
 
 -- classes of different index are one of a key and one of none
 one_key : (own other : Option (List ℕ)) → ((class_of own).index == (class_of other).index) ≡ false → OneHasKey own other
@@ -40,11 +43,6 @@ other_index a b c d test is = of (a == b) (ap (λ (n : ℕ). a == n) (sym is) �
     of : (t : Bool) → t ≡ true → (t && (c == d)) ≡ false → (c == d) ≡ false
     of true same differ = differ
     of false same differ = absurd cc
-
--- the later part of a list
-pub every_front : {X : Type 0} (P : X → Type 0) (xs ys : List X) → Every P (xs ++ ys) → Every P ys
-every_front P [] ys all = all
-every_front P (x ∷ xs) ys all = every_front P xs ys all.1
 
 module _ (nodes : List Node) (k : ℕ) (client server : Node) (y : Connection) (there : slice_get nodes k ≡ Some client)
     (kind : client.setup.kind ≡ Client y.host y.epoch) (first : slice_get nodes 0 ≡ Some server) (are : AreNodes nodes)
@@ -81,7 +79,7 @@ module _ (nodes : List Node) (k : ℕ) (client server : Node) (y : Connection) (
       contains =
           if-some (slice_get nodes 0) server
           (λ n. IsFrom (bag nodes j.past) n.host (events.Taken came.from came.bytes came.got)) first
-          (carried_cut nodes j.later (now ∷ j.past) (subst (Carried nodes) j.is carried)).0
+          (carried_before nodes j.later (now ∷ j.past) (subst (Carried nodes) j.is carried)).0
 
       legal_then : (i : ℕ) (n : Node) → slice_get nodes i ≡ Some n → Legal n.setup (side i j.past)
       legal_then i n at =
@@ -112,7 +110,7 @@ module _ (nodes : List Node) (k : ℕ) (client server : Node) (y : Connection) (
           data_given client.setup y.host y.epoch kind service (side k j.past) server.host came.bytes came.message
           came.payload (if-some (slice_get nodes k) client (λ o. FitsSetup o.setup) there (are.fits k))
           (legal_then k client there)
-          (every_front (LinksTo service) (side k (j.later ++ now ∷ [])) (side k j.past)
+          (every-back (LinksTo service) (side k (j.later ++ now ∷ [])) (side k j.past)
           (subst (Every (LinksTo service))
           (ap (side k) (j.is ∙ sym (append_assoc j.later (now ∷ []) j.past))
-          ∙ side_parts k (j.later ++ now ∷ []) j.past) links)) came.reads came.chunk gave
+          ∙ side-split k (j.later ++ now ∷ []) j.past) links)) came.reads came.chunk gave

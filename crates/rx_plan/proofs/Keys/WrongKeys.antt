@@ -34,9 +34,12 @@ use Rattle.rx_plan.proofs.Aborts.AbortCauses.{WrongBy, named_row}
 use Rattle.rx_plan.proofs.Aborts.AbortComes.{contains_in, giver_of, one_client}
 use Rattle.rx_plan.proofs.Givings.AnswersGiven.{HasAnswered, answers_given}
 use Rattle.rx_plan.proofs.Givings.ChallengesGiven.{IsAsked, challenges_given}
-use Rattle.rx_plan.proofs.JointMoments.{JointAt, carried_cut, joint_at, legal_cut, legal_parts, side_parts}
+use Rattle.rx_plan.proofs.JointMoments.{JointAt, joint_at, legal_cut}
 use Rattle.rx_plan.proofs.OrdersStay.{Stands, nonce_here, orders_at, orders_later}
 use Rattle.rx_plan.proofs.RowsAsked.{IsWrong, front_challenges, response_wrong}
+use Rattle.rx_history.proofs.Laws.EnteredLaw.{legal-before as legal_parts}
+use Rattle.rx_law.proofs.Law.{side-split}
+use Rattle.rx_plan.proofs.Bags.{carried_before}
 
 -- ---- keys
 
@@ -138,7 +141,7 @@ module _ (nodes : List Node) (k : ℕ) (client server : Node) (y : Connection) (
         contains =
             if-some (slice_get nodes k) client
             (λ n. IsFrom (bag nodes j.past) n.host (events.Taken a.from a.bytes a.got)) there
-            (carried_cut nodes j.later (now ∷ j.past) (subst (Carried nodes) j.is carried)).0
+            (carried_before nodes j.later (now ∷ j.past) (subst (Carried nodes) j.is carried)).0
 
         legal_then : (i : ℕ) (n : Node) → slice_get nodes i ≡ Some n → Legal n.setup (side i j.past)
         legal_then i n at =
@@ -185,7 +188,7 @@ module _ (nodes : List Node) (k : ℕ) (client server : Node) (y : Connection) (
 
         whole : side 0 h ≡ more ++ q.before
         whole =
-            ap (side 0) cut ∙ side_parts 0 later past ∙ ap (λ (es : List Event). side 0 later ++ es) q.is
+            ap (side 0) cut ∙ side-split 0 later past ∙ ap (λ (es : List Event). side 0 later ++ es) q.is
             ∙ ap (λ (es : List Event). side 0 later ++ es)
             (sym (append_assoc q.later (events.Polled q.got ∷ []) q.before))
             ∙ sym (append_assoc (side 0 later) (q.later ++ events.Polled q.got ∷ []) q.before)

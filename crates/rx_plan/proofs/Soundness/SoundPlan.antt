@@ -1,8 +1,7 @@
 -- The events of a plan leave a history sound, with the nodes that its first lines make.
 use Rattle.std.proofs.Common.{◌&&◌, ◌≡◌, ◌≤◌, ◌<◌, ◌⊎◌, if◌then◌else◌, nat_le, nat_lt, ℕ, suc, Bool, true, false, List}
-use Rattle.std.proofs.Common.{[], ◌∷◌, ◌++◌, Option, Some, None, refl, inl, inr, sym, subst, ap, All, arith, append-nil}
+use Rattle.std.proofs.Common.{[], ◌∷◌, ◌++◌, Option, Some, None, refl, inl, inr, sym, subst, ap, All, append-nil}
 use Rattle.std.proofs.Common.{append_assoc}
-use Rattle.std.proofs.lemmas.Bool.Decides.{nat_tests}
 use Rattle.std.proofs.lemmas.List.Elements.{All-head, All-nil, All-tail, All-weaker}
 use Rattle.rx_model.specs.declared.event.Noted.{Noted}
 use Rattle.rx_model.specs.declared.names.Limits.{Limits}
@@ -33,14 +32,10 @@ use Rattle.rx_plan.proofs.Allowed.{AreClients, are_nodes, clients_more}
 use Rattle.rx_plan.proofs.Bags.{behind, behind_both}
 use Rattle.rx_plan.proofs.Soundness.Sound.{Ends, Good, IfTo, In, Is, Safe, ends_safe, then_safe}
 use Rattle.rx_plan.proofs.Soundness.SoundLines.{line_safe}
+use Rattle.rx_history.proofs.Client.{at-most}
+use Rattle.rx_history.proofs.Laws.TakenLaws.{is-below}
 
 -- ---- nodes fit
-
-below_by : (a b : ℕ) → nat_le a b ≡ true → a ≤ b
-below_by a b h = grind (arith, nat_tests)
-
-less_by : (a b : ℕ) → nat_lt a b ≡ true → a < b
-less_by a b h = grind (arith, nat_tests)
 
 limits_fit : (l : Limits) → fits_limits l ≡ true → FitsLimits l
 limits_fit l h =
@@ -52,14 +47,14 @@ limits_fit l h =
     let f = both (nat_le l.slots 65536) _ e.1 in
     let g = both (nat_le MIN_WINDOW l.window) _ f.1 in
     record {
-      some_conns = below_by 1 l.conns a.0;
-      few_conns = below_by l.conns 65536 b.0;
-      some_calls = below_by 1 l.calls c.0;
-      few_calls = below_by l.calls 4096 d.0;
-      some_slots = less_by l.calls l.slots e.0;
-      few_slots = below_by l.slots 65536 f.0;
-      wide = below_by MIN_WINDOW l.window g.0;
-      narrow = below_by l.window MAX_WINDOW g.1;
+      some_conns = at-most 1 l.conns a.0;
+      few_conns = at-most l.conns 65536 b.0;
+      some_calls = at-most 1 l.calls c.0;
+      few_calls = at-most l.calls 4096 d.0;
+      some_slots = is-below l.calls l.slots e.0;
+      few_slots = at-most l.slots 65536 f.0;
+      wide = at-most MIN_WINDOW l.window g.0;
+      narrow = at-most l.window MAX_WINDOW g.1;
     }
 
 class_fits : (key : Option (List ℕ)) → FitsClass (class_of key)
@@ -67,7 +62,7 @@ class_fits None = null_fits
 class_fits (Some key) = token_fits key
 
 -- where two tests hold, the first does
-and_left : (a b : Bool) → (a && b) ≡ true → a ≡ true
+pub and_left : (a b : Bool) → (a && b) ≡ true → a ≡ true
 and_left a b h = (both a b h).0
 
 room_fits : (l : Limits) (ns : List Node) → has_room l ns ≡ true → FitsLimits l

@@ -1,8 +1,7 @@
 -- The code that a call's life tells is one that an event gave it.
 use Rattle.std.proofs.Common.{◌≡◌, ◌==◌, ◌<◌, cond, if◌then◌else◌, nat_lt, drop, ℕ, ℤ, Bool, true, false}
 use Rattle.std.proofs.Common.{List, Option, Some, None, option_map, Result, Ok, Err, refl, sym}
-use Rattle.std.proofs.Common.{subst, arith}
-use Rattle.std.proofs.lemmas.Bool.Decides.{nat_tests}
+use Rattle.std.proofs.Common.{subst}
 use Rattle.std.specs.List.{find}
 use Rattle.rx_model.specs.declared.answers.BadMsg.{BadMsg}
 use Rattle.rx_model.specs.declared.answers.ServeRefused.{ServeRefused}
@@ -50,10 +49,6 @@ use Rattle.rx_plan.proofs.Told.Lives.{tells_finish, tells_gone, tells_later, tel
 abbrev pub told_of : Option CallRecord → Option ℤ
 told_of None = None
 told_of (Some k) = told_code k.life
-
--- where the number is above, it is greater
-pub above_is : (a b : ℕ) → nat_lt a b ≡ true → a < b
-above_is a b is = grind (arith, nat_tests)
 
 module _ (K : ℤ → Type 0) (c : CallName) where
   -- ---- changes of calls

@@ -34,7 +34,7 @@ use Rattle.rx_plan.proofs.Soundness.SoundPlan.{lines_in_range}
 use Rattle.rx_rounds.proofs.Keeper.{piece}
 use Rattle.rx_rounds.specs.Arriving.{ArrivesBy, KeepsAll, HasRefused, PlansArrive, RequestArrived}
 use Rattle.rx_rounds.specs.Bounds.{default_limits, pieces}
-use Rattle.rx_rounds.proofs.Growing.{AnswersNone, Grew, grew_rounds, side_grew}
+use Rattle.rx_rounds.proofs.Growing.{AnswersNone, Grew, grew_rounds}
 use Rattle.rx_rounds.proofs.KeepsOn.{keeps_all}
 use Rattle.rx_plan.specs.Follows.{client_node, server_node}
 use Rattle.rx_plan.specs.Stages.{InvokedState}
@@ -53,6 +53,7 @@ use Rattle.rx_rounds.proofs.Lines.PlanLines.{all_of, first_is, none_is, unlike}
 use Rattle.rx_rounds.proofs.OtherCalls.{CallsOnly}
 use Rattle.rx_rounds.proofs.Rounded.{Made}
 use Rattle.rx_rounds.proofs.Two.{AreApart, Two}
+use Rattle.rx_law.proofs.Law.{side-split}
 
 -- ---- events that answer no call
 
@@ -111,7 +112,7 @@ module _ (g : Handlers) (at : Host) (service nonce : ℕ) (from : Host) (epoch f
     its_calls : (s : Stage) → Grew shut_stage s → Every (CallsOnly c) (side 1 s.history)
     its_calls s grew =
         subst (λ (h : List Noted). Every (CallsOnly c) (side 1 h)) (sym grew.is)
-        (subst (λ (es : List Event). Every (CallsOnly c) es) (sym (side_grew 1 grew.more shut_stage.history))
+        (subst (λ (es : List Event). Every (CallsOnly c) es) (sym (side-split 1 grew.more shut_stage.history))
         (every-append (CallsOnly c) (side 1 grew.more) (side 1 shut_stage.history) (quiet_side c 1 grew.more grew.quiet)
         (tt, (tt, (refl, (tt, tt))))))
 

@@ -16,8 +16,8 @@ use Rattle.rx_plan.specs.Stages.{Stage, with_event}
 use Rattle.rx_rounds.proofs.Clocks.Clocked.{clocked_is}
 use Rattle.rx_between.proofs.Each.EachItem.{In, in_behind, in_front}
 use Rattle.rx_rounds.proofs.Making.{ends_to, event_to, then_to}
-use Rattle.rx_rounds.proofs.Clocks.NodeClock.{in_parts}
 use Rattle.rx_rounds.proofs.Rounded.{Made}
+use Rattle.rx_between.proofs.Within.{in_either}
 
 -- ---- numbers of nodes
 
@@ -37,11 +37,11 @@ apart_from k n [] there none = absurd there
 apart_from k n (m ∷ ns) (inl same) none = λ is. none.0 (sym same ∙ is)
 apart_from k n (m ∷ ns) (inr rest) none = apart_from k n ns rest none.1
 
-none_behind : (k n : ℕ) (ns : List ℕ) → IsNone k ns → n ≢ k → IsNone k (ns ++ n ∷ [])
+pub none_behind : (k n : ℕ) (ns : List ℕ) → IsNone k ns → n ≢ k → IsNone k (ns ++ n ∷ [])
 none_behind k n [] none apart = (apart, tt)
 none_behind k n (m ∷ ns) none apart = (none.0, none_behind k n ns none.1 apart)
 
-apart_behind : (n : ℕ) (ns : List ℕ) → AreApart ns → IsNone n ns → AreApart (ns ++ n ∷ [])
+pub apart_behind : (n : ℕ) (ns : List ℕ) → AreApart ns → IsNone n ns → AreApart (ns ++ n ∷ [])
 apart_behind n [] apart none = (tt, tt)
 apart_behind n (m ∷ ns) apart none =
     (none_behind m n ns apart.0 (λ is. none.0 (sym is)), apart_behind n ns apart.1 none.1)
@@ -105,7 +105,7 @@ pub low_order : (count k : ℕ) → In k (from_on 1 count ++ 0 ∷ []) → k < s
 low_order count k there =
     ⊎_elim
     (λ (client : In k (from_on 1 count)). (let low = low_from 1 count k client in omega arith))
-    (λ (server : In k (0 ∷ [])). last server) (in_parts k (from_on 1 count) (0 ∷ []) there)
+    (λ (server : In k (0 ∷ [])). last server) (in_either k (from_on 1 count) (0 ∷ []) there)
   where
     last : In k (0 ∷ []) → k < suc count
     last (inl same) = omega arith

@@ -147,7 +147,7 @@ client_near s k n ch r there client known latest_is active awake spoke =
 -- ---- two rounds
 
 -- none passes
-none_pass : {X : Type 0} (p : X → Bool) (xs : List X) → list_any p xs ≡ false → Every (λ (x : X). p x ≡ false) xs
+pub none_pass : {X : Type 0} (p : X → Bool) (xs : List X) → list_any p xs ≡ false → Every (λ (x : X). p x ≡ false) xs
 none_pass p [] none = tt
 none_pass {X = X} p (x ∷ xs) none =
     (elim (p x) as (λ b. p x ≡ b → (b || list_any p xs) ≡ false → Every (λ (y : X). p y ≡ false) (x ∷ xs)) [
@@ -155,7 +155,7 @@ none_pass {X = X} p (x ∷ xs) none =
       | false ↦ λ fails rest. (fails, none_pass p xs rest)
     ]) refl none
 
-nth_low : {X : Type 0} (xs : List X) (k : ℕ) (x : X) → slice_get xs k ≡ Some x → k < length xs
+pub nth_low : {X : Type 0} (xs : List X) (k : ℕ) (x : X) → slice_get xs k ≡ Some x → k < length xs
 nth_low [] k x there = absurd cc
 nth_low (y ∷ xs) zero x there = omega arith
 nth_low (y ∷ xs) (suc k) x there = (let low = nth_low xs k x there in omega arith)

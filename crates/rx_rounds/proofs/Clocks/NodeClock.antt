@@ -17,13 +17,7 @@ use Rattle.rx_rules.specs.Records.{is_silent}
 use Rattle.rx_rules.specs.Setup.{Setup, is_client}
 use Rattle.rx_between.proofs.Each.EachItem.{In, in_behind, in_channel, in_filter, in_front, in_items, in_map, is_due}
 use Rattle.rx_between.proofs.Each.EachItem.{least_in, least_low, least_none}
-
--- one of two lists joined is one of either
-pub in_parts : {X : Type 0} (x : X) (xs ys : List X) → In x (xs ++ ys) → In x xs ⊎ In x ys
-in_parts x [] ys there = inr there
-in_parts {X = X} x (y ∷ xs) ys (inl same) = inl (inl same)
-in_parts {X = X} x (y ∷ xs) ys (inr rest) =
-    ⊎_elim (λ (h : In x xs). inl (inr h)) (λ (h : In x ys). inr h) (in_parts x xs ys rest)
+use Rattle.rx_between.proofs.Within.{in_either}
 
 -- one of a list that was mapped comes of one before
 pub in_mapped : {X Y : Type 0} (f : X → Y) (y : Y) (xs : List X) → In y (map f xs) → (x : X) × In x xs × (y ≡ f x)
@@ -78,7 +72,7 @@ due_later s l d stray none awake is = of (least_by (λ (m : ℕ). m) (moments s 
         let later : l.now < i.0.rank = item_later s l i.0 none i.1 in
         subst (λ (n : ℕ). l.now < n) (sym i.2) later))
         (λ (h : In m (deaths l.calls)). death_later l.now l.calls m awake h)
-        (in_parts m (map (λ (i : Item). i.rank) (items s l)) (deaths l.calls) no_strays)
+        (in_either m (map (λ (i : Item). i.rank) (items s l)) (deaths l.calls) no_strays)
 
     of : (o : Option ℕ) → least_by (λ (m : ℕ). m) (moments s l) ≡ o
         → option_map (max l.now) (least_by (λ (m : ℕ). m) (moments s l)) ≡ Some d → l.now < d

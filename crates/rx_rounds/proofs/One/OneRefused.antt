@@ -1,5 +1,5 @@
 -- A job that decided a code while it read finishes with it: that stands in the history, and stays there.
-use Rattle.std.proofs.Common.{◌≡◌, ◌≢◌, ◌≤◌, ◌||◌, not, ℕ, ℤ, zero, suc, pos, negsuc, true, false, List, [], ◌∷◌, ◌++◌}
+use Rattle.std.proofs.Common.{◌≡◌, ◌≢◌, ◌≤◌, ◌||◌, not, ℕ, ℤ, pos, true, false, List, [], ◌∷◌, ◌++◌}
 use Rattle.std.proofs.Common.{refl, ap, sym, subst, ◌∙◌, Option, Some, Result, Ok, append_assoc}
 use Rattle.std.proofs.lemmas.Bool.{or_right}
 use Rattle.rx_model.specs.declared.answers.ServeRefused.{ServeRefused}
@@ -22,7 +22,7 @@ use Rattle.rx_plan.specs.Programs.{Turn}
 use Rattle.rx_plan.specs.Stages.{InvokedState, Stage, with_event}
 use Rattle.rx_rounds.specs.Arriving.{HasRefused}
 use Rattle.rx_rounds.proofs.Refusals.Codes.{early_no_zero}
-use Rattle.rx_rounds.proofs.Growing.{Grew, grew_calls, grew_none, grew_on, grew_rounds, grew_turn, job_quiet, side_grew}
+use Rattle.rx_rounds.proofs.Growing.{Grew, grew_calls, grew_none, grew_on, grew_rounds, grew_turn, job_quiet}
 use Rattle.rx_rounds.proofs.One.OneRequest.{WentFurther, keeps_whole}
 use Rattle.rx_rounds.proofs.One.OneTurn.{IsFurther, Keeps, keeps_on, keeps_still}
 use Rattle.rx_rounds.proofs.Reading.ReadsOut.{ReadOut, decides, reads_the_end, waits_for_more}
@@ -34,12 +34,8 @@ use Rattle.rx_rounds.proofs.One.OneCall.{Ends, from_server, node_of, server_setu
 use Rattle.rx_rounds.proofs.One.OneSteps.{call_is}
 use Rattle.rx_rounds.proofs.Turned.{Serves}
 use Rattle.rx_rounds.proofs.Two.{Two, at_server}
-
--- a code that isn't 0 is no good end
-no_zero : (code : ℤ) → code ≢ pos 0 → is_zero code ≡ false
-no_zero (pos zero) some = absurd (some refl)
-no_zero (pos (suc n)) some = refl
-no_zero (negsuc n) some = refl
+use Rattle.rx_law.proofs.Law.{side-split}
+use Rattle.rx_rounds.proofs.Serving.ServeDecides.{no_zero}
 
 -- what stands in a history stays in a longer one
 pub refused_grew : (more h : List Event) (c : CallName) → HasRefused h c → HasRefused (more ++ h) c
@@ -55,7 +51,7 @@ refused_grew more h c r = (
 pub refused_later : (s t : Stage) (c : CallName) → Grew s t → HasRefused (side 0 s.history) c
     → HasRefused (side 0 t.history) c
 refused_later s t c g r =
-    subst (λ (h : List Event). HasRefused h c) (sym (ap (side 0) g.is ∙ side_grew 0 g.more s.history))
+    subst (λ (h : List Event). HasRefused h c) (sym (ap (side 0) g.is ∙ side-split 0 g.more s.history))
     (refused_grew (side 0 g.more) (side 0 s.history) c r)
 
 module _ (x : Ends) (g : Handlers) (lc : Looks) (cs : List InvokedState) (js : List JobState) (now given used : ℕ)

@@ -21,17 +21,11 @@ use Rattle.rx_rules.specs.Looks.{latest, latest_name}
 use Rattle.rx_rules.specs.Records.{is_silent, silence_of, silenced, unless_silent}
 use Rattle.rx_rules.specs.Setup.{Setup, is_client}
 use Rattle.rx_between.proofs.Each.EachItem.{In, is_due, least_in}
-use Rattle.rx_rounds.proofs.Clocks.NodeClock.{AreAwake, due_later, in_mapped, in_parts}
+use Rattle.rx_rounds.proofs.Clocks.NodeClock.{AreAwake, due_later, in_mapped}
+use Rattle.rx_between.proofs.Within.{in_either, in_filtered}
+use Rattle.rx_rules.proofs.FindLaws.{find_passes}
 
 -- ---- what is looked for is found
-
-found_holds : {X : Type 0} (p : X → Bool) (xs : List X) (x : X) → find p xs ≡ Some x → p x ≡ true
-found_holds p [] x is = absurd cc
-found_holds {X = X} p (y ∷ xs) x is =
-    (elim (p y) as (λ b. p y ≡ b → cond b (Some y) (find p xs) ≡ Some x → p x ≡ true) [
-      | true ↦ λ holds same. (let equal : y ≡ x = cc (same) in subst (λ (z : X). p z ≡ true) equal holds)
-      | false ↦ λ fails there. found_holds p xs x there
-    ]) refl is
 
 found_some : {X : Type 0} (p : X → Bool) (xs : List X) (x : X) → In x xs → p x ≡ true → (y : X) × (find p xs ≡ Some y)
 found_some p [] x there holds = absurd there
@@ -42,16 +36,6 @@ found_some {X = X} p (y ∷ xs) x (inr rest) holds =
       | true ↦ (y, refl)
       | false ↦ found_some p xs x rest holds
     ])
-
-in_filtered : {X : Type 0} (p : X → Bool) (x : X) (xs : List X) → In x (filter p xs) → In x xs
-in_filtered p x [] there = absurd there
-in_filtered {X = X} p x (y ∷ xs) there =
-    (elim (p y) as (λ b. In x (cond b (y ∷ filter p xs) (filter p xs)) → In x (y ∷ xs)) [
-      | true ↦ λ here. ⊎_elim (λ (same : x ≡ y). inl same)
-          (λ (rest : In x (filter p xs)). inr (in_filtered p x xs rest))
-          here
-      | false ↦ λ rest. inr (in_filtered p x xs rest)
-    ]) there
 
 -- ---- an item is of a connection that is there
 
@@ -77,7 +61,7 @@ class_of s l ch number q true i there =
     owed_of ch number (challenge_body s l (call_named ch number) q.owed_challenge) i h)
     (λ (h : In i (owed_item (call_named ch number) (option_map bodies.Response q.owed_response))).
     owed_of ch number (option_map bodies.Response q.owed_response) i h)
-    (in_parts i (owed_item (call_named ch number) (challenge_body s l (call_named ch number) q.owed_challenge))
+    (in_either i (owed_item (call_named ch number) (challenge_body s l (call_named ch number) q.owed_challenge))
     (owed_item (call_named ch number) (option_map bodies.Response q.owed_response)) there)
 
 call_of : (s : Setup) (l : Looks) (ch : Channel) (o : Option CallRecord) (i : Item) → latest l ch ≡ o
@@ -86,7 +70,7 @@ call_of s l ch None i is there = absurd there
 call_of s l ch (Some k) i is there =
     (let same : k.name ≡ latest_name l ch =
     name_is k.name (latest_name l ch)
-    (found_holds (λ (r : CallRecord). same_name r.name (latest_name l ch)) l.calls k is)
+    (find_passes (λ (r : CallRecord). same_name r.name (latest_name l ch)) l.calls k is)
     in
     by (is_active k.life && not_silent) same there)
   where
@@ -118,10 +102,10 @@ channel_of_item s l ch i there =
     (λ (h3 : In i (acks ++ own)). ⊎_elim
     (λ (h : In i acks). owed_of ch q.number (where_owed q.owed_ackall bodies.AckAll) i h)
     (λ (h : In i own). call_of s l ch (latest l ch) i refl h)
-    (in_parts i acks own h3))
-    (in_parts i classes (acks ++ own) h2))
-    (in_parts i busies (classes ++ (acks ++ own)) h1))
-    (in_parts i aborts (busies ++ (classes ++ (acks ++ own))) there))
+    (in_either i acks own h3))
+    (in_either i classes (acks ++ own) h2))
+    (in_either i busies (classes ++ (acks ++ own)) h1))
+    (in_either i aborts (busies ++ (classes ++ (acks ++ own))) there))
 
 -- the channel of an item
 item_on : (s : Setup) (l : Looks) (chs : List Channel) (i : Item) → In i (items_on s l chs)
@@ -131,7 +115,7 @@ item_on s l (ch ∷ chs) i there =
     ⊎_elim
     (λ (h : In i (channel_items s l ch)). (ch, inl refl, channel_of_item s l ch i h))
     (λ (h : In i (items_on s l chs)). (let r = item_on s l chs i h in (r.0, inr r.1, r.2)))
-    (in_parts i (channel_items s l ch) (items_on s l chs) there)
+    (in_either i (channel_items s l ch) (items_on s l chs) there)
 
 -- the record of a channel
 four_of : (x : Connection) (ch : Channel) → In ch (channels_of x) → ch.connection ≡ x
@@ -148,7 +132,7 @@ record_of (r ∷ rs) ch there =
     ⊎_elim
     (λ (h : In ch (channels_of r.connection)). (r, inl refl, four_of r.connection ch h))
     (λ (h : In ch (all_channels rs)). (let q = record_of rs ch h in (q.0, inr q.1, q.2)))
-    (in_parts ch (channels_of r.connection) (all_channels rs) there)
+    (in_either ch (channels_of r.connection) (all_channels rs) there)
 
 items_there : (s : Setup) (l : Looks) (i : Item) → In i (items s l)
     → (r : ConnLooks) × (conn_at l (connection_of i.name) ≡ Some r)
@@ -162,7 +146,7 @@ items_there s l i there =
 -- ---- a poll that gave nothing
 
 -- a call that ended in silence isn't silent
-quiet_life : (d : ℕ) (life : Life) → is_active (after_silence d life) ≡ false
+pub quiet_life : (d : ℕ) (life : Life) → is_active (after_silence d life) ≡ false
 quiet_life d lives.Calling = refl
 quiet_life d (lives.Ended end) = refl
 quiet_life d lives.Waiting = refl
@@ -185,7 +169,7 @@ all_awake now [] = tt
 all_awake now (k ∷ ks) = (awake_then now k, all_awake now ks)
 
 -- where no call is silent none ends
-still_awake : (now : ℕ) (ks : List CallRecord) → Every (λ (k : CallRecord). is_silent now k ≡ false) ks
+pub still_awake : (now : ℕ) (ks : List CallRecord) → Every (λ (k : CallRecord). is_silent now k ≡ false) ks
     → map (unless_silent now) ks ≡ ks
 still_awake now [] awake = refl
 still_awake now (k ∷ ks) awake =

@@ -27,7 +27,7 @@ use Rattle.rx_rounds.proofs.Two.{more, out_to, polled_is, sent}
 
 -- ---- what was given only grows
 
-given_grows : (from : Host) (node : ℕ) (v w : Polling) (s t : Stage) (es : List Noted)
+pub given_grows : (from : Host) (node : ℕ) (v w : Polling) (s t : Stage) (es : List Noted)
     → Turn (polling from) node v s es (To (w, t)) → (gs : List Datagram) × (w.given ≡ v.given ++ gs)
 given_grows from node v w s t es turn = of v s es (To (w, t)) turn refl
   where

@@ -30,7 +30,7 @@ use Rattle.rx_rounds.proofs.Turned.{Serves, Serves_, serves_over, serves_read}
 use Rattle.rx_rounds.proofs.Two.{Two}
 
 -- what was read once more, of what was there to read
-drop_take : (m : ℕ) (ys : List ℕ) → drop (length (take m ys)) ys ≡ drop m ys
+pub drop_take : (m : ℕ) (ys : List ℕ) → drop (length (take m ys)) ys ≡ drop m ys
 drop_take m ys = ap (λ (n : ℕ). drop n ys) (length-take m ys) ∙ drop_min m ys
 
 pub unread_behind : (now max : ℕ) (k : CallLooks)

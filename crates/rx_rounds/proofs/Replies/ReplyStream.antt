@@ -7,22 +7,12 @@ use Rattle.std.proofs.Common.{take_all}
 use Rattle.rx_rules.specs.Received.{bytes_to, heard_of, packet_at, payload_of, unread_of}
 use Rattle.rx_rounds.proofs.Flow.{total}
 use Rattle.rx_rounds.proofs.Keeper.{front_kept, kept_to, packet_kept, part_read}
+use Rattle.rx_law.proofs.Fronts.{take_more}
 
 -- nothing is taken of nothing
 pub take_nothing : (m : ℕ) → take {A = ℕ} m [] ≡ []
 take_nothing zero = refl
 take_nothing (suc m) = refl
-
--- what was taken, and then more
-take_more : (n m : ℕ) (xs : List ℕ) → take n xs ++ take m (drop n xs) ≡ take (n + m) xs
-take_more zero m xs = ap (λ (j : ℕ). take j xs) (zero_plus m)
-  where
-    zero_plus : (j : ℕ) → j ≡ 0 + j
-    zero_plus j = omega arith
-take_more (suc n) m [] = take_nothing m ∙ sym (take_nothing (suc n + m))
-take_more (suc n) m (x ∷ xs) =
-    let same : suc n + m ≡ suc (n + m) = omega arith in
-    ap (λ (ys : List ℕ). x ∷ ys) (take_more n m xs) ∙ ap (λ (j : ℕ). take j (x ∷ xs)) (sym same)
 
 module _ (bytes : List ℕ) where
   -- the first k of n kept pieces

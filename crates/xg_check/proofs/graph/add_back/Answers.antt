@@ -4,8 +4,9 @@ use Rattle.std.proofs.lemmas.List.{take_more, length-map}
 use Rattle.std.proofs.lemmas.Option.{slice_get-get_or}
 use Rattle.xg_check.specs.Searching.{AreBack}
 use Rattle.xg_check.proofs.BackLaws.{back_more, pushed_back}
-use Rattle.xg_check.proofs.OrderLaws.{item_at, below}
+use Rattle.xg_check.proofs.OrderLaws.{below}
 use Rattle.xg_check.proofs.graph.add_back.Goals as goal
+use Rattle.xg_check.proofs.ValueLaws.{item_at}
 
 pub loop-other-preserved : goal.loop-other-preserved
 loop-other-preserved c =

@@ -3,8 +3,8 @@ use Rattle.std.proofs.Common.{refl, ap, ◌∙◌}
 use Rattle.std.specs.declared.alloc.Global.{Global}
 use Rattle.std.proofs.lemmas.List.{map-set}
 use Rattle.std.proofs.lemmas.Option.{slice_get_read, slice_get-map}
-use Rattle.xg_check.proofs.BackLaws.{the_same}
 use Rattle.xg_check.proofs.graph.push_back.Goals as goal
+use Rattle.xg_check.proofs.OrderLaws.{the_same}
 
 pub returns : goal.returns
 returns c = λ ws h.

@@ -2,8 +2,9 @@ use Rattle.std.proofs.Common.{◌≡◌, ◌<◌, ℕ, List, false, Vec, map, le
 use Rattle.std.proofs.Common.{◌∙◌, arith}
 use Rattle.std.specs.declared.alloc.Global.{Global}
 use Rattle.std.proofs.lemmas.Option.{slice_get_read, get_or_from_slice_get}
-use Rattle.xg_check.proofs.OrderLaws.{ends_now, waits_now, item_at, below}
+use Rattle.xg_check.proofs.OrderLaws.{ends_now, waits_now, below}
 use Rattle.xg_check.proofs.order.Search.look.Goals as goal
+use Rattle.xg_check.proofs.ValueLaws.{item_at}
 
 pub returns-in_ok-end-in-None : goal.returns-in_ok-end-in-None
 returns-in_ok-end-in-None c =
