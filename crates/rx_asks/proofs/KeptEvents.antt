@@ -24,12 +24,13 @@ use Rattle.rx_rules.specs.Looks.{on_life, on_looks}
 use Rattle.rx_rules.specs.Records.{is_silent, silence_of, silenced}
 use Rattle.rx_rules.specs.Records.{unless_silent}
 use Rattle.rx_rules.specs.Rules.{AllowedClient}
-use Rattle.rx_rules.specs.Setup.{Setup, Kind, Server, Client, named}
+use Rattle.rx_rules.specs.Setup.{Setup, named}
 use Rattle.rx_asks.specs.History.{LeavesCall}
 use Rattle.rx_asks.proofs.Kept.{KeptAt, KeptRecord, kept-by, kept-on_calls}
 use Rattle.rx_asks.proofs.Kept.{kept-on_life, kept-on_looks, kept-other, kept-refl, kept-then, on-cancel}
 use Rattle.rx_asks.proofs.Kept.{on-end, on-silence, record-refl, spoken_in}
 use Rattle.rx_asks.proofs.KeptTaken.{StartsNoneOf, kept-started, kept-taken}
+use Rattle.rx_history.proofs.Suffice.{calls-linked}
 
 -- ---- a datagram is given
 
@@ -77,11 +78,6 @@ kept-silenced c l =
 
 -- ---- an event of a client
 
-linked-calls : (kind : Kind) (to : Host) (service first cid : ℕ) (l : Looks)
-    → (linked kind to service first cid l).calls ≡ l.calls
-linked-calls (Client host epoch) to service first cid l = refl
-linked-calls (Server service nonces) to other first cid l = refl
-
 -- the event starts no call of this name
 abbrev pub StartsNoCall : Setup → Looks → CallName → Event → Type 0
 StartsNoCall s l c (events.Called cid (Ok d)) = same_name c d ≡ false
@@ -92,7 +88,7 @@ StartsNoCall s l c _ = Unit {0}
 pub kept_after : (s : Setup) (host : Host) (epoch : ℕ) (l : Looks) (c : CallName) (e : Event)
     → AllowedClient s host epoch l e → LeavesCall c e → StartsNoCall s l c e → KeptAt c l (after s e l)
 kept_after s host epoch l c (events.Linked to service first (Ok cid)) allowed leaves none =
-    kept-by l (linked s.kind to service first cid l) c (linked-calls s.kind to service first cid l)
+    kept-by l (linked s.kind to service first cid l) c (calls-linked s.kind to service first cid l)
 kept_after s host epoch l c (events.Linked to service first (Err full)) allowed leaves none = kept-refl (call_at l c)
 kept_after s host epoch l c (events.Called cid (Ok d)) allowed leaves none = kept-started s lives.Calling c d l none
 kept_after s host epoch l c (events.Called cid (Err refused)) allowed leaves none = kept-refl (call_at l c)

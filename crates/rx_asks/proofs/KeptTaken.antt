@@ -1,5 +1,5 @@
 -- A message that is taken leaves what was said and read of a call that it doesn't start, and its life goes on.
-use Rattle.std.proofs.Common.{◌≡◌, ◌&&◌, ◌==◌, ◌-◌, not, cond, if◌then◌else◌, nat_lt, is_some, ℕ, ℤ, Bool, true, false}
+use Rattle.std.proofs.Common.{◌≡◌, ◌&&◌, ◌==◌, ◌-◌, not, cond, if◌then◌else◌, nat_lt, ℕ, ℤ, Bool, true, false}
 use Rattle.std.proofs.Common.{List, Option, Some, None, Result, Ok, Err, refl, sym, subst}
 use Rattle.rx_model.specs.declared.answers.BadMsg.{BadMsg}
 use Rattle.rx_model.specs.declared.answers.Took.{Took}
@@ -12,7 +12,7 @@ use Rattle.rx_model.specs.Body as bodies
 use Rattle.rx_model.specs.Message.{Message}
 use Rattle.rx_model.specs.Names.{Connection, channel_of, connection_of, same_connection, same_name}
 use Rattle.rx_rules.specs.After.{challenged}
-use Rattle.rx_rules.specs.After.{enters, prepared, settled}
+use Rattle.rx_rules.specs.After.{prepared, settled}
 use Rattle.rx_rules.specs.After.{stopped_all, taken_at, taken_behind, taken_data, taken_heard, taken_message}
 use Rattle.rx_rules.specs.After.{taken_over, taken_stopped, taken_unserved, taken_with, turned_away, with_first}
 use Rattle.rx_rules.specs.CallLooks.{CallLooks, NodeView, after_body, after_chunk}
@@ -20,18 +20,18 @@ use Rattle.rx_rules.specs.CallLooks.{after_taken, found, fresh_call, is_delivere
 use Rattle.rx_rules.specs.Judging.{opened, outer_row}
 use Rattle.rx_rules.specs.Life.{Life, after_acks, after_cancel, after_code, after_end, after_later, after_silence}
 use Rattle.rx_rules.specs.Life as lives
-use Rattle.rx_rules.specs.Looks.{CallRecord, ConnLooks, Looks, call_at, channel_at, conn_at, is_proved}
+use Rattle.rx_rules.specs.Looks.{CallRecord, Looks, call_at, channel_at, is_proved}
 use Rattle.rx_rules.specs.Looks.{latest_name, on_call, on_channel, on_life}
-use Rattle.rx_rules.specs.Records.{entered, fresh_conn, idle_conn, is_full, placed}
-use Rattle.rx_rules.specs.Records.{started, started_later, with_conn}
+use Rattle.rx_rules.specs.Records.{started, started_later}
 use Rattle.rx_rules.specs.Sent.{Sent}
 use Rattle.rx_rules.specs.Sent as streams
-use Rattle.rx_rules.specs.Setup.{Client, Kind, Server, Setup, is_client, named, pace_of}
+use Rattle.rx_rules.specs.Setup.{Setup, is_client, named, pace_of}
 use Rattle.rx_rules.specs.Slots.{node_view}
 use Rattle.rx_rules.proofs.StartLaws.{call_at-other}
 use Rattle.rx_asks.proofs.Kept.{Kept, KeptAt, KeptRecord, kept-by, kept-on_call, kept-on_calls}
 use Rattle.rx_asks.proofs.Kept.{kept-on_life, kept-on_looks, kept-refl, kept-then, on-acks, on-code}
 use Rattle.rx_asks.proofs.Kept.{on-later, record-refl, spoken_in}
+use Rattle.rx_history.proofs.Events.{calls-prepared, calls-turned}
 
 -- ---- a message is taken
 
@@ -192,36 +192,9 @@ kept-with s tooks.Foreign c d m l none = kept-refl (call_at l c)
 kept-with s tooks.Strange c d m l none = kept-refl (call_at l c)
 kept-with s (tooks.Bad bad) c d m l none = kept-refl (call_at l c)
 
-placed-calls : (new : ConnLooks) (old : Option ConnLooks) (l : Looks) → (placed new old l).calls ≡ l.calls
-placed-calls new None l = refl
-placed-calls new (Some old) l = refl
-
-entered-calls : (s : Setup) (x : Connection) (l : Looks) → (entered s x l).calls ≡ l.calls
-entered-calls s x l = of (is_some (conn_at l x))
-  where
-    by_kind : (kind : Kind) → (with_conn s kind x l).calls ≡ l.calls
-    by_kind (Client host epoch) = refl
-    by_kind (Server service nonces) =
-        placed-calls (fresh_conn x x.host service 1 l) (if is_full s l then idle_conn l else None) l
-
-    of : (b : Bool) → (if b then l else with_conn s s.kind x l).calls ≡ l.calls
-    of true = refl
-    of false = by_kind s.kind
-
-prepared-calls : (s : Setup) (got : Took) (x : Connection) (l : Looks) → (prepared s got x l).calls ≡ l.calls
-prepared-calls s got x l = of (enters got)
-  where
-    of : (b : Bool) → (if b then entered s x l else l).calls ≡ l.calls
-    of true = entered-calls s x l
-    of false = refl
-
-unserved-calls : (from : Host) (m : Message) (body : Body) (l : Looks) → (taken_unserved from m body l).calls ≡ l.calls
+pub unserved-calls : (from : Host) (m : Message) (body : Body) (l : Looks) → (taken_unserved from m body l).calls ≡ l.calls
 unserved-calls from m (bodies.Chunk payload) l = refl
 unserved-calls from m _ l = refl
-
-turned-calls : (row : Took) (from : Host) (m : Message) (l : Looks) → (turned_away row from m l).calls ≡ l.calls
-turned-calls tooks.Unserved from m l = unserved-calls from m m.body l
-turned-calls _ from m l = refl
 
 -- a datagram starts no call of this name
 abbrev pub StartsNoneOf : Setup → Looks → Host → Result Message BadMsg → Took → CallName → Type 0
@@ -240,8 +213,8 @@ kept-taken s from (Ok m) got c l none = behind (outer_row s s.kind l from m) ref
     d = named s from m
 
     behind : (row : Option Took) → outer_row s s.kind l from m ≡ row → KeptAt c l (taken_behind s row from d m got l)
-    behind (Some row) is = kept-by l (turned_away row from m l) c (turned-calls row from m l)
+    behind (Some row) is = kept-by l (turned_away row from m l) c (calls-turned row from m l)
     behind None is =
         let ready : Looks = prepared s got (connection_of d) l in
         kept-then c l ready (taken_with s got d m ready)
-        (kept-by l ready c (prepared-calls s got (connection_of d) l)) (kept-with s got c d m ready (none is))
+        (kept-by l ready c (calls-prepared s got (connection_of d) l)) (kept-with s got c d m ready (none is))

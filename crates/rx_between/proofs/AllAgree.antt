@@ -30,7 +30,7 @@ use Rattle.rx_history.proofs.Laws.OnceLaw.{served}
 use Rattle.rx_between.specs.Acknowledged.{BothTrue, received_by, sent_by}
 use Rattle.rx_between.specs.Agreed.{Agrees, AreGiven, HasEnded, IsLetBy, IsOverWell, IsWithin, is_over_well}
 use Rattle.rx_between.proofs.Along.{Stands, ToClient, ToServer, along}
-use Rattle.rx_between.proofs.BothTrue.{came-of, client-step, name-back, name-there, nothing-true, server-step}
+use Rattle.rx_between.proofs.BothTrue.{came-of, client-step, name-back, name-there, nothing-true, server-step, kept-is}
 use Rattle.rx_between.proofs.CameAll.{CameAll}
 use Rattle.rx_between.proofs.Each.EachEvent.{each_step}
 use Rattle.rx_between.proofs.Each.EachStep.{CallStep, IsFollowedBy, Judges, Starts, is_own, is_start}
@@ -91,10 +91,6 @@ window_lets : (a b : Option CallRecord) (peer : Setup) → (sent_by a).acked ≤
     → IsLetBy peer (sent_by a)
     → (sent_by a).acked + (sent_by a).peer_window ≤ used_of (received_by b) + receiving_window peer
 window_lets a b peer hard lets = omega (arith, hard, lets)
-
-same_kept : (a : Option CallRecord) → (ends_of a).kept ≡ (received_by a).kept
-same_kept None = refl
-same_kept (Some k) = refl
 
 -- ---- along a joint history
 
@@ -295,7 +291,7 @@ module _ (x : TwoEnds) (c : CallName) where
           subst (λ (o : Option CallRecord). ArePieces (ends_of o).said (ends_of o).shut (ends_of (at_c cl)).kept) is
           new.both.reply.pieces in
           let pieces : ArePieces b.looks.sent.said b.looks.sent.shut (received_by (at_c cl)).kept =
-          subst (λ (ps : List Packet). ArePieces b.looks.sent.said b.looks.sent.shut ps) (same_kept (at_c cl))
+          subst (λ (ps : List Packet). ArePieces b.looks.sent.said b.looks.sent.shut ps) (kept-is (at_c cl))
           carried in
           old.read_out (acked_ended b.looks.sent (received_by (at_c cl)) pieces all.0 all.1 hard))
 

@@ -44,15 +44,15 @@ nothing-true = record { hard = omega arith; soft = λ k low marks. absurd cc }
 
 -- ---- a receiver that read all
 
-said-is : (o : Option CallRecord) → (ends_of o).said ≡ (sent_by o).said
+pub said-is : (o : Option CallRecord) → (ends_of o).said ≡ (sent_by o).said
 said-is None = refl
 said-is (Some k) = refl
 
-shut-is : (o : Option CallRecord) → (ends_of o).shut ≡ (sent_by o).shut
+pub shut-is : (o : Option CallRecord) → (ends_of o).shut ≡ (sent_by o).shut
 shut-is None = refl
 shut-is (Some k) = refl
 
-kept-is : (o : Option CallRecord) → (ends_of o).kept ≡ (received_by o).kept
+pub kept-is : (o : Option CallRecord) → (ends_of o).kept ≡ (received_by o).kept
 kept-is None = refl
 kept-is (Some k) = refl
 

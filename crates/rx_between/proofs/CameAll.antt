@@ -29,7 +29,7 @@ use Rattle.rx_history.proofs.Data.{OwnName, same_message}
 use Rattle.rx_history.proofs.Given.GivingItems.{item_name}
 use Rattle.rx_history.proofs.Given.Givings.{next_is, poll_gives}
 use Rattle.rx_law.proofs.Joint.{gives-at, legal-before, polled-is, server-name}
-use Rattle.rx_law.proofs.World.{Giver, at-home, client-address, flagged-any, flagged-server, gave-mine, giver-server}
+use Rattle.rx_law.proofs.World.{Giver, at-home, client-address, flagged-any, flagged-server, gave-mine, giver-server, In}
 use Rattle.rx_law.proofs.World.{if-some, later-gave}
 
 -- ---- what came
@@ -52,10 +52,6 @@ CameAll x (e ∷ h) =
     × CameAll x h
 
 -- ---- who gave a datagram
-
-abbrev In : Datagram → List Datagram → Type 0
-In d [] = ⊥
-In d (x ∷ xs) = (x ≡ d) ⊎ In d xs
 
 contains_in : (d : Datagram) (xs : List Datagram) (k : ℕ) → k < length xs → slice_index_or xs k d ≡ d → In d xs
 contains_in d [] k low is = absurd (omega arith)

@@ -37,9 +37,10 @@ use Rattle.rx_between.proofs.GivenAcks.{before_silence}
 use Rattle.rx_between.proofs.Lives.{IsClients}
 use Rattle.rx_between.proofs.Onward.{row_named}
 use Rattle.rx_between.proofs.OwnRows.{own_side}
-use Rattle.rx_between.proofs.PollSays.{IsStream, poll_says}
+use Rattle.rx_between.proofs.PollSays.{poll_says}
 use Rattle.rx_between.proofs.Prepared.{prepared_number}
 use Rattle.rx_between.proofs.ReadOut.{AreClients}
+use Rattle.rx_history.proofs.Plain.PlainBodies.{IsSent}
 
 -- ---- what a node gave is of calls that are there
 
@@ -64,7 +65,7 @@ gave_there s (e ∷ h) to bytes m payload fits legal is_read chunk (inl gave) =
     let g = gives-at to bytes e gave in
     let answer = polled-is s.kind s (looks s h) g.0
     (subst (λ (x : Event). AllowedAt s.kind s (looks s h) x) g.1 legal.0) in
-    let says = poll_says s h fits legal.1 to bytes m is_read (subst IsStream (sym chunk) tt) (sym answer ∙ g.2) in
+    let says = poll_says s h fits legal.1 to bytes m is_read (subst IsSent (sym chunk) tt) (sym answer ∙ g.2) in
     let was = before_silence (looks s h) (named s to m) says.call says.there in
     some_stays s h e (named s to m) fits legal (ap (λ (o : Option CallRecord). is_some o) was.there)
 

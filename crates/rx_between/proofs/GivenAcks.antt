@@ -34,15 +34,9 @@ use Rattle.rx_between.specs.Told.{Grows, IsAckOf, IsEarlierAck}
 use Rattle.rx_between.proofs.Each.EachItem.{IsOther, Sends}
 use Rattle.rx_between.proofs.Each.EachItem as each
 use Rattle.rx_between.proofs.Grows.{grows_on}
+use Rattle.rx_history.proofs.Given.GivenLaws.{silent-name}
 
 -- ---- silent calls end first, and nothing passes at their ends by it
-
-silent-name : (now : ℕ) (k : CallRecord) → (unless_silent now k).name ≡ k.name
-silent-name now k = of (is_silent now k)
-  where
-    of : (b : Bool) → (cond b (record k { life = after_silence (silence_of now k) k.life }) k).name ≡ k.name
-    of true = refl
-    of false = refl
 
 pub silent_looks : (now : ℕ) (k : CallRecord) → (unless_silent now k).looks ≡ k.looks
 silent_looks now k = of (is_silent now k)

@@ -35,11 +35,12 @@ use Rattle.rx_between.specs.Agreed.{AreGiven}
 use Rattle.rx_between.proofs.Each.EachStep.{EndStep, Judges, finishes, gives, reads, shuts, stays, takes, writes}
 use Rattle.rx_between.proofs.Histories.{StepOf}
 use Rattle.rx_between.proofs.Onward.{end_by, received_is, sent_is}
-use Rattle.rx_between.proofs.PollSays.{IsStream, Says, poll_says}
+use Rattle.rx_between.proofs.PollSays.{Says, poll_says}
+use Rattle.rx_history.proofs.Plain.PlainBodies.{IsSent}
 
 -- ---- what was given stays given
 
-chunk_givings : (v : NodeView) (got : Took) (m : Message) (body : Body) (k : CallLooks)
+pub chunk_givings : (v : NodeView) (got : Took) (m : Message) (body : Body) (k : CallLooks)
     → (after_chunk v got m body k).sent.givings ≡ k.sent.givings
 chunk_givings v got m (bodies.Chunk payload) k = ap (λ (x : Ends). x.givings) (found-ends v.client k)
 chunk_givings v got m _ k = refl
@@ -61,7 +62,7 @@ same_given a b same = (let is : given_of b.sent ≡ given_of a.sent = ap given_b
     given_by : List Giving → ℕ
     given_by gs = given_of (record a.sent { givings = gs })
 
-sending_given : (now : ℕ) (x : Sending) (k : CallLooks) → given_of k.sent ≤ given_of (after_sending now x k).sent
+pub sending_given : (now : ℕ) (x : Sending) (k : CallLooks) → given_of k.sent ≤ given_of (after_sending now x k).sent
 sending_given now (Piece seq again) k = omega arith
 sending_given now (Ack reason serial) k = omega arith
 
@@ -130,7 +131,7 @@ given_seqs s (e ∷ h) c to bytes m payload fits legal grown is_read chunk name 
     let g = gives-at to bytes e gave in
     let answer = polled-is s.kind s (looks s h) g.0
     (subst (λ (x : Event). AllowedAt s.kind s (looks s h) x) g.1 legal.0) in
-    let says = poll_says s h fits legal.1 to bytes m is_read (subst IsStream (sym chunk) tt) (sym answer ∙ g.2) in
+    let says = poll_says s h fits legal.1 to bytes m is_read (subst IsSent (sym chunk) tt) (sym answer ∙ g.2) in
     subst (λ (x : Event). m.seq ≤ given_of (sent_by (call_at (looks s (x ∷ h)) c)))
     (ap events.Polled (sym g.2) ∙ sym g.1)
     (gave_now s h to bytes m payload c is_read chunk name

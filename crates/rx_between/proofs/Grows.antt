@@ -82,11 +82,11 @@ pub record IsNew (p : Packet) (r : Received) : Type 0 where
   pub away : is_some (packet_at r.kept p.seq) ≡ false
   pub below : is_above (last_seq r.kept) p.seq ≡ false
 
-record Fresh (a : Arrival) : Type 0 where
+pub record Fresh (a : Arrival) : Type 0 where
   new : a.is_repeat ≡ false
   below : a.is_clash ≡ false
 
-fresh-arrival : (a : Arrival) → arrival_row a ≡ tooks.Kept → Fresh a
+pub fresh-arrival : (a : Arrival) → arrival_row a ≡ tooks.Kept → Fresh a
 fresh-arrival a is = of a.is_strange a.is_repeat a.is_beyond a.is_clash refl refl is
   where
     of : (b c d e : Bool) → a.is_repeat ≡ c → a.is_clash ≡ e

@@ -39,10 +39,11 @@ use Rattle.rx_history.proofs.Events.{call-by}
 use Rattle.rx_history.proofs.LifeFalls.{accept_falls}
 use Rattle.rx_history.proofs.Laws.OnceLaw.{served}
 use Rattle.rx_history.proofs.Pairwise.{pairs_every}
-use Rattle.rx_history.proofs.Places.{fresh-number, instead}
+use Rattle.rx_history.proofs.Places.{fresh-number}
 use Rattle.rx_history.proofs.Room.RoomTaken.{challenged-calls}
 use Rattle.rx_history.proofs.Takes.{call_at-any}
 use Rattle.rx_between.proofs.Followed.{some_stays}
+use Rattle.rx_history.proofs.Laws.ShownLaws.{given_way}
 
 -- the latest call of each channel of a connection has a record, where it has a number
 abbrev pub HasLatest : Looks → ConnLooks → Type 0
@@ -87,7 +88,7 @@ new_latest : (m : Looks) (x : Connection) (service : ℕ) (l : Looks) → HasLat
 new_latest m x service l n some = absurd (let none = fresh-number x n in omega arith)
 
 instead_latest : (m : Looks) (new old : ConnLooks) (rs : List ConnLooks) → HasLatest m new → Every (HasLatest m) rs
-    → Every (HasLatest m) (map (instead new old) rs)
+    → Every (HasLatest m) (map (given_way new old) rs)
 instead_latest m new old [] fresh all = tt
 instead_latest m new old (r ∷ rs) fresh all =
     (one (same_connection r.connection old.connection), instead_latest m new old rs fresh all.1)

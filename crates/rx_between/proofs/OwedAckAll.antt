@@ -49,6 +49,9 @@ use Rattle.rx_between.proofs.Onward.{row_named}
 use Rattle.rx_between.proofs.Owing.{Calm, Clears, calm_abort, calm_channel, calm_same}
 use Rattle.rx_between.proofs.Owing.{calm_polled, calm_started, calm_trans, calm_turned, calm_used, calm_with, owes_in}
 use Rattle.rx_between.proofs.Owing.{owes_of}
+use Rattle.rx_history.proofs.Dimensions.Dims.{number-kept}
+use Rattle.rx_history.proofs.Given.GivenLaws.{ackall-number}
+use Rattle.rx_history.proofs.Laws.TakenLaws.{again-number}
 
 -- the latest call of a channel, by its connection's record
 abbrev pub latest_of : Looks → Connection → ℕ → CallName
@@ -75,14 +78,6 @@ behind-calm l k m y calm owes n is =
     (λ (e : HasEnded m (latest_of m y n)). inr e) (owes n is)
 
 -- ---- a channel comes to owe one
-
-number-stays : (qs : List ChannelLooks) (m n : ℕ) (f : ChannelLooks → ChannelLooks)
-    → ((q : ChannelLooks) → (f q).number ≡ q.number) → number_in (changed_at m f qs) n ≡ number_in qs n
-number-stays [] m n f keeps = refl
-number-stays (q ∷ qs) zero zero f keeps = keeps q
-number-stays (q ∷ qs) zero (suc n) f keeps = refl
-number-stays (q ∷ qs) (suc m) zero f keeps = refl
-number-stays (q ∷ qs) (suc m) (suc n) f keeps = number-stays qs m n f keeps
 
 owes-changed : (qs : List ChannelLooks) (m n : ℕ) (f : ChannelLooks → ChannelLooks)
     → owes_in (changed_at m f qs) n ≡ true → (owes_in qs n ≡ true) ⊎ (n ≡ m)
@@ -140,7 +135,7 @@ module _ (d : CallName) (f : ChannelLooks → ChannelLooks) (l : Looks)
                 ap (λ (o : Option ConnLooks). number_of o n)
                 (at ∙ ap (option_map (conn_if (connection_of d) change)) there)
                 ∙ ap (λ (b : Bool). number_in (cond b (change r) r).channels n) mine
-                ∙ number-stays r.channels d.chan n f keeps
+                ∙ number-kept r.channels d.chan n f keeps
                 ∙ sym (ap (λ (o : Option ConnLooks). number_of o n) there) in
                 ⊎_elim
                 (λ (old : owes_in r.channels n ≡ true).
@@ -176,10 +171,6 @@ comes-to-owe d f l m y keeps own conns ended n is =
 some-call : (o : Option CallRecord) → is_call (λ k. is_calling k.life) o ≡ true → (k : CallRecord) × (o ≡ Some k)
 some-call None is = absurd cc
 some-call (Some k) is = (k, refl)
-
-ackall-number : (owes : Bool) (q : ChannelLooks) → (owing_ackall owes q).number ≡ q.number
-ackall-number true q = refl
-ackall-number false q = refl
 
 abort-number : (code : Option _) (q : ChannelLooks) → (owing_abort code q).number ≡ q.number
 abort-number None q = refl
@@ -275,12 +266,6 @@ side-latest : (kind : Kind) (host : Host) (epoch : ℕ) (f : Facts) (call : Took
     → side_row kind f call ≡ tooks.Over → (f.is_below ≡ false) × (f.is_above ≡ false)
 side-latest kind host epoch f call is row =
     over-latest f call (ap (λ (k : Kind). side_row k f call) (sym is) ∙ row)
-
-again-number : (body : Body) (life : Life) (q : ChannelLooks) → (owing_again body life q).number ≡ q.number
-again-number (bodies.Chunk payload) life q =
-    ackall-number (is_ok_end life) (owing_abort (told_code life) q) ∙ abort-number (told_code life) q
-again-number (bodies.Ack a) life q = abort-number (served_code life) q
-again-number _ life q = refl
 
 abort-owes : (code : Option _) (q : ChannelLooks) → (owing_abort code q).owed_ackall ≡ q.owed_ackall
 abort-owes None q = refl

@@ -25,6 +25,7 @@ use Rattle.rx_rules.specs.Slots.{node_view}
 use Rattle.rx_between.proofs.Each.EachStep.{ViewOf, is_own, is_start}
 use Rattle.rx_law.proofs.Asks.{data-is}
 use Rattle.rx_history.proofs.Takes.{call_at-any}
+use Rattle.rx_law.proofs.HearsTaken.{now-opened}
 
 -- ---- the rows in front
 
@@ -172,13 +173,6 @@ pub record OwnRows (s : Setup) (l : Looks) (c : CallName) (m : Message) (got : T
       → call_row view m m.body (fresh_call (pace_of s) l.now) ≡ got
   pub there : nat_lt (channel_at l (channel_of c)).number c.number ≡ false → RowOf view m got (call_at l c)
 
-opened_now : (s : Setup) (c : CallName) (l : Looks) → (opened s c l).now ≡ l.now
-opened_now s c l = of (nat_lt (channel_at l (channel_of c)).number c.number)
-  where
-    of : (b : Bool) → (if b then started_later s c l else l).now ≡ l.now
-    of true = refl
-    of false = refl
-
 pub own_rows : (s : Setup) (l : Looks) (c : CallName) (m : Message) (got : Took) → m.number ≡ c.number
     → is_own got ≡ true → took_named s l c m ≡ got → OwnRows s l c m got
 own_rows s l c m got number own is =
@@ -199,7 +193,7 @@ own_rows s l c m got number own is =
     subst (λ (k : CallRecord). call_row (node_view s (opened s c l)) m m.body k.looks ≡ got) same r.row) in
     record {
       view = node_view s (opened s c l);
-      view_is = record { client = refl; window = refl; now = opened_now s c l };
+      view_is = record { client = refl; window = refl; now = now-opened s c l };
       starts = λ above.
           starts_data (node_view s (opened s c l)) m (pace_of s) l.now got (receiving_window s)
           (o.served (is_above above)) refl (o.starts (is_above above)) own (fresh_row above);

@@ -23,12 +23,7 @@ use Rattle.rx_history.proofs.Given.Givings.{poll_gives}
 use Rattle.rx_between.proofs.Each.EachItem.{IsOther, Sends}
 use Rattle.rx_between.proofs.Each.EachItem as each
 use Rattle.rx_between.proofs.GivenAcks.{sends_there}
-
--- a part of a stream, or an acknowledgement
-abbrev pub IsStream : Body → Type 0
-IsStream (bodies.Chunk payload) = Unit {0}
-IsStream (bodies.Ack a) = Unit {0}
-IsStream _ = ⊥
+use Rattle.rx_history.proofs.Plain.PlainBodies.{IsSent}
 
 -- once silent calls ended, the call is there, and gives the message next
 pub record Says (s : Setup) (l : Looks) (m : Message) (c : CallName) : Type 0 where
@@ -40,11 +35,11 @@ pub record Says (s : Setup) (l : Looks) (m : Message) (c : CallName) : Type 0 wh
   pub body : m.body ≡ sending_body (receiving_window s) call.looks sending
 
 module _ (s : Setup) (h : List Event) (fits : FitsSetup s) (legal : Legal s h) (to : Host) (bytes : List ℕ)
-    (m : Message) (reads : reading_of bytes ≡ Ok m) (stream : IsStream m.body) where
+    (m : Message) (reads : reading_of bytes ≡ Ok m) (stream : IsSent m.body) where
   abbrev l : Looks
   l = silenced (looks s h)
 
-  no_other : (body : Body) → IsStream body → IsOther body → ⊥
+  no_other : (body : Body) → IsSent body → IsOther body → ⊥
   no_other (bodies.Chunk payload) stream other = other
   no_other (bodies.Ack a) stream other = other
   no_other (bodies.Abort code) stream other = stream
@@ -84,7 +79,7 @@ module _ (s : Setup) (h : List Event) (fits : FitsSetup s) (legal : Legal s h) (
   no_stray p same g =
       of m.body stream (sym (ap (λ (n : Message). n.body) same) ∙ ap (λ (n : Message). n.body) g.is)
     where
-      of : (body : Body) → IsStream body → body ≡ bodies.Abort RX_INVALID_OPERATION → ⊥
+      of : (body : Body) → IsSent body → body ≡ bodies.Abort RX_INVALID_OPERATION → ⊥
       of (bodies.Chunk payload) stream is = cc
       of (bodies.Ack a) stream is = cc
       of _ stream is = stream

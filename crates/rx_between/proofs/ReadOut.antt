@@ -53,7 +53,7 @@ taken_ended v tooks.NoSlot m k = chunk_ended v tooks.NoSlot m m.body k
 taken_ended v tooks.Heard m k = ap (λ (x : Ends). x.ended) (body-ends v.now m m.body k)
 taken_ended v _ m k = refl
 
-sending_ended : (now : ℕ) (x : Sending) (k : CallLooks) → (after_sending now x k).received.ended ≡ k.received.ended
+pub sending_ended : (now : ℕ) (x : Sending) (k : CallLooks) → (after_sending now x k).received.ended ≡ k.received.ended
 sending_ended now (Piece seq again) k = refl
 sending_ended now (Ack reason serial) k = refl
 

@@ -33,7 +33,7 @@ use Rattle.rx_between.specs.Agreed.{Agrees, AreGiven, MakesSense, SenseAt, Sense
 use Rattle.rx_between.specs.Told.{IsEarlierAck}
 use Rattle.rx_between.proofs.Along.{Stands}
 use Rattle.rx_between.proofs.AllAgree.{all_agree, client_only_gives, server_only_gives}
-use Rattle.rx_between.proofs.BothTrue.{all-used, no-client}
+use Rattle.rx_between.proofs.BothTrue.{all-used, no-client, kept-is, said-is, shut-is}
 use Rattle.rx_between.proofs.CameAll.{CameAll}
 use Rattle.rx_between.proofs.GivenAckAlls.{given_ackalls, no_ackalls}
 use Rattle.rx_between.proofs.GivenAcks.{given_acks}
@@ -44,18 +44,6 @@ use Rattle.rx_between.proofs.SaysLate.{given_data}
 use Rattle.rx_rules.proofs.ReachLaws.{reach_within}
 
 -- ---- of a call that is looked for
-
-said_is : (o : Option CallRecord) → (ends_of o).said ≡ (sent_by o).said
-said_is None = refl
-said_is (Some k) = refl
-
-shut_is : (o : Option CallRecord) → (ends_of o).shut ≡ (sent_by o).shut
-shut_is None = refl
-shut_is (Some k) = refl
-
-kept_is : (o : Option CallRecord) → (ends_of o).kept ≡ (received_by o).kept
-kept_is None = refl
-kept_is (Some k) = refl
 
 pub passed_sent : (s : Setup) (now : ℕ) (o : Option CallRecord) → (passed_at s now o).sent ≡ sent_by o
 passed_sent s now None = refl
@@ -91,23 +79,23 @@ gives_of (Some k) sends =
 pieces_of_it : (a b : Option CallRecord) → Carries (ends_of a).said (ends_of a).shut (ends_of b)
     → ArePieces (sent_by a).said (sent_by a).shut (received_by b).kept
 pieces_of_it a b carries =
-    (let same = subst (λ (ps : List Packet). ArePieces (ends_of a).said (ends_of a).shut ps) (kept_is b)
+    (let same = subst (λ (ps : List Packet). ArePieces (ends_of a).said (ends_of a).shut ps) (kept-is b)
     carries.pieces in
-    subst (λ (u : Bool). ArePieces (sent_by a).said u (received_by b).kept) (shut_is a)
-    (subst (λ (xs : List ℕ). ArePieces xs (ends_of a).shut (received_by b).kept) (said_is a) same))
+    subst (λ (u : Bool). ArePieces (sent_by a).said u (received_by b).kept) (shut-is a)
+    (subst (λ (xs : List ℕ). ArePieces xs (ends_of a).shut (received_by b).kept) (said-is a) same))
 
 at_of_it : (a : Option CallRecord) (seq : ℕ) (p : Piece) → IsAt (ends_of a).said (ends_of a).shut seq p
     → IsAt (sent_by a).said (sent_by a).shut seq p
 at_of_it a seq p at =
-    subst (λ (u : Bool). IsAt (sent_by a).said u seq p) (shut_is a)
-    (subst (λ (xs : List ℕ). IsAt xs (ends_of a).shut seq p) (said_is a) at)
+    subst (λ (u : Bool). IsAt (sent_by a).said u seq p) (shut-is a)
+    (subst (λ (xs : List ℕ). IsAt xs (ends_of a).shut seq p) (said-is a) at)
 
 -- a stream that the other end read to its end was given whole
 all_given : (a b : Option CallRecord) → Carries (ends_of a).said (ends_of a).shut (ends_of b) → Gives (sent_by a)
     → AreGiven (sent_by a) (received_by b) → (ends_of b).ended ≡ true
     → pieces_of (sent_by a) ≤ used_of (received_by b) → is_all_given (sent_by a) ≡ true
 all_given a b carries gives given ended used =
-    let shut : (sent_by a).shut ≡ true = sym (shut_is a) ∙ (carries.ended ended).0 in
+    let shut : (sent_by a).shut ≡ true = sym (shut-is a) ∙ (carries.ended ended).0 in
     let front = used_within (received_by b) in
     let top = reach_within (λ j. is_some (packet_at (received_by b).kept j)) (greatest (received_by b).kept) in
     let low = gives.counts in
@@ -116,7 +104,7 @@ all_given a b carries gives given ended used =
     subst (λ (n : ℕ). (n == pieces_of (sent_by a)) ≡ true) (sym same) (number_itself (pieces_of (sent_by a))) in
     λ i. shut i && equal i
 
-ended_is : (o : Option CallRecord) → (ends_of o).ended ≡ (received_by o).ended
+pub ended_is : (o : Option CallRecord) → (ends_of o).ended ≡ (received_by o).ended
 ended_is None = refl
 ended_is (Some k) = refl
 

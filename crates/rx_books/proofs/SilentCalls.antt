@@ -1,5 +1,5 @@
 -- Silent calls end one by one, as the book of silences names them.
-use Rattle.std.proofs.Common.{◌≡◌, ◌≤◌, ◌<◌, ◌+◌, ◌-◌, ◌*◌, ◌^◌, ◌&&◌, ℕ, Bool, true, false, cond}
+use Rattle.std.proofs.Common.{◌≡◌, ◌≤◌, ◌<◌, ◌+◌, ◌-◌, ◌*◌, ◌^◌, ◌&&◌, ℕ, Bool, true, false}
 use Rattle.std.proofs.Common.{List, [], ◌∷◌, length, map, Option, Some, None, refl, ◌∙◌, ap, sym, subst, arith}
 use Rattle.std.proofs.Common.{if◌then◌else◌, nat_le}
 use Rattle.std.proofs.Math.Nat.{mul-le-mul_right}
@@ -28,6 +28,7 @@ use Rattle.rx_books.proofs.PollSteps.{quiet_now}
 use Rattle.rx_books.specs.Books.{BooksState, IsBooked}
 use Rattle.rx_books.specs.Costs.{silent_count}
 use Rattle.rx_books.proofs.ChannelMoments.{silence_is, silence_key}
+use Rattle.rx_call.proofs.CallsAt.{one_if}
 
 -- what a node mirrors still has to end the calls that these look-ups have to end, and for each of those that ended a
 -- count of steps grew by no more than one costs
@@ -57,15 +58,12 @@ one-ended now c (k ∷ ks) = λ i. of (same_name k.name c) i ∷ one-ended now c
 
 -- ---- how many are left
 
-abbrev one-if : Bool → ℕ
-one-if b = cond b 1 0
-
 counted : (now : ℕ) (k : CallRecord) (ks : List CallRecord)
-    → count_by (is_silent now) (k ∷ ks) ≡ one-if (is_silent now k) + count_by (is_silent now) ks
-counted now k ks = sum_by-cons (λ (j : CallRecord). one-if (is_silent now j)) k ks
+    → count_by (is_silent now) (k ∷ ks) ≡ one_if (is_silent now k) + count_by (is_silent now) ks
+counted now k ks = sum_by-cons (λ (j : CallRecord). one_if (is_silent now j)) k ks
 
-quiet-count : (now : ℕ) (k : CallRecord) → one-if (is_silent now (unless_silent now k)) ≡ 0
-quiet-count now k = ap (λ (b : Bool). one-if b) (quiet_now now k)
+quiet-count : (now : ℕ) (k : CallRecord) → one_if (is_silent now (unless_silent now k)) ≡ 0
+quiet-count now k = ap (λ (b : Bool). one_if b) (quiet_now now k)
 
 -- no more are silent where one may have ended
 no-more : (now : ℕ) (c : CallName) (ks : List CallRecord)
@@ -80,7 +78,7 @@ no-more now c (k ∷ ks) =
     let one = of (same_name k.name c) in
     omega (arith, rest, before, after, one))
   where
-    of : (b : Bool) → one-if (is_silent now (if b then unless_silent now k else k)) ≤ one-if (is_silent now k)
+    of : (b : Bool) → one_if (is_silent now (if b then unless_silent now k else k)) ≤ one_if (is_silent now k)
     of true = (let none = quiet-count now k in omega (arith, none))
     of false = omega arith
 
@@ -101,15 +99,15 @@ one-fewer now c (j ∷ js) k found silent =
         ≤ count_by (is_silent now) js)
         → count_by (is_silent now) ((if b then unless_silent now j else j)
         ∷ map (λ k. if same_name k.name c then unless_silent now k else k) js)
-        ≡ one-if (is_silent now (if b then unless_silent now j else j))
+        ≡ one_if (is_silent now (if b then unless_silent now j else j))
         + count_by (is_silent now) (map (λ k. if same_name k.name c then unless_silent now k else k) js)
         → count_by (is_silent now) ((if b then unless_silent now j else j)
         ∷ map (λ k. if same_name k.name c then unless_silent now k else k) js) + 1
         ≤ count_by (is_silent now) (j ∷ js)
     of true is rest after =
         (let same : j ≡ k = cc (is) in
-        let one : one-if (is_silent now j) ≡ 1 =
-        ap (λ (i : CallRecord). one-if (is_silent now i)) same ∙ ap (λ (b : Bool). one-if b) silent in
+        let one : one_if (is_silent now j) ≡ 1 =
+        ap (λ (i : CallRecord). one_if (is_silent now i)) same ∙ ap (λ (b : Bool). one_if b) silent in
         let none = quiet-count now j in
         let more = no-more now c js in
         let before = counted now j js in

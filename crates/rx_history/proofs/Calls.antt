@@ -20,6 +20,7 @@ use Rattle.rx_rules.proofs.FindLaws.{find_passes}
 use Rattle.rx_model.proofs.NameLaws.{name_is}
 use Rattle.rx_history.proofs.Ends.{ends_in, ends_of}
 use Rattle.rx_history.proofs.Lives.{LifeMove, life-stays, life-trans, code-moves, silence-moves, acks-moves}
+use Rattle.rx_history.proofs.Given.GivenLaws.{silent-name}
 
 -- a change of a call that leaves its streams
 pub record Quiet (Cause : End → Type 0) (a b : CallRecord) : Type 0 where
@@ -192,13 +193,6 @@ calls-over Cause c d body None l = calls-refl Cause (call_at l c)
 calls-over Cause c d body (Some k) l = calls-refl Cause (call_at l c)
 
 -- ---- silence
-
-silent-name : (now : ℕ) (k : CallRecord) → (unless_silent now k).name ≡ k.name
-silent-name now k = of (is_silent now k)
-  where
-    of : (b : Bool) → (cond b (record k { life = after_silence (silence_of now k) k.life }) k).name ≡ k.name
-    of true = refl
-    of false = refl
 
 -- a silent call ends, where its silence is a cause
 pub calls-silenced : (Cause : End → Type 0) (c : CallName) (l : Looks)

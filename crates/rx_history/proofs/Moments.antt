@@ -33,7 +33,7 @@ pub now-placed : (new : ConnLooks) (o : Option ConnLooks) (l : Looks) → (place
 now-placed new None l = refl
 now-placed new (Some old) l = refl
 
-now-with_conn : (s : Setup) (kind : Kind) (x : Connection) (l : Looks) → (with_conn s kind x l).now ≡ l.now
+pub now-with_conn : (s : Setup) (kind : Kind) (x : Connection) (l : Looks) → (with_conn s kind x l).now ≡ l.now
 now-with_conn s (Server service nonces) x l =
     now-placed (fresh_conn x x.host service 1 l) (if is_full s l then idle_conn l else None) l
 now-with_conn s (Client host epoch) x l = refl

@@ -21,6 +21,7 @@ use Rattle.rx_rules.proofs.EnterLaws.{fresh_channels}
 use Rattle.rx_rules.proofs.FindLaws.{find-last}
 use Rattle.rx_history.proofs.Events.{calls-prepared}
 use Rattle.rx_history.proofs.Places.{OnlyNew, find-only, fresh-number, is_none, last-only}
+use Rattle.rx_history.proofs.Moments.{now-prepared, now-with_conn}
 
 -- ---- the number of a channel
 
@@ -89,28 +90,12 @@ channel_prepared s got c l =
 
 -- ---- the moment
 
-now-placed : (new : ConnLooks) (o : Option ConnLooks) (l : Looks) → (placed new o l).now ≡ l.now
-now-placed new None l = refl
-now-placed new (Some old) l = refl
-
-now-with_conn : (s : Setup) (kind : Kind) (x : Connection) (l : Looks) → (with_conn s kind x l).now ≡ l.now
-now-with_conn s (Client host epoch) x l = refl
-now-with_conn s (Server service nonces) x l =
-    now-placed (fresh_conn x x.host service 1 l) (if is_full s l then idle_conn l else None) l
-
-now-entered : (s : Setup) (x : Connection) (l : Looks) → (entered s x l).now ≡ l.now
+pub now-entered : (s : Setup) (x : Connection) (l : Looks) → (entered s x l).now ≡ l.now
 now-entered s x l =
     (elim (is_some (conn_at l x)) as (λ b. (cond b l (with_conn s s.kind x l)).now ≡ l.now) [
       | true ↦ refl
       | false ↦ now-with_conn s s.kind x l
     ])
-
-now-prepared : (s : Setup) (got : Took) (x : Connection) (l : Looks) → (prepared s got x l).now ≡ l.now
-now-prepared s got x l = of (enters got)
-  where
-    of : (b : Bool) → (if b then entered s x l else l).now ≡ l.now
-    of true = now-entered s x l
-    of false = refl
 
 -- ---- the calls
 

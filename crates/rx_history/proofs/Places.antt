@@ -14,6 +14,7 @@ use Rattle.rx_rules.proofs.EnterLaws.{fresh_channels}
 use Rattle.rx_rules.proofs.FindLaws.{find-before, find-last}
 use Rattle.rx_rules.proofs.KeepsLaws.{Fours, Keeps, Lives, keeps-refl, lives-refl}
 use Rattle.rx_model.proofs.NameLaws.{neither, connection_is, connection_itself, or_true}
+use Rattle.rx_history.proofs.Laws.ShownLaws.{given_way}
 
 -- no record of this connection was forgotten
 abbrev pub Spared : Connection → Looks → Type 0
@@ -27,35 +28,31 @@ abbrev pub OnlyNew : ConnLooks → Option ConnLooks → Type 0
 OnlyNew new None = Unit {0}
 OnlyNew new (Some r) = r ≡ new
 
--- in place of the old
-abbrev pub instead : ConnLooks → ConnLooks → ConnLooks → ConnLooks
-instead new old r = if same_connection r.connection old.connection then new else r
-
 pub find-only : (p : ConnLooks → Bool) (new old : ConnLooks) (rs : List ConnLooks) → find p rs ≡ None
-    → OnlyNew new (find p (map (instead new old) rs))
+    → OnlyNew new (find p (map (given_way new old) rs))
 find-only p new old [] none = tt
 find-only p new old (r ∷ rs) none =
     (elim (p r) as (λ b. p r ≡ b → cond b (Some r) (find p rs) ≡ None
-    → OnlyNew new (find p (map (instead new old) (r ∷ rs)))) [
+    → OnlyNew new (find p (map (given_way new old) (r ∷ rs)))) [
       | true ↦ λ passes is. absurd cc
       | false ↦ λ fails is. (
           let rest = find-only p new old rs is in
           (elim (same_connection r.connection old.connection)
-          as (λ b. OnlyNew new (cond (p (cond b new r)) (Some (cond b new r)) (find p (map (instead new old) rs)))) [
+          as (λ b. OnlyNew new (cond (p (cond b new r)) (Some (cond b new r)) (find p (map (given_way new old) rs)))) [
             | true ↦ (elim (p new) as (λ t. OnlyNew new (cond t (Some new)
-                (find p (map (instead new old) rs)))) [ true ↦ refl | false ↦ rest ])
+                (find p (map (given_way new old) rs)))) [ true ↦ refl | false ↦ rest ])
             | false ↦ rw fails rest
           ]))
     ]) refl none
 
 find-kept : (p : ConnLooks → Bool) (new old : ConnLooks) (rs : List ConnLooks) → p new ≡ false
     → ((r : ConnLooks) → same_connection r.connection old.connection ≡ true → p r ≡ false)
-    → find p (map (instead new old) rs) ≡ find p rs
+    → find p (map (given_way new old) rs) ≡ find p rs
 find-kept p new old [] fails apart = refl
 find-kept p new old (r ∷ rs) fails apart =
     let rest = find-kept p new old rs fails apart in
     (elim (same_connection r.connection old.connection) as (λ b. same_connection r.connection old.connection ≡ b
-    → cond (p (cond b new r)) (Some (cond b new r)) (find p (map (instead new old) rs))
+    → cond (p (cond b new r)) (Some (cond b new r)) (find p (map (given_way new old) rs))
     ≡ cond (p r) (Some r) (find p rs)) [
       | true ↦ λ same. rw (fails, apart r same) rest
       | false ↦ λ other. ap (λ (o : Option ConnLooks). cond (p r) (Some r) o) rest
@@ -204,17 +201,17 @@ within-oldest p (r ∷ rs) =
 
 there-instead : (x : Connection) (new old : ConnLooks) (rs : List ConnLooks) → new.connection ≡ x
     → list_any (λ q. same_connection q.connection old.connection) rs ≡ true
-    → is_some (find (λ r. same_connection r.connection x) (map (instead new old) rs)) ≡ true
+    → is_some (find (λ r. same_connection r.connection x) (map (given_way new old) rs)) ≡ true
 there-instead x new old [] named within = absurd cc
 there-instead x new old (r ∷ rs) named within =
     let own : same_connection new.connection x ≡ true = rw (named, connection_itself x) refl in
     (elim (same_connection r.connection old.connection) as (λ b.
     (b || list_any (λ q. same_connection q.connection old.connection) rs) ≡ true
     → is_some (cond (same_connection (cond b new r).connection x) (Some (cond b new r))
-    (find (λ r. same_connection r.connection x) (map (instead new old) rs))) ≡ true) [
+    (find (λ r. same_connection r.connection x) (map (given_way new old) rs))) ≡ true) [
       | true ↦ λ t. rw own refl
       | false ↦ λ t. (elim (same_connection r.connection x) as
-          (λ b. is_some (cond b (Some r) (find (λ r. same_connection r.connection x) (map (instead new old) rs)))
+          (λ b. is_some (cond b (Some r) (find (λ r. same_connection r.connection x) (map (given_way new old) rs)))
           ≡ true) [
             | true ↦ refl
             | false ↦ there-instead x new old rs named t

@@ -123,7 +123,7 @@ own-found : (l : Looks) (c : CallName) (k : CallRecord) → call_at l c ≡ Some
     → (own_call l c ≡ Some k) ⊎ (own_call l c ≡ None)
 own-found l c k there = own-is l c c k (name_itself c) there
 
-calls-linked : (kind : Kind) (to : Host) (service first cid : ℕ) (l : Looks)
+pub calls-linked : (kind : Kind) (to : Host) (service first cid : ℕ) (l : Looks)
     → (linked kind to service first cid l).calls ≡ l.calls
 calls-linked (Client host epoch) to service first cid l = refl
 calls-linked (Server nonces other) to service first cid l = refl

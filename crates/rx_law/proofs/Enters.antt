@@ -16,9 +16,10 @@ use Rattle.rx_rules.proofs.EnterLaws.{fresh_channels, keeps-used}
 use Rattle.rx_model.proofs.NameLaws.{connection_is, connection_itself}
 use Rattle.rx_law.proofs.Firm.{Firm, Young, busy_in, busy_of, firm-used, young-now}
 use Rattle.rx_history.proofs.Moments.{now-placed}
-use Rattle.rx_history.proofs.Places.{Apart, OnlyNew, find-only, found-placed, instead, is_none, keeps-placed}
+use Rattle.rx_history.proofs.Places.{Apart, OnlyNew, find-only, found-placed, is_none, keeps-placed}
 use Rattle.rx_history.proofs.Places.{only-fours}
 use Rattle.rx_law.proofs.Recalls.{Recalls, idle-old, recalls-keeps}
+use Rattle.rx_history.proofs.Laws.ShownLaws.{given_way}
 
 -- ---- what is entered
 
@@ -42,7 +43,7 @@ young-last y u new [] low young = ((λ same. low), tt)
 young-last y u new (r ∷ rs) low young = (young.0, young-last y u new rs low young.1)
 
 young-instead : (y : Connection) (u : ℕ) (new old : ConnLooks) (rs : List ConnLooks) → u ≤ new.last_use → Young y u rs
-    → Young y u (map (instead new old) rs)
+    → Young y u (map (given_way new old) rs)
 young-instead y u new old [] low young = tt
 young-instead y u new old (r ∷ rs) low young =
     (one (same_connection r.connection old.connection), young-instead y u new old rs low young.1)
@@ -60,17 +61,17 @@ young-placed y u new (Some old) l low young = young-instead y u new old l.conns 
 -- the records of the connection that goes are gone
 find-gone : (y : Connection) (new old : ConnLooks) (rs : List ConnLooks) → same_connection new.connection y ≡ false
     → ((r : ConnLooks) → same_connection r.connection y ≡ true → same_connection r.connection old.connection ≡ true)
-    → find (λ r. same_connection r.connection y) (map (instead new old) rs) ≡ None
+    → find (λ r. same_connection r.connection y) (map (given_way new old) rs) ≡ None
 find-gone y new old [] other gone = refl
 find-gone y new old (r ∷ rs) other gone =
     let rest = find-gone y new old rs other gone in
     (elim (same_connection r.connection old.connection) as (λ b. same_connection r.connection old.connection ≡ b
     → cond (same_connection (cond b new r).connection y) (Some (cond b new r))
-    (find (λ q. same_connection q.connection y) (map (instead new old) rs)) ≡ None) [
+    (find (λ q. same_connection q.connection y) (map (given_way new old) rs)) ≡ None) [
       | true ↦ λ same. rw other rest
       | false ↦ λ apart.
           (elim (same_connection r.connection y) as (λ b. same_connection r.connection y ≡ b
-          → cond b (Some r) (find (λ q. same_connection q.connection y) (map (instead new old) rs)) ≡ None) [
+          → cond b (Some r) (find (λ q. same_connection q.connection y) (map (given_way new old) rs)) ≡ None) [
             | true ↦ λ own. absurd (let is = gone r own in cc (is, apart))
             | false ↦ λ far. rest
           ]) refl

@@ -42,7 +42,7 @@ server = record {
   setup = unprompted (Server 1 0) (record { conns = 1024; calls = 64; slots = 2048; window = 32 }) null;
 }
 
-abbrev client : Node
+abbrev pub client : Node
 client = record {
   host = host 167772162 7001;
   setup =

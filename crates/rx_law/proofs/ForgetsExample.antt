@@ -9,12 +9,12 @@ use Rattle.rx_model.specs.declared.event.Noted.{Noted}
 use Rattle.rx_rules.proofs.Replay.{unhex}
 use Rattle.rx_rules.specs.After.{looks}
 use Rattle.rx_rules.specs.Classes.{null}
-use Rattle.rx_rules.specs.Setup.{Server, Client, FitsLimits, FitsSetup, unprompted}
+use Rattle.rx_rules.specs.Setup.{Server, FitsLimits, FitsSetup, unprompted}
 use Rattle.rx_law.specs.Promises.{LawIn}
 use Rattle.rx_history.specs.Sides.{IsClientAt, Node, moment, side}
 use Rattle.rx_law.specs.Times.{Acts, AdvancesAlike, GoAlike, Timely}
 use Rattle.rx_law.specs.Worlds.{AreApart, World}
-use Rattle.rx_law.proofs.Example.{are_bytes, default_fits, host, name, null_fits}
+use Rattle.rx_law.proofs.Example.{are_bytes, default_fits, host, name, null_fits, client}
 use Rattle.rx_law.proofs.WorldLaw.{world-law}
 
 -- ---- clocks that stand alike wherever the client acts
@@ -43,13 +43,6 @@ abbrev server : Node
 server = record {
   host = host 167772161 7000;
   setup = unprompted (Server 1 0) (record { conns = 1; calls = 64; slots = 2048; window = 32 }) null;
-}
-
-abbrev client : Node
-client = record {
-  host = host 167772162 7001;
-  setup =
-      unprompted (Client (host 167772162 7001) 1) (record { conns = 1024; calls = 64; slots = 2048; window = 32 }) null;
 }
 
 abbrev nodes : List Node

@@ -38,6 +38,7 @@ use Rattle.rx_law.proofs.HearsTaken.{HeardBy, hears-started, hears-with}
 use Rattle.rx_history.proofs.Moments.{now-prepared}
 use Rattle.rx_history.proofs.Server.{Standing, good-silenced}
 use Rattle.rx_history.proofs.Laws.SoundLaws.{Below, Sound}
+use Rattle.rx_history.proofs.Given.GivenLaws.{silent-name}
 
 -- a message of the call came, with an answer for which it is heard
 pub record HeardFrom (s : Setup) (l : Looks) (from : Host) (bytes : List ℕ) (got : Took) (c : CallName) : Type 0 where
@@ -97,13 +98,6 @@ hears-message s from bytes (Ok m) got l c reads = hears-behind s
     (outer_row s s.kind l from m) from bytes m got l c reads refl
 
 -- ---- a poll
-
-silent-name : (now : ℕ) (k : CallRecord) → (unless_silent now k).name ≡ k.name
-silent-name now k = of (is_silent now k)
-  where
-    of : (b : Bool) → (cond b (record k { life = after_silence (silence_of now k) k.life }) k).name ≡ k.name
-    of true = refl
-    of false = refl
 
 silent-heard : (now : ℕ) (k : CallRecord) → (unless_silent now k).looks.heard ≡ k.looks.heard
 silent-heard now k = of (is_silent now k)

@@ -51,14 +51,14 @@ hears-opened s c d l =
       | false ↦ inl refl
     ])
 
-now-opened : (s : Setup) (d : CallName) (l : Looks) → (opened s d l).now ≡ l.now
+pub now-opened : (s : Setup) (d : CallName) (l : Looks) → (opened s d l).now ≡ l.now
 now-opened s d l = of (nat_lt (channel_at l (channel_of d)).number d.number)
   where
     of : (b : Bool) → (if b then started_later s d l else l).now ≡ l.now
     of true = refl
     of false = refl
 
-chunk-heard : (v : NodeView) (got : Took) (m : Message) (body : Body) (k : CallLooks)
+pub chunk-heard : (v : NodeView) (got : Took) (m : Message) (body : Body) (k : CallLooks)
     → ((after_chunk v got m body k).heard ≡ k.heard) ⊎ ((after_chunk v got m body k).heard ≡ v.now)
 chunk-heard v got m (bodies.Chunk payload) k = inr refl
 chunk-heard v got m _ k = inl refl

@@ -40,7 +40,7 @@ use Rattle.rx_history.proofs.Turns.{CountedOf, Fine}
 
 -- ---- the words of the law, of the streams as one value
 
-said-is : (o : Option CallRecord) → said_by o ≡ (ends_of o).said
+pub said-is : (o : Option CallRecord) → said_by o ≡ (ends_of o).said
 said-is None = refl
 said-is (Some k) = refl
 
@@ -48,7 +48,7 @@ read-is : (o : Option CallRecord) → read_by o ≡ (ends_of o).read
 read-is None = refl
 read-is (Some k) = refl
 
-shut-is : (o : Option CallRecord) → is_shut_by o ≡ (ends_of o).shut
+pub shut-is : (o : Option CallRecord) → is_shut_by o ≡ (ends_of o).shut
 shut-is None = refl
 shut-is (Some k) = refl
 

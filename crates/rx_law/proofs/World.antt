@@ -89,7 +89,7 @@ strays-message s host epoch from (Ok m) got l kind = of (outer_row s s.kind l fr
     of None front = with-strays s got d m (prepared s got (connection_of d) l)
         ∙ strays-prepared s got (connection_of d) l
 
-strays-given : (s : Setup) (got : Option (Host × List ℕ)) (l : Looks) → l.strays ≡ [] → (given_by s got l).strays ≡ []
+pub strays-given : (s : Setup) (got : Option (Host × List ℕ)) (l : Looks) → l.strays ≡ [] → (given_by s got l).strays ≡ []
 strays-given s None l none = none
 strays-given s (Some (to, bytes)) l none = of (reading_of bytes)
   where
@@ -111,7 +111,7 @@ strays-given s (Some (to, bytes)) l none = of (reading_of bytes)
     of (Err bad) = none
     of (Ok m) = stray m (is_stray m m.body)
 
-strays-linked : (kind : Kind) (to : Host) (service first cid : ℕ) (l : Looks)
+pub strays-linked : (kind : Kind) (to : Host) (service first cid : ℕ) (l : Looks)
     → (linked kind to service first cid l).strays ≡ l.strays
 strays-linked (Client host epoch) to service first cid l = refl
 strays-linked (Server service nonces) to other first cid l = refl
@@ -192,7 +192,7 @@ gave-mine s (e ∷ h) to bytes m fits legal (inl gives) reads =
 
 -- ---- who gave a datagram
 
-abbrev In : Datagram → List Datagram → Type 0
+abbrev pub In : Datagram → List Datagram → Type 0
 In d [] = ⊥
 In d (x ∷ xs) = (x ≡ d) ⊎ In d xs
 

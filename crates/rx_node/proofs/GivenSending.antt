@@ -90,12 +90,6 @@ piece_whole k seq payload count is counted =
     let same : length payload ≡ length (piece_at k.sent seq).payload = ap (λ (xs : List ℕ). length xs) is in
     take-short payload count (omega arith) ∙ is
 
--- a giving leaves what was received
-pub given_received : (now : ℕ) (o : Option Sending) (k : CallLooks) → (after_given now o k).received ≡ k.received
-given_received now None k = refl
-given_received now (Some (sendings.Piece seq again)) k = refl
-given_received now (Some (sendings.Ack reason serial)) k = refl
-
 -- and the pieces of what was said
 pub given_pieces : (now : ℕ) (o : Option Sending) (k : CallLooks) (seq : ℕ)
     → (piece_at (after_given now o k).sent seq).payload ≡ (piece_at k.sent seq).payload

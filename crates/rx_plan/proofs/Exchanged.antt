@@ -27,7 +27,7 @@ use Rattle.rx_history.specs.Alone.{ForgotNone}
 use Rattle.rx_law.specs.Worlds.{TwoEnds, World}
 use Rattle.rx_history.proofs.Ends.{ends_of}
 use Rattle.rx_law.proofs.Joint.{between, Fed, Grown, client-grown, fed-at, fed-before, server-grown}
-use Rattle.rx_law.proofs.Law.{law-of, side-split}
+use Rattle.rx_law.proofs.Law.{law-of, side-split, said-is, shut-is}
 use Rattle.rx_history.proofs.Laws.OnceLaw.{served}
 use Rattle.rx_law.proofs.StartsTimed.{starts-once}
 use Rattle.rx_law.proofs.World.{if-some, world-fed, world-fed-by}
@@ -51,14 +51,6 @@ use Rattle.rx_plan.proofs.Passing.{own_changed, passes_told, told_of}
 use Rattle.rx_history.proofs.Laws.EnteredLaw.{legal-before}
 
 -- ---- a shut stream stays as it is
-
-pub said_is : (o : Option CallRecord) → streams.said_by o ≡ (ends_of o).said
-said_is None = refl
-said_is (Some k) = refl
-
-pub shut_is : (o : Option CallRecord) → streams.is_shut_by o ≡ (ends_of o).shut
-shut_is None = refl
-shut_is (Some k) = refl
 
 pub said_passed : (o : Option CallRecord) → streams.said_by o ≡ (passed_of o).said
 said_passed None = refl
@@ -167,13 +159,13 @@ pub request_said : (s : Setup) (c : CallName) (later before : List Event) (reque
     → v.call ≡ c → Grown s c (later ++ before) → Tells request v (looks s (later ++ before))
     → streams.is_shut (looks s before) c ≡ true → streams.said (looks s before) c ≡ request
 request_said s c later before request v own grown tells shut =
-    let stays = stays_shut s c later before grown (sym (shut_is (call_at (looks s before) c)) ∙ shut) in
+    let stays = stays_shut s c later before grown (sym (shut-is (call_at (looks s before) c)) ∙ shut) in
     let shut_now : streams.is_shut (looks s (later ++ before)) c ≡ true =
-    shut_is (call_at (looks s (later ++ before)) c) ∙ stays.0 in
+    shut-is (call_at (looks s (later ++ before)) c) ∙ stays.0 in
     let whole : streams.said (looks s (later ++ before)) c ≡ request =
     subst (λ (n : CallName). streams.is_shut (looks s (later ++ before)) n ≡ true
     → streams.said (looks s (later ++ before)) n ≡ request) own tells.whole shut_now in
-    said_is (call_at (looks s before) c) ∙ sym stays.1 ∙ sym (said_is (call_at (looks s (later ++ before)) c)) ∙ whole
+    said-is (call_at (looks s before) c) ∙ sym stays.1 ∙ sym (said-is (call_at (looks s (later ++ before)) c)) ∙ whole
 
 -- what was said before is what was said first
 said_first : (s : Setup) (c : CallName) (later before : List Event) → Grown s c (later ++ before)
@@ -184,8 +176,8 @@ said_first s c (e ∷ later) before grown =
     let now : List Event = later ++ before in (
       old.0 ++ grown.0.more,
       sym (append_assoc (streams.said (looks s before) c) old.0 grown.0.more)
-          ∙ ap (λ (xs : List ℕ). xs ++ grown.0.more) (old.1 ∙ said_is (call_at (looks s now) c)) ∙ sym grown.0.joined
-          ∙ sym (said_is (call_at (looks s (e ∷ now)) c)),
+          ∙ ap (λ (xs : List ℕ). xs ++ grown.0.more) (old.1 ∙ said-is (call_at (looks s now) c)) ∙ sym grown.0.joined
+          ∙ sym (said-is (call_at (looks s (e ∷ now)) c)),
     )
 
 -- ---- one connection of a world, whichever premise holds
@@ -272,9 +264,9 @@ module _ (g : Handlers) (h : List Noted) (t : Turning) (y : Connection) (k : ℕ
         whole = λ ended. (
             let w = (between x before c then_fed on).request.ended ended in
             let shut : streams.is_shut (looks client.setup (side k before)) c ≡ true =
-            shut_is (call_at (looks client.setup (side k before)) c) ∙ w.0 in
+            shut-is (call_at (looks client.setup (side k before)) c) ∙ w.0 in
             read_ends (call_at (looks server.setup (side 0 before)) c) ∙ w.1
-            ∙ sym (said_is (call_at (looks client.setup (side k before)) c))
+            ∙ sym (said-is (call_at (looks client.setup (side k before)) c))
             ∙ request_said client.setup c (side k later) (side k before) request v own calls_grown told shut);
       }
     where
@@ -321,8 +313,8 @@ module _ (g : Handlers) (h : List Noted) (t : Turning) (y : Connection) (k : ℕ
       (subst (λ (es : List Event). Tells request v (looks client.setup es)) cut_client tells) whole.shut in
       let read_all : streams.read (looks s (side 0 before)) c ≡ request = whole.read ∙ said_then in
       let said_same : streams.said (looks s (side 0 before)) c ≡ v.reply =
-      said_is (call_at (looks s (side 0 before)) c) ∙ sym shut.1 ∙ sym stays.1
-      ∙ sym (said_is (call_at (looks s (side 0 later ++ finish ∷ side 0 before)) c))
+      said-is (call_at (looks s (side 0 before)) c) ∙ sym shut.1 ∙ sym stays.1
+      ∙ sym (said-is (call_at (looks s (side 0 later ++ finish ∷ side 0 before)) c))
       ∙ ap (λ (es : List Event). streams.said (looks s es) c) (sym cut_server) ∙ sym all_read
       ∙ subst (λ (n : CallName). streams.read (looks client.setup (side k h)) n ≡ v.reply) own (sym tells.reply) in
       by (subst (λ (ys : List ℕ). EndsAsServed g request ys (pos 0)) said_same

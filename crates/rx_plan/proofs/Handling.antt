@@ -53,11 +53,11 @@ pub data Serves (g : Handlers) : Turning → List Event → Type 0 where
 
 -- ---- a job keeps its call
 
-decided-call : (x : Served) (j : JobState) → (decided x j).call ≡ j.call
+pub decided-call : (x : Served) (j : JobState) → (decided x j).call ≡ j.call
 decided-call (serveds.refusal c) j = refl
 decided-call (serveds.bytes out) j = refl
 
-settled-call : (g : Handlers) (steps : ℕ) (j : JobState) → (settled g steps j).call ≡ j.call
+pub settled-call : (g : Handlers) (steps : ℕ) (j : JobState) → (settled g steps j).call ≡ j.call
 settled-call g steps j = by (early_code g j.request true)
   where
     waits-on : (b : Bool)
@@ -69,28 +69,28 @@ settled-call g steps j = by (early_code g j.request true)
     by (Some c) = refl
     by None = waits-on (nat_lt steps (wait_of g j.request))
 
-moving-call : (g : Handlers) (j : JobState) → (moving g j).job.call ≡ j.call
+pub moving-call : (g : Handlers) (j : JobState) → (moving g j).job.call ≡ j.call
 moving-call g j = by (waits j)
   where
     by : (b : Bool) → (if b then settled g (j.steps + 1) j else j).call ≡ j.call
     by true = settled-call g (j.steps + 1) j
     by false = refl
 
-judged-call : (g : Handlers) (j : JobState) → (judged g j).call ≡ j.call
+pub judged-call : (g : Handlers) (j : JobState) → (judged g j).call ≡ j.call
 judged-call g j = by (early_code g j.request false)
   where
     by : (o : Option ℤ) → (maybe_coded o j).call ≡ j.call
     by None = refl
     by (Some c) = refl
 
-grown-call : (g : Handlers) (before : ℕ) (j : JobState) → (grown g before j).call ≡ j.call
+pub grown-call : (g : Handlers) (before : ℕ) (j : JobState) → (grown g before j).call ≡ j.call
 grown-call g before j = by (nat_lt before (length (kept_of g j.request)))
   where
     by : (b : Bool) → (if b then judged g (trimmed g j) else trimmed g j).call ≡ j.call
     by true = judged-call g (trimmed g j)
     by false = refl
 
-read-call : (g : Handlers) (j : JobState) (got : ServeRead) (came : List ℕ)
+pub read-call : (g : Handlers) (j : JobState) (got : ServeRead) (came : List ℕ)
     → (heard_read g j got came).job.call ≡ j.call
 read-call g j (reads.Got n) came = grown-call g (length j.request) (record j { request = j.request ++ came })
 read-call g j reads.End came = settled-call g 0 (record j { ended = true })
@@ -98,13 +98,13 @@ read-call g j reads.NotYet came = refl
 read-call g j (reads.Gone c) came = refl
 read-call g j reads.NotOpen came = refl
 
-write-call : (j : JobState) (offered : ℕ) (got : Result ℕ ServeRefused) → (heard_write j offered got).job.call ≡ j.call
+pub write-call : (j : JobState) (offered : ℕ) (got : Result ℕ ServeRefused) → (heard_write j offered got).job.call ≡ j.call
 write-call j offered (Ok n) = refl
 write-call j offered (Err refusals.NotOpen) = refl
 write-call j offered (Err (refusals.Gone c)) = refl
 write-call j offered (Err refusals.Unread) = refl
 
-heard-call : (g : Handlers) (j : JobState) (e : Event) → (heard g j e).job.call ≡ j.call
+pub heard-call : (g : Handlers) (j : JobState) (e : Event) → (heard g j e).job.call ≡ j.call
 heard-call g j (events.HasRead c max (readers.Server got) came) = read-call g j got came
 heard-call g j (events.HasRead c max (readers.Client got) came) = refl
 heard-call g j (events.Wrote c offered (writers.Server got) came) = write-call j offered got
@@ -232,7 +232,7 @@ own-want j wants.Write e c is on =
 own-want j (wants.Finish code) e c is on =
     name_is c j.call (subst (λ (x : Event). handles c x ≡ true) is.1 on)
 
-own-ask : (g : Handlers) (m : Moving) (a : Ask) (e : Event) (c : CallName) → (serving g).asks m ≡ Some a → IsCall a e
+pub own-ask : (g : Handlers) (m : Moving) (a : Ask) (e : Event) (c : CallName) → (serving g).asks m ≡ Some a → IsCall a e
     → handles c e ≡ true → c ≡ m.job.call
 own-ask g m a e c asked is on = by (want_in m.phase m.job) asked
   where

@@ -41,10 +41,11 @@ use Rattle.rx_rules.proofs.CallsLaws.{KeepsNames, call_at-on_call, call_at-on_ca
 use Rattle.rx_rules.proofs.FindLaws.{find_passes}
 use Rattle.rx_rules.proofs.StartLaws.{call_at-new, call_at-other}
 use Rattle.rx_plan.proofs.Passed.{LeavesStreams, StartsAnew, StartsAnewAt, StartsAnewBy, StartsAnewOf}
-use Rattle.rx_plan.proofs.Passed.{challenged-calls, none_passed, passed_in, prepared-calls, taken-leaves}
-use Rattle.rx_plan.proofs.Passed.{turned-calls}
+use Rattle.rx_plan.proofs.Passed.{none_passed, passed_in, taken-leaves}
 use Rattle.rx_history.proofs.LifeFalls.{Falls, accept_falls, acks_falls, code_falls, end_falls, finish_falls}
 use Rattle.rx_history.proofs.LifeFalls.{gone_falls, later_falls, silence_falls}
+use Rattle.rx_history.proofs.Events.{calls-prepared, calls-turned}
+use Rattle.rx_history.proofs.Room.RoomTaken.{challenged-calls}
 
 module _ (P : Option CallRecord → Type 0)
     (on_streams : (k : CallRecord) (new : CallLooks) → passed_in new ≡ passed_in k.looks → P (Some k)
@@ -236,11 +237,11 @@ module _ (P : Option CallRecord → Type 0)
       d = named s from m
 
       behind : (row : Option Took) → outer_row s s.kind l from m ≡ row → Holds c (taken_behind s row from d m got l)
-      behind (Some row) is = holds-by c l (turned_away row from m l) (turned-calls row from m l) held
+      behind (Some row) is = holds-by c l (turned_away row from m l) (calls-turned row from m l) held
       behind None is =
           (let ready : Looks = prepared s got (connection_of d) l in
           holds-with s got c d m ready (anew is)
-          (holds-by c l ready (prepared-calls s got (connection_of d) l) held))
+          (holds-by c l ready (calls-prepared s got (connection_of d) l) held))
 
   -- ---- a message is given
 

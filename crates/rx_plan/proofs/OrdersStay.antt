@@ -34,9 +34,10 @@ use Rattle.rx_history.proofs.Laws.TakenLaws.{abort-number, again-number}
 use Rattle.rx_plan.proofs.ChannelsHold.{Channels, channel_changed, channels_changed, fresh_channels}
 use Rattle.rx_plan.proofs.ConnsHold.{Bears, Lasts, MayTake, MayTakeFrom, MayTell, hold_after}
 use Rattle.rx_plan.proofs.Holding.{holds-on_call, holds-on_life, holds_after}
-use Rattle.rx_plan.proofs.Passed.{LeavesStreams, StartsAnewAt, StartsAnewBy, StartsAnewOf, prepared-calls}
+use Rattle.rx_plan.proofs.Passed.{LeavesStreams, StartsAnewAt, StartsAnewBy, StartsAnewOf}
 use Rattle.rx_plan.proofs.Passing.{starts_anew}
 use Rattle.rx_history.proofs.LifeFalls.{end_falls}
+use Rattle.rx_history.proofs.Events.{calls-prepared}
 
 -- a call that is there
 abbrev IsSome : Option CallRecord → Type 0
@@ -113,7 +114,7 @@ module _ (s : Setup) (c : CallName) (order : ℕ) (some : (c.number == 0) ≡ fa
   taken_orders from (Ok m) got l there anew = λ front.
       take_orders got (named s from m) m.body (prepared s got (connection_of (named s from m)) l)
       (subst (λ (ks : List CallRecord). IsSome (find (λ k. same_name k.name c) ks))
-      (sym (prepared-calls s got (connection_of (named s from m)) l)) there) (anew front)
+      (sym (calls-prepared s got (connection_of (named s from m)) l)) there) (anew front)
 
   event_orders : (l : Looks) (e : Event) → AllowedServer s l e → IsSome (call_at l c) → StartsAnewAt s l c e
       → MayTell s Orders l e

@@ -1,5 +1,5 @@
 -- What passed at one end of a call, and what leaves it.
-use Rattle.std.proofs.Common.{◌≡◌, ◌&&◌, ◌-◌, not, if◌then◌else◌, nat_lt, is_some, ℕ, Bool, true, false}
+use Rattle.std.proofs.Common.{◌≡◌, ◌&&◌, ◌-◌, if◌then◌else◌, nat_lt, ℕ, Bool, true, false}
 use Rattle.std.proofs.Common.{List, [], Option, Some, None, Result, Ok, Err, refl}
 use Rattle.rx_model.specs.declared.answers.BadMsg.{BadMsg}
 use Rattle.rx_model.specs.declared.answers.Took.{Took}
@@ -11,21 +11,16 @@ use Rattle.rx_model.specs.declared.names.Host.{Host}
 use Rattle.rx_model.specs.Body.{Body}
 use Rattle.rx_model.specs.Body as bodies
 use Rattle.rx_model.specs.Message.{Message}
-use Rattle.rx_model.specs.Names.{Connection, channel_of, connection_of, same_name}
+use Rattle.rx_model.specs.Names.{channel_of, connection_of, same_name}
 use Rattle.rx_model.specs.Reading.{reading_of}
-use Rattle.rx_rules.specs.After.{challenged, enters}
 use Rattle.rx_rules.specs.After.{prepared}
-use Rattle.rx_rules.specs.After.{taken_unserved, turned_away}
 use Rattle.rx_rules.specs.CallLooks.{CallLooks, NodeView, after_body, after_chunk}
 use Rattle.rx_rules.specs.CallLooks.{after_taken, found}
 use Rattle.rx_rules.specs.Judging.{outer_row}
-use Rattle.rx_rules.specs.Looks.{CallRecord, ConnLooks, Looks, call_at, channel_at, conn_at, is_proved}
-use Rattle.rx_rules.specs.Looks.{on_channel}
-use Rattle.rx_rules.specs.Records.{entered, fresh_conn, idle_conn, is_full, placed}
-use Rattle.rx_rules.specs.Records.{with_conn}
+use Rattle.rx_rules.specs.Looks.{CallRecord, Looks, call_at, channel_at}
 use Rattle.rx_rules.specs.Sent.{Sent}
 use Rattle.rx_rules.specs.Sent as streams
-use Rattle.rx_rules.specs.Setup.{Setup, Kind, Server, Client, is_client, named}
+use Rattle.rx_rules.specs.Setup.{Setup, named}
 
 -- ---- what passed at one end
 
@@ -88,45 +83,6 @@ taken-leaves v tooks.Heard m k = body-leaves v.now m m.body k
 taken-leaves v _ m k = refl
 
 -- ---- the calls of look-ups
-
-placed-calls : (new : ConnLooks) (old : Option ConnLooks) (l : Looks) → (placed new old l).calls ≡ l.calls
-placed-calls new None l = refl
-placed-calls new (Some old) l = refl
-
-entered-calls : (s : Setup) (x : Connection) (l : Looks) → (entered s x l).calls ≡ l.calls
-entered-calls s x l = of (is_some (conn_at l x))
-  where
-    by_kind : (kind : Kind) → (with_conn s kind x l).calls ≡ l.calls
-    by_kind (Client host epoch) = refl
-    by_kind (Server service nonces) =
-        placed-calls (fresh_conn x x.host service 1 l) (if is_full s l then idle_conn l else None) l
-
-    of : (b : Bool) → (if b then l else with_conn s s.kind x l).calls ≡ l.calls
-    of true = refl
-    of false = by_kind s.kind
-
-pub prepared-calls : (s : Setup) (got : Took) (x : Connection) (l : Looks) → (prepared s got x l).calls ≡ l.calls
-prepared-calls s got x l = of (enters got)
-  where
-    of : (b : Bool) → (if b then entered s x l else l).calls ≡ l.calls
-    of true = entered-calls s x l
-    of false = refl
-
-unserved-calls : (from : Host) (m : Message) (body : Body) (l : Looks) → (taken_unserved from m body l).calls ≡ l.calls
-unserved-calls from m (bodies.Chunk payload) l = refl
-unserved-calls from m _ l = refl
-
-pub turned-calls : (row : Took) (from : Host) (m : Message) (l : Looks) → (turned_away row from m l).calls ≡ l.calls
-turned-calls tooks.Unserved from m l = unserved-calls from m m.body l
-turned-calls _ from m l = refl
-
-pub challenged-calls : (s : Setup) (d : CallName) (l : Looks) → (challenged s d l).calls ≡ l.calls
-challenged-calls s d l = of (not (is_client s.kind) && (s.class.challenges && not (is_proved l (connection_of d))))
-  where
-    of : (b : Bool)
-        → (if b then on_channel (channel_of d) (λ q. record q { owed_challenge = true }) l else l).calls ≡ l.calls
-    of true = refl
-    of false = refl
 
 -- a message of the call starts it only where it has no record
 abbrev pub StartsAnew : CallName → CallName → Looks → Type 0

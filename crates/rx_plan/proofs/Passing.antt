@@ -36,8 +36,9 @@ use Rattle.rx_history.proofs.Laws.OnceLaw.{served}
 use Rattle.rx_jobs.specs.History.{gives, handles, life_of}
 use Rattle.rx_jobs.specs.Lives.{bytes_read, bytes_written, has_end, read_by, tells_end, written_by}
 use Rattle.rx_plan.proofs.Passed.{LeavesStreams, Passed, StartsAnew, StartsAnewAt, StartsAnewBy, StartsAnewOf}
-use Rattle.rx_plan.proofs.Passed.{passed_of, prepared-calls}
+use Rattle.rx_plan.proofs.Passed.{passed_of}
 use Rattle.rx_plan.proofs.Holding.{holds_after}
+use Rattle.rx_history.proofs.Events.{calls-prepared}
 
 -- ---- a call starts only where it has no record
 
@@ -51,7 +52,7 @@ module _ (s : Setup) (l : Looks) (c : CallName) where
       subst (λ (n : CallName). nat_lt (channel_at (prepared s got (connection_of n) l) (channel_of n)).number n.number
       ≡ true) (sym is) above in
       ap (λ (ks : List CallRecord). find (λ k. same_name k.name c) ks)
-      (prepared-calls s got (connection_of (named s from m)) l) ∙ new m reads front (sym is) mine
+      (calls-prepared s got (connection_of (named s from m)) l) ∙ new m reads front (sym is) mine
 
   anew-taken : (from : Host) (bytes : List ℕ) (got : Took) (m : Message) → StartsNew s l (events.Taken from bytes got) c
       → reading_of bytes ≡ Ok m → outer_row s s.kind l from m ≡ None

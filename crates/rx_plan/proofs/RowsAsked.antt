@@ -16,7 +16,7 @@ use Rattle.rx_rules.specs.Looks.{CallRecord, Looks, call_at, channel_at, is_prov
 use Rattle.rx_rules.specs.Setup.{Client, IsServer, Kind, Server, Setup}
 use Rattle.rx_rules.proofs.FindLaws.{find_passes}
 use Rattle.rx_model.specs.declared.wire.TheConstants.{CLIENT_INITIATED}
-use Rattle.rx_history.proofs.Rows.RowsAborting.{Latest, above-starts, not_false, passed, side-stopped, skipped}
+use Rattle.rx_history.proofs.Rows.RowsAborting.{Latest, above-starts, not_false, passed, side-stopped, skipped, is_stopped}
 use Rattle.rx_plan.proofs.Aborts.RowsOver.{same_numbers}
 use Rattle.rx_history.proofs.Laws.RightLaws.{unopened}
 
@@ -69,10 +69,6 @@ pub record IsWrong (s : Setup) (l : Looks) (c : CallName) (text : List ℕ) : Ty
 wrong_row : (right proved : Bool) → response_row right proved ≡ tooks.Stopped → right ≡ false
 wrong_row false proved is = refl
 wrong_row true proved is = absurd cc
-
-abbrev is_stopped : Took → Bool
-is_stopped tooks.Stopped = true
-is_stopped _ = false
 
 -- the row of the call itself is that it stopped
 own-stopped : (kind : Kind) (f : Facts) (call : Took) → f.stops_all ≡ false → IsServer kind

@@ -72,10 +72,10 @@ short : WaitsShort g
 short request = omega (arith, waits_none (answer_to g request true))
 
 -- 10.0.0.1:7000 and 10.0.0.2:7001
-abbrev at_server : Host
+abbrev pub at_server : Host
 at_server = record { addr = 167772161; port = 7000 }
 
-abbrev at_client : Host
+abbrev pub at_client : Host
 at_client = record { addr = 167772162; port = 7001 }
 
 -- the name of its call

@@ -1,12 +1,11 @@
 -- A handler ends.
 use Rattle.std.proofs.Common.{◌≡◌, ◌≤◌, ◌+◌, ◌||◌, ℕ, ℤ, pos, zero, if◌then◌else◌, cond, nat_lt, Bool, true, false}
 use Rattle.std.proofs.Common.{List, [], ◌∷◌, map}
-use Rattle.std.proofs.Common.{Option, Some, None, Result, Ok, option_map, refl, ◌∙◌, ap, sym, subst, arith, w32, to_z}
+use Rattle.std.proofs.Common.{Option, Some, None, option_map, refl, ◌∙◌, ap, sym, subst, arith, w32, to_z}
 use Rattle.std.proofs.Common.{of_z, FitsSigned}
 use Rattle.std.specs.Prelude.{IsSomeAnd}
 use Rattle.std.proofs.lemmas.Bool.Decides.{nat_tests}
 use Rattle.std.proofs.lemmas.Int.{to_z-of_z}
-use Rattle.rx_model.specs.declared.answers.ServeRefused.{ServeRefused}
 use Rattle.rx_model.specs.declared.names.CallName.{CallName}
 use Rattle.rx_model.specs.Names.{Channel, channel_of, same_name}
 use Rattle.rx_rules.specs.After.{finish_done, is_zero, owing_abort}
@@ -23,7 +22,7 @@ use Rattle.rx_rules.proofs.CallsLaws.{changed_if}
 use Rattle.rx_history.proofs.Differ.{every_found}
 use Rattle.rx_history.proofs.Dimensions.DimsEvents.{finish_dims}
 use Rattle.rx_history.proofs.LifeFalls.{is_begun}
-use Rattle.rx_history.proofs.Room.RoomShut.{roomy_finished}
+use Rattle.rx_history.proofs.Room.RoomShut.{roomy_finished, was_done}
 use Rattle.rx_history.proofs.Room.RoomStarts.{RoomyAt}
 use Rattle.rx_history.proofs.Laws.TakenLaws.{abort-number}
 use Rattle.rx_history.proofs.Room.Tight.{TightOf}
@@ -141,9 +140,6 @@ life_beside c f g l = ap (λ (ks : List CallRecord). record l { calls = ks }) (a
 
 -- ---- it ends well
 
-abbrev done : Result (Unit {0}) ServeRefused
-done = Ok tt
-
 module _ (class : List ℕ → Class) (old mid new : NodeState) (key : ℕ) (l : Looks) (c : CallName)
     (f : IsFound l c key lives.Accepted) (m : Mirrors class old l) where
   -- its life turns, then its stream is shut
@@ -153,18 +149,18 @@ module _ (class : List ℕ → Class) (old mid new : NodeState) (key : ℕ) (l :
       → ((l : Looks) (ch : Channel) → Mirrors class mid l → IsChannel l key ch
       → RoomyAt (setup_of class mid) (on_looks (latest_name l ch) after_shut l)
       → Mirrors class new (on_looks (latest_name l ch) after_shut l))
-      → done ≡ served_finish (call_at l c) (pos 0) → Mirrors class new (finish_done c (pos 0) done l)
+      → was_done ≡ served_finish (call_at l c) (pos 0) → Mirrors class new (finish_done c (pos 0) was_done l)
   ended_well server kept turned shut may =
       let ch : Channel = channel_of c in
       let behind : Looks = on_life (latest_name l ch) (after_finish true (pos 0)) l in
-      let same : on_looks (latest_name l ch) after_shut behind ≡ finish_done c (pos 0) done l =
+      let same : on_looks (latest_name l ch) after_shut behind ≡ finish_done c (pos 0) was_done l =
       (λ i. on_looks (f.latest i) after_shut (on_life (f.latest i) (after_finish true (pos 0)) l))
       ∙ life_beside c after_shut (after_finish true (pos 0)) l in
       let roomy : RoomyAt (setup_of class mid) (on_looks (latest_name l ch) after_shut behind) =
       subst (λ (s : Setup). RoomyAt s (on_looks (latest_name l ch) after_shut behind))
       (sym (kept_setup class old mid kept))
       (subst (λ (k : Looks). RoomyAt (setup_of class old) k) (sym same)
-      (roomy_finished (setup_of class old) c (pos 0) done l server may m.roomy)) in
+      (roomy_finished (setup_of class old) c (pos 0) was_done l server may m.roomy)) in
       subst (λ (k : Looks). Mirrors class new k) same
       (shut behind ch (turned l ch m f.channel)
       (record { conn = f.channel.conn; there = f.channel.there; is = f.channel.is }) roomy)
@@ -177,7 +173,7 @@ module _ (class : List ℕ → Class) (old mid new : NodeState) (key : ℕ) (l :
       → Mirrors class mid (on_channel ch (owing_abort (Some code)) l))
       → ((l : Looks) (ch : Channel) → Mirrors class mid l → IsChannel l key ch
       → Mirrors class new (on_life (latest_name l ch) (after_finish (is_zero code) code) l))
-      → Mirrors class new (finish_done c code done l)
+      → Mirrors class new (finish_done c code was_done l)
   ended_ill code other owed turned =
       let ch : Channel = channel_of c in
       let behind : Looks = on_channel ch (owing_abort (Some code)) l in
@@ -193,11 +189,11 @@ module _ (class : List ℕ → Class) (old mid new : NodeState) (key : ℕ) (l :
 
 -- what it serves then
 pub ended_serves : (class : List ℕ → Class) (sv : ServerState) (new : NodeState) (l : Looks) (c : CallName) (code : ℤ)
-    → SameRole sv.node new → Mirrors class new (finish_done c code done l) → Serves class sv l
-    → Serves class (record sv { node = new }) (finish_done c code done l)
+    → SameRole sv.node new → Mirrors class new (finish_done c code was_done l) → Serves class sv l
+    → Serves class (record sv { node = new }) (finish_done c code was_done l)
 ended_serves class sv new l c code role mirrors serves =
-    serves_quiet class sv new l (finish_done c code done l) role (finish_dims c code done l)
-    (finish_rests c code done l)
+    serves_quiet class sv new l (finish_done c code was_done l) role (finish_dims c code was_done l)
+    (finish_rests c code was_done l)
     mirrors serves
 
 module _ (class : List ℕ → Class) (sv : ServerState) (mid new : NodeState) (key : ℕ) (code : ℤ)
@@ -210,13 +206,13 @@ module _ (class : List ℕ → Class) (sv : ServerState) (mid new : NodeState) (
       → RoomyAt (setup_of class mid) (on_looks (latest_name l ch) after_shut l)
       → Mirrors class new (on_looks (latest_name l ch) after_shut l))
       → (l : Looks) (c : CallName) → Serves class sv l → IsFound l c key lives.Accepted
-      → done ≡ served_finish (call_at l c) code → Serves class (record sv { node = new }) (finish_done c code done l)
+      → was_done ≡ served_finish (call_at l c) code → Serves class (record sv { node = new }) (finish_done c code was_done l)
   well_serves is server turned shut l c serves found may =
       ended_serves class sv new l c code (role_both sv.node mid new kept same)
-      (subst (λ (z : ℤ). Mirrors class new (finish_done c z done l)) (sym is)
+      (subst (λ (z : ℤ). Mirrors class new (finish_done c z was_done l)) (sym is)
       (ended_well class sv.node mid new key l c found serves.mirrors (server_kind sv.node.kind sv.service server)
       kept turned
-      shut (subst (λ (z : ℤ). done ≡ served_finish (call_at l c) z) is may))) serves
+      shut (subst (λ (z : ℤ). was_done ≡ served_finish (call_at l c) z) is may))) serves
 
   -- with another code
   pub ill_serves : is_zero code ≡ false
@@ -225,7 +221,7 @@ module _ (class : List ℕ → Class) (sv : ServerState) (mid new : NodeState) (
       → ((l : Looks) (ch : Channel) → Mirrors class mid l → IsChannel l key ch
       → Mirrors class new (on_life (latest_name l ch) (after_finish (is_zero code) code) l))
       → (l : Looks) (c : CallName) → Serves class sv l → IsFound l c key lives.Accepted
-      → Serves class (record sv { node = new }) (finish_done c code done l)
+      → Serves class (record sv { node = new }) (finish_done c code was_done l)
   ill_serves other owed turned l c serves found =
       ended_serves class sv new l c code (role_both sv.node mid new kept same)
       (ended_ill class sv.node mid new key l c found serves.mirrors code other owed turned) serves
@@ -235,24 +231,24 @@ pub ended_serving : (class : List ℕ → Class) (sv : ServerState) (new : NodeS
     → KeepsNode sv.node new
     → ((l : Looks) → Serves class sv l → MayFinish l key code)
     → ((l : Looks) (c : CallName) → Serves class sv l → IsFound l c key lives.Accepted
-    → done ≡ served_finish (call_at l c) code → Serves class (record sv { node = new }) (finish_done c code done l))
+    → was_done ≡ served_finish (call_at l c) code → Serves class (record sv { node = new }) (finish_done c code was_done l))
     → IsServing class sv → IsServing class (record sv { node = new })
 ended_serving class sv new key code kept may serves is =
     (let its = may is.looks is.serves in
-    serving_by class sv new (finish_done its.name code done is.looks) (parts_stay sv.node new kept)
+    serving_by class sv new (finish_done its.name code was_done is.looks) (parts_stay sv.node new kept)
     (serves is.looks its.name is.serves its.found its.may) is)
 
 -- ---- what was read
 
 -- a call that may be finished with 0 was read to its end
 pub read_whole : (l : Looks) (c : CallName) (key : ℕ) (code : ℤ) → (f : IsFound l c key lives.Accepted) → code ≡ pos 0
-    → done ≡ served_finish (call_at l c) code → f.call.looks.received.ended ≡ true
+    → was_done ≡ served_finish (call_at l c) code → f.call.looks.received.ended ≡ true
 read_whole l c key code f is may =
-    let its : done ≡ served_by lives.Accepted (f.call.looks.received.ended || false) tt =
+    let its : was_done ≡ served_by lives.Accepted (f.call.looks.received.ended || false) tt =
     may ∙ ap (served_finish (call_at l c)) is ∙ ap (λ (o : Option CallRecord). served_finish o (pos 0)) f.there
     ∙ ap (λ (x : Life). served_by x (f.call.looks.received.ended || false) tt) f.life_is in
     of f.call.looks.received.ended its
   where
-    of : (b : Bool) → done ≡ served_by lives.Accepted (b || false) tt → b ≡ true
+    of : (b : Bool) → was_done ≡ served_by lives.Accepted (b || false) tt → b ≡ true
     of true is = refl
     of false is = absurd (cc (is))

@@ -1,7 +1,7 @@
 -- A message for its channel's live call, or that starts one: the row of its call, and the look-ups behind it.
 use Rattle.std.proofs.Common.{◌≡◌, ◌⊎◌, ◌<◌, ◌≤◌, ◌&&◌, ◌==◌, ℕ, if◌then◌else◌, not, nat_le, nat_lt}
 use Rattle.std.proofs.Common.{is_some, Bool, true, false}
-use Rattle.std.proofs.Common.{Option, Some, None, refl, ◌∙◌, ap, sym, subst, inl, inr, arith}
+use Rattle.std.proofs.Common.{Option, Some, refl, ◌∙◌, ap, sym, subst, inl, inr, arith}
 use Rattle.std.proofs.lemmas.Bool.Decides.{nat_tests}
 use Rattle.rx_model.specs.declared.answers.Took.{Took}
 use Rattle.rx_model.specs.declared.answers.Took.TheVariants as tooks
@@ -10,7 +10,7 @@ use Rattle.rx_model.specs.declared.wire.TheConstants.{LAST_SEQ}
 use Rattle.rx_model.specs.Body.{Body}
 use Rattle.rx_model.specs.Body as bodies
 use Rattle.rx_model.specs.Message.{Message}
-use Rattle.rx_model.specs.Names.{Connection, channel_of, connection_of}
+use Rattle.rx_model.specs.Names.{channel_of, connection_of}
 use Rattle.rx_model.proofs.NameLaws.{both}
 use Rattle.rx_rules.specs.After.{enters, prepared, taken_data, taken_with}
 use Rattle.rx_rules.specs.CallLooks.{fresh_call}
@@ -20,13 +20,13 @@ use Rattle.rx_rules.specs.Life as lives
 use Rattle.rx_rules.specs.Looks.{CallRecord, ChannelLooks, ConnLooks, Looks, call_at, call_named, channel_at, conn_at}
 use Rattle.rx_rules.specs.Looks.{is_proved}
 use Rattle.rx_rules.specs.Looks.{latest_name, on_life}
-use Rattle.rx_rules.specs.Records.{entered, fresh_conn, has_place, idle_conn, is_full, placed, started_later, used}
+use Rattle.rx_rules.specs.Records.{entered, has_place, placed, started_later, used}
 use Rattle.rx_rules.specs.Records.{with_conn}
 use Rattle.rx_rules.specs.Setup.{Client, IsServer, Kind, Server, Setup, is_client, pace_of, receiving_window}
 use Rattle.rx_rules.proofs.ConnsLaws.{channel_number, number_of}
 use Rattle.rx_history.proofs.Events.{call-by}
 use Rattle.rx_history.proofs.Places.{is_none}
-use Rattle.rx_history.proofs.Openings.{calls_ready, channel_prepared}
+use Rattle.rx_history.proofs.Openings.{calls_ready, channel_prepared, now-entered}
 use Rattle.rx_history.proofs.Order.OrderlyOpens.{Opens}
 use Rattle.rx_history.proofs.Order.OrderlyTaken.{opens_ready}
 use Rattle.rx_history.proofs.Rows.RowsInFront.{may_start}
@@ -112,22 +112,6 @@ opened_again s c l there = of (nat_lt (channel_at l (channel_of c)).number c.num
         not-above : (channel_at (started_later s c l) (channel_of c)).number ≡ c.number
             → nat_lt (channel_at (started_later s c l) (channel_of c)).number c.number ≡ false
         not-above number = ap (λ (n : ℕ). nat_lt n c.number) number ∙ grind (arith, nat_tests)
-
-now-entered : (s : Setup) (x : Connection) (l : Looks) → (entered s x l).now ≡ l.now
-now-entered s x l = of (is_some (conn_at l x))
-  where
-    placed-now : (new : ConnLooks) (o : Option ConnLooks) → (placed new o l).now ≡ l.now
-    placed-now new None = refl
-    placed-now new (Some old) = refl
-
-    kind-now : (kind : Kind) → (with_conn s kind x l).now ≡ l.now
-    kind-now (Server service nonces) = placed-now (fresh_conn x x.host service 1 l)
-        (if is_full s l then idle_conn l else None)
-    kind-now (Client host epoch) = refl
-
-    of : (b : Bool) → (if b then l else with_conn s s.kind x l).now ≡ l.now
-    of true = refl
-    of false = kind-now s.kind
 
 now-opened : (s : Setup) (c : CallName) (l : Looks) → (opened s c l).now ≡ l.now
 now-opened s c l = of (nat_lt (channel_at l (channel_of c)).number c.number)

@@ -17,14 +17,9 @@ use Rattle.xg_check.specs.Answers.{IsFirstNamed, IsFirstOf, IsFirstPlace, IsFirs
 use Rattle.xg_check.specs.Meaning.{TwiceAt, UnknownAt, SizeAt, EndlessAt, OpcodeAt, OpcodeTwiceAt, opcodes_of}
 use Rattle.xg_check.specs.Meaning.{IsFaultless, MarkNamed}
 use Rattle.xg_check.proofs.ValueLaws.{item_at}
+use Rattle.xg_check.proofs.StepLaws.{Ops, seconds}
 
-abbrev pub NumberedOps : Type 0
-NumberedOps = List (List ℕ × Option ℤ)
-
-abbrev pub values_of_ops : NumberedOps → List (Option ℤ)
-values_of_ops ops = map (λ (p : List ℕ × Option ℤ). p.1) ops
-
-number_is : (ops : NumberedOps) (k : ℕ) → number_at (values_of_ops ops) k ≡ opcode_at ops k
+number_is : (ops : Ops) (k : ℕ) → number_at (seconds ops) k ≡ opcode_at ops k
 number_is ops k =
     ap (option_and_then in_32_bits) (slice_get-map (λ (p : List ℕ × Option ℤ). p.1) ops k)
     ∙ by_read (slice_get ops k)
@@ -92,7 +87,7 @@ module _ (tree : Tree) (r : Bor (List ℕ)) (name : List ℕ) (is : name ≡ r.n
 
 -- ---- opcodes
 
-module _ (tree : Tree) (list : List (Option ℤ)) (list_is : list ≡ values_of_ops (opcodes_of tree)) where
+module _ (tree : Tree) (list : List (Option ℤ)) (list_is : list ≡ seconds (opcodes_of tree)) where
   at_is : (k : ℕ) → number_at list k ≡ opcode_at (opcodes_of tree) k
   at_is k = ap (λ (xs : List (Option ℤ)). number_at xs k) list_is ∙ number_is (opcodes_of tree) k
 

@@ -194,7 +194,7 @@ loop_stops g front p r Memory so_far holds e = tt
 loop_stops g front p r (Refused c) so_far holds e = sym so_far ∙ ap (with_front front)
     (many_stop g p (cursor_place c) holds e)
 
-abbrev list_of : {A : Type 0} → A × List A → List A
+abbrev pub list_of : {A : Type 0} → A × List A → List A
 list_of both = both.0 ∷ both.1
 
 first_and_more : {A : Type 0} (a : A) (r : Read (List A)) →

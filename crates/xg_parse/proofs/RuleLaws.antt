@@ -261,7 +261,7 @@ again_change f g first b front rest p d e right lacks =
     }
 
 -- what decides a pair, and the like
-abbrev parts3 : (x y z : Bool) → (x && y && z) ≡ true → (x ≡ true) × (y ≡ true) × (z ≡ true)
+abbrev pub parts3 : (x y z : Bool) → (x && y && z) ≡ true → (x ≡ true) × (y ≡ true) × (z ≡ true)
 parts3 x y z e = let p = and_parts (x && y) z e in let q = and_parts x y p.0 in (q.0, q.1, p.1)
 
 -- each text of a rule whose next terminal decides is read again

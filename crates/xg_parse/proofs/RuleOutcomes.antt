@@ -11,9 +11,10 @@ use Rattle.xg_parse.specs.Reading.{has_some, nullable, firsts, tails, are_apart,
 use Rattle.xg_parse.specs.Reading.{without, least_terminal, Read, ◌>>=◌, word_at, many_at, read_rule}
 use Rattle.xg_parse.proofs.TerminalLaws.{least_is_in, least_before, lesser_left, lesser_right, lesser_is, least_there}
 use Rattle.xg_parse.proofs.TerminalLaws.{lesser_there}
-use Rattle.xg_parse.proofs.RuleLaws.{IsRight, next_is, begins, empties, again, apart_back, longer}
+use Rattle.xg_parse.proofs.RuleLaws.{IsRight, next_is, begins, empties, again, apart_back, longer, parts3}
 use Rattle.xg_parse.proofs.SampleLaws.{TextFrom, some_text, starts}
 use Rattle.xg_parse.proofs.OutcomeLaws.{Stop, Done, Refused, Outcome, Told, pair_outcome}
+use Rattle.xg_parse.proofs.LoopLaws.{list_of, with_first}
 
 -- ---- a word
 
@@ -314,22 +315,16 @@ maybe_outcome g dg d p right first false fails =
 abbrev changed : {A B : Type 0} → (A → B) → Read A → Read B
 changed f r = r >>= λ x. Ok (f x.0, x.1)
 
-abbrev put_first : {A : Type 0} → A × List A → List A
-put_first both = both.0 ∷ both.1
-
 -- one reading and then another
 abbrev joined : {A B : Type 0} → Read A → (Place → Read B) → Read (A × B)
 joined r next = r >>= λ x. next x.1 >>= λ y. Ok ((x.0, y.0), y.1)
 
-abbrev with_first : {A : Type 0} → A → Read (List A) → Read (List A)
-with_first a r = r >>= λ xs. Ok (a ∷ xs.0, xs.1)
-
-inner : {A : Type 0} (a : A) (s : Read (List A)) → changed put_first (s >>= λ y. Ok ((a, y.0), y.1)) ≡ with_first a s
+inner : {A : Type 0} (a : A) (s : Read (List A)) → changed list_of (s >>= λ y. Ok ((a, y.0), y.1)) ≡ with_first a s
 inner a (Ok y) = refl
 inner a (Err q) = refl
 
 regrouped : {A : Type 0} (r : Read A) (next : Place → Read (List A)) →
-    changed put_first (joined r next) ≡ (r >>= λ x. with_first x.0 (next x.1))
+    changed list_of (joined r next) ≡ (r >>= λ x. with_first x.0 (next x.1))
 regrouped (Ok x) next = inner x.0 (next x.1)
 regrouped (Err q) next = refl
 
@@ -393,7 +388,7 @@ many_outcome {A} g dg dm some apart one (suc n) p right fuel = by_test (has (fir
               a o.front some o.derives,
         ))) in
         subst (Outcome (EachHas (Derives g)) p) (regrouped (read_rule g p) (many_at (read_rule g) (firsts g) n))
-        (outcome_as (Both (Derives g) (EachHas (Derives g))) (EachHas (Derives g)) p put_first (λ x ts d. d)
+        (outcome_as (Both (Derives g) (EachHas (Derives g))) (EachHas (Derives g)) p list_of (λ x ts d. d)
         (many_read g dg p right holds) _ both)
 
 change_outcome : {A B : Type 0} (f : A → B) (g : Rule A) (p : Place) → Outcome (Derives g) p (read_rule g p) →
@@ -403,9 +398,6 @@ change_outcome f g p o =
     (read_rule g p) o
 
 -- ---- any rule
-
-abbrev parts3 : (x y z : Bool) → (x && y && z) ≡ true → (x ≡ true) × (y ≡ true) × (z ≡ true)
-parts3 x y z e = let p = and_parts (x && y) z e in let q = and_parts x y p.0 in (q.0, q.1, p.1)
 
 pub outcome : {A : Type 0} (g : Rule A) → is_decided g ≡ true → (p : Place) → IsRight p →
     Outcome (Derives g) p (read_rule g p)

@@ -31,8 +31,9 @@ use Rattle.rx_between.proofs.Each.EachStep.{Opens}
 use Rattle.rx_between.proofs.Each.EachStep.{Starts, Stops, Takes, TellsCode, ViewOf, is_own, is_start}
 use Rattle.rx_between.proofs.Each.EachStep as steps
 use Rattle.rx_between.proofs.GivenAcks.{silent_looks}
-use Rattle.rx_between.proofs.PollSays.{IsStream, Says}
+use Rattle.rx_between.proofs.PollSays.{Says}
 use Rattle.rx_between.proofs.Each.EachChange.{some_is}
+use Rattle.rx_history.proofs.Plain.PlainBodies.{IsSent}
 
 module _ (s : Setup) (l : Looks) (c : CallName) where
   -- ---- a poll
@@ -75,7 +76,7 @@ module _ (s : Setup) (l : Looks) (c : CallName) where
 
   -- what the end of the call gives
   module _ (to : Host) (bytes : List ℕ) (m : Message) (is_read : reading_of bytes ≡ Ok m)
-      (says : IsStream m.body → Says s l m (named s to m)) where
+      (says : IsSent m.body → Says s l m (named s to m)) where
     abbrev polled : Event
     polled = events.Polled (Some (to, bytes))
 
@@ -97,7 +98,7 @@ module _ (s : Setup) (l : Looks) (c : CallName) where
     changed_by change k = record k { looks = change k.looks }
 
     -- where it is of this call
-    given_own : (change : CallLooks → CallLooks) → IsStream m.body
+    given_own : (change : CallLooks → CallLooks) → IsSent m.body
         → ((x : Sending) (k : CallLooks) → m.seq ≡ sending_seq x → m.body ≡ sending_body (receiving_window s) k x
         → change k ≡ after_sending l.now x k)
         → CallStep s l polled c (call_at l c) (call_at (on_looks (named s to m) change (silenced l)) c)
@@ -168,10 +169,10 @@ module _ (s : Setup) (l : Looks) (c : CallName) where
             → CallStep s l polled c (call_at l c)
             (call_at (given_body (named s to m) m body (counted (connection_of (named s to m)) (silenced l))) c)
         of (bodies.Chunk payload) at =
-            given_own (after_piece l.now m.seq) (subst IsStream (sym at) tt)
+            given_own (after_piece l.now m.seq) (subst IsSent (sym at) tt)
             (λ x k seq body. gave_piece x k payload at seq body)
         of (bodies.Ack a) at =
-            given_own (after_ack_given l.now) (subst IsStream (sym at) tt) (λ x k seq body. gave_ack x k a at body)
+            given_own (after_ack_given l.now) (subst IsSent (sym at) tt) (λ x k seq body. gave_ack x k a at body)
         of (bodies.Abort code) at = step_silenced (Some (to, bytes))
         of bodies.Busy at = step_silenced (Some (to, bytes))
         of (bodies.Challenge given) at = step_silenced (Some (to, bytes))
@@ -180,7 +181,7 @@ module _ (s : Setup) (l : Looks) (c : CallName) where
 
   pub step_polled : (got : Option (Host × List ℕ))
       → ((to : Host) (bytes : List ℕ) (m : Message) → got ≡ Some (to, bytes) → reading_of bytes ≡ Ok m
-      → IsStream m.body → Says s l m (named s to m))
+      → IsSent m.body → Says s l m (named s to m))
       → CallStep s l (events.Polled got) c (call_at l c) (call_at (given_by s got (silenced l)) c)
   step_polled None says = step_silenced None
   step_polled (Some (to, bytes)) says = of (reading_of bytes) refl

@@ -3,7 +3,6 @@
 use Rattle.std.proofs.Common.{◌≡◌, ◌≤◌, ◌-◌, ◌++◌, ℕ, suc, zero, min, Bool, true, false, List, [], ◌∷◌, refl, ap, sym}
 use Rattle.std.proofs.Common.{subst, ◌∙◌, Some, Ok, length, take, drop, arith, append-nil, length-drop}
 use Rattle.std.proofs.Common.{nat_lt}
-use Rattle.std.proofs.lemmas.List.{drop-drop, length-append}
 use Rattle.rx_model.specs.declared.answers.CallRead.{CallRead}
 use Rattle.rx_model.specs.declared.answers.CallRead.TheVariants as callreads
 use Rattle.rx_model.specs.declared.answers.End.TheVariants as ends
@@ -18,7 +17,7 @@ use Rattle.rx_rules.specs.CallLooks.{CallLooks, after_read}
 use Rattle.rx_rules.specs.Life.{after_cancel, after_end}
 use Rattle.rx_rules.specs.Life as lives
 use Rattle.rx_rules.specs.Looks.{CallRecord, Looks}
-use Rattle.rx_rules.specs.Received.{heard_of, is_complete, read_from, read_of, unread_of}
+use Rattle.rx_rules.specs.Received.{is_complete, read_from, read_of, unread_of}
 use Rattle.rx_rules.specs.Rules.{client_read_got}
 use Rattle.rx_rules.specs.Sent.{Sent}
 use Rattle.rx_rules.specs.Setup.{Client}
@@ -36,20 +35,13 @@ use Rattle.rx_closing.proofs.Callers.CallerTurn.{event_at, next_is, reads_on}
 use Rattle.rx_closing.proofs.Ends.TurnLaws.{turn_trans}
 use Rattle.rx_closing.proofs.Server.OwnReads.{unread_same}
 use Rattle.rx_closing.proofs.Steps.{TurnsOn, turns_none, turns_read}
-use Rattle.rx_rounds.proofs.Reading.ReadsOut.{drop_take}
+use Rattle.rx_rounds.proofs.Reading.ReadsOut.{unread_behind}
 
 -- ---- what is left to read
 
 none_to_read : (u : List ℕ) → length u ≤ 0 → u ≡ []
 none_to_read [] few = refl
 none_to_read (b ∷ bs) few = absurd (omega arith)
-
-unread_behind : (now max : ℕ) (k : CallLooks)
-    → unread_of (after_read now false (take max (unread_of k.received)) k).received ≡ drop max (unread_of k.received)
-unread_behind now max k =
-    ap (λ (n : ℕ). drop n (heard_of k.received.kept)) (length-append k.received.read (take max (unread_of k.received)))
-    ∙ sym (drop-drop (length (take max (unread_of k.received))) (length k.received.read) (heard_of k.received.kept))
-    ∙ drop_take max (unread_of k.received)
 
 module _ (node : ℕ) (client : Node) (host : Host) (epoch : ℕ) (kind : client.setup.kind ≡ Client host epoch)
     (c : CallName) (cs : List CallName) (now : ℕ) (request : List ℕ) (k0 : CallLooks) (name : CallName)

@@ -25,6 +25,7 @@ use Rattle.rx_closing.proofs.Ends.OwedPlain.{PlainOwed, plain_ack, plain_for, pl
 use Rattle.rx_closing.proofs.Steps.{TakesIn, TurnsOn, takes_none, takes_one, turns_none, turns_read, turns_shut}
 use Rattle.rx_closing.proofs.Steps.{turns_write}
 use Rattle.rx_closing.proofs.Ends.TurnLaws.{counting_shut}
+use Rattle.rx_rounds.proofs.Takes.TakingAck.{even_sampled}
 
 -- ---- a message
 
@@ -97,10 +98,6 @@ sampled-slow : (o : Option ℕ) (r : Rtt) → r.prompt ≡ false → MIN_RTO_MS 
 sampled-slow None r even slow = slow
 sampled-slow (Some ms) r even slow = rto-slow r.prompt r ms even
 
-sampled-even : (o : Option ℕ) (r : Rtt) → r.prompt ≡ false → (sampled o r).prompt ≡ false
-sampled-even None r even = even
-sampled-even (Some ms) r even = even
-
 acked-open : (n : ℕ) (c : Cwnd) → 1 ≤ c.most → 1 ≤ c.window → 1 ≤ (after_acked n c).window
 acked-open n c most open_ = (let wide = growth n c in omega (arith, most, open_))
 
@@ -111,7 +108,7 @@ window-open (Some w) before open_ = omega arith
 -- ---- rows that aren't strange
 
 -- an answer to a message that isn't strange
-abbrev NotStrange : Took → Type 0
+abbrev pub NotStrange : Took → Type 0
 NotStrange tooks.Strange = ⊥
 NotStrange _ = Unit {0}
 
@@ -206,7 +203,7 @@ fit-heard now at m a k sense fit =
       most = fit.most;
       open_ = acked-open n.count k.cwnd fit.most fit.open_;
       lets = told.lets;
-      even = sampled-even n.sample k.rtt fit.even;
+      even = even_sampled n.sample k.rtt fit.even;
       soon = sampled-low n.sample k.rtt fit.soon;
       slow = sampled-slow n.sample k.rtt fit.even fit.slow;
       known = λ j low high. subst (λ (gs : List Giving). GivenBy now gs j) (sym told.givings)

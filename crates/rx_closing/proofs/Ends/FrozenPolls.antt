@@ -17,6 +17,7 @@ use Rattle.rx_rules.proofs.SentLaws.{given-within}
 use Rattle.rx_closing.proofs.Ends.NextGiven.{NextOf, is_again, is_fresh, is_owed, is_ping, is_view_at, next_is}
 use Rattle.rx_closing.proofs.Ends.NextGiven.{none_owed, view_at}
 use Rattle.rx_closing.proofs.Steps.{GivesOut, gives_none, gives_one}
+use Rattle.rx_between.proofs.GivenSeqs.{sending_given}
 
 -- ---- what was given
 
@@ -79,10 +80,6 @@ plain_sending now (Piece seq again) k steady plain o is = plain o is
 plain_sending now (Ack reason serial) k steady plain o is =
     absurd (let both : ◌≡◌ {A = Option Owed} None (Some o) = sym (acked_none now reason serial k steady) ∙ is in
     cc (both))
-
-sending_given : (now : ℕ) (x : Sending) (k : CallLooks) → given_of k.sent ≤ given_of (after_sending now x k).sent
-sending_given now (Piece seq again) k = omega arith
-sending_given now (Ack reason serial) k = omega arith
 
 -- a piece is the next one or the lowest again
 piece_of : (v : NodeView) (k : CallLooks) (seq : ℕ) (again : Bool) → NextOf v k (Piece seq again)

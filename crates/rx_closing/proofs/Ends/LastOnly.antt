@@ -18,7 +18,7 @@ use Rattle.rx_rules.specs.CallLooks.{CallLooks, NodeView, after_body, after_chun
 use Rattle.rx_rules.specs.CallLooks.{found, freed, packet_of}
 use Rattle.rx_rules.specs.Life.{is_active}
 use Rattle.rx_rules.specs.Looks.{CallRecord, Looks, call_at}
-use Rattle.rx_rules.specs.Received.{Arrival, Packet, Received, arrival_row, bytes_to, end_of, front_of, greatest}
+use Rattle.rx_rules.specs.Received.{Packet, Received, bytes_to, end_of, front_of, greatest}
 use Rattle.rx_rules.specs.Received.{is_above, is_complete, is_done, is_done_by, is_within, last_seq, packet_at}
 use Rattle.rx_rules.specs.Received.{unread_of, used_of}
 use Rattle.rx_rules.specs.Received as packets
@@ -35,29 +35,13 @@ use Rattle.rx_between.proofs.Each.EachEvent.{each_step}
 use Rattle.rx_between.proofs.Each.EachStep.{CallStep, EndStep, Starts, finishes, gives, reads, shuts, stays, takes}
 use Rattle.rx_between.proofs.Each.EachStep.{writes}
 use Rattle.std.proofs.lemmas.List.{length-append}
+use Rattle.rx_between.proofs.Grows.{fresh-arrival}
 
 -- ---- one last packet
 
 -- a kept packet that is the last one is the one that is found so
 abbrev pub OneLast : List Packet → Type 0
 OneLast ps = (k : ℕ) (q : packets.Piece) → packet_at ps k ≡ Some q → q.last ≡ true → last_seq ps ≡ Some k
-
--- what the row of a packet that is kept says
-record Fresh (a : Arrival) : Type 0 where
-  new : a.is_repeat ≡ false
-  below : a.is_clash ≡ false
-
-fresh_arrival : (a : Arrival) → arrival_row a ≡ tooks.Kept → Fresh a
-fresh_arrival a is = of a.is_strange a.is_repeat a.is_beyond a.is_clash refl refl is
-  where
-    of : (b c d e : Bool) → a.is_repeat ≡ c → a.is_clash ≡ e
-        → (cond b tooks.Strange (cond c tooks.Repeat (cond d tooks.Beyond
-        (cond e tooks.Clash (cond a.has_slot tooks.Kept tooks.NoSlot))))) ≡ tooks.Kept → Fresh a
-    of true c d e repeats clashes is = absurd cc
-    of false true d e repeats clashes is = absurd cc
-    of false false true e repeats clashes is = absurd cc
-    of false false false true repeats clashes is = absurd cc
-    of false false false false repeats clashes is = record { new = repeats; below = clashes }
 
 -- with one more that is no clash
 last_more : (p : Packet) (ps : List Packet) → is_some (packet_at ps p.seq) ≡ false
@@ -99,7 +83,7 @@ chunk_last : (v : NodeView) (m : Message) (body : Body) (k : CallLooks) → call
     → OneLast k.received.kept → OneLast (after_chunk v tooks.Kept m body k).received.kept
 chunk_last v m (bodies.Chunk payload) k row one =
     let p : Packet = packet_of m payload in
-    let f = fresh_arrival (arrival v.client v.window (v.left + freed v.client k) p (found v.client k)) row in
+    let f = fresh-arrival (arrival v.client v.window (v.left + freed v.client k) p (found v.client k)) row in
     let new : (nat_le p.seq (used_of k.received) || is_some (packet_at k.received.kept p.seq)) ≡ false =
     ap (λ (r : Received). nat_le p.seq (used_of r) || is_some (packet_at r.kept p.seq))
     (sym (found_received v.client k))

@@ -23,6 +23,7 @@ use Rattle.rx_between.proofs.Marks.{used_kept}
 use Rattle.rx_progress.proofs.Lowest.{moves}
 use Rattle.rx_closing.proofs.Steps.{TakesIn, takes_none, takes_one}
 use Rattle.rx_rules.proofs.ReachLaws.{reach_stops, reach_within}
+use Rattle.rx_between.proofs.GivenSeqs.{taken_givings}
 
 -- ---- fronts
 
@@ -51,15 +52,6 @@ takes_grow t now k ms f (takes_one i g m ns v got view row sense rest) =
 
 -- ---- what was given stays given
 
-chunk-givings : (v : NodeView) (got : Took) (m : Message) (body : Body) (k : CallLooks)
-    → (after_chunk v got m body k).sent.givings ≡ k.sent.givings
-chunk-givings v got m (bodies.Chunk payload) k = of v.client
-  where
-    of : (client : Bool) → (found client k).sent.givings ≡ k.sent.givings
-    of true = refl
-    of false = refl
-chunk-givings v got m _ k = refl
-
 body-givings : (now : ℕ) (m : Message) (body : Body) (k : CallLooks)
     → (after_body now m body k).sent.givings ≡ k.sent.givings
 body-givings now m (bodies.Ack a) k = of (nat_lt (a.first - 1) k.sent.acked)
@@ -74,22 +66,12 @@ body-givings now m (bodies.Ack a) k = of (nat_lt (a.first - 1) k.sent.acked)
 body-givings now m bodies.AckAll k = refl
 body-givings now m _ k = refl
 
-taken-givings : (v : NodeView) (got : Took) (m : Message) (k : CallLooks)
-    → (after_taken v got m k).sent.givings ≡ k.sent.givings
-taken-givings v tooks.Kept m k = chunk-givings v tooks.Kept m m.body k
-taken-givings v tooks.Repeat m k = chunk-givings v tooks.Repeat m m.body k
-taken-givings v tooks.Beyond m k = chunk-givings v tooks.Beyond m m.body k
-taken-givings v tooks.Clash m k = chunk-givings v tooks.Clash m m.body k
-taken-givings v tooks.NoSlot m k = chunk-givings v tooks.NoSlot m m.body k
-taken-givings v tooks.Heard m k = body-givings v.now m m.body k
-taken-givings v _ m k = refl
-
 -- by all messages of a round
 pub takes_givings : (t : Setup) (now : ℕ) (k : CallLooks) (ms : List Message) (f : CallLooks) → TakesIn t now k ms f
     → f.sent.givings ≡ k.sent.givings
 takes_givings t now k ms f (takes_none i) = refl
 takes_givings t now k ms f (takes_one i g m ns v got view row sense rest) =
-    takes_givings t now (after_taken v got m i) ns g rest ∙ taken-givings v got m i
+    takes_givings t now (after_taken v got m i) ns g rest ∙ taken_givings v got m i
 
 -- ---- the row of a piece that is there
 

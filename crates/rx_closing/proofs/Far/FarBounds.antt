@@ -36,6 +36,7 @@ use Rattle.rx_rounds.specs.Bounds.{both_pieces, pieces, served_pieces}
 use Rattle.rx_closing.proofs.Far.FarServed.{BeginsServed, said_served}
 use Rattle.rx_closing.proofs.Frame.{far, far_of, flag, rank_of}
 use Rattle.rx_rules.proofs.ReachLaws.{reach_within}
+use Rattle.rx_between.proofs.Sense.{ended_is}
 
 -- ---- numbers alone
 
@@ -147,10 +148,6 @@ said_is (Some r) = refl
 read_is : (o : Option CallRecord) → (received_by o).read ≡ (ends_of o).read
 read_is None = refl
 read_is (Some r) = refl
-
-ended_is : (o : Option CallRecord) → (ends_of o).ended ≡ (received_by o).ended
-ended_is None = refl
-ended_is (Some r) = refl
 
 module _ (nodes : List Node) (h : List Noted) (w : World nodes h) (kept : ServerForgotNone nodes h ⊎ Timely nodes h)
     (k : ℕ) (client server : Node) (c : CallName) (there : slice_get nodes k ≡ Some client)

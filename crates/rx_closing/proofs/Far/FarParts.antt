@@ -31,6 +31,7 @@ use Rattle.rx_closing.proofs.Ends.TurnLaws.{flag_rises, pieces_rise, pieces_shut
 use Rattle.rx_closing.proofs.Frame.{flag}
 use Rattle.rx_closing.proofs.Room.HeldLow.{below_by}
 use Rattle.rx_history.proofs.Rows.RowsAborting.{not_false}
+use Rattle.rx_closing.proofs.Ends.EndFacts.{NotStrange}
 
 -- ---- what is to be shown
 
@@ -98,24 +99,19 @@ other_rows : (b : Bool) → (if b then tooks.Heard else tooks.Strange) ≡ tooks
 other_rows true is = refl
 other_rows false is = absurd cc
 
--- an answer to data other than Strange
-abbrev IsJudged : Took → Type 0
-IsJudged tooks.Strange = ⊥
-IsJudged _ = Unit {0}
-
-not_strange : (a : Arrival) (got : Took) → arrival_row a ≡ got → IsJudged got → a.is_strange ≡ false
+not_strange : (a : Arrival) (got : Took) → arrival_row a ≡ got → NotStrange got → a.is_strange ≡ false
 not_strange a got row judged = of a.is_strange refl row
   where
     of : (b : Bool) → a.is_strange ≡ b
         → (if b then tooks.Strange else if a.is_repeat then tooks.Repeat else if a.is_beyond then tooks.Beyond
         else if a.is_clash then tooks.Clash else if a.has_slot then tooks.Kept else tooks.NoSlot) ≡ got
         → a.is_strange ≡ false
-    of true is row = absurd (subst IsJudged (sym row) judged)
+    of true is row = absurd (subst NotStrange (sym row) judged)
     of false is row = is
 
 -- data comes to a client only where its request was all given
 data_all : (client : Bool) (window left : ℕ) (p : Packet) (k : CallLooks) (got : Took)
-    → arrival_row (arrival client window left p (found client k)) ≡ got → IsJudged got → client ≡ true
+    → arrival_row (arrival client window left p (found client k)) ≡ got → NotStrange got → client ≡ true
     → is_all_given k.sent ≡ true
 data_all true window left p k got row judged client =
     let strange = not_strange (arrival true window left p (found true k)) got row judged in
@@ -124,7 +120,7 @@ data_all true window left p k got row judged client =
 data_all false window left p k got row judged client = absurd cc
 
 chunk_acks : (v : NodeView) (got : Took) (m : Message) (body : Body) (k : CallLooks) → call_row v m body k ≡ got
-    → IsJudged got → k.sent.acked ≤ given_of k.sent → Acks k.sent (after_chunk v got m body k).sent
+    → NotStrange got → k.sent.acked ≤ given_of k.sent → Acks k.sent (after_chunk v got m body k).sent
 chunk_acks v got m (bodies.Chunk payload) k row judged low =
     acks_found v.client k
     (data_all v.client v.window (v.left + freed v.client k) (packet_of m payload) k got row judged) low

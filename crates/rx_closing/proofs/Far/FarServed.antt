@@ -17,14 +17,13 @@ use Rattle.rx_jobs.specs.declared.job.Want.TheVariants as wants
 use Rattle.rx_jobs.specs.Dispatching.{Turning, accepts, dispatching, over, serves}
 use Rattle.rx_jobs.specs.Handlers.{Handlers, served_for}
 use Rattle.rx_jobs.specs.History.{Drives, gives, handles, life_of}
-use Rattle.rx_jobs.specs.Jobs.{Ask, accept, IsCall, Moving, serving, want_in}
+use Rattle.rx_jobs.specs.Jobs.{Ask, accept, IsCall, Moving, serving}
 use Rattle.rx_jobs.specs.Lives.{HasCount, Lives, Writes, bytes_read, bytes_written, has_end}
 use Rattle.rx_jobs.specs.Lives as lives
 use Rattle.rx_jobs.proofs.Driving.{Acts, drives_lived}
 use Rattle.rx_jobs.proofs.LifeLaws.{lives_exact}
-use Rattle.rx_jobs.proofs.LifeKeeps.{wanted}
 use Rattle.rx_plan.proofs.Finishing.{count_of, once_before, serves_drives}
-use Rattle.rx_plan.proofs.Handling.{Serves, accepts_fresh, quiet-off, own-want}
+use Rattle.rx_plan.proofs.Handling.{Serves, accepts_fresh, quiet-off, own-ask}
 use Rattle.rx_plan.proofs.Handling as handling
 use Rattle.rx_plan.proofs.Passed.{Passed, passed_of}
 use Rattle.rx_plan.proofs.Passing.{passes_told, told_of}
@@ -34,12 +33,6 @@ use Rattle.rx_plan.proofs.Passing.{passes_told, told_of}
 -- a life wrote nothing, or what begins the reply of its request
 abbrev pub WroteServed : Handlers → List Event → Type 0
 WroteServed g life = (bytes_written life ≡ []) ⊎ Writes g life
-
-own_ask : (g : Handlers) (m : Moving) (a : Ask) (e : Event) (c : CallName) → (serving g).asks m ≡ Some a → IsCall a e
-    → handles c e ≡ true → c ≡ m.job.call
-own_ask g m a e c asked is on =
-    (let w = wanted m.job (want_in m.phase m.job) a asked in
-    own-want m.job w.0 e c (subst (λ (b : Ask). IsCall b e) (sym w.2) is) on)
 
 -- an accept is nobody's read, write or finish
 accept_off : (e : Event) (c : CallName) → IsCall accept e → handles c e ≡ false
@@ -56,7 +49,7 @@ by_event g e life false false before more = before
 job_wrote : (g : Handlers) (h : List Event) (m : Moving) (a : Ask) (e : Event) (c : CallName) → Acts g h m
     → (serving g).asks m ≡ Some a → IsCall a e → HasCount e → handles c e ≡ true → WroteServed g (e ∷ life_of c h)
 job_wrote g h m a e c acts asked is count on =
-    let own : m.job.call ≡ c = sym (own_ask g m a e c asked is on) in
+    let own : m.job.call ≡ c = sym (own-ask g m a e c asked is on) in
     let life : Lives g c (life_of c h) m = subst (λ (d : CallName). Lives g d (life_of d h) m) own acts in
     (lives_exact g c (e ∷ life_of c h) ((serving g).heard m e)
     (lives.calls (life_of c h) m a e life asked is count)).writes

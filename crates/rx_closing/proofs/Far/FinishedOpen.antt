@@ -42,12 +42,12 @@ use Rattle.rx_between.proofs.Each.EachEvent.{each_step}
 use Rattle.rx_between.proofs.Each.EachStep.{CallStep, EndStep, Judges, Starts, Takes, finishes, gives, reads, shuts}
 use Rattle.rx_between.proofs.Each.EachStep.{stays}
 use Rattle.rx_between.proofs.Each.EachStep.{takes, writes}
-use Rattle.rx_plan.proofs.Passed.{prepared-calls}
 use Rattle.rx_plan.proofs.Passing.{own_changed}
 use Rattle.rx_closing.proofs.Far.FarBounds.{counts_of}
 use Rattle.rx_closing.proofs.Far.FarGrows.{acked_given}
 use Rattle.rx_closing.proofs.Far.FinishedRead.{FinishedBy, finished_by, finishes_now, was_finished}
 use Rattle.rx_progress.proofs.LawsMoves.{server_side}
+use Rattle.rx_history.proofs.Events.{calls-prepared}
 
 -- ---- what leaves all that was acknowledged as it was
 
@@ -85,7 +85,7 @@ module _ (s : Setup) (l : Looks) (c : CallName) (a : CallRecord) (there : call_a
 
   ready_there : call_at ready c ≡ Some a
   ready_there =
-      ap (λ ks. call_at (record l { calls = ks }) c) (prepared-calls s tooks.Heard (connection_of c) l) ∙ there
+      ap (λ ks. call_at (record l { calls = ks }) c) (calls-prepared s tooks.Heard (connection_of c) l) ∙ there
 
   abbrev heard : CallRecord → CallRecord
   heard k = record k { looks = after_taken (node_view s ready) tooks.Heard m k.looks }

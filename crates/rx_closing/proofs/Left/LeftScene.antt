@@ -20,7 +20,6 @@ use Rattle.rx_model.specs.declared.event.Event.{Event}
 use Rattle.rx_model.specs.declared.event.Event.TheVariants as events
 use Rattle.rx_model.specs.declared.event.Noted.{Noted}
 use Rattle.rx_model.specs.declared.names.CallName.{CallName}
-use Rattle.rx_model.specs.declared.names.Host.{Host}
 use Rattle.rx_model.proofs.NameLaws.{both, same_number}
 use Rattle.rx_rules.specs.After.{looks}
 use Rattle.rx_rules.specs.Life.{is_live}
@@ -39,6 +38,7 @@ use Rattle.rx_rounds.specs.Bounds.{default_limits}
 use Rattle.rx_closing.specs.Work.{work}
 use Rattle.rx_closing.specs.Closing.{AreOpen}
 use Rattle.rx_closing.specs.Silence.{CameAmong}
+use Rattle.rx_rounds.proofs.LeftOpen.{at_client, at_server}
 
 -- ---- what serves the calls
 
@@ -131,13 +131,6 @@ pub get_work : work g (request_for g (invoke get)) ≡ 11
 get_work = rw (get_serves, get_waits) refl
 
 -- ---- the nodes and the call
-
--- 10.0.0.1:7000 and 10.0.0.2:7001
-abbrev pub at_server : Host
-at_server = record { addr = 167772161; port = 7000 }
-
-abbrev pub at_client : Host
-at_client = record { addr = 167772162; port = 7001 }
 
 abbrev pub server : Node
 server = server_node at_server 1 default_limits None 0

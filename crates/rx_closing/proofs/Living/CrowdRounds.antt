@@ -41,7 +41,6 @@ use Rattle.rx_plan.proofs.Soundness.SoundTurns.{caller_calm, handler_calm}
 use Rattle.rx_rounds.proofs.Growing.{AnswersNone, job_quiet, asked_quiet, clocked_quiet, taken_quiet}
 use Rattle.rx_between.proofs.Each.EachStep.{Starts, is_start}
 use Rattle.rx_between.proofs.Onward.{no-opening}
-use Rattle.rx_between.proofs.PollSays.{IsStream}
 use Rattle.rx_between.proofs.Each.EachItem.{In}
 use Rattle.rx_closing.proofs.Frame.{AreAmong}
 use Rattle.rx_closing.proofs.Living.AmongSteps.{among_on}
@@ -51,6 +50,7 @@ use Rattle.rx_closing.proofs.Rounds.Chains.{Adds, adds_none, adds_one}
 use Rattle.rx_closing.proofs.Rounds.EventParts.{kind_client, kind_other, server_host}
 use Rattle.rx_closing.proofs.Rounds.EventParts.{taken_parts}
 use Rattle.rx_closing.proofs.Rounds.RoundEvents.{Carries, IsNext}
+use Rattle.rx_history.proofs.Plain.PlainBodies.{IsSent}
 
 -- ---- what polls gave
 
@@ -75,7 +75,7 @@ pub record SaysFor (nodes : List Node) (cs : List CallName) (h : List Noted) (d 
   pub said : SaidFor nodes name h d m
 
 abbrev pub SaysSome : List Node → List CallName → List Noted → Datagram → Type 0
-SaysSome nodes cs h d = (m : Message) → reading_of d.bytes ≡ Ok m → IsStream m.body → SaysFor nodes cs h d m
+SaysSome nodes cs h d = (m : Message) → reading_of d.bytes ≡ Ok m → IsSent m.body → SaysFor nodes cs h d m
 
 -- also at a later moment
 pub says_later : (nodes : List Node) (cs : List CallName) (h : List Noted) (e : Noted) (d : Datagram)
@@ -102,7 +102,7 @@ says_later nodes cs h e d says m reads stream =
 
 -- a message that starts a call is DATA
 start_stream : (v : NodeView) (m : Message) (body : Body) (k : CallLooks) (got : Took) → call_row v m body k ≡ got
-    → is_start got ≡ true → IsStream body
+    → is_start got ≡ true → IsSent body
 start_stream v m (bodies.Chunk payload) k got row starts = tt
 start_stream v m (bodies.Ack a) k got row starts = tt
 start_stream v m (bodies.Abort code) k got row starts =

@@ -27,10 +27,10 @@ use Rattle.rx_rounds.proofs.Clocks.ClocksMove.{AreApart, IsNone, apart_from, apa
 use Rattle.rx_between.proofs.Each.EachItem.{In, in_behind, in_front}
 use Rattle.rx_rounds.proofs.Making.{ends_to, event_to, then_to}
 use Rattle.rx_rounds.proofs.Rounded.{Made}
-use Rattle.rx_closing.proofs.Polls.InParts.{nth_there}
 use Rattle.rx_between.proofs.Within.{in_either}
 use Rattle.rx_rounds.proofs.Clocks.GivesOrMoves.{nth_low}
 use Rattle.rx_rounds.proofs.Two.{taken_is}
+use Rattle.rx_rounds.proofs.Polls.QuietPolls.{AreThere, nth_there}
 
 -- ---- the numbers of the nodes
 
@@ -120,10 +120,6 @@ pub record CameTo (ns : List ℕ) (d : Datagram) (s t : Stage) : Type 0 where
   pub more : List Noted
   pub grown : t.history ≡ more ++ s.history
   pub rest : t ≡ record s { history = t.history }
-
--- each of these is a node that is there
-abbrev AreThere : List ℕ → Stage → Type 0
-AreThere ns s = (k : ℕ) → In k ns → (n : Node) × (slice_get s.nodes k ≡ Some n)
 
 -- a node that is found twice is one
 pub node_is : (a b : Node) → ◌≡◌ {A = Option Node} (Some a) (Some b) → a ≡ b

@@ -21,7 +21,7 @@ use Rattle.rx_rules.specs.Received.{Arrival, arrival_row}
 use Rattle.rx_rules.specs.Sent.{is_strange_ack}
 use Rattle.rx_rules.specs.Setup.{Client, Kind, Server, Setup, named}
 use Rattle.rx_rules.specs.Slots.{node_view}
-use Rattle.rx_between.proofs.PollSays.{IsStream}
+use Rattle.rx_history.proofs.Plain.PlainBodies.{IsSent}
 
 -- ---- a message that comes through the rows in front
 
@@ -58,22 +58,22 @@ arrival_foreign a =
     (if_foreign a.is_repeat tooks.Repeat _ refl (if_foreign a.is_beyond tooks.Beyond _ refl
     (if_foreign a.is_clash tooks.Clash _ refl (if_foreign a.has_slot tooks.Kept tooks.NoSlot refl refl))))
 
-pub row_foreign : (v : NodeView) (m : Message) (body : Body) (k : CallLooks) → IsStream body
+pub row_foreign : (v : NodeView) (m : Message) (body : Body) (k : CallLooks) → IsSent body
     → is_foreign (call_row v m body k) ≡ false
 row_foreign v m (bodies.Chunk payload) k stream = arrival_foreign _
 row_foreign v m (bodies.Ack a) k stream =
     if_foreign (is_strange_ack a.first a.marks k.sent) tooks.Strange tooks.Heard refl refl
 row_foreign v m _ k stream = absurd stream
 
-live_foreign : (s : Setup) (l : Looks) (k : CallRecord) (m : Message) (body : Body) → m.body ≡ body → IsStream body
+live_foreign : (s : Setup) (l : Looks) (k : CallRecord) (m : Message) (body : Body) → m.body ≡ body → IsSent body
     → is_foreign (live_row s l k m body) ≡ false
 live_foreign s l k m (bodies.Chunk payload) at stream =
-    row_foreign (node_view s l) m m.body k.looks (subst IsStream (sym at) stream)
+    row_foreign (node_view s l) m m.body k.looks (subst IsSent (sym at) stream)
 live_foreign s l k m (bodies.Ack a) at stream =
-    row_foreign (node_view s l) m m.body k.looks (subst IsStream (sym at) stream)
+    row_foreign (node_view s l) m m.body k.looks (subst IsSent (sym at) stream)
 live_foreign s l k m _ at stream = absurd stream
 
-own_foreign : (s : Setup) (l : Looks) (m : Message) (o : Option CallRecord) → IsStream m.body
+own_foreign : (s : Setup) (l : Looks) (m : Message) (o : Option CallRecord) → IsSent m.body
     → is_foreign (row_at s l o m) ≡ false
 own_foreign s l m None stream = refl
 own_foreign s l m (Some k) stream = live_foreign s l k m m.body refl stream
@@ -98,7 +98,7 @@ side_foreign (Client host epoch) f call other =
     (if_foreign (not f.is_active) tooks.Over call refl other))))
 
 -- no DATA or ACK that came through the rows in front is foreign
-pub named_foreign : (s : Setup) (l : Looks) (c : CallName) (m : Message) → IsStream m.body
+pub named_foreign : (s : Setup) (l : Looks) (c : CallName) (m : Message) → IsSent m.body
     → took_named s l c m ≡ tooks.Foreign → ⊥
 named_foreign s l c m stream is =
     (let other = side_foreign s.kind (facts_of s l c m) (own_row s (opened s c l) c m)

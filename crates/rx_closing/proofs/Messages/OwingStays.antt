@@ -22,9 +22,10 @@ use Rattle.rx_rules.specs.Setup.{Client, Kind, Server, Setup, named}
 use Rattle.rx_rules.proofs.ConnsLaws.{channel_number, conn_at-on_conn, conn_if, number_in, number_of}
 use Rattle.rx_rules.proofs.EnterLaws.{fresh_channels}
 use Rattle.rx_rules.proofs.FindLaws.{find_passes}
-use Rattle.rx_history.proofs.Places.{OnlyNew, found-placed, fresh-number, instead}
+use Rattle.rx_history.proofs.Places.{OnlyNew, found-placed, fresh-number}
 use Rattle.rx_closing.proofs.Telling.AbortOwed.{channel_apart, conn_channel}
 use Rattle.rx_closing.proofs.Telling.TurnsKeep.{channel_holds}
+use Rattle.rx_history.proofs.Laws.ShownLaws.{given_way}
 
 -- ---- a change of a channel
 
@@ -60,24 +61,6 @@ began_number number l ch =
         (began_in number r.channels ch.chan)
 
 -- ---- what a channel owes
-
-abort_number : (o : Option ℤ) (q : ChannelLooks) → (owing_abort o q).number ≡ q.number
-abort_number None q = refl
-abort_number (Some code) q = refl
-
-ackall_number : (b : Bool) (q : ChannelLooks) → (owing_ackall b q).number ≡ q.number
-ackall_number true q = refl
-ackall_number false q = refl
-
-pub again_number : (body : Body) (life : Life) (q : ChannelLooks) → (owing_again body life q).number ≡ q.number
-again_number (bodies.Chunk payload) life q =
-    ackall_number (is_ok_end life) (owing_abort (told_code life) q) ∙ abort_number (told_code life) q
-again_number (bodies.Ack a) life q = abort_number (served_code life) q
-again_number bodies.Busy life q = refl
-again_number (bodies.Abort code) life q = refl
-again_number bodies.AckAll life q = refl
-again_number (bodies.Challenge bytes) life q = refl
-again_number (bodies.Response bytes) life q = refl
 
 -- what nothing that a message tells a channel takes from it, but for a BUSY
 pub record StaysOwed (P : ChannelLooks → Type 0) : Type 0 where
@@ -200,7 +183,7 @@ module _ (P : ChannelLooks → Type 0) (c : CallName) (some : 1 ≤ c.number) wh
   -- ---- a connection is entered
 
   find_gone : (x : Connection) (new old : ConnLooks) → same_connection old.connection x ≡ true → (rs : List ConnLooks)
-      → OnlyNew new (find (λ r. same_connection r.connection x) (map (instead new old) rs))
+      → OnlyNew new (find (λ r. same_connection r.connection x) (map (given_way new old) rs))
   find_gone x new old own [] = tt
   find_gone x new old own (r ∷ rs) =
       by (same_connection r.connection old.connection) refl (find_gone x new old own rs)
@@ -209,18 +192,18 @@ module _ (P : ChannelLooks → Type 0) (c : CallName) (some : 1 ≤ c.number) wh
       at = connection_is old.connection x own
 
       by : (b : Bool) → same_connection r.connection old.connection ≡ b
-          → OnlyNew new (find (λ q. same_connection q.connection x) (map (instead new old) rs))
+          → OnlyNew new (find (λ q. same_connection q.connection x) (map (given_way new old) rs))
           → OnlyNew new (cond (same_connection (cond b new r).connection x) (Some (cond b new r))
-          (find (λ q. same_connection q.connection x) (map (instead new old) rs)))
+          (find (λ q. same_connection q.connection x) (map (given_way new old) rs)))
       by true same rest = first (same_connection new.connection x)
         where
           first : (b : Bool)
-              → OnlyNew new (cond b (Some new) (find (λ q. same_connection q.connection x) (map (instead new old) rs)))
+              → OnlyNew new (cond b (Some new) (find (λ q. same_connection q.connection x) (map (given_way new old) rs)))
           first true = refl
           first false = rest
       by false other rest =
           subst (λ (b : Bool).
-          OnlyNew new (cond b (Some r) (find (λ q. same_connection q.connection x) (map (instead new old) rs))))
+          OnlyNew new (cond b (Some r) (find (λ q. same_connection q.connection x) (map (given_way new old) rs))))
           (sym (subst (λ (z : Connection). same_connection r.connection z ≡ false) at other)) rest
 
   only_zero : (x y : Connection) (new : ConnLooks) (l : Looks) (n : ℕ) → new.channels ≡ fresh_channels x

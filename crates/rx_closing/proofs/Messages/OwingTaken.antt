@@ -24,9 +24,10 @@ use Rattle.rx_rules.specs.Looks.{latest_name, on_call, on_channel, on_life}
 use Rattle.rx_rules.specs.Setup.{Setup, is_client, named}
 use Rattle.rx_history.specs.Starts.{StartsBy, StartsNew}
 use Rattle.rx_between.proofs.Each.EachStep.{is_start}
-use Rattle.rx_closing.proofs.Messages.OwingStays.{HoldsOwed, StaysOwed, again_number, again_stays, holds_channel}
+use Rattle.rx_closing.proofs.Messages.OwingStays.{HoldsOwed, StaysOwed, again_stays, holds_channel}
 use Rattle.rx_closing.proofs.Messages.OwingStays.{holds_opened, holds_prepared, holds_same, holds_then, holds_told}
 use Rattle.rx_closing.proofs.Telling.AbortOwed.{conn_channel}
+use Rattle.rx_history.proofs.Laws.TakenLaws.{again-number}
 
 module _ (P : ChannelLooks → Type 0) (stays : StaysOwed P) (c : CallName) (some : 1 ≤ c.number) where
   -- ---- a message is taken
@@ -88,7 +89,7 @@ module _ (P : ChannelLooks → Type 0) (stays : StaysOwed P) (c : CallName) (som
       → HoldsOwed P c l (taken_over d body o l)
   holds_over d body None l = holds_same P c l l refl
   holds_over d body (Some k) l =
-      holds_channel P c some (channel_of d) (owing_again body k.life) l (again_number body k.life)
+      holds_channel P c some (channel_of d) (owing_again body k.life) l (again-number body k.life)
       (again_stays P stays body k.life)
 
   holds_with : (s : Setup) (got : Took) (d : CallName) (m : Message) (l : Looks)

@@ -31,7 +31,6 @@ use Rattle.rx_plan.specs.Network.{delivers}
 use Rattle.rx_plan.specs.Parts.{each}
 use Rattle.rx_plan.specs.Stages.{Stage}
 use Rattle.rx_between.specs.Agreed.{MakesSense, SenseAt, passed_at}
-use Rattle.rx_between.proofs.PollSays.{IsStream}
 use Rattle.rx_rounds.proofs.Rounded.{Made}
 use Rattle.rx_rounds.proofs.Two.{sent}
 use Rattle.rx_closing.proofs.Messages.Delivered.{FirstOf, TookAt, delivers_first, delivers_grow, delivers_none}
@@ -42,6 +41,7 @@ use Rattle.rx_closing.proofs.Messages.Sifted.{Sifted, sifts_none, sifts_other, s
 use Rattle.rx_closing.proofs.Messages.TookOver.{TookOver, again_owes, took_over}
 use Rattle.rx_closing.proofs.Messages.TookOwn.{TookOwn, lived, taken_record, took_own}
 use Rattle.rx_closing.proofs.Steps.{IsViewAt, TakesIn, takes_none, takes_one}
+use Rattle.rx_history.proofs.Plain.PlainBodies.{IsSent}
 
 -- ---- a life behind a message
 
@@ -133,7 +133,7 @@ last_behind l m c k b last own =
 module _ (n : Node) (j : ℕ) (c : CallName) (open_ : n.setup.class ≡ null) (from to : Host) (Own : Message → Type 0)
     (here : same_host to n.host ≡ true)
     (name : (m : Message) → Own m → named n.setup from m ≡ c)
-    (stream : (m : Message) → Own m → IsStream m.body)
+    (stream : (m : Message) → Own m → IsSent m.body)
     (Open : Looks → Type 0)
     (lasts : (l m : Looks)
     → ((host : Host) → is_peer host (conn_at m (connection_of c)) ≡ is_peer host (conn_at l (connection_of c)))

@@ -25,7 +25,7 @@ use Rattle.rx_rules.specs.Records.{started_later}
 use Rattle.rx_rules.specs.Setup.{Client, Kind, Server, Setup, named}
 use Rattle.rx_rules.specs.Slots.{node_view}
 use Rattle.rx_rules.proofs.ConnsLaws.{channel_number, number_of}
-use Rattle.rx_between.proofs.PollSays.{IsStream}
+use Rattle.rx_history.proofs.Plain.PlainBodies.{IsSent}
 
 -- ---- rows in front
 
@@ -64,7 +64,7 @@ some_is_none n some = of (n == 0) refl
     of true zero = absurd (let is : n ≡ 0 = same_number n 0 zero in omega arith)
     of false other = refl
 
-pub stray_none : (m : Message) (body : Body) → IsStream body → is_stray m body ≡ false
+pub stray_none : (m : Message) (body : Body) → IsSent body → is_stray m body ≡ false
 stray_none m (bodies.Chunk payload) stream = refl
 stray_none m (bodies.Ack a) stream = refl
 stray_none m _ stream = absurd stream
@@ -108,14 +108,14 @@ side_past : (kind : Kind) (f : Facts) (call : Took) → PassesRows f → f.is_ac
 side_past (Server service nonces) f call p active = server_past f call p active
 side_past (Client host epoch) f call p active = client_past f call p active
 
-live_stream : (s : Setup) (l : Looks) (k : CallRecord) (m : Message) (body : Body) → IsStream body
+live_stream : (s : Setup) (l : Looks) (k : CallRecord) (m : Message) (body : Body) → IsSent body
     → live_row s l k m body ≡ call_row (node_view s l) m m.body k.looks
 live_stream s l k m (bodies.Chunk payload) stream = refl
 live_stream s l k m (bodies.Ack a) stream = refl
 live_stream s l k m _ stream = absurd stream
 
 pub own_took : (s : Setup) (l : Looks) (c : CallName) (k : CallRecord) (m : Message) → IsLast l c k
-    → is_active k.life ≡ true → m.number ≡ c.number → IsStream m.body
+    → is_active k.life ≡ true → m.number ≡ c.number → IsSent m.body
     → took_named s l c m ≡ call_row (node_view s l) m m.body k.looks
 own_took s l c k m last active own stream =
     side_past s.kind (facts_of s l c m) (own_row s (opened s c l) c m)
@@ -165,7 +165,7 @@ over_took s l c k m last active own stray =
 
 -- a client's DATA or ACK, of the service and the class
 pub server_front : (s : Setup) (service nonces : ℕ) (l : Looks) (from : Host) (m : Message)
-    → s.kind ≡ Server service nonces → has_flag CLIENT_INITIATED m.flags ≡ true → IsStream m.body
+    → s.kind ≡ Server service nonces → has_flag CLIENT_INITIATED m.flags ≡ true → IsSent m.body
     → m.service ≡ service → m.index ≡ s.class.index → outer_row s s.kind l from m ≡ None
 server_front s service nonces l from m kind flag stream serves index =
     ap (λ (k : Kind). outer_row s k l from m) kind
@@ -174,7 +174,7 @@ server_front s service nonces l from m kind flag stream serves index =
     (ap (λ (n : ℕ). n == service) serves ∙ number_itself service)
     (ap (λ (n : ℕ). n == s.class.index) index ∙ number_itself s.class.index)
   where
-    for_servers : (body : Body) → IsStream body → is_for_servers s.class.challenges body ≡ true
+    for_servers : (body : Body) → IsSent body → is_for_servers s.class.challenges body ≡ true
     for_servers (bodies.Chunk payload) stream = refl
     for_servers (bodies.Ack a) stream = refl
     for_servers _ stream = absurd stream
@@ -202,13 +202,13 @@ module _ (s : Setup) (host : Host) (epoch : ℕ) (l : Looks) (from : Host) (m : 
       of a b x y p q u v = rw (p, q, u, v) refl
 
   -- its DATA or ACK
-  pub client_front : s.kind ≡ Client host epoch → has_flag CLIENT_INITIATED m.flags ≡ false → IsStream m.body
+  pub client_front : s.kind ≡ Client host epoch → has_flag CLIENT_INITIATED m.flags ≡ false → IsSent m.body
       → named s from m ≡ c → is_peer from (conn_at l (connection_of c)) ≡ true → m.index ≡ s.class.index
       → outer_row s s.kind l from m ≡ None
   client_front kind flag stream name peer index =
       client_front_by kind flag (for_clients m.body stream) name peer index
     where
-      for_clients : (body : Body) → IsStream body → is_for_clients s.class.challenges body ≡ true
+      for_clients : (body : Body) → IsSent body → is_for_clients s.class.challenges body ≡ true
       for_clients (bodies.Chunk payload) stream = refl
       for_clients (bodies.Ack a) stream = refl
       for_clients _ stream = absurd stream

@@ -9,8 +9,8 @@ use Rattle.rx_model.specs.Reading.{reading_of}
 use Rattle.rx_model.specs.Spelling.{IsPlain}
 use Rattle.rx_rules.specs.Setup.{Setup, is_client}
 use Rattle.rx_law.specs.Worlds.{Datagram}
-use Rattle.rx_between.proofs.PollSays.{IsStream}
 use Rattle.rx_rounds.proofs.Two.{sent}
+use Rattle.rx_history.proofs.Plain.PlainBodies.{IsSent}
 
 -- a message of this call's stream, as a node says it of a connection for this service
 pub record IsOwn (s : Setup) (c : CallName) (service : ℕ) (m : Message) : Type 0 where
@@ -18,7 +18,7 @@ pub record IsOwn (s : Setup) (c : CallName) (service : ℕ) (m : Message) : Type
   pub side : has_flag CLIENT_INITIATED m.flags ≡ is_client s.kind
   pub index : m.index ≡ s.class.index
   pub for_it : m.service ≡ service
-  pub stream : IsStream m.body
+  pub stream : IsSent m.body
   pub plain : IsPlain m
 
 -- those of these datagrams that say an own message say these, in order, from one host to another; each other is another

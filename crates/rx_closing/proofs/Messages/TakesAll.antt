@@ -33,7 +33,6 @@ use Rattle.rx_between.proofs.Each.EachEvent.{each_step}
 use Rattle.rx_between.proofs.Each.EachStep.{CallStep, EndStep, Judges}
 use Rattle.rx_between.proofs.Each.EachStep as steps
 use Rattle.rx_between.proofs.Onward.{NoneAnew}
-use Rattle.rx_between.proofs.PollSays.{IsStream}
 use Rattle.rx_plan.specs.Network.{delivers}
 use Rattle.rx_plan.specs.Parts.{each}
 use Rattle.rx_plan.specs.Stages.{Stage}
@@ -53,6 +52,7 @@ use Rattle.rx_closing.proofs.Rounds.Chains.{Adds}
 use Rattle.rx_closing.proofs.Steps.{TakesIn, takes_none, takes_one}
 use Rattle.rx_history.proofs.Laws.EnteredLaw.{legal-before}
 use Rattle.rx_law.proofs.Law.{side-split}
+use Rattle.rx_history.proofs.Plain.PlainBodies.{IsSent}
 
 -- ---- a datagram that isn't a call's
 
@@ -152,7 +152,7 @@ takes_then s now a b d ms ns (takes_one x f m more v got view row sense others) 
 module _ (n : Node) (j : ℕ) (c : CallName) (open_ : n.setup.class ≡ null) (from to : Host) (Own : Message → Type 0)
     (here : same_host to n.host ≡ true)
     (name : (m : Message) → Own m → named n.setup from m ≡ c)
-    (stream : (m : Message) → Own m → IsStream m.body)
+    (stream : (m : Message) → Own m → IsSent m.body)
     (Open : Looks → Type 0)
     (lasts : (l m : Looks)
     → ((host : Host) → is_peer host (conn_at m (connection_of c)) ≡ is_peer host (conn_at l (connection_of c)))

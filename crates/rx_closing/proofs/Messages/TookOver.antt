@@ -19,11 +19,11 @@ use Rattle.rx_rules.specs.Records.{used}
 use Rattle.rx_rules.specs.Setup.{Setup}
 use Rattle.rx_rules.proofs.ConnsLaws.{channel_number, conn_if, conn_at-on_conn, number_in, number_of}
 use Rattle.rx_rules.proofs.FindLaws.{find_passes}
-use Rattle.rx_between.proofs.PollSays.{IsStream}
-use Rattle.rx_closing.proofs.Messages.OwingStays.{again_number}
 use Rattle.rx_closing.proofs.Messages.Rows.{IsLast}
 use Rattle.rx_closing.proofs.Messages.TookOwn.{TookOwn, used_peer}
 use Rattle.rx_closing.proofs.Telling.AbortOwed.{channel_in}
+use Rattle.rx_history.proofs.Laws.TakenLaws.{again-number}
+use Rattle.rx_history.proofs.Plain.PlainBodies.{IsSent}
 
 -- ---- a change of one channel, seen at it
 
@@ -97,7 +97,7 @@ channel_peer l ch f x from =
 -- ---- a message of a call that ended
 
 -- the code of a server's call that is over or broken is owed again
-pub again_owes : (body : Body) (life : Life) (code : ℤ) (q : ChannelLooks) → IsStream body
+pub again_owes : (body : Body) (life : Life) (code : ℤ) (q : ChannelLooks) → IsSent body
     → served_code life ≡ Some code
     → (owing_again body life q).owed_abort ≡ Some code
 again_owes (bodies.Chunk payload) (lives.Broken told) code q stream is = is
@@ -130,7 +130,7 @@ took_over s l c k m last =
           record {
             there = last.there;
             number =
-                ap (λ (q : ChannelLooks). q.number) owes ∙ again_number m.body k.life (channel_at l (channel_of c));
+                ap (λ (q : ChannelLooks). q.number) owes ∙ again-number m.body k.life (channel_at l (channel_of c));
             peer = λ from.
                 channel_peer r (channel_of c) (owing_again m.body k.life) (connection_of c) from
                 ∙ used_peer (connection_of c) l from;

@@ -30,9 +30,9 @@ use Rattle.rx_history.proofs.Events.{call-by, calls-prepared}
 use Rattle.rx_history.proofs.Moments.{now-prepared}
 use Rattle.rx_between.specs.Agreed.{MakesSense}
 use Rattle.rx_between.proofs.Each.EachChange.{taken_alike}
-use Rattle.rx_between.proofs.PollSays.{IsStream}
 use Rattle.rx_between.proofs.Prepared.{prepared_number}
 use Rattle.rx_closing.proofs.Messages.Rows.{IsLast, known_by, opens_none}
+use Rattle.rx_history.proofs.Plain.PlainBodies.{IsSent}
 
 -- the life of a call behind a message, by what its end has then
 abbrev pub lived : Body → CallLooks → Life → Life
@@ -224,7 +224,7 @@ module _ (s : Setup) (l : Looks) (c : CallName) (k : CallRecord) (m : Message) (
       (settled_there s l c k m tooks.Heard open_ last)))
 
   -- of a DATA or an ACK
-  pub took_own : (got : Took) → call_row (node_view s l) m m.body k.looks ≡ got → IsStream m.body → MakesSense got
+  pub took_own : (got : Took) → call_row (node_view s l) m m.body k.looks ≡ got → IsSent m.body → MakesSense got
       → TookOwn c l (taken_record (node_view s l) got m k) (taken_with s got c m (prepared s got (connection_of c) l))
   took_own got row stream sense = of m.body refl stream
     where
@@ -239,7 +239,7 @@ module _ (s : Setup) (l : Looks) (c : CallName) (k : CallRecord) (m : Message) (
             life = lived o (after_taken (node_view s l) got m k.looks) k.life;
           }) (sym at)
 
-      of : (body : Body) → m.body ≡ body → IsStream body
+      of : (body : Body) → m.body ≡ body → IsSent body
           → TookOwn c l (taken_record (node_view s l) got m k)
           (taken_with s got c m (prepared s got (connection_of c) l))
       of (bodies.Chunk payload) at stream =

@@ -31,7 +31,6 @@ use Rattle.rx_wire.specs.Turns.{noted}
 use Rattle.rx_plan.proofs.Callers.{side_other, side_own}
 use Rattle.rx_plan.proofs.ClientEnds.{IsCalledOr, calls_called}
 use Rattle.rx_plan.specs.Stages.{Stage}
-use Rattle.rx_between.proofs.PollSays.{IsStream}
 use Rattle.rx_between.proofs.Each.EachItem.{In}
 use Rattle.rx_rounds.proofs.Rounded.{RoundMade}
 use Rattle.rx_closing.proofs.Frame.{served_in}
@@ -53,6 +52,7 @@ use Rattle.rx_closing.proofs.Rounds.RoundEvents.{At, Carries, Gave, IsNext, call
 use Rattle.rx_closing.proofs.Rounds.RoundEvents.{serve_lead, settles_lead}
 use Rattle.rx_closing.proofs.Together.Members.{Member, names_of}
 use Rattle.rx_progress.proofs.LawsMoves.{server_side}
+use Rattle.rx_history.proofs.Plain.PlainBodies.{IsSent}
 
 -- ---- lives
 
@@ -127,7 +127,7 @@ module _ (server : Node) (ms : List Member) (s t : Stage) (a : AreStill server m
     answers (Server service nonces) allowed = sym allowed
     answers (Client host epoch) allowed = sym allowed
 
-    said_still : Adds (noted node e ∷ h) t.history → (m : Message) → reading_of bytes ≡ Ok m → IsStream m.body
+    said_still : Adds (noted node e ∷ h) t.history → (m : Message) → reading_of bytes ≡ Ok m → IsSent m.body
         → SaidStill server ms s d m
     said_still b m reads stream =
         record {

@@ -31,7 +31,6 @@ use Rattle.rx_law.proofs.World.{and-some, if-some}
 use Rattle.rx_plan.proofs.Aborts.AbortCauses.{ready_latest}
 use Rattle.rx_plan.specs.Stages.{Stage}
 use Rattle.rx_wire.specs.Turns.{noted}
-use Rattle.rx_between.proofs.PollSays.{IsStream}
 use Rattle.rx_closing.proofs.Far.FinishedShut.{IsServed as IsServers, lives_served}
 use Rattle.rx_closing.proofs.Frame.{IsPlain, asked_in}
 use Rattle.rx_closing.proofs.Living.ClientOf.{flagged}
@@ -49,6 +48,7 @@ use Rattle.rx_closing.proofs.Rounds.Chains.{Adds}
 use Rattle.rx_closing.proofs.Rounds.RoundEvents.{IsNext}
 use Rattle.rx_closing.proofs.Together.Members.{Member, names_of}
 use Rattle.rx_between.proofs.Followed.{taken_is}
+use Rattle.rx_history.proofs.Plain.PlainBodies.{IsSent}
 
 -- ---- lives
 
@@ -138,7 +138,7 @@ module _ (server : Node) (ms : List Member) (s t : Stage) (a : AreStill server m
       named_is x g said =
           named_for s.nodes are cs node n l d m sender next.there from to x g said passes
 
-      said : IsStream m.body → SaidStill server ms s d m
+      said : IsSent m.body → SaidStill server ms s d m
       said stream = lively.live back_h m read_it stream
 
       ready_at : (x : CallName) → call_at ready x ≡ call_at l x
@@ -216,13 +216,13 @@ module _ (server : Node) (ms : List Member) (s t : Stage) (a : AreStill server m
                 q.2,
               ))
 
-      abort_is : (j : ℕ) → node ≡ j → IsStream m.body → (k : CallRecord) → call_at l c ≡ Some k
+      abort_is : (j : ℕ) → node ≡ j → IsSent m.body → (k : CallRecord) → call_at l c ≡ Some k
           → AbortAt server ms s j c
       abort_is zero number stream k there = asked_still (serves_at number) (said stream)
       abort_is (suc i) number stream k there =
           (served_still i number (client_at i number) (said stream) k there).0
 
-      ackall_is : (j : ℕ) → node ≡ j → IsStream m.body → (k : CallRecord) → call_at l c ≡ Some k
+      ackall_is : (j : ℕ) → node ≡ j → IsSent m.body → (k : CallRecord) → call_at l c ≡ Some k
           → is_ok_end k.life ≡ true → AckAllAt server ms s j c
       ackall_is zero number stream k there ok =
           served_bad k.life (lives_served n.setup (side node h) c k (serves_at number) fits legal there) ok
@@ -240,10 +240,10 @@ module _ (server : Node) (ms : List Member) (s t : Stage) (a : AreStill server m
           by : (body : Body) → m.body ≡ body
               → Tells (AbortAt server ms s node) (AckAllAt server ms s node) body k.life c
           by (bodies.Chunk payload) same = (
-            λ code told. abort_is node refl (subst IsStream (sym same) tt) k had,
-            λ ok. ackall_is node refl (subst IsStream (sym same) tt) k had ok,
+            λ code told. abort_is node refl (subst IsSent (sym same) tt) k had,
+            λ ok. ackall_is node refl (subst IsSent (sym same) tt) k had ok,
           )
-          by (bodies.Ack given) same = λ code told. abort_is node refl (subst IsStream (sym same) tt) k had
+          by (bodies.Ack given) same = λ code told. abort_is node refl (subst IsSent (sym same) tt) k had
           by (bodies.Abort code) same = tt
           by bodies.Busy same = tt
           by bodies.AckAll same = tt

@@ -16,7 +16,7 @@ use Rattle.rx_model.specs.Message.{Message}
 use Rattle.rx_model.specs.Names.{Channel, channel_of, connection_of}
 use Rattle.rx_model.specs.Reading.{reading_of}
 use Rattle.rx_model.specs.Strays.{is_stray}
-use Rattle.rx_rules.specs.After.{after, counted, given_body, given_by, given_message, is_end, is_ok_end, is_zero}
+use Rattle.rx_rules.specs.After.{after, counted, given_body, given_message, is_end, is_ok_end, is_zero}
 use Rattle.rx_rules.specs.After.{linked, owing_abort, owing_ackall, owing_again, prepared, served_code, taken_behind}
 use Rattle.rx_rules.specs.After.{taken_message, taken_unserved, told_code, turned_away}
 use Rattle.rx_rules.specs.CallLooks.{after_shut}
@@ -25,13 +25,14 @@ use Rattle.rx_rules.specs.Life.{Life, is_calling}
 use Rattle.rx_rules.specs.Looks.{CallRecord, ChannelLooks, ConnLooks, Looks, call_at, channel_at, fresh_channel}
 use Rattle.rx_rules.specs.Looks.{is_call, on_channel, on_looks}
 use Rattle.rx_rules.specs.Records.{silenced}
-use Rattle.rx_rules.specs.Setup.{Client, Kind, Server, Setup, named}
+use Rattle.rx_rules.specs.Setup.{Setup, named}
 use Rattle.rx_rules.proofs.EveryLaws.{Every}
 use Rattle.rx_history.proofs.Differ.{every_found}
 use Rattle.rx_history.proofs.Laws.ForgotLaws.{with-strays}
 use Rattle.rx_history.proofs.OwnChannels.{channel_has}
 use Rattle.rx_history.proofs.StraysStay.{strays-prepared}
 use Rattle.rx_closing.proofs.Owing.ChannelsStay.{GoesSo, Hold, IsMute, Lasts, ReadsSo, StopsSo, TakesSo, hold_after}
+use Rattle.rx_law.proofs.World.{strays-given, strays-linked}
 
 -- ---- nothing is owed
 
@@ -180,19 +181,10 @@ given_strays s to (Ok m) l none = of (is_stray m m.body)
     of true = ap (drop 1) none
     of false = body_strays d m m.body (counted (connection_of d) l) ∙ none
 
-polled_strays : (s : Setup) (got : Option (Host × List ℕ)) (l : Looks) → l.strays ≡ [] → (given_by s got l).strays ≡ []
-polled_strays s None l none = none
-polled_strays s (Some (to, bytes)) l none = given_strays s to (reading_of bytes) l none
-
 finished_strays : (b : Bool) (d : CallName) (code : ℤ) (l : Looks)
     → (if b then on_looks d after_shut l else on_channel (channel_of d) (owing_abort (Some code)) l).strays ≡ l.strays
 finished_strays true d code l = refl
 finished_strays false d code l = refl
-
-linked_strays : (kind : Kind) (to : Host) (service first cid : ℕ) (l : Looks)
-    → (linked kind to service first cid l).strays ≡ l.strays
-linked_strays (Server service nonces) to other first cid l = refl
-linked_strays (Client host epoch) to service first cid l = refl
 
 -- ---- each event
 
@@ -233,7 +225,7 @@ module _ (s : Setup) (mute : IsMute s.class) where
           with-strays s got d m (prepared s got (connection_of d) l) ∙ strays-prepared s got (connection_of d) l ∙ none
 
   strays_after : (l : Looks) (e : Event) → GoesQuietly l e → l.strays ≡ [] → (after s e l).strays ≡ []
-  strays_after l (events.Linked to service first (Ok cid)) may none = linked_strays s.kind to service first cid l ∙ none
+  strays_after l (events.Linked to service first (Ok cid)) may none = strays-linked s.kind to service first cid l ∙ none
   strays_after l (events.Linked to service first (Err full)) may none = none
   strays_after l (events.Called cid (Ok c)) may none = none
   strays_after l (events.Called cid (Err refused)) may none = none
@@ -251,7 +243,7 @@ module _ (s : Setup) (mute : IsMute s.class) where
   strays_after l (events.Finished c code (Err refusals.NotOpen)) may none = none
   strays_after l (events.Finished c code (Err refusals.Unread)) may none = none
   strays_after l (events.Taken from bytes got) may none = taken_strays from (reading_of bytes) got l may none
-  strays_after l (events.Polled got) may none = polled_strays s got (silenced l) none
+  strays_after l (events.Polled got) may none = strays-given s got (silenced l) none
   strays_after l (events.Clocked now) may none = none
 
   -- ---- channels behind it

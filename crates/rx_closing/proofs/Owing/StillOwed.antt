@@ -16,12 +16,12 @@ use Rattle.rx_history.specs.Sides.{Node, side}
 use Rattle.rx_law.specs.Worlds.{AreNodes, Datagram}
 use Rattle.rx_plan.specs.Stages.{Stage}
 use Rattle.rx_between.proofs.Each.EachItem.{In}
-use Rattle.rx_between.proofs.PollSays.{IsStream}
 use Rattle.rx_closing.proofs.Frame.{asked_in, served_in}
 use Rattle.rx_closing.proofs.Living.CrowdRounds.{IsSome, SaidFor}
 use Rattle.rx_closing.proofs.Owing.MayOwe.{EachMay}
 use Rattle.rx_closing.proofs.Rounds.Chains.{Adds}
 use Rattle.rx_closing.proofs.Together.Members.{Member, names_of}
+use Rattle.rx_history.proofs.Plain.PlainBodies.{IsSent}
 
 module _ (server : Node) (ms : List Member) (s : Stage) where
   -- ---- what may be owed
@@ -93,4 +93,4 @@ module _ (server : Node) (ms : List Member) (s : Stage) where
   pub record IsLively (are : AreNodes s.nodes) (last h : List Noted) (d : Datagram) : Type 0 where
     pub one : IsSome s.nodes are (names_of ms) h d
     pub live :
-        Adds h last → (m : Message) → reading_of d.bytes ≡ Ok m → IsStream m.body → SaidStill d m
+        Adds h last → (m : Message) → reading_of d.bytes ≡ Ok m → IsSent m.body → SaidStill d m

@@ -40,7 +40,6 @@ use Rattle.rx_history.proofs.Rows.RowsAborting.{passed}
 use Rattle.rx_plan.specs.Stages.{Stage}
 use Rattle.rx_wire.specs.Turns.{noted}
 use Rattle.rx_between.proofs.Onward.{row_named}
-use Rattle.rx_between.proofs.PollSays.{IsStream}
 use Rattle.rx_between.proofs.Each.EachItem.{In}
 use Rattle.rx_closing.proofs.Frame.{IsSpacious, served_in}
 use Rattle.rx_closing.proofs.Living.CrowdRounds.{IsCrowd, SaidFor, among_at, fits_at, legal_at, named_for}
@@ -54,6 +53,7 @@ use Rattle.rx_closing.proofs.Rounds.Chains.{Adds}
 use Rattle.rx_closing.proofs.Rounds.RoundEvents.{IsNext}
 use Rattle.rx_closing.proofs.Together.Members.{Member, names_of}
 use Rattle.rx_between.proofs.Followed.{taken_is}
+use Rattle.rx_history.proofs.Plain.PlainBodies.{IsSent}
 
 -- ---- rows
 
@@ -108,7 +108,7 @@ handled_other lives.Finished is called = called
 handled_other (lives.Broken code) is called = called
 handled_other (lives.Over code) is called = called
 
-pub data_stream : (body : Body) → is_data body ≡ true → IsStream body
+pub data_stream : (body : Body) → is_data body ≡ true → IsSent body
 data_stream (bodies.Chunk payload) is = tt
 data_stream bodies.Busy is = absurd cc
 data_stream (bodies.Ack a) is = absurd cc

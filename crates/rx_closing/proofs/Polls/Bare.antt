@@ -12,11 +12,11 @@ use Rattle.rx_rules.specs.Life.{is_active, is_live}
 use Rattle.rx_rules.specs.Looks.{CallRecord, ChannelLooks, Looks, call_named, channel_at, is_call, latest}
 use Rattle.rx_rules.specs.Records.{is_silent}
 use Rattle.rx_rules.specs.Setup.{Setup, is_client, receiving_window}
-use Rattle.rx_between.proofs.PollSays.{IsStream}
 use Rattle.rx_between.proofs.Each.EachItem.{In, is_due, least_in}
 use Rattle.rx_rounds.proofs.Clocks.NodeClock.{in_mapped}
 use Rattle.rx_closing.proofs.Polls.OnePoll.{sending_stream}
 use Rattle.rx_between.proofs.Within.{in_either, in_filtered}
+use Rattle.rx_history.proofs.Plain.PlainBodies.{IsSent}
 
 -- a channel that owes nothing
 pub record OwesNothing (q : ChannelLooks) : Type 0 where
@@ -34,14 +34,14 @@ pub record Bare (l : Looks) : Type 0 where
 -- ---- its items
 
 -- a call's own are of its stream
-pub own_stream : (s : Setup) (l : Looks) (o : Option CallRecord) (i : Item) → In i (items_of s l o) → IsStream i.body
+pub own_stream : (s : Setup) (l : Looks) (o : Option CallRecord) (i : Item) → In i (items_of s l o) → IsSent i.body
 own_stream s l None i there = absurd there
 own_stream s l (Some k) i there = by (is_active k.life && not (is_silent l.now k)) there
   where
-    by : (b : Bool) → In i (cond b (map (item_of s k) (call_items (is_client s.kind) k.looks)) []) → IsStream i.body
+    by : (b : Bool) → In i (cond b (map (item_of s k) (call_items (is_client s.kind) k.looks)) []) → IsSent i.body
     by true here =
         let m = in_mapped (item_of s k) i (call_items (is_client s.kind) k.looks) here in
-        subst (λ (j : Item). IsStream j.body) (sym m.2)
+        subst (λ (j : Item). IsSent j.body) (sym m.2)
         (sending_stream (receiving_window s) k.looks (m.0).sending)
     by false none = absurd none
 
@@ -71,7 +71,7 @@ none_class s l c q true i none there =
 
 -- so are those of a channel that owes nothing
 channel_stream : (s : Setup) (l : Looks) (ch : Channel) (i : Item) → OwesNothing (channel_at l ch)
-    → In i (channel_items s l ch) → IsStream i.body
+    → In i (channel_items s l ch) → IsSent i.body
 channel_stream s l ch i none there =
     (let q : ChannelLooks = channel_at l ch in
     let c : CallName = call_named ch q.number in
@@ -97,7 +97,7 @@ channel_stream s l ch i none there =
     (in_either i aborts (busies ++ (classes ++ (acks ++ own))) there))
 
 channels_stream : (s : Setup) (l : Looks) (chs : List Channel) (i : Item)
-    → ((ch : Channel) → OwesNothing (channel_at l ch)) → In i (items_on s l chs) → IsStream i.body
+    → ((ch : Channel) → OwesNothing (channel_at l ch)) → In i (items_on s l chs) → IsSent i.body
 channels_stream s l [] i none there = absurd there
 channels_stream s l (ch ∷ chs) i none there =
     ⊎_elim
@@ -107,7 +107,7 @@ channels_stream s l (ch ∷ chs) i none there =
 
 -- what such a node gives next is of a stream
 pub bare_next : (s : Setup) (l : Looks) (i : Item) → ((ch : Channel) → OwesNothing (channel_at l ch))
-    → next_item s l ≡ Some i → IsStream i.body
+    → next_item s l ≡ Some i → IsSent i.body
 bare_next s l i none is =
     channels_stream s l (all_channels l.conns) i none
     (in_filtered (is_due l) i (items s l)

@@ -25,7 +25,6 @@ use Rattle.rx_law.specs.Worlds.{AreNodes, Datagram}
 use Rattle.rx_jobs.specs.Handlers.{Handlers}
 use Rattle.rx_wire.specs.Turns.{noted}
 use Rattle.rx_plan.specs.Stages.{Stage}
-use Rattle.rx_between.proofs.PollSays.{IsStream}
 use Rattle.rx_rounds.proofs.Rounded.{RoundMade}
 use Rattle.rx_closing.specs.Living.{looks_of}
 use Rattle.rx_closing.proofs.Far.FarStands.{scene_fed}
@@ -45,6 +44,7 @@ use Rattle.rx_closing.proofs.Rounds.ClientsApart.{one_client, own_call_kind}
 use Rattle.rx_closing.proofs.Rounds.EventParts.{kind_client}
 use Rattle.rx_closing.proofs.Rounds.RoundEvents.{Carries, IsNext, RoundHolds, every_weaker, round_holds}
 use Rattle.rx_closing.proofs.Unknown.HandledLeft.{IsCalm}
+use Rattle.rx_history.proofs.Plain.PlainBodies.{IsSent}
 
 -- ---- what was given since
 
@@ -56,7 +56,7 @@ pub record SaidSince (nodes : List Node) (from h : List Noted) (d : Datagram) (m
 
 abbrev pub SaysSince : List Node → List Noted → List Noted → Datagram → Type 0
 SaysSince nodes from h d =
-    (m : Message) → reading_of d.bytes ≡ Ok m → IsStream m.body → SaidSince nodes from h d m
+    (m : Message) → reading_of d.bytes ≡ Ok m → IsSent m.body → SaidSince nodes from h d m
 
 -- what is carried is carried with more that is so of each datagram
 carries_with : (nodes : List Node) (D E : List Noted → Datagram → Type 0) (P : List Noted → Type 0)

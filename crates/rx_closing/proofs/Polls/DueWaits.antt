@@ -24,7 +24,7 @@ use Rattle.rx_between.proofs.Each.EachItem.{least_none}
 use Rattle.rx_rounds.proofs.Clocks.GivesOrMoves.{wait_within}
 use Rattle.rx_closing.specs.Living.{looks_of}
 use Rattle.rx_closing.proofs.Polls.NodePolls.{live_seen}
-use Rattle.rx_closing.proofs.Polls.OnePoll.{active_lives}
+use Rattle.rx_closing.proofs.Ends.RoomLaws.{active_lives}
 
 module _ (s : Stage) (j : ℕ) (n : Node) (w : ℕ) where
   -- an item of a node is due no earlier

@@ -27,7 +27,6 @@ use Rattle.rx_history.specs.Sides.{Node, moment, side}
 use Rattle.rx_history.proofs.Data.{same_message}
 use Rattle.rx_history.proofs.Moments.{now-side}
 use Rattle.rx_law.specs.Worlds.{Datagram}
-use Rattle.rx_between.proofs.PollSays.{IsStream}
 use Rattle.rx_plan.specs.Rounds.{Polled, Polling, polls_out}
 use Rattle.rx_between.proofs.Each.EachItem.{none_of}
 use Rattle.rx_rounds.proofs.Polls.PolledOut.{polled_out, quiet_life}
@@ -39,12 +38,14 @@ use Rattle.rx_closing.proofs.Owing.ChannelsStay.{IsMute}
 use Rattle.rx_closing.proofs.Polls.NodePolls.{live_seen}
 use Rattle.rx_closing.proofs.Polls.NodeTurn.{IsGivenBy, Out, node_turn}
 use Rattle.rx_closing.proofs.Polls.OneGives.{GaveCall, GaveOther, rest_gives, work_gives}
-use Rattle.rx_closing.proofs.Polls.OnePoll.{ConnIs, active_before, active_lives, next_same, silenced_at}
+use Rattle.rx_closing.proofs.Polls.OnePoll.{ConnIs, active_before, next_same, silenced_at}
 use Rattle.rx_closing.proofs.Polls.OnePoll.{still_there}
 use Rattle.rx_closing.proofs.Polls.Polled.{EndPolled, EndRested, EndWorked, NoStreamOf, NotOf, RestsAt, WorksAt}
 use Rattle.rx_closing.proofs.Polls.Polled.{end_rests, end_works, name_in}
 use Rattle.rx_closing.proofs.Quiet.QuietChannel.{hushed_call}
 use Rattle.rx_closing.proofs.Steps.{GivesOut, IsViewAt, gives_none, gives_one}
+use Rattle.rx_closing.proofs.Ends.RoomLaws.{active_lives}
+use Rattle.rx_history.proofs.Plain.PlainBodies.{IsSent}
 
 -- ---- names
 
@@ -76,10 +77,10 @@ apart_given s c from to bytes m home flag reads apart n other name =
 -- nothing of its stream
 no_stream_given : (s : Setup) (c : CallName) (from to : Host) (bytes : List ℕ) (m : Message) → IsHome from s.kind
     → has_flag CLIENT_INITIATED m.flags ≡ is_client s.kind → reading_of bytes ≡ Ok m
-    → (IsStream m.body → named s to m ≡ c → ⊥) → NoStreamOf c (sent from to bytes)
+    → (IsSent m.body → named s to m ≡ c → ⊥) → NoStreamOf c (sent from to bytes)
 no_stream_given s c from to bytes m home flag reads apart n other stream name =
     (let same : m ≡ n = same_message m n (sym reads ∙ other) in
-    apart (subst (λ (k : Message). IsStream k.body) (sym same) stream)
+    apart (subst (λ (k : Message). IsSent k.body) (sym same) stream)
     (sym (name_given s from to bytes m home flag) ∙ ap (name_in (sent from to bytes)) same ∙ name))
 
 -- ---- a call at work

@@ -1,7 +1,6 @@
 -- Numbers of nodes in parts, and what was given in parts.
 use Rattle.std.proofs.Common.{◌≡◌, ◌≢◌, ◌<◌, ◌+◌, ◌++◌, ℕ, zero, suc, List, [], ◌∷◌, refl, ap, sym, subst, ◌∙◌, inl}
-use Rattle.std.proofs.Common.{inr, Some, append_assoc, length, arith}
-use Rattle.std.specs.Prelude.{slice_get}
+use Rattle.std.proofs.Common.{inr, append_assoc, arith}
 use Rattle.rx_law.specs.Worlds.{Datagram}
 use Rattle.rx_plan.specs.Stages.{Stage}
 use Rattle.rx_rounds.proofs.Clocks.ClocksMove.{AreApart, IsNone, from_on}
@@ -50,11 +49,6 @@ from_parts n (suc k) m =
     let at : suc n + k ≡ n + suc k = omega arith in
     ap (from_on n) count ∙ ap (λ (ns : List ℕ). n ∷ ns) (from_parts (suc n) k m)
     ∙ ap (λ (i : ℕ). n ∷ (from_on (suc n) k ++ from_on i m)) at)
-
-pub nth_there : {X : Type 0} (xs : List X) (k : ℕ) → k < length xs → (x : X) × (slice_get xs k ≡ Some x)
-nth_there [] k low = (let no : ⊥ = omega arith in absurd no)
-nth_there (x ∷ xs) zero low = (x, refl)
-nth_there (x ∷ xs) (suc k) low = nth_there xs k (omega arith)
 
 -- what was given in two parts
 pub then_both : (first second third x y : List Datagram) → second ≡ first ++ x → third ≡ second ++ y

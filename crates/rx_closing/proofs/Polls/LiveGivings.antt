@@ -25,9 +25,9 @@ use Rattle.rx_history.proofs.Given.GivenLaws.{silent-name as silent_name}
 use Rattle.rx_between.proofs.Each.EachItem.{IsOther, Sends}
 use Rattle.rx_between.proofs.Each.EachItem as each
 use Rattle.rx_between.proofs.GivenAcks.{sends_there}
-use Rattle.rx_between.proofs.PollSays.{IsStream}
 use Rattle.rx_closing.proofs.Ends.RoomLaws.{active_lives}
 use Rattle.rx_plan.proofs.Soundness.SoundPlan.{and_left}
+use Rattle.rx_history.proofs.Plain.PlainBodies.{IsSent}
 
 -- ---- lives
 
@@ -70,11 +70,11 @@ lives_unsilenced l c v =
 -- ---- givings
 
 module _ (s : Setup) (h : List Event) (fits : FitsSetup s) (legal : Legal s h) (to : Host) (bytes : List ℕ)
-    (m : Message) (reads : reading_of bytes ≡ Ok m) (stream : IsStream m.body) where
+    (m : Message) (reads : reading_of bytes ≡ Ok m) (stream : IsSent m.body) where
   abbrev l : Looks
   l = silenced (looks s h)
 
-  no_other : (body : Body) → IsStream body → IsOther body → ⊥
+  no_other : (body : Body) → IsSent body → IsOther body → ⊥
   no_other (bodies.Chunk payload) stream other = other
   no_other (bodies.Ack a) stream other = other
   no_other (bodies.Abort code) stream other = stream
@@ -109,7 +109,7 @@ module _ (s : Setup) (h : List Event) (fits : FitsSetup s) (legal : Legal s h) (
   no_stray p same g =
       of m.body stream (sym (ap (λ (n : Message). n.body) same) ∙ ap (λ (n : Message). n.body) g.is)
     where
-      of : (body : Body) → IsStream body → body ≡ bodies.Abort RX_INVALID_OPERATION → ⊥
+      of : (body : Body) → IsSent body → body ≡ bodies.Abort RX_INVALID_OPERATION → ⊥
       of (bodies.Chunk payload) stream is = cc
       of (bodies.Ack a) stream is = cc
       of _ stream is = stream

@@ -27,7 +27,6 @@ use Rattle.rx_history.proofs.Calls.{call-changed}
 use Rattle.rx_history.proofs.Given.GivingItems.{item_leaves, item_name, stray_leaves}
 use Rattle.rx_history.proofs.Given.Givings.{poll_gives}
 use Rattle.rx_law.proofs.World.{gave-mine}
-use Rattle.rx_between.proofs.PollSays.{IsStream}
 use Rattle.rx_between.proofs.Each.EachItem.{IsOther, Sends, gives}
 use Rattle.rx_closing.proofs.Messages.Sifted.{IsOwn}
 use Rattle.rx_closing.proofs.Polls.GivenLeft.{at_calls, call_left, given_now, given_quiet, given_strays, others_left}
@@ -37,6 +36,7 @@ use Rattle.rx_closing.proofs.Polls.OwedItems.{next_apart, not_both}
 use Rattle.rx_closing.proofs.Polls.Polled.{IsHushed, QuietBut, RestsAt, WorksAt}
 use Rattle.rx_closing.proofs.Steps.{IsGiven, IsViewAt}
 use Rattle.rx_between.proofs.GivenAcks.{sends_there}
+use Rattle.rx_history.proofs.Plain.PlainBodies.{IsSent}
 
 -- it gave what the call's end gives next
 pub record GaveCall (s : Setup) (c : CallName) (peer : Host) (service : ℕ) (l : Looks) (r : CallRecord) (to : Host)
@@ -59,7 +59,7 @@ pub record GaveOther (s : Setup) (c : CallName) (l : Looks) (to : Host) (bytes :
   pub message : Message
   pub reads : reading_of bytes ≡ Ok message
   pub flag : has_flag CLIENT_INITIATED message.flags ≡ is_client s.kind
-  pub no_stream : IsStream message.body → named s to message ≡ c → ⊥
+  pub no_stream : IsSent message.body → named s to message ≡ c → ⊥
   pub apart : IsHushed c l → named s to message ≡ c → ⊥
   pub calls : call_at behind c ≡ option_map (unless_silent l.now) (call_at l c)
   pub conn :
@@ -100,7 +100,7 @@ module _ (s : Setup) (h : List Event) (fits : FitsSetup s) (legal : Legal s h) (
         message = p.message;
         reads = p.read;
         flag = flag_is p.message p.read;
-        no_stream = λ stream name. subst (λ (m : Message). IsStream m.body) g.is stream;
+        no_stream = λ stream name. subst (λ (m : Message). IsSent m.body) g.is stream;
         apart = λ hush name. none hush.strays (ap (λ (d : CallName). d.number) name);
         calls = at_calls (silenced l) behind c (ap (λ (x : Looks). x.calls) whole) ∙ silenced_at l c;
         conn = λ x peer service w. subst (λ (y : Looks). ConnIs y x peer service) (sym whole) (record { is = w.is });
@@ -250,7 +250,7 @@ module _ (s : Setup) (h : List Event) (fits : FitsSetup s) (legal : Legal s h) (
           side = ap (λ (m : Message). has_flag CLIENT_INITIATED m.flags) message ∙ sending_side s.kind r.looks x;
           index = ap (λ (m : Message). m.index) g.is;
           for_it = ap (λ (m : Message). m.service) g.is ∙ peer_is.1;
-          stream = subst (λ (m : Message). IsStream m.body) (sym message)
+          stream = subst (λ (m : Message). IsSent m.body) (sym message)
               (sending_stream (receiving_window s) r.looks x);
           plain = p.plain;
         };

@@ -13,39 +13,23 @@ use Rattle.rx_rules.specs.CallItems.{CallItem, Sending, Piece, Ack, after_sendin
 use Rattle.rx_rules.specs.CallItems.{sending_body, sending_flags}
 use Rattle.rx_rules.specs.CallLooks.{CallLooks, NodeView}
 use Rattle.rx_rules.specs.Least.{least_by}
-use Rattle.rx_rules.specs.Life.{Life, after_silence, is_active, is_live}
+use Rattle.rx_rules.specs.Life.{after_silence, is_active}
 use Rattle.rx_rules.specs.Life as lives
 use Rattle.rx_rules.specs.Looks.{CallRecord, ConnLooks, Looks, call_at, conn_at, on_conn}
 use Rattle.rx_rules.specs.Records.{is_silent, silence_of, silenced, unless_silent}
 use Rattle.rx_rules.specs.Setup.{Kind, Server, Client, is_client, side_flag}
 use Rattle.rx_rules.proofs.CallsLaws.{call_at-on_calls}
 use Rattle.rx_rules.proofs.ConnsLaws.{KeepsConns, conn_at-on_conn, conn_if}
-use Rattle.rx_between.proofs.PollSays.{IsStream}
 use Rattle.rx_between.proofs.Each.EachChange.{some_is as some_call}
 use Rattle.rx_rounds.proofs.Polls.PolledOut.{quiet_life}
+use Rattle.rx_history.proofs.Given.GivenLaws.{silent-name}
+use Rattle.rx_history.proofs.Plain.PlainBodies.{IsSent}
 
 -- ---- silence
 
--- what is active lives
-pub active_lives : (life : Life) → is_active life ≡ true → is_live life ≡ true
-active_lives lives.Calling active = refl
-active_lives (lives.Ended end) active = absurd cc
-active_lives lives.Waiting active = refl
-active_lives lives.Accepted active = refl
-active_lives lives.Finished active = refl
-active_lives (lives.Broken code) active = refl
-active_lives (lives.Over code) active = absurd cc
-
-pub silent_name : (now : ℕ) (k : CallRecord) → (unless_silent now k).name ≡ k.name
-silent_name now k = of (is_silent now k)
-  where
-    of : (b : Bool) → (cond b (record k { life = after_silence (silence_of now k) k.life }) k).name ≡ k.name
-    of true = refl
-    of false = refl
-
 -- what any call is once silent ones ended
 pub silenced_at : (l : Looks) (c : CallName) → call_at (silenced l) c ≡ option_map (unless_silent l.now) (call_at l c)
-silenced_at l c = call_at-on_calls c (unless_silent l.now) l (silent_name l.now)
+silenced_at l c = call_at-on_calls c (unless_silent l.now) l (silent-name l.now)
 
 -- one that is active then was so before, and wasn't silent
 pub active_before : (l : Looks) (c : CallName) (k : CallRecord) → call_at (silenced l) c ≡ Some k
@@ -179,7 +163,7 @@ pub sending_side : (kind : Kind) (k : CallLooks) (x : Sending)
 sending_side kind k (Piece seq again) = side_is kind _ _
 sending_side kind k (Ack reason serial) = side_is kind _ false
 
-pub sending_stream : (window : ℕ) (k : CallLooks) (x : Sending) → IsStream (sending_body window k x)
+pub sending_stream : (window : ℕ) (k : CallLooks) (x : Sending) → IsSent (sending_body window k x)
 sending_stream window k (Piece seq again) = tt
 sending_stream window k (Ack reason serial) = tt
 

@@ -10,14 +10,14 @@ use Rattle.rx_rules.specs.Items.{items_of, items_on, next_item, owed_item, where
 use Rattle.rx_rules.specs.Life.{is_live}
 use Rattle.rx_rules.specs.Looks.{ChannelLooks, Looks, call_named, channel_at, is_call, latest}
 use Rattle.rx_rules.specs.Setup.{Setup}
-use Rattle.rx_between.proofs.PollSays.{IsStream}
 use Rattle.rx_between.proofs.Each.EachItem.{In, IsOther, is_due, least_in}
 use Rattle.rx_closing.proofs.Polls.Bare.{own_stream}
 use Rattle.rx_closing.proofs.Polls.Polled.{QuietBut}
 use Rattle.rx_between.proofs.Within.{in_either, in_filtered}
+use Rattle.rx_history.proofs.Plain.PlainBodies.{IsSent}
 
 -- no body is both
-pub not_both : (body : Body) → IsStream body → IsOther body → ⊥
+pub not_both : (body : Body) → IsSent body → IsOther body → ⊥
 not_both (bodies.Chunk payload) stream other = other
 not_both (bodies.Ack a) stream other = other
 not_both (bodies.Abort code) stream other = stream

@@ -19,7 +19,6 @@ use Rattle.rx_rules.specs.Setup.{Setup}
 use Rattle.rx_rules.proofs.EveryLaws.{Every}
 use Rattle.rx_history.specs.Sides.{Node, moment, side}
 use Rattle.rx_law.specs.Worlds.{Datagram}
-use Rattle.rx_between.proofs.PollSays.{IsStream}
 use Rattle.rx_plan.specs.Rounds.{Polled}
 use Rattle.rx_plan.specs.Stages.{Stage}
 use Rattle.rx_closing.specs.Living.{looks_of}
@@ -28,6 +27,7 @@ use Rattle.rx_closing.proofs.Messages.TakesAll.{IsNotFor}
 use Rattle.rx_closing.proofs.Polls.NodeTurn.{IsGivenBy, OutAt}
 use Rattle.rx_closing.proofs.Polls.OnePoll.{ConnIs}
 use Rattle.rx_closing.proofs.Steps.{GivesOut}
+use Rattle.rx_history.proofs.Plain.PlainBodies.{IsSent}
 
 -- ---- what a datagram says
 
@@ -41,7 +41,7 @@ NotOf c d = (m : Message) → reading_of d.bytes ≡ Ok m → name_in d m ≡ c 
 
 -- nothing of this call's stream
 abbrev pub NoStreamOf : CallName → Datagram → Type 0
-NoStreamOf c d = (m : Message) → reading_of d.bytes ≡ Ok m → IsStream m.body → name_in d m ≡ c → ⊥
+NoStreamOf c d = (m : Message) → reading_of d.bytes ≡ Ok m → IsSent m.body → name_in d m ≡ c → ⊥
 
 -- ---- what a channel owes
 

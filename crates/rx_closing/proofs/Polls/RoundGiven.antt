@@ -29,7 +29,7 @@ use Rattle.rx_closing.proofs.Frame.{IsPlain, OneOf}
 use Rattle.rx_closing.proofs.Messages.Delivered.{node_is}
 use Rattle.rx_closing.proofs.Owing.ChannelsStay.{IsMute, null_mute}
 use Rattle.rx_closing.proofs.Polls.EndPolls.{EndTurn, IsHome, end_polls}
-use Rattle.rx_closing.proofs.Polls.InParts.{apart_parts, from_parts, in_none, none_in, nth_there, rest_both}
+use Rattle.rx_closing.proofs.Polls.InParts.{apart_parts, from_parts, in_none, none_in, rest_both}
 use Rattle.rx_closing.proofs.Polls.InParts.{then_four}
 use Rattle.rx_closing.proofs.Polls.NodePolls.{server_conn}
 use Rattle.rx_closing.proofs.Polls.NodeTurn.{IsGivenBy, OutAt}
@@ -38,6 +38,7 @@ use Rattle.rx_closing.proofs.Polls.OtherPolls.{OtherAt, other_outs, other_stays}
 use Rattle.rx_closing.proofs.Polls.Polled.{EndPolled, NotOf}
 use Rattle.rx_between.proofs.Within.{in_either}
 use Rattle.rx_rounds.proofs.Clocks.GivesOrMoves.{nth_low}
+use Rattle.rx_rounds.proofs.Polls.QuietPolls.{nth_there}
 
 -- what the polls of a round gave, and what they left
 pub record RoundGiven (c : CallName) (k : ℕ) (client server : Node) (peer : Host) (service : ℕ) (s : Stage)

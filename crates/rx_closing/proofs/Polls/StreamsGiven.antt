@@ -23,7 +23,6 @@ use Rattle.rx_history.specs.Sides.{IsClientAt, Node, side}
 use Rattle.rx_history.proofs.Given.Givings.{poll_gives}
 use Rattle.rx_law.proofs.World.{and-some, if-some}
 use Rattle.rx_law.specs.Worlds.{Datagram, World}
-use Rattle.rx_between.proofs.PollSays.{IsStream}
 use Rattle.rx_plan.specs.Parts.{To, each}
 use Rattle.rx_plan.specs.Rounds.{Polled, polls, polls_out}
 use Rattle.rx_plan.specs.Stages.{Stage}
@@ -38,12 +37,14 @@ use Rattle.rx_closing.proofs.Living.CrowdRounds.{SaidFor}
 use Rattle.rx_closing.proofs.Owing.ChannelsStay.{IsMute, null_mute}
 use Rattle.rx_closing.proofs.Owing.OwesNone.{OwesNone, owes_none_after}
 use Rattle.rx_closing.proofs.Polls.Bare.{bare_next}
-use Rattle.rx_closing.proofs.Polls.InParts.{none_in, nth_there}
+use Rattle.rx_closing.proofs.Polls.InParts.{none_in}
 use Rattle.rx_closing.proofs.Polls.NodeTurn.{node_turn}
 use Rattle.rx_closing.proofs.Polls.Polled.{NoStreamOf, RoundPolled, name_in}
 use Rattle.rx_closing.proofs.Rounds.RoundEvents.{every_at}
 use Rattle.rx_closing.proofs.Unknown.UnservedMeet.{bare_of}
 use Rattle.rx_rounds.proofs.Clocks.GivesOrMoves.{nth_low}
+use Rattle.rx_history.proofs.Plain.PlainBodies.{IsSent}
+use Rattle.rx_rounds.proofs.Polls.QuietPolls.{nth_there}
 
 -- ---- one node
 
@@ -51,7 +52,7 @@ use Rattle.rx_rounds.proofs.Clocks.GivesOrMoves.{nth_low}
 pub record SaysStream (d : Datagram) : Type 0 where
   pub message : Message
   pub reads : reading_of d.bytes ≡ Ok message
-  pub stream : IsStream message.body
+  pub stream : IsSent message.body
 
 module _ (s : Setup) (fits : FitsSetup s) (mute : IsMute s.class) (from : Host) where
   abbrev StreamsOn : List Event → List Event → List Datagram → Type 0
@@ -75,7 +76,7 @@ module _ (s : Setup) (fits : FitsSetup s) (mute : IsMute s.class) (from : Host) 
         stream = ⊎_elim
             (λ (g : GivesStray (looks s h) to p.message). absurd (some_stray g.oldest g.later
             (sym none.strays ∙ g.owed)))
-            (λ (g : GivesItem s (looks s h) to p.message). subst (λ (m : Message). IsStream m.body) (sym g.is)
+            (λ (g : GivesItem s (looks s h) to p.message). subst (λ (m : Message). IsSent m.body) (sym g.is)
             (bare_next s (silenced (looks s h)) g.item (bare_of (looks s h) none).channels g.next)) p.owed;
       }
 
@@ -194,7 +195,7 @@ said_name nodes now world c h d m said =
 module _ (c : CallName) (k : ℕ) (client server : Node) (peer : Host) (service : ℕ) (s : Stage) (p : Polled) where
   -- where both ends gave nothing, nothing of its stream was given
   pub gave_none : World s.nodes s.history → (q : RoundPolled c k client server peer service s p) → q.asks ≡ []
-      → q.answers ≡ [] → (d : Datagram) → In d p.given → (m : Message) → reading_of d.bytes ≡ Ok m → IsStream m.body
+      → q.answers ≡ [] → (d : Datagram) → In d p.given → (m : Message) → reading_of d.bytes ≡ Ok m → IsSent m.body
       → (h : List Noted) → SaidFor s.nodes c h d m → ⊥
   gave_none world q asks answers d there m reads stream h said =
       every_at (NoStreamOf c) p.given d there (q.quiet asks answers) m reads stream

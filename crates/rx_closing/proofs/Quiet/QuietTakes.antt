@@ -31,9 +31,9 @@ use Rattle.rx_closing.proofs.Messages.CrowdedRows.{is_busy, row_calm, side_crowd
 use Rattle.rx_closing.proofs.Messages.Lasts.{live_last}
 use Rattle.rx_closing.proofs.Messages.Rows.{IsLast}
 use Rattle.rx_closing.proofs.Owing.ChannelsStay.{IsMute}
-use Rattle.rx_closing.proofs.Polls.OnePoll.{active_lives}
 use Rattle.rx_closing.proofs.Quiet.QuietSteps.{Hushes, Leaves, ReadsSo, StopsSo, TakesSo}
 use Rattle.rx_history.proofs.Laws.TakenLaws.{is-below}
+use Rattle.rx_closing.proofs.Ends.RoomLaws.{active_lives}
 
 -- ---- numbers and names
 

@@ -29,7 +29,6 @@ use Rattle.rx_closing.specs.Living.{looks_of}
 use Rattle.rx_closing.proofs.Frame.{OneOf, asked_in}
 use Rattle.rx_closing.proofs.Polls.DueWaits.{call_waits, ping_there}
 use Rattle.rx_closing.proofs.Polls.NodePolls.{live_seen}
-use Rattle.rx_closing.proofs.Polls.OnePoll.{active_lives}
 use Rattle.rx_closing.proofs.Polls.PolledAll.{all_polled_out}
 use Rattle.rx_closing.proofs.Rounds.Chains.{Adds, RoundAdds, adds_both, round_adds}
 use Rattle.rx_closing.proofs.Rounds.Clocks.{Lives, asked_calling, called_awake, called_lives, called_one, polled_awake}
@@ -38,6 +37,7 @@ use Rattle.rx_closing.proofs.Rounds.RoundMoments.{MomentsStay, moments_stay}
 use Rattle.rx_closing.proofs.Rounds.Settles.{Settles, settles_call, settles_moment}
 use Rattle.rx_closing.proofs.Rounds.SpokeRises.{spoke_rises}
 use Rattle.rx_law.proofs.Law.{side-split}
+use Rattle.rx_closing.proofs.Ends.RoomLaws.{active_lives}
 
 -- ---- a node that was polled out
 

@@ -28,7 +28,6 @@ use Rattle.rx_closing.specs.Living.{looks_of}
 use Rattle.rx_closing.proofs.Far.FarStands.{both_far, both_low}
 use Rattle.rx_closing.proofs.Frame.{AreAmong, OneOf}
 use Rattle.rx_closing.proofs.Living.Before.{one_before}
-use Rattle.rx_closing.proofs.Polls.OnePoll.{active_lives}
 use Rattle.rx_closing.proofs.Rounds.Chains.{Adds, RoundAdds, adds_both, round_adds, round_more}
 use Rattle.rx_closing.proofs.Rounds.ClientsApart.{one_client, own_call_kind}
 use Rattle.rx_closing.proofs.Rounds.Clocks.{Lives, asked_calling, called_awake, called_lives, called_one}
@@ -38,6 +37,7 @@ use Rattle.rx_closing.proofs.Rounds.Settles.{some_nodes, wait_short}
 use Rattle.rx_closing.proofs.Rounds.SilentMoves.{silent_moves}
 use Rattle.rx_closing.proofs.Together.Members.{Member, names_of}
 use Rattle.rx_plan.proofs.Soundness.SoundPlan.{and_left}
+use Rattle.rx_closing.proofs.Ends.RoomLaws.{active_lives}
 
 -- ---- a silent call
 

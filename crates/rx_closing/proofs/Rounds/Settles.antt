@@ -29,9 +29,9 @@ use Rattle.rx_rounds.proofs.Rounded.{Made, RoundMade}
 use Rattle.rx_closing.specs.Living.{looks_of}
 use Rattle.rx_closing.proofs.Frame.{OneOf, asked_in}
 use Rattle.rx_closing.proofs.Polls.NodePolls.{live_seen}
-use Rattle.rx_closing.proofs.Polls.OnePoll.{active_lives}
 use Rattle.rx_closing.proofs.Rounds.RoundClocks.{loud_round, quiet_round}
 use Rattle.rx_closing.proofs.Rounds.SpokeHolds.{past_holds}
+use Rattle.rx_closing.proofs.Ends.RoomLaws.{active_lives}
 
 -- ---- the clocks
 

@@ -27,6 +27,7 @@ use Rattle.rx_between.proofs.Each.EachStep.{CallStep, EndStep, Goes, IsMade, Ope
 use Rattle.rx_between.proofs.Each.EachStep.{shuts}
 use Rattle.rx_between.proofs.Each.EachStep.{stays, takes, writes}
 use Rattle.rx_closing.proofs.Polls.OnePoll.{sending_heard as given_heard}
+use Rattle.rx_law.proofs.HearsTaken.{chunk-heard}
 
 -- neither is later than this moment
 pub record IsPast (now : ℕ) (k : CallLooks) : Type 0 where
@@ -68,16 +69,6 @@ chunk_spoke v got m bodies.AckAll k = refl
 chunk_spoke v got m (bodies.Challenge given) k = refl
 chunk_spoke v got m (bodies.Response given) k = refl
 
-chunk_heard : (v : NodeView) (got : Took) (m : Message) (body : Body) (k : CallLooks)
-    → ((after_chunk v got m body k).heard ≡ k.heard) ⊎ ((after_chunk v got m body k).heard ≡ v.now)
-chunk_heard v got m (bodies.Chunk payload) k = inr refl
-chunk_heard v got m (bodies.Ack a) k = inl refl
-chunk_heard v got m bodies.Busy k = inl refl
-chunk_heard v got m (bodies.Abort code) k = inl refl
-chunk_heard v got m bodies.AckAll k = inl refl
-chunk_heard v got m (bodies.Challenge given) k = inl refl
-chunk_heard v got m (bodies.Response given) k = inl refl
-
 pub body_spoke : (now : ℕ) (m : Message) (body : Body) (k : CallLooks)
     → (after_body now m body k).spoke ≡ k.spoke
 body_spoke now m (bodies.Ack a) k = refl
@@ -102,7 +93,7 @@ taken_past now v got m k at past = of got
           heard = ⊎_elim
               (λ (same : (after_chunk v answer m m.body k).heard ≡ k.heard). omega arith)
               (λ (same : (after_chunk v answer m m.body k).heard ≡ v.now). omega arith)
-              (chunk_heard v answer m m.body k);
+              (chunk-heard v answer m m.body k);
         }
 
     of : (answer : Took) → IsPast now (after_taken v answer m k)
@@ -188,11 +179,11 @@ past_holds s (e ∷ h) c r fits legal there =
 
 pub taken_heard : (v : NodeView) (got : Took) (m : Message) (k : CallLooks)
     → ((after_taken v got m k).heard ≡ k.heard) ⊎ ((after_taken v got m k).heard ≡ v.now)
-taken_heard v tooks.Kept m k = chunk_heard v tooks.Kept m m.body k
-taken_heard v tooks.Repeat m k = chunk_heard v tooks.Repeat m m.body k
-taken_heard v tooks.Beyond m k = chunk_heard v tooks.Beyond m m.body k
-taken_heard v tooks.Clash m k = chunk_heard v tooks.Clash m m.body k
-taken_heard v tooks.NoSlot m k = chunk_heard v tooks.NoSlot m m.body k
+taken_heard v tooks.Kept m k = chunk-heard v tooks.Kept m m.body k
+taken_heard v tooks.Repeat m k = chunk-heard v tooks.Repeat m m.body k
+taken_heard v tooks.Beyond m k = chunk-heard v tooks.Beyond m m.body k
+taken_heard v tooks.Clash m k = chunk-heard v tooks.Clash m m.body k
+taken_heard v tooks.NoSlot m k = chunk-heard v tooks.NoSlot m m.body k
 taken_heard v tooks.Heard m k = inr refl
 taken_heard v _ m k = inl refl
 

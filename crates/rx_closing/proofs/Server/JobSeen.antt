@@ -27,8 +27,8 @@ use Rattle.rx_jobs.specs.declared.job.Want.TheVariants as wants
 use Rattle.rx_plan.specs.Parts.{Came, To}
 use Rattle.rx_plan.specs.Programs.{Turn, cut_there, goes, is_endless, is_over}
 use Rattle.rx_plan.specs.Stages.{Stage, with_event}
-use Rattle.rx_closing.proofs.Server.JobCalls.{heard_call}
 use Rattle.rx_closing.proofs.Server.JobSteps.{StepGoes}
+use Rattle.rx_plan.proofs.Handling.{heard-call}
 
 -- ---- an event of another call
 
@@ -123,7 +123,7 @@ step_leaves g server c m n s t other step = of m s step.0 (To (n, t)) step.1 oth
         ap (λ (z : Moving × Stage). call_at (looks server (side 0 z.1.history)) c) (sym (to_same (m, s) (n, t) is))
     of m s es out (goes x y a e more o asked allowed rest) other is =
         of ((serving g).heard m e) (with_event 0 e s) more out rest
-        (ap (same_name c) (heard_call g m.job e) ∙ other) is
+        (ap (same_name c) (heard-call g m.job e) ∙ other) is
         ∙ asked-leaves g server c m a (looks server (side 0 s.history)) e asked allowed.0 other
     of m s es out (is_endless x y fs cut long) other is = absurd cc
 

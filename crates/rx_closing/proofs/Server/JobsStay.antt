@@ -30,13 +30,12 @@ use Rattle.rx_jobs.proofs.Driving.{Differ, Lived, drives_lived, calls-append}
 use Rattle.rx_jobs.proofs.LifeKeeps.{wanted}
 use Rattle.rx_plan.specs.Answering.{AreServable}
 use Rattle.rx_plan.proofs.Finishing.{once_before, serves_drives}
-use Rattle.rx_plan.proofs.Handling.{IsQuiet, Serves, accepts_fresh}
+use Rattle.rx_plan.proofs.Handling.{IsQuiet, Serves, accepts_fresh, heard-call}
 use Rattle.rx_plan.proofs.Handling as handling
 use Rattle.rx_plan.proofs.Passing.{AcceptsFresh, own_changed}
 use Rattle.rx_closing.proofs.Server.FirstsHold.{is_among}
 use Rattle.rx_closing.proofs.Server.HandlerKeeps.{handler_keeps, has_handler}
 use Rattle.rx_closing.proofs.Server.JobAnswers.{finish_none, read_stays, rule, write_stays}
-use Rattle.rx_closing.proofs.Server.JobCalls.{heard_call}
 use Rattle.rx_closing.proofs.Server.StayingJobs.{IsApart, among_append, asks_stays, differ_alone}
 use Rattle.rx_closing.proofs.Server.StayingJobs.{is_some_call, left_among, proceed_calls, settle_calls, staying_calls}
 
@@ -149,7 +148,7 @@ module _ (g : Handlers) (s : Setup) (server : IsServer s.kind) (fits : FitsSetup
     other_holds other =
         ap (is_among c) (settle_calls g done after_it todo) ∙ split after_it
         ∙ ap (λ (b : Bool). is_among c (calls_of done) || (b || is_among c (calls_of todo)))
-        (none after_it (heard_call g m.job e) ∙ sym (none m refl))
+        (none after_it (heard-call g m.job e) ∙ sym (none m refl))
         ∙ sym (split m) ∙ holds
         ∙ sym (handler_keeps s h e c server fits legal once (event_of.accept c)
         (λ code got is. (
@@ -171,7 +170,7 @@ module _ (g : Handlers) (s : Setup) (server : IsServer s.kind) (fits : FitsSetup
     own_holds own =
         ap (is_among c) (settle_calls g done after_it todo) ∙ split after_it
         ∙ alone after_it ∙ ap (λ (n : CallName). is_staying after_it.phase && same_name n c)
-        (heard_call g m.job e ∙ own)
+        (heard-call g m.job e ∙ own)
         ∙ ap (λ (b : Bool). is_staying after_it.phase && b) (name_itself c) ∙ and_true (is_staying after_it.phase)
         ∙ phase_is w.0 (subst (λ (x : Ask). IsCall x e) (sym w.2) call) (asked ∙ ap Some (sym w.2))
       where

@@ -25,17 +25,17 @@ use Rattle.rx_jobs.specs.Handlers.{Handlers}
 use Rattle.rx_jobs.specs.Jobs.{Ask, IsCall, JobState, Moving, accepted, is_staying, moving, serving}
 use Rattle.rx_jobs.specs.Jobs as asks
 use Rattle.rx_plan.specs.Stages.{IsAllowedNext, Stage, with_event}
-use Rattle.rx_closing.proofs.Server.JobCalls.{heard_call, moving_call}
 use Rattle.rx_closing.proofs.Server.JobSeen.{AreOthers, Stays, step_leaves}
 use Rattle.rx_closing.proofs.Server.JobSteps.{EachSteps, StepGoes}
 use Rattle.rx_closing.proofs.Server.OwnEvents.{step_induct}
+use Rattle.rx_plan.proofs.Handling.{heard-call, moving-call}
 
 -- ---- a step keeps its call
 
 pub step_call : (g : Handlers) (m n : Moving) (s t : Stage) → StepGoes g m s n t → n.job.call ≡ m.job.call
 step_call g m n s t step =
     step_induct g n t (λ m s. n.job.call ≡ m.job.call) (λ m s none is same. ap (λ (x : Moving). x.job.call) is)
-    (λ m s a e asked allowed step again. again ∙ heard_call g m.job e) m s step
+    (λ m s a e asked allowed step again. again ∙ heard-call g m.job e) m s step
 
 -- ---- a step keeps the nodes, and the moment of its server
 
@@ -199,7 +199,7 @@ others_step g node c [] s t ls others steps =
 others_step g node c (j ∷ js) s t ls others steps =
     let n : Moving = steps.0 in
     let u : Stage = steps.1 in
-    let other : same_name c (moving g j).job.call ≡ false = ap (same_name c) (moving_call g j) ∙ others.0 in
+    let other : same_name c (moving g j).job.call ≡ false = ap (same_name c) (moving-call g j) ∙ others.0 in
     let rest = others_step g node c js u t steps.2 others.1 steps.6 in
     record {
       stays = rest.stays ∙ step_leaves g node.setup c (moving g j) n s u other steps.3;
@@ -254,7 +254,7 @@ seen_here g node c [] j back s t ls others more steps =
 seen_here g node c (k ∷ front) j back s t ls others more steps =
     let n : Moving = steps.0 in
     let u : Stage = steps.1 in
-    let other : same_name c (moving g k).job.call ≡ false = ap (same_name c) (moving_call g k) ∙ others.0 in
+    let other : same_name c (moving g k).job.call ≡ false = ap (same_name c) (moving-call g k) ∙ others.0 in
     let r = seen_here g node c front j back u t steps.2 others.1 more steps.6 in
     record {
       begins = r.begins;

@@ -16,7 +16,7 @@ use Rattle.rx_jobs.specs.Jobs.{Ask, JobState, Moving, ask_of, is_staying, moving
 use Rattle.rx_jobs.proofs.Driving.{Differ, calls-append}
 use Rattle.rx_closing.proofs.Server.FirstsHold.{is_among}
 use Rattle.rx_closing.proofs.Server.HandlerKeeps.{has_handler}
-use Rattle.rx_closing.proofs.Server.JobCalls.{moving_call}
+use Rattle.rx_plan.proofs.Handling.{moving-call}
 
 -- ---- names of a list
 
@@ -78,14 +78,14 @@ settle_calls g done m (j ∷ js) = by (settle_calls g (done ++ left m) (moving g
     by next (Some a) = refl
     by next None =
         next
-        ∙ ap (λ (d : CallName). calls_of (done ++ left m) ++ (d ∷ calls_of js)) (moving_call g j)
+        ∙ ap (λ (d : CallName). calls_of (done ++ left m) ++ (d ∷ calls_of js)) (moving-call g j)
         ∙ ap (λ (cs : List CallName). cs ++ (j.call ∷ calls_of js)) (calls-append done (left m))
         ∙ append_assoc (calls_of done) (calls_of (left m)) (j.call ∷ calls_of js)
 
 pub proceed_calls : (g : Handlers) (jobs : List JobState) → staying_calls (proceed g [] jobs) ≡ calls_of jobs
 proceed_calls g [] = refl
 proceed_calls g (j ∷ js) =
-    settle_calls g [] (moving g j) js ∙ ap (λ (d : CallName). d ∷ calls_of js) (moving_call g j)
+    settle_calls g [] (moving g j) js ∙ ap (λ (d : CallName). d ∷ calls_of js) (moving-call g j)
 
 -- ---- what it is asked and told
 

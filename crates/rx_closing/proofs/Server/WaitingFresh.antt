@@ -9,7 +9,6 @@ use Rattle.rx_model.specs.declared.event.Event.{Event}
 use Rattle.rx_model.specs.declared.event.Event.TheVariants as events
 use Rattle.rx_model.specs.declared.names.CallName.{CallName}
 use Rattle.rx_rules.specs.After.{is_end, looks}
-use Rattle.rx_rules.specs.CallItems.{Sending, Piece, Ack, after_sending}
 use Rattle.rx_rules.specs.CallLooks.{CallLooks}
 use Rattle.rx_rules.specs.Life.{Life}
 use Rattle.rx_rules.specs.Life as lives
@@ -25,6 +24,7 @@ use Rattle.rx_between.proofs.Each.EachStep.{takes, writes}
 use Rattle.rx_plan.proofs.Passed.{Passed, taken-leaves}
 use Rattle.rx_closing.proofs.Far.FarGrows.{GoesOn, life_goes_on}
 use Rattle.rx_closing.proofs.Frame.{rank_of}
+use Rattle.rx_between.proofs.ReadOut.{sending_ended}
 
 -- ---- a life
 
@@ -37,10 +37,6 @@ waited_before x y (inr later) is =
     absurd (omega (arith, none, less))
 
 -- ---- a step
-
-sending_ended : (now : ℕ) (x : Sending) (k : CallLooks) → (after_sending now x k).received.ended ≡ k.received.ended
-sending_ended now (Piece seq again) k = refl
-sending_ended now (Ack reason serial) k = refl
 
 -- a read of a call that waits tells no end
 none_told : (s : Setup) (l : Looks) (c : CallName) (a : CallRecord) (most : ℕ) (got : ReadGot) (bytes : List ℕ)

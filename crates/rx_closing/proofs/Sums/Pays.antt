@@ -14,7 +14,6 @@ use Rattle.rx_between.proofs.Each.EachItem.{In}
 use Rattle.rx_rounds.proofs.Rounded.{RoundMade}
 use Rattle.rx_closing.proofs.Far.AtWork.{IsServing}
 use Rattle.rx_closing.proofs.Frame.{OneOf, asked_in, served_in}
-use Rattle.rx_closing.proofs.Polls.OnePoll.{active_lives}
 use Rattle.rx_closing.proofs.Rounds.Chains.{Chain}
 use Rattle.rx_closing.proofs.Rounds.SceneEnds.{client_kind, server_kind}
 use Rattle.rx_closing.proofs.Sums.RoundLoads.{EachStage, PaysIn, Together, both_load, lone_load, none_load}
@@ -22,6 +21,7 @@ use Rattle.rx_closing.proofs.Together.Members.{Member}
 use Rattle.rx_closing.proofs.Unknown.UnservedMeet.{IsAsked, scene_asked}
 use Rattle.rx_closing.proofs.Working.MemberRounds.{IsIdle, asked_rounds, both_rounds, none_rounds, served_rounds}
 use Rattle.rx_closing.proofs.Working.StandsFrom.{GivesOf, StandsFrom, one_z}
+use Rattle.rx_closing.proofs.Ends.RoomLaws.{active_lives}
 
 -- a call is at work at an end, or it isn't
 pub data Either (Works : Type 0) (o : Option CallRecord) : Type 0 where

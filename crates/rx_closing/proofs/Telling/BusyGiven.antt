@@ -32,18 +32,18 @@ use Rattle.rx_history.proofs.Order.Orderly.{HasFour}
 use Rattle.rx_history.proofs.Order.OrderlyHistory.{orderly_history}
 use Rattle.rx_law.proofs.World.{gave-mine}
 use Rattle.rx_law.specs.Worlds.{Datagram}
-use Rattle.rx_between.proofs.PollSays.{IsStream}
 use Rattle.rx_between.proofs.Each.EachItem.{In, in_behind, in_filter, in_front, in_items, is_due, least_in, least_none}
 use Rattle.rx_rounds.proofs.Polls.PolledOut.{polled_out}
 use Rattle.rx_rounds.proofs.Two.{sent}
 use Rattle.rx_closing.proofs.Polls.Bare.{own_stream}
 use Rattle.rx_closing.proofs.Telling.AbortOwed.{channel_apart, channel_keeps, conn_channel, found_in, in_all}
 use Rattle.rx_between.proofs.Within.{in_either, in_filtered}
+use Rattle.rx_history.proofs.Plain.PlainBodies.{IsSent}
 
 -- ---- the item of a BUSY
 
-not_stream : (body : Body) → body ≡ bodies.Busy → IsStream body → ⊥
-not_stream body is stream = subst IsStream is stream
+not_stream : (body : Body) → body ≡ bodies.Busy → IsSent body → ⊥
+not_stream body is stream = subst IsSent is stream
 
 -- what is owed of other kinds is none
 owed_other : (d : CallName) (o : Option Body) (i : Item) → (o ≡ Some bodies.Busy → ⊥) → In i (owed_item d o)

@@ -30,7 +30,6 @@ use Rattle.rx_law.specs.Promises.{ends_in}
 use Rattle.rx_law.specs.Worlds.{Datagram}
 use Rattle.rx_wire.specs.Turns.{noted}
 use Rattle.rx_between.specs.Agreed.{MakesSense, SenseAt, passed_at}
-use Rattle.rx_between.proofs.PollSays.{IsStream}
 use Rattle.rx_plan.specs.Network.{delivers}
 use Rattle.rx_plan.specs.Parts.{each}
 use Rattle.rx_plan.specs.Stages.{Stage}
@@ -63,6 +62,7 @@ use Rattle.rx_closing.proofs.Unknown.AheadRows.{first_there, full_none, strange_
 use Rattle.rx_closing.proofs.Unknown.BegunAmong.{BegunAmong, IsTold, begins, from_later, now_left, unknown, with_ack}
 use Rattle.rx_closing.proofs.Unknown.BegunAmong.{with_data}
 use Rattle.rx_closing.proofs.Unknown.HandledLeft.{IsCalm, LivesSo, Works, busy_left, work_left}
+use Rattle.rx_history.proofs.Plain.PlainBodies.{IsSent}
 
 -- ---- deliveries
 
@@ -307,7 +307,7 @@ module _ (c : CallName) (k : ℕ) (client server : Node) (t : Stage) (one : OneO
             none crowded)
         data_ payload at (comes_first row) = first_of payload at row
 
-        of : (body : Body) → m.body ≡ body → IsStream body → BegunAmong c server v u (m ∷ ms1)
+        of : (body : Body) → m.body ≡ body → IsSent body → BegunAmong c server v u (m ∷ ms1)
         of (bodies.Chunk payload) at stream =
             data_ payload at (what_comes server.setup l c m serves ahead number payload at sense)
         of (bodies.Ack ack) at stream = acked onward ack at

@@ -138,7 +138,7 @@ dims_conn x change l same =
           (λ r. same_if (same_connection r.connection x) r (change r) (same r));
     }
 
-number-kept : (qs : List ChannelLooks) (m n : ℕ) (change : ChannelLooks → ChannelLooks)
+pub number-kept : (qs : List ChannelLooks) (m n : ℕ) (change : ChannelLooks → ChannelLooks)
     → ((q : ChannelLooks) → (change q).number ≡ q.number)
     → number_in (changed_at m change qs) n ≡ number_in qs n
 number-kept [] m n change keeps = refl

@@ -26,7 +26,8 @@ use Rattle.rx_history.proofs.Dimensions.Dims.{Dims, dims_all, dims_channel, dims
 use Rattle.rx_history.proofs.Dimensions.Dims.{dims_refl, dims_trans, fades_if, fades_life}
 use Rattle.rx_history.proofs.LifeFalls.{cancel_falls, end_falls, finish_falls, gone_falls}
 use Rattle.rx_history.proofs.LifeFalls.{silence_falls}
-use Rattle.rx_history.proofs.Laws.TakenLaws.{abort-number, ackall-number}
+use Rattle.rx_history.proofs.Laws.TakenLaws.{abort-number}
+use Rattle.rx_history.proofs.Given.GivenLaws.{ackall-number}
 
 -- ---- a poll
 

@@ -6,7 +6,7 @@ use Rattle.rx_model.specs.declared.answers.Took.{Took}
 use Rattle.rx_model.specs.declared.answers.Took.TheVariants as tooks
 use Rattle.rx_model.specs.declared.names.CallName.{CallName}
 use Rattle.rx_model.specs.declared.wire.TheConstants.{RX_CALL_DEAD, RX_PROTOCOL_ERROR}
-use Rattle.rx_rules.specs.After.{challenged, is_ok_end, owing_abort, owing_again, owing_ackall, owing_busy, served_code}
+use Rattle.rx_rules.specs.After.{challenged, is_ok_end, owing_abort, owing_again, owing_busy, served_code}
 use Rattle.rx_rules.specs.After.{settled}
 use Rattle.rx_rules.specs.After.{stopped_all, taken_at, taken_busy, taken_data, taken_heard, taken_over, taken_stopped}
 use Rattle.rx_rules.specs.After.{taken_with}
@@ -32,6 +32,7 @@ use Rattle.rx_rules.proofs.LifeLaws.{code_waits, acks_wait, later_waits}
 use Rattle.rx_model.proofs.NameLaws.{name_is}
 use Rattle.rx_history.proofs.Laws.SoundLaws.{Counted, Below, Sound, sound-keeps}
 use Rattle.rx_rules.proofs.StartLaws.{call_at-new, fours-start, keeps-started, number-started}
+use Rattle.rx_history.proofs.Given.GivenLaws.{ackall-number}
 
 -- ---- changes that start no call
 
@@ -107,10 +108,6 @@ keeps-stopped c d bodies.Busy l = keeps-refl c l
 keeps-stopped c d (bodies.Ack a) l = keeps-refl c l
 keeps-stopped c d bodies.AckAll l = keeps-refl c l
 keeps-stopped c d (bodies.Challenge bytes) l = keeps-refl c l
-
-pub ackall-number : (owes : Bool) (q : ChannelLooks) → (owing_ackall owes q).number ≡ q.number
-ackall-number true q = refl
-ackall-number false q = refl
 
 pub abort-number : (code : Option ℤ) (q : ChannelLooks) → (owing_abort code q).number ≡ q.number
 abort-number None q = refl

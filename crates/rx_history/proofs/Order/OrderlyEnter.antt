@@ -21,31 +21,32 @@ use Rattle.rx_rules.proofs.LeastLaws.{least-keeps}
 use Rattle.rx_history.proofs.Differ.{Differ, by_connection, every_map, every_other, none_change}
 use Rattle.rx_history.proofs.Openings.{only-new}
 use Rattle.rx_history.proofs.Order.Orderly.{HasFour, IsLatest, LivesAt, Orderly, OrderlyConns}
-use Rattle.rx_history.proofs.Places.{found-placed, instead, is_none}
+use Rattle.rx_history.proofs.Places.{found-placed, is_none}
 use Rattle.rx_history.proofs.Order.OrderlyMore.{orderly_more}
+use Rattle.rx_history.proofs.Laws.ShownLaws.{given_way}
 
 -- ---- in place of one that is idle
 
 differ-instead : (new old : ConnLooks) (rs : List ConnLooks) → Every (λ r. by_connection r new ≡ false) rs
     → Differ by_connection rs
-    → Differ by_connection (map (instead new old) rs)
+    → Differ by_connection (map (given_way new old) rs)
 differ-instead new old [] others differ = tt
 differ-instead new old (r ∷ rs) others differ =
     (elim (same_connection r.connection old.connection) as (λ b. same_connection r.connection old.connection ≡ b
-    → Every (λ q. by_connection q (cond b new r) ≡ false) (map (instead new old) rs) × Differ by_connection
-    (map (instead new old) rs)) [
+    → Every (λ q. by_connection q (cond b new r) ≡ false) (map (given_way new old) rs) × Differ by_connection
+    (map (given_way new old) rs)) [
       | true ↦ λ same. (
           let at : r.connection ≡ old.connection = connection_is r.connection old.connection same in
           let none = subst (λ (x : Connection). Every
           (λ (q : ConnLooks). same_connection q.connection x ≡ false) rs) at differ.0 in
-          let stay : map (instead new old) rs ≡ rs = none_change (λ q. same_connection q.connection old.connection)
+          let stay : map (given_way new old) rs ≡ rs = none_change (λ q. same_connection q.connection old.connection)
           (λ q. new) rs none in
           subst (λ (qs : List ConnLooks). Every
           (λ (q : ConnLooks). by_connection q new ≡ false) qs × Differ by_connection qs) (sym stay)
           (others.1, differ.1))
       | false ↦ λ apart. (
         every_map (λ (q : ConnLooks). by_connection q r ≡ false) (λ (q : ConnLooks). by_connection q r ≡ false)
-            (instead new old) rs
+            (given_way new old) rs
             (λ q other. either (same_connection q.connection old.connection) q other) differ.0,
         differ-instead new old rs others.1 differ.1,
       )
@@ -57,14 +58,14 @@ differ-instead new old (r ∷ rs) others differ =
 
 conns-instead : (s : Setup) (new old : ConnLooks) (l : Looks) → is_client s.kind ≡ false → HasFour new
     → conn_at l new.connection ≡ None
-    → OrderlyConns s l.conns → OrderlyConns s (map (instead new old) l.conns)
+    → OrderlyConns s l.conns → OrderlyConns s (map (given_way new old) l.conns)
 conns-instead s new old l server four none o =
     let p : ConnLooks → Bool = λ r. same_connection r.connection new.connection in
     record {
       differ = differ-instead new old l.conns (every_other p l.conns (list_any-none p l.conns none)) o.differ;
-      fours = every_map HasFour HasFour (instead new old) l.conns
+      fours = every_map HasFour HasFour (given_way new old) l.conns
           (λ r is. either (same_connection r.connection old.connection) r is) o.fours;
-      few = (let low = o.few in omega (arith, length-map l.conns (instead new old)));
+      few = (let low = o.few in omega (arith, length-map l.conns (given_way new old)));
       low = λ client. absurd (cc (client, server));
     }
   where

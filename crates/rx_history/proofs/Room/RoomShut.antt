@@ -76,7 +76,7 @@ twice c f g (k ∷ ks) names = (let rest = twice c f g ks names in let here = he
           | false ↦ λ other. rw other refl
         ]) refl
 
-abbrev was_done : Result (Unit {0}) ServeRefused
+abbrev pub was_done : Result (Unit {0}) ServeRefused
 was_done = Ok tt
 
 -- it shuts its reply, and had read the request to its end

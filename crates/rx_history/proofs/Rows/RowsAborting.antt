@@ -125,7 +125,7 @@ side-over (Client host epoch) f call never is =
     let e = passed is_over f.is_above tooks.Strange _ tooks.Over refl refl d.1 in
     record { has = not_false f.has_number b.0; below = d.0; above = e.0 }
 
-abbrev is_stopped : Took → Bool
+abbrev pub is_stopped : Took → Bool
 is_stopped tooks.Stopped = true
 is_stopped _ = false
 

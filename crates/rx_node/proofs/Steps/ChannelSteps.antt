@@ -22,6 +22,7 @@ use Rattle.rx_rules.specs.Setup.{Setup, pace_of}
 use Rattle.rx_rules.proofs.EveryLaws.{Every}
 use Rattle.rx_rules.proofs.FindLaws.{find_passes}
 use Rattle.rx_history.proofs.Differ.{Differ, by_connection}
+use Rattle.rx_history.proofs.Dimensions.Dims.{number-kept}
 
 -- ---- connections by place
 
@@ -189,15 +190,6 @@ latest_stays l ch c f keeps other =
         rw (ap (λ (d : CallName). same_name d c) (name_is k.name (latest_name l ch) (named k refl)) ∙ other) refl
 
 -- ---- numbers
-
-number-kept : (qs : List ChannelLooks) (m n : ℕ) (f : ChannelLooks → ChannelLooks)
-    → ((q : ChannelLooks) → (f q).number ≡ q.number)
-    → number_in (changed_at m f qs) n ≡ number_in qs n
-number-kept [] m n f keeps = refl
-number-kept (q ∷ qs) zero zero f keeps = keeps q
-number-kept (q ∷ qs) zero (suc n) f keeps = refl
-number-kept (q ∷ qs) (suc m) zero f keeps = refl
-number-kept (q ∷ qs) (suc m) (suc n) f keeps = number-kept qs m n f keeps
 
 number-at : (ch : Channel) (f : ChannelLooks → ChannelLooks) (o : Option ConnLooks) (n : ℕ)
     → ((q : ChannelLooks) → (f q).number ≡ q.number)

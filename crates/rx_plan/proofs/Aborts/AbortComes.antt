@@ -21,14 +21,10 @@ use Rattle.rx_law.specs.Worlds.{AreApart, AreNodes, Datagram, Gave, bag, given_a
 use Rattle.rx_history.proofs.Client.{StoppedBy}
 use Rattle.rx_history.proofs.Data.{OwnName}
 use Rattle.rx_law.proofs.Joint.{client-name, server-name}
-use Rattle.rx_law.proofs.World.{Giver, at-home, flagged-any, flagged-server, gave-mine, if-some, later-gave}
+use Rattle.rx_law.proofs.World.{Giver, at-home, flagged-any, flagged-server, gave-mine, if-some, later-gave, In}
 use Rattle.rx_plan.proofs.Aborts.ClientAborts.{HasEnded, IsOfEnded, client_aborts}
 
 -- ---- who gave a datagram
-
-abbrev pub In : Datagram → List Datagram → Type 0
-In d [] = ⊥
-In d (x ∷ xs) = (x ≡ d) ⊎ In d xs
 
 pub contains_in : (d : Datagram) (xs : List Datagram) (k : ℕ) → k < length xs → slice_index_or xs k d ≡ d → In d xs
 contains_in d [] k low is = absurd (omega arith)

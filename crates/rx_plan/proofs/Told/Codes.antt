@@ -41,9 +41,10 @@ use Rattle.rx_rules.proofs.FindLaws.{find_passes}
 use Rattle.rx_rules.proofs.StartLaws.{call_at-other}
 use Rattle.rx_history.proofs.Calls.{call-changed}
 use Rattle.rx_history.proofs.Takes.{call_at-any}
-use Rattle.rx_plan.proofs.Passed.{challenged-calls, prepared-calls, turned-calls}
 use Rattle.rx_plan.proofs.Told.Lives.{Tells, tells_accept, tells_acks, tells_cancel, tells_code, tells_end}
 use Rattle.rx_plan.proofs.Told.Lives.{tells_finish, tells_gone, tells_later, tells_silence}
+use Rattle.rx_history.proofs.Events.{calls-prepared, calls-turned}
+use Rattle.rx_history.proofs.Room.RoomTaken.{challenged-calls}
 
 -- the code that a call tells, if it has one
 abbrev pub told_of : Option CallRecord → Option ℤ
@@ -243,10 +244,10 @@ module _ (K : ℤ → Type 0) (c : CallName) where
       d = named s from m
 
       behind : (row : Option Took) → outer_row s s.kind l from m ≡ row → Told (taken_behind s row from d m got l)
-      behind (Some row) is = told-by l (turned_away row from m l) (turned-calls row from m l) t
+      behind (Some row) is = told-by l (turned_away row from m l) (calls-turned row from m l) t
       behind None is =
           (let ready : Looks = prepared s got (connection_of d) l in
-          told-with s got d m ready (may is) (told-by l ready (prepared-calls s got (connection_of d) l) t))
+          told-with s got d m ready (may is) (told-by l ready (calls-prepared s got (connection_of d) l) t))
 
   -- ---- a message is given
 

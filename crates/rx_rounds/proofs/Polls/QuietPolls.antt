@@ -194,7 +194,7 @@ outs_asked (n ∷ ns) apart p q made first last there =
         (other k (λ is. apart_from k n ns below apart.0 (sym is)))
         (later.none k m below (ap (λ (ms : List Node). slice_get ms k) nodes ∙ is))
 
-nth_there : {X : Type 0} (xs : List X) (k : ℕ) → k < length xs → (x : X) × (slice_get xs k ≡ Some x)
+pub nth_there : {X : Type 0} (xs : List X) (k : ℕ) → k < length xs → (x : X) × (slice_get xs k ≡ Some x)
 nth_there [] k low = (let no : ⊥ = omega arith in absurd no)
 nth_there (x ∷ xs) zero low = (x, refl)
 nth_there (x ∷ xs) (suc k) low = nth_there xs k (omega arith)

@@ -2,7 +2,7 @@
 use Rattle.std.proofs.Common.{◌≡◌, ◌<◌, ◌≤◌, ◌+◌, ◌-◌, ◌*◌, ◌/◌, ◌==◌, ◌&&◌, ◌++◌, ◌⊎◌, not, ℕ, zero, suc, max, Bool}
 use Rattle.std.proofs.Common.{true, false, cond, List, [], ◌∷◌, refl, ap, sym, subst, ◌∙◌, inl, inr, arith, Option}
 use Rattle.std.proofs.Common.{Some, None}
-use Rattle.std.proofs.Common.{length-drop, if◌then◌else◌, length, filter, nat_le, nat_lt, option_map, take, drop}
+use Rattle.std.proofs.Common.{length-drop, if◌then◌else◌, length, nat_le, nat_lt, option_map, take, drop}
 use Rattle.std.proofs.Common.{is_some, append-nil}
 use Rattle.std.proofs.lemmas.Bool.{eq-eqb, ne_eqb, cases_eq, cases_lt, lt-ltb, le-leb, lt-leb, or_left}
 use Rattle.std.proofs.lemmas.Bool.{and_parts, ltb-true, leb-true}
@@ -18,7 +18,7 @@ use Rattle.rx_rules.specs.Sent.{Giving, LastGiving, after_giving, counting_of, g
 use Rattle.rx_rules.specs.Sent.{is_acked}
 use Rattle.rx_rules.specs.Sent.{last_giving, lowest_of, opened, orders_of, payload_at, piece_at}
 use Rattle.rx_between.proofs.Counting.{count_none, reach_least}
-use Rattle.rx_rounds.proofs.Flow.{total}
+use Rattle.rx_rounds.proofs.Flow.{total, ripe}
 use Rattle.rx_rounds.proofs.Keeper.{piece}
 use Rattle.rx_rounds.proofs.One.OneWay.{Sends}
 use Rattle.rx_rounds.proofs.Pair.{Place, next_of}
@@ -33,14 +33,11 @@ never_given (g ∷ gs) k past =
 
 -- ---- what is due
 
-abbrev pub ripe_at : ℕ → List CallItem → List CallItem
-ripe_at now is = filter (λ (i : CallItem). nat_le i.rank now) is
-
-pub ripe_append : (now : ℕ) (is js : List CallItem) → ripe_at now (is ++ js) ≡ ripe_at now is ++ ripe_at now js
+pub ripe_append : (now : ℕ) (is js : List CallItem) → ripe now (is ++ js) ≡ ripe now is ++ ripe now js
 ripe_append now [] js = refl
 ripe_append now (i ∷ is) js =
-    elim (nat_le i.rank now) as (λ b. cond b (i ∷ ripe_at now (is ++ js)) (ripe_at now (is ++ js))
-    ≡ cond b (i ∷ ripe_at now is) (ripe_at now is) ++ ripe_at now js) [
+    elim (nat_le i.rank now) as (λ b. cond b (i ∷ ripe now (is ++ js)) (ripe now (is ++ js))
+    ≡ cond b (i ∷ ripe now is) (ripe now is) ++ ripe now js) [
       | true ↦ ap (λ (ks : List CallItem). i ∷ ks) (ripe_append now is js)
       | false ↦ ripe_append now is js
     ]
@@ -48,9 +45,9 @@ ripe_append now (i ∷ is) js =
 -- what is due at once and stands first is given first
 pub first_due : (now : ℕ) (x : Sending) (rest : List CallItem)
     → option_map (λ (i : CallItem). i.sending)
-    (least_by (λ (i : CallItem). i.rank) (ripe_at now (record { rank = 0; sending = x } ∷ rest))) ≡ Some x
+    (least_by (λ (i : CallItem). i.rank) (ripe now (record { rank = 0; sending = x } ∷ rest))) ≡ Some x
 first_due now x rest =
-    rw (le-leb 0 now (omega arith)) (of (least_by (λ (i : CallItem). i.rank) (ripe_at now rest)))
+    rw (le-leb 0 now (omega arith)) (of (least_by (λ (i : CallItem). i.rank) (ripe now rest)))
   where
     of : (o : Option CallItem) → option_map (λ (i : CallItem). i.sending)
         (Some (lesser_by (λ (i : CallItem). i.rank) (record { rank = 0; sending = x }) o)) ≡ Some x
@@ -61,7 +58,7 @@ first_due now x rest =
 abbrev pub tells : Bool → ℕ → ℕ → Option Owed → Option Sending
 tells client now spoke owed =
     option_map (λ (i : CallItem). i.sending)
-    (least_by (λ (i : CallItem). i.rank) (ripe_at now (ack_items owed ++ ping_items client spoke)))
+    (least_by (λ (i : CallItem). i.rank) (ripe now (ack_items owed ++ ping_items client spoke)))
 
 -- ---- what is known of a stream
 
@@ -238,19 +235,19 @@ module _ (whole : List ℕ) (since a n : ℕ) (k : CallLooks) (h : Sends whole s
 
   -- nothing is due again
   pub again_none : (now : ℕ) → (a < n → now ≤ since + 100)
-      → ripe_at now (again_items k.rtt.rto (lowest_of k.sent)
+      → ripe now (again_items k.rtt.rto (lowest_of k.sent)
       (last_giving k.sent.givings (lowest_of k.sent))) ≡ []
   again_none now early =
-      elim (cases_lt a n) as (λ c. ripe_at now
+      elim (cases_lt a n) as (λ c. ripe now
       (again_items k.rtt.rto (lowest_of k.sent) (last_giving k.sent.givings (lowest_of k.sent))) ≡ []) [
         | inl less ↦ of (lowest_of k.sent) (last_giving k.sent.givings (lowest_of k.sent)) again_late (early less)
         | inr all ↦
-            ap (λ (o : Option LastGiving). ripe_at now (again_items k.rtt.rto (lowest_of k.sent) o))
+            ap (λ (o : Option LastGiving). ripe now (again_items k.rtt.rto (lowest_of k.sent) o))
             (again_never (let within : a ≤ n = h.known in omega arith))
       ]
     where
       of : (j : ℕ) (o : Option LastGiving) → IfSome o (λ g. since + 350 ≤ g.moment + k.rtt.rto) → now ≤ since + 100
-          → ripe_at now (again_items k.rtt.rto j o) ≡ []
+          → ripe now (again_items k.rtt.rto j o) ≡ []
       of j None late soon = refl
       of j (Some g) late soon = rw (lt-leb (g.moment + k.rtt.rto) now (omega arith)) refl
 
@@ -261,8 +258,8 @@ module _ (whole : List ℕ) (since a n : ℕ) (k : CallLooks) (h : Sends whole s
       let is : List CallItem = again_items k.rtt.rto (lowest_of k.sent)
       (last_giving k.sent.givings (lowest_of k.sent)) in
       let js : List CallItem = ack_items k.owed_ack ++ ping_items p.client k.spoke in
-      let quiet : ripe_at p.now (is ++ js) ≡ ripe_at p.now js =
-      ripe_append p.now is js ∙ ap (λ (xs : List CallItem). xs ++ ripe_at p.now js) (again_none p.now early) in
+      let quiet : ripe p.now (is ++ js) ≡ ripe p.now js =
+      ripe_append p.now is js ∙ ap (λ (xs : List CallItem). xs ++ ripe p.now js) (again_none p.now early) in
       rw h.rates.steady (rw may (ap (λ (xs : List CallItem). option_map (λ (i : CallItem). i.sending)
       (least_by (λ (i : CallItem). i.rank) xs)) quiet))
 

@@ -5,8 +5,9 @@ use Rattle.xg_check.specs.Opcodes.{opcodes_in}
 use Rattle.xg_check.specs.Counting.{number_at, IsMissing, StandsAgain}
 use Rattle.xg_check.specs.Answers.{IsFirstPlace, IsFirstNumber}
 use Rattle.xg_check.specs.Meaning.{OpcodeAt, opcodes_of}
-use Rattle.xg_check.proofs.CheckLaws.{values_of_ops, has_all, differ_all, opcode_fault, opcode_twice_fault}
+use Rattle.xg_check.proofs.CheckLaws.{has_all, differ_all, opcode_fault, opcode_twice_fault}
 use Rattle.xg_check.proofs.checker.numbered.Goals as goal
+use Rattle.xg_check.proofs.StepLaws.{seconds}
 
 -- the text of a name that is there
 there : (o : Option (Bor (List ℕ))) (other : Bor (List ℕ)) (name : List ℕ) → name ≡ (unwrap_or o other).now
@@ -18,9 +19,9 @@ pub returns-in-Some-clause-fault : goal.returns-in-Some-clause-fault
 returns-in-Some-clause-fault c =
     let tree = c.args.tree.now in
     let list = c.as_slice.result.now in
-    let list_is : list ≡ values_of_ops (opcodes_of tree) =
+    let list_is : list ≡ seconds (opcodes_of tree) =
     c.as_slice.ensures.value ∙ c.in_ok-opcodes.ensures
-    ∙ ap (λ (cs : List ConstantDef). values_of_ops (opcodes_in cs tree.items)) c.requires.constants in
+    ∙ ap (λ (cs : List ConstantDef). seconds (opcodes_in cs tree.items)) c.requires.constants in
     opcode_fault tree list list_is c.in-Some.at c.proc_name.result c.in_ok-name.name c.requires.faultless
     (subst (IsFirstPlace (IsMissing list)) c.in-Some.is c.first_without.ensures)
     (c.proc_name.ensures (constants_in tree.items))
@@ -30,9 +31,9 @@ returns-in-Some-clause-fault c =
 pub returns-in-Some-2-clause-fault : goal.returns-in-Some-2-clause-fault
 returns-in-Some-2-clause-fault c =
     let tree = c.args.tree.now in
-    let held : c.in_ok-opcodes.opcodes.items ≡ values_of_ops (opcodes_of tree) =
+    let held : c.in_ok-opcodes.opcodes.items ≡ seconds (opcodes_of tree) =
     c.in_ok-opcodes.ensures
-    ∙ ap (λ (cs : List ConstantDef). values_of_ops (opcodes_in cs tree.items)) c.requires.constants in
+    ∙ ap (λ (cs : List ConstantDef). seconds (opcodes_in cs tree.items)) c.requires.constants in
     let has : HoldsNowhere (OpcodeAt tree) = has_all tree c.as_slice.result.now (c.as_slice.ensures.value ∙ held)
     (subst (IsFirstPlace (IsMissing c.as_slice.result.now)) c.in_default.is c.first_without.ensures) in
     let list = c.as_slice-2.result.now in
@@ -42,18 +43,18 @@ returns-in-Some-2-clause-fault c =
 pub returns-clause-has : goal.returns-clause-has
 returns-clause-has c =
     let tree = c.args.tree.now in
-    let held : c.in_ok-opcodes.opcodes.items ≡ values_of_ops (opcodes_of tree) =
+    let held : c.in_ok-opcodes.opcodes.items ≡ seconds (opcodes_of tree) =
     c.in_ok-opcodes.ensures
-    ∙ ap (λ (cs : List ConstantDef). values_of_ops (opcodes_in cs tree.items)) c.requires.constants in
+    ∙ ap (λ (cs : List ConstantDef). seconds (opcodes_in cs tree.items)) c.requires.constants in
     has_all tree c.as_slice.result.now (c.as_slice.ensures.value ∙ held)
     (subst (IsFirstPlace (IsMissing c.as_slice.result.now)) c.in_default.is c.first_without.ensures)
 
 pub returns-clause-differ : goal.returns-clause-differ
 returns-clause-differ c =
     let tree = c.args.tree.now in
-    let held : c.in_ok-opcodes.opcodes.items ≡ values_of_ops (opcodes_of tree) =
+    let held : c.in_ok-opcodes.opcodes.items ≡ seconds (opcodes_of tree) =
     c.in_ok-opcodes.ensures
-    ∙ ap (λ (cs : List ConstantDef). values_of_ops (opcodes_in cs tree.items)) c.requires.constants in
+    ∙ ap (λ (cs : List ConstantDef). seconds (opcodes_in cs tree.items)) c.requires.constants in
     let list = c.as_slice-2.result.now in
     differ_all tree list (c.as_slice-2.ensures.value ∙ held)
     (subst (IsFirstNumber (StandsAgain list) (number_at list)) c.in_default-2.is c.in_ok-n.ensures)

@@ -11,11 +11,12 @@ use Rattle.rx_node.specs.Kinds.{kind_of}
 use Rattle.rx_node.specs.Mirrors.{IsActiveAt}
 use Rattle.rx_node.specs.Node.{NodeState}
 use Rattle.rx_node.proofs.Steps.SeatedSteps.{end_seated, end_set_up}
-use Rattle.rx_node.proofs.GivenSending.{given_pieces, given_received, or_flag, or_flags, piece_whole, sent_ack}
+use Rattle.rx_node.proofs.GivenSending.{given_pieces, or_flag, or_flags, piece_whole, sent_ack}
 use Rattle.rx_node.proofs.GivenSending.{sent_leaves, sent_piece, sent_some, sent_stands}
 use Rattle.rx_node.proofs.SameChannels.{same_with_ends}
 use Rattle.rx_node.proofs.node.Node.give_sending.Goals as goal
 use Rattle.rx_node.proofs.node.Node.give_sending.Goals.{in-Some-Piece, in-Some-Ack, in-None}
+use Rattle.rx_call_ends.proofs.Most.{received_same}
 
 pub invariant_of-self : goal.invariant_of-self
 invariant_of-self g c =
@@ -65,7 +66,7 @@ returns-clause-gives g c =
             numbered))
         | in-Some-Ack w ↦ (
             let ack = w.in-Some-Ack in
-            let received = given_received now next looks in
+            let received = received_same now next looks in
             (λ t. take (w.result-is t) (w.to-is t)) ∙ w.write_msg-in-Some-Ack.ensures.written
             ∙ ap (λ (msg : Message). made msg)
             (sent_ack g.C.Class.class_of _ l m key end ch at active i sends due inv.0.client head
