@@ -1,9 +1,8 @@
 -- In a world each message of a client's connection that is judged at one of its ends was given by the other:
 -- acknowledgements as well as data.
-use Rattle.std.proofs.Common.{◌≡◌, ◌≢◌, ◌⊎◌, ◌==◌, ◌<◌, cond, ℕ, zero, suc, Bool, true, false, List, [], ◌∷◌, length}
-use Rattle.std.proofs.Common.{Option}
-use Rattle.std.proofs.Common.{Some, None, Ok, Contains, slice_get, slice_index_or, IfSome, refl, inl, inr, ◌∙◌, ap, sym}
-use Rattle.std.proofs.Common.{subst, arith, ⊎_elim}
+use Rattle.std.proofs.Common.{◌≡◌, ◌≢◌, ◌⊎◌, ◌==◌, ◌<◌, ℕ, Bool, true, false, List, [], ◌∷◌}
+use Rattle.std.proofs.Common.{Some, None, Ok, Contains, slice_get, IfSome, refl, inl, inr, ◌∙◌, ap, sym}
+use Rattle.std.proofs.Common.{subst, ⊎_elim}
 use Rattle.rx_model.specs.declared.answers.Took.TheVariants as tooks
 use Rattle.rx_model.specs.declared.event.Event.{Event}
 use Rattle.rx_model.specs.declared.event.Event.TheVariants as events
@@ -23,14 +22,14 @@ use Rattle.rx_rules.specs.Rules.{AllowedAt, Legal}
 use Rattle.rx_rules.specs.Setup.{Setup, Kind, Server, Client, FitsSetup, IsServer, is_client, named}
 use Rattle.rx_history.specs.Givings.{GivesItem, GivesStray}
 use Rattle.rx_law.specs.Promises.{at_client, at_server, ends_in}
-use Rattle.rx_history.specs.Sides.{Node, side, GivesTo, IsClientAt}
-use Rattle.rx_law.specs.Worlds.{AreApart, AreNodes, Carried, Datagram, Gave, IsFrom, TwoEnds, bag, given_at, with_given}
+use Rattle.rx_history.specs.Sides.{Node, side, IsClientAt}
+use Rattle.rx_law.specs.Worlds.{AreApart, AreNodes, Carried, Datagram, Gave, IsFrom, TwoEnds, bag}
 use Rattle.rx_history.proofs.Data.{OwnName, same_message}
 use Rattle.rx_history.proofs.Given.GivingItems.{item_name}
 use Rattle.rx_history.proofs.Given.Givings.{next_is, poll_gives}
 use Rattle.rx_law.proofs.Joint.{gives-at, legal-before, polled-is, server-name}
-use Rattle.rx_law.proofs.World.{Giver, at-home, client-address, flagged-any, flagged-server, gave-mine, giver-server, In}
-use Rattle.rx_law.proofs.World.{if-some, later-gave}
+use Rattle.rx_law.proofs.World.{Giver, at-home, client-address, flagged-any, flagged-server, gave-mine, giver-server, In, contains-in, giver}
+use Rattle.rx_law.proofs.World.{if-some}
 
 -- ---- what came
 
@@ -52,63 +51,6 @@ CameAll x (e ∷ h) =
     × CameAll x h
 
 -- ---- who gave a datagram
-
-contains_in : (d : Datagram) (xs : List Datagram) (k : ℕ) → k < length xs → slice_index_or xs k d ≡ d → In d xs
-contains_in d [] k low is = absurd (omega arith)
-contains_in d (x ∷ xs) zero low is = inl is
-contains_in d (x ∷ xs) (suc k) low is = inr (contains_in d xs k (omega arith) is)
-
-with_in : (from : Host) (e : Event) (d : Datagram) (ds : List Datagram) → In d (with_given from e ds)
-    → ((from ≡ d.from) × GivesTo d.to d.bytes e) ⊎ In d ds
-with_in from (events.Polled (Some (to, bytes))) d ds (inl is) =
-    inl (ap (λ (x : Datagram). x.from) is, (ap (λ (x : Datagram). x.to) is, ap (λ (x : Datagram). x.bytes) is))
-with_in from (events.Polled (Some (to, bytes))) d ds (inr old) = inr old
-with_in from (events.Polled None) d ds old = inr old
-with_in from (events.Linked a b f got) d ds old = inr old
-with_in from (events.Called cid got) d ds old = inr old
-with_in from (events.Wrote c offered got given) d ds old = inr old
-with_in from (events.Shut c got) d ds old = inr old
-with_in from (events.HasRead c max got given) d ds old = inr old
-with_in from (events.Ended c got) d ds old = inr old
-with_in from (events.Cancelled c code got) d ds old = inr old
-with_in from (events.Accepted got) d ds old = inr old
-with_in from (events.Finished c code got) d ds old = inr old
-with_in from (events.Taken a given got) d ds old = inr old
-with_in from (events.Clocked now) d ds old = inr old
-
-giver_of : (nodes : List Node) (d : Datagram) (h : List Noted) → In d (bag nodes h) → Giver nodes d h
-giver_of nodes d [] is = absurd is
-giver_of nodes d (e ∷ h) is = of (slice_get nodes e.node) refl (λ i. giver_of nodes d h i) is
-  where
-    old : Giver nodes d h → Giver nodes d (e ∷ h)
-    old g =
-        record {
-          index = g.index;
-          node = g.node;
-          there = g.there;
-          host = g.host;
-          gave = later-gave g.index e h d.to d.bytes g.gave;
-        }
-
-    now : (n : Node) → slice_get nodes e.node ≡ Some n → (In d (bag nodes h) → Giver nodes d h)
-        → ((n.host ≡ d.from) × GivesTo d.to d.bytes e.event) ⊎ In d (bag nodes h) → Giver nodes d (e ∷ h)
-    now n there earlier (inl gives) =
-        record {
-          index = e.node;
-          node = n;
-          there = there;
-          host = gives.0;
-          gave =
-              subst (λ (es : List Event). Gave d.to d.bytes es)
-              (ap (λ (b : Bool). cond b (e.event ∷ side e.node h) (side e.node h)) (sym (number_itself e.node)))
-              (inl gives.1);
-        }
-    now n there earlier (inr before) = old (earlier before)
-
-    of : (o : Option Node) → slice_get nodes e.node ≡ o → (In d (bag nodes h) → Giver nodes d h)
-        → In d (given_at o e.event (bag nodes h)) → Giver nodes d (e ∷ h)
-    of None there earlier is = old (earlier is)
-    of (Some n) there earlier is = now n there earlier (with_in n.host e.event d (bag nodes h) is)
 
 -- ---- a client's messages have its name
 
@@ -187,8 +129,8 @@ module _ (nodes : List Node) (k : ℕ) (client server : Node) (y : Connection) (
       (by (at-home nodes k client server y there kind first are apart g.index g.node g.there)) g.gave
     where
       g : Giver nodes (record { from = from; to = server.host; bytes = bytes }) h
-      g = giver_of nodes (record { from = from; to = server.host; bytes = bytes }) h
-          (contains_in (record { from = from; to = server.host; bytes = bytes }) (bag nodes h) contains.0 contains.1
+      g = giver nodes (record { from = from; to = server.host; bytes = bytes }) h
+          (contains-in (record { from = from; to = server.host; bytes = bytes }) (bag nodes h) contains.0 contains.1
           contains.2)
 
       fits : FitsSetup g.node.setup
@@ -238,7 +180,7 @@ module _ (nodes : List Node) (k : ℕ) (client server : Node) (y : Connection) (
       → Gave y.host bytes (side 0 h)
   client_came h l from bytes m legal contains reads front =
       let d : Datagram = record { from = from; to = client.host; bytes = bytes } in
-      let g = giver_of nodes d h (contains_in d (bag nodes h) contains.0 contains.1 contains.2) in
+      let g = giver nodes d h (contains-in d (bag nodes h) contains.0 contains.1 contains.2) in
       let zero' = giver-server nodes k client server y there kind first are apart h from bytes m l g.index g.node
       g.there
       (legal g.index g.node g.there) g.gave reads front in

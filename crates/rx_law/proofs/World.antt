@@ -196,7 +196,7 @@ abbrev pub In : Datagram → List Datagram → Type 0
 In d [] = ⊥
 In d (x ∷ xs) = (x ≡ d) ⊎ In d xs
 
-contains-in : (d : Datagram) (xs : List Datagram) (k : ℕ) → k < length xs → slice_index_or xs k d ≡ d → In d xs
+pub contains-in : (d : Datagram) (xs : List Datagram) (k : ℕ) → k < length xs → slice_index_or xs k d ≡ d → In d xs
 contains-in d [] k low is = absurd (omega arith)
 contains-in d (x ∷ xs) zero low is = inl is
 contains-in d (x ∷ xs) (suc k) low is = inr (contains-in d xs k (omega arith) is)
@@ -208,7 +208,7 @@ pub record Giver (nodes : List Node) (d : Datagram) (h : List Noted) : Type 0 wh
   pub host : node.host ≡ d.from
   pub gave : Gave d.to d.bytes (side index h)
 
-with-in : (from : Host) (e : Event) (d : Datagram) (ds : List Datagram) → In d (with_given from e ds)
+pub with-in : (from : Host) (e : Event) (d : Datagram) (ds : List Datagram) → In d (with_given from e ds)
     → ((from ≡ d.from) × GivesTo d.to d.bytes e) ⊎ In d ds
 with-in from (events.Polled (Some (to, bytes))) d ds (inl is) =
     inl (ap (λ (x : Datagram). x.from) is, (ap (λ (x : Datagram). x.to) is, ap (λ (x : Datagram). x.bytes) is))
@@ -234,7 +234,7 @@ later-gave n e h to bytes gave =
       | false ↦ gave
     ])
 
-giver : (nodes : List Node) (d : Datagram) (h : List Noted) → In d (bag nodes h) → Giver nodes d h
+pub giver : (nodes : List Node) (d : Datagram) (h : List Noted) → In d (bag nodes h) → Giver nodes d h
 giver nodes d [] is = absurd is
 giver nodes d (e ∷ h) is = of (slice_get nodes e.node) refl (λ i. giver nodes d h i) is
   where

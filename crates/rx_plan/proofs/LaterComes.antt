@@ -30,9 +30,8 @@ use Rattle.rx_law.proofs.Joint.{client-name, gives-at, polled-is, server-name}
 use Rattle.rx_history.proofs.Order.OrderlyHistory.{orderly_history}
 use Rattle.rx_history.proofs.Plain.PlainBodies.{IsSent}
 use Rattle.rx_history.proofs.Laws.SoundLaws.{Below}
-use Rattle.rx_law.proofs.World.{Giver, giver-client, if-some}
+use Rattle.rx_law.proofs.World.{Giver, giver-client, if-some, contains-in, giver}
 use Rattle.rx_plan.proofs.Aborts.AbortCauses.{LaterBy}
-use Rattle.rx_plan.proofs.Aborts.AbortComes.{contains_in, giver_of}
 use Rattle.rx_plan.proofs.ClientEnds.{IsThere, there_stays}
 
 module _ (s : Setup) (host : Host) (epoch : ℕ) (kind : s.kind ≡ Client host epoch) (fits : FitsSetup s) where
@@ -123,8 +122,8 @@ module _ (nodes : List Node) (k : ℕ) (client server : Node) (y : Connection) (
       host = ap (λ (d : CallName). d.host) (sym own) ∙ ap (λ (z : Connection). z.host) at
 
       g : Giver nodes (record { from = from; to = server.host; bytes = bytes }) h
-      g = giver_of nodes (record { from = from; to = server.host; bytes = bytes }) h
-          (contains_in (record { from = from; to = server.host; bytes = bytes }) (bag nodes h) contains.0 contains.1
+      g = giver nodes (record { from = from; to = server.host; bytes = bytes }) h
+          (contains-in (record { from = from; to = server.host; bytes = bytes }) (bag nodes h) contains.0 contains.1
           contains.2)
 
       gave : Gave server.host bytes (side k h)

@@ -41,10 +41,9 @@ use Rattle.rx_law.specs.Pieces.{IsAt, IsPiece}
 use Rattle.rx_law.proofs.Joint.{Fed, Grown, between, client-grown, client-name, legal-before, of_call, server-name}
 use Rattle.rx_history.proofs.Laws.OnceLaw.{served}
 use Rattle.rx_law.proofs.ServerHistory.{server-serves, served-turn, spared-once}
-use Rattle.rx_law.proofs.World.{Giver, client-address, flagged-any, flagged-server, gave-mine, if-some, is_server}
+use Rattle.rx_law.proofs.World.{Giver, client-address, flagged-any, flagged-server, gave-mine, if-some, is_server, contains-in, giver}
 use Rattle.rx_law.proofs.World.{world-fed-by}
 use Rattle.rx_plan.proofs.Aborts.AbortCauses.{named_row}
-use Rattle.rx_plan.proofs.Aborts.AbortComes.{contains_in, giver_of}
 use Rattle.rx_plan.proofs.LaterComes.{gave_there}
 use Rattle.rx_rounds.proofs.One.OneConn.{Alone, EntersOnly, alone_after, shape}
 use Rattle.rx_rounds.specs.Bounds.{pieces}
@@ -141,8 +140,8 @@ module _ (nodes : List Node) (client server : Node) (c : CallName) (there : slic
       serves (ap (λ (o : Option ConnLooks). is_some o) none) (ap enters row ∙ enter) in
       let chunk = data-is m.body (and_left (is_data m.body) _ starts) in
       data_only h l legal only from bytes m chunk.0
-      (giver_of nodes (record { from = from; to = server.host; bytes = bytes }) h
-      (contains_in (record { from = from; to = server.host; bytes = bytes }) (bag nodes h) contains.0 contains.1
+      (giver nodes (record { from = from; to = server.host; bytes = bytes }) h
+      (contains-in (record { from = from; to = server.host; bytes = bytes }) (bag nodes h) contains.0 contains.1
       contains.2))
       reads chunk.1 front)
   enters_only h (events.Linked a b f got) legal only allowed contains = tt

@@ -79,7 +79,7 @@ abbrev pub at_client : Host
 at_client = record { addr = 167772162; port = 7001 }
 
 -- the name of its call
-abbrev call : CallName
+abbrev pub call : CallName
 call = record { host = at_client; epoch = 1; cid = 4; chan = 0; number = 1 }
 
 module _ (proc : String Global) (named : string_bytes proc ≡ codes "Put") (args : Vec Value Global)

@@ -32,7 +32,7 @@ use Rattle.rx_closing.specs.Work.{work_of}
 use Rattle.rx_closing.specs.Closing.{RepliesFit}
 use Rattle.rx_closing.specs.Ended.{AreFair, ClosesFrom, SilentFrom}
 use Rattle.rx_closing.proofs.Left.LeftScene.{EndsNone, accepted, ack_of, are_low, are_open, asked, asks_till_dead}
-use Rattle.rx_closing.proofs.Left.LeftScene.{at_s, call, called, client, clocks_to, data_of, distinct}
+use Rattle.rx_closing.proofs.Left.LeftScene.{at_s, called, client, clocks_to, data_of, distinct}
 use Rattle.rx_closing.proofs.Left.LeftScene.{finished}
 use Rattle.rx_closing.proofs.Left.LeftScene.{four, g, get, get_serves, get_work, gives_c, gives_s, invoke, late}
 use Rattle.rx_closing.proofs.Left.LeftScene.{late_serves}
@@ -40,7 +40,7 @@ use Rattle.rx_closing.proofs.Left.LeftScene.{lives_in, lives_on, low_moment, nod
 use Rattle.rx_closing.proofs.Left.LeftScene.{none_waits}
 use Rattle.rx_closing.proofs.Left.LeftScene.{quiet_to, reads_c, sent, takes_c, takes_s, touch, touch_serves, touch_work}
 use Rattle.rx_closing.proofs.Left.NoMore.{none_dies_heard, none_lives_on}
-use Rattle.rx_rounds.proofs.LeftOpen.{at_client, at_server}
+use Rattle.rx_rounds.proofs.LeftOpen.{at_client, at_server, call}
 
 module _ (any : Stage) (proc : Procedure → String Global)
     (named : (p : Procedure) → string_bytes (proc p) ≡ p.name) (args : Vec Value Global) (none : args.items ≡ []) where

@@ -19,7 +19,6 @@ use Rattle.rx_model.specs.declared.answers.WroteGot.TheVariants as writers
 use Rattle.rx_model.specs.declared.event.Event.{Event}
 use Rattle.rx_model.specs.declared.event.Event.TheVariants as events
 use Rattle.rx_model.specs.declared.event.Noted.{Noted}
-use Rattle.rx_model.specs.declared.names.CallName.{CallName}
 use Rattle.rx_model.proofs.NameLaws.{both, same_number}
 use Rattle.rx_rules.specs.After.{looks}
 use Rattle.rx_rules.specs.Life.{is_live}
@@ -38,7 +37,7 @@ use Rattle.rx_rounds.specs.Bounds.{default_limits}
 use Rattle.rx_closing.specs.Work.{work}
 use Rattle.rx_closing.specs.Closing.{AreOpen}
 use Rattle.rx_closing.specs.Silence.{CameAmong}
-use Rattle.rx_rounds.proofs.LeftOpen.{at_client, at_server}
+use Rattle.rx_rounds.proofs.LeftOpen.{at_client, at_server, call}
 
 -- ---- what serves the calls
 
@@ -140,10 +139,6 @@ client = client_node at_client 1 default_limits None
 
 abbrev pub nodes : List Node
 nodes = server ∷ client ∷ []
-
--- the name of the call
-abbrev pub call : CallName
-call = record { host = at_client; epoch = 1; cid = 4; chan = 0; number = 1 }
 
 pub distinct : AreDistinct nodes
 distinct zero zero apart = tt

@@ -29,7 +29,7 @@ use Rattle.rx_rounds.specs.Bounds.{default_limits}
 use Rattle.rx_closing.specs.Closing.{RepliesFit}
 use Rattle.rx_closing.specs.Ended.{AreFair}
 use Rattle.rx_closing.proofs.Left.LeftScene.{accepted, ack_of, are_low, are_open, asked, at_c, at_s}
-use Rattle.rx_closing.proofs.Left.LeftScene.{call, called, client, clocks_to, data_of, datagram, distinct, finished}
+use Rattle.rx_closing.proofs.Left.LeftScene.{called, client, clocks_to, data_of, datagram, distinct, finished}
 use Rattle.rx_closing.proofs.Left.LeftScene.{four}
 use Rattle.rx_closing.proofs.Left.LeftScene.{g, gives_c, gives_s, invoke, late, low_moment, nodes, none_c, none_s}
 use Rattle.rx_closing.proofs.Left.LeftScene.{none_waits, reads_c, server, takes_c, takes_s, touch, touch_serves}
@@ -39,7 +39,7 @@ use Rattle.rx_closing.specs.Several.{enough_for}
 use Rattle.rx_closing.proofs.Left.NoneLeft.{none_of_all_dies_heard, none_of_all_lives_on}
 use Rattle.rx_closing.proofs.Left.TwoCalls.{EndsNone, asked_of, beside, caller_of, calls, far, far_datagram, has_room}
 use Rattle.rx_closing.proofs.Left.TwoCalls.{lives_in, lives_on, long, long_serves, never_full, reads_of, second}
-use Rattle.rx_rounds.proofs.LeftOpen.{at_client, at_server}
+use Rattle.rx_rounds.proofs.LeftOpen.{at_client, at_server, call}
 
 module _ (any : Stage) (proc : Procedure → String Global)
     (named : (p : Procedure) → string_bytes (proc p) ≡ p.name) (args : Vec Value Global) (none : args.items ≡ []) where

@@ -21,14 +21,13 @@ use Rattle.rx_rules.specs.Setup.{Client, FitsSetup, IsServer, Kind, Server, Setu
 use Rattle.rx_history.proofs.Data.{OwnName}
 use Rattle.rx_history.specs.Sides.{IsClientAt, Node, side}
 use Rattle.rx_law.proofs.Joint.{server-name}
-use Rattle.rx_law.proofs.World.{Giver, and-some, gave-mine, if-some}
+use Rattle.rx_law.proofs.World.{Giver, and-some, gave-mine, if-some, contains-in, giver}
 use Rattle.rx_law.proofs.WorldTimed.{found-and}
 use Rattle.rx_law.specs.Worlds.{Datagram, IsFrom, World, bag}
 use Rattle.rx_between.proofs.CameAll.{gave_own}
 use Rattle.rx_between.proofs.Each.EachEvent.{each_step}
 use Rattle.rx_between.proofs.Each.EachStep.{CallStep, Starts}
 use Rattle.rx_between.proofs.LawsAgree.{agree_in_world}
-use Rattle.rx_plan.proofs.Aborts.AbortComes.{contains_in, giver_of}
 use Rattle.rx_plan.specs.Stages.{Stage}
 use Rattle.rx_closing.proofs.Frame.{Crowd, OneOf, asked_in, served_in}
 use Rattle.rx_closing.proofs.Living.Before.{world_before}
@@ -80,7 +79,7 @@ module _ (nodes : List Node) (server : Node) (first : slice_get nodes 0 ≡ Some
       d = record { from = from; to = server.host; bytes = bytes }
 
       g : Giver nodes d h
-      g = giver_of nodes d h (contains_in d (bag nodes h) contains.0 contains.1 contains.2)
+      g = giver nodes d h (contains-in d (bag nodes h) contains.0 contains.1 contains.2)
 
       fits : FitsSetup g.node.setup
       fits =

@@ -16,9 +16,8 @@ use Rattle.rx_rules.proofs.EveryLaws.{Every}
 use Rattle.rx_history.specs.Sides.{IsClientAt, Node, side}
 use Rattle.rx_law.specs.Worlds.{Carried, IsFrom, World, bag}
 use Rattle.rx_law.proofs.Joint.{legal-before}
-use Rattle.rx_law.proofs.World.{Giver, Mine, and-some, gave-mine, if-some}
+use Rattle.rx_law.proofs.World.{Giver, Mine, and-some, gave-mine, if-some, contains-in, giver}
 use Rattle.rx_wire.specs.Turns.{noted}
-use Rattle.rx_plan.proofs.Aborts.AbortComes.{contains_in, giver_of}
 use Rattle.rx_plan.proofs.JointMoments.{JointAt, joint_at, legal_cut}
 use Rattle.rx_plan.proofs.Keys.PlanKeys.{served_side, service_at}
 use Rattle.rx_plan.proofs.QuietEvents.{AreServed}
@@ -83,8 +82,8 @@ module _ (nodes : List Node) (h : List Noted) (world : World nodes h)
 
         g : Giver nodes (record { from = came.from; to = server.host; bytes = came.bytes }) j.past
         g =
-            giver_of nodes (record { from = came.from; to = server.host; bytes = came.bytes }) j.past
-            (contains_in (record { from = came.from; to = server.host; bytes = came.bytes }) (bag nodes j.past)
+            giver nodes (record { from = came.from; to = server.host; bytes = came.bytes }) j.past
+            (contains-in (record { from = came.from; to = server.host; bytes = came.bytes }) (bag nodes j.past)
             contains.0 contains.1 contains.2)
 
         fits : FitsSetup g.node.setup

@@ -1,8 +1,7 @@
 -- An ABORT of a call that a server takes was given by the call's client, where the call had ended.
-use Rattle.std.proofs.Common.{◌≡◌, ◌≢◌, ◌⊎◌, ◌<◌, ◌==◌, cond, ℕ, zero, suc, ℤ, Bool, true, false, List, [], ◌∷◌, length}
-use Rattle.std.proofs.Common.{Option, Some, None, Ok, Contains, slice_get, slice_index_or, refl, inl, inr, ◌∙◌, ap, sym}
-use Rattle.std.proofs.Common.{subst, arith, IfSome}
-use Rattle.rx_model.specs.declared.event.Event.{Event}
+use Rattle.std.proofs.Common.{◌≡◌, ◌≢◌, ◌⊎◌, ◌<◌, ◌==◌, ℕ, ℤ, Bool, true, false, List, [], ◌∷◌}
+use Rattle.std.proofs.Common.{Some, Ok, Contains, slice_get, refl, inl, inr, ◌∙◌, ap, sym}
+use Rattle.std.proofs.Common.{subst, IfSome}
 use Rattle.rx_model.specs.declared.event.Event.TheVariants as events
 use Rattle.rx_model.specs.declared.event.Noted.{Noted}
 use Rattle.rx_model.specs.declared.names.CallName.{CallName}
@@ -16,71 +15,15 @@ use Rattle.rx_model.proofs.NameLaws.{number_itself, same_number}
 use Rattle.rx_rules.specs.After.{looks}
 use Rattle.rx_rules.specs.Rules.{Legal}
 use Rattle.rx_rules.specs.Setup.{Kind, Server, Client, FitsSetup, IsServer, is_client, named}
-use Rattle.rx_history.specs.Sides.{Node, side, GivesTo, IsClientAt}
-use Rattle.rx_law.specs.Worlds.{AreApart, AreNodes, Datagram, Gave, bag, given_at, with_given}
+use Rattle.rx_history.specs.Sides.{Node, side, IsClientAt}
+use Rattle.rx_law.specs.Worlds.{AreApart, AreNodes, Gave, bag}
 use Rattle.rx_history.proofs.Client.{StoppedBy}
 use Rattle.rx_history.proofs.Data.{OwnName}
 use Rattle.rx_law.proofs.Joint.{client-name, server-name}
-use Rattle.rx_law.proofs.World.{Giver, at-home, flagged-any, flagged-server, gave-mine, if-some, later-gave, In}
+use Rattle.rx_law.proofs.World.{Giver, at-home, flagged-any, flagged-server, gave-mine, if-some, contains-in, giver}
 use Rattle.rx_plan.proofs.Aborts.ClientAborts.{HasEnded, IsOfEnded, client_aborts}
 
 -- ---- who gave a datagram
-
-pub contains_in : (d : Datagram) (xs : List Datagram) (k : ℕ) → k < length xs → slice_index_or xs k d ≡ d → In d xs
-contains_in d [] k low is = absurd (omega arith)
-contains_in d (x ∷ xs) zero low is = inl is
-contains_in d (x ∷ xs) (suc k) low is = inr (contains_in d xs k (omega arith) is)
-
-with_in : (from : Host) (e : Event) (d : Datagram) (ds : List Datagram) → In d (with_given from e ds)
-    → ((from ≡ d.from) × GivesTo d.to d.bytes e) ⊎ In d ds
-with_in from (events.Polled (Some (to, bytes))) d ds (inl is) =
-    inl (ap (λ (x : Datagram). x.from) is, (ap (λ (x : Datagram). x.to) is, ap (λ (x : Datagram). x.bytes) is))
-with_in from (events.Polled (Some (to, bytes))) d ds (inr old) = inr old
-with_in from (events.Polled None) d ds old = inr old
-with_in from (events.Linked a b f got) d ds old = inr old
-with_in from (events.Called cid got) d ds old = inr old
-with_in from (events.Wrote c offered got given) d ds old = inr old
-with_in from (events.Shut c got) d ds old = inr old
-with_in from (events.HasRead c max got given) d ds old = inr old
-with_in from (events.Ended c got) d ds old = inr old
-with_in from (events.Cancelled c code got) d ds old = inr old
-with_in from (events.Accepted got) d ds old = inr old
-with_in from (events.Finished c code got) d ds old = inr old
-with_in from (events.Taken a given got) d ds old = inr old
-with_in from (events.Clocked now) d ds old = inr old
-
-pub giver_of : (nodes : List Node) (d : Datagram) (h : List Noted) → In d (bag nodes h) → Giver nodes d h
-giver_of nodes d [] is = absurd is
-giver_of nodes d (e ∷ h) is = of (slice_get nodes e.node) refl (λ i. giver_of nodes d h i) is
-  where
-    old : Giver nodes d h → Giver nodes d (e ∷ h)
-    old g =
-        record {
-          index = g.index;
-          node = g.node;
-          there = g.there;
-          host = g.host;
-          gave = later-gave g.index e h d.to d.bytes g.gave;
-        }
-
-    now : (n : Node) → slice_get nodes e.node ≡ Some n → (In d (bag nodes h) → Giver nodes d h)
-        → ((n.host ≡ d.from) × GivesTo d.to d.bytes e.event) ⊎ In d (bag nodes h) → Giver nodes d (e ∷ h)
-    now n there earlier (inl gives) =
-        record {
-          index = e.node;
-          node = n;
-          there = there;
-          host = gives.0;
-          gave = subst (λ (es : List Event). Gave d.to d.bytes es)
-              (ap (λ (b : Bool). cond b (e.event ∷ side e.node h) (side e.node h)) (sym (number_itself e.node)))
-              (inl gives.1);
-        }
-    now n there earlier (inr before) = old (earlier before)
-
-    of : (o : Option Node) → slice_get nodes e.node ≡ o → (In d (bag nodes h) → Giver nodes d h)
-        → In d (given_at o e.event (bag nodes h)) → Giver nodes d (e ∷ h)
-    of None there earlier is = old (earlier is)
-    of (Some n) there earlier is = now n there earlier (with_in n.host e.event d (bag nodes h) is)
 
 -- ---- a client's connection in a world
 
@@ -183,8 +126,8 @@ module _ (nodes : List Node) (k : ℕ) (client server : Node) (y : Connection) (
       epoch = ap (λ (z : Connection). z.epoch) (connected a.name)
 
       g : Giver nodes (record { from = from; to = server.host; bytes = bytes }) h
-      g = giver_of nodes (record { from = from; to = server.host; bytes = bytes }) h
-          (contains_in (record { from = from; to = server.host; bytes = bytes }) (bag nodes h) contains.0 contains.1
+      g = giver nodes (record { from = from; to = server.host; bytes = bytes }) h
+          (contains-in (record { from = from; to = server.host; bytes = bytes }) (bag nodes h) contains.0 contains.1
           contains.2)
 
       gave : Gave server.host bytes (side k h)

@@ -15,11 +15,10 @@ use Rattle.rx_rules.proofs.EveryLaws.{Every}
 use Rattle.rx_history.specs.Sides.{Node, side}
 use Rattle.rx_law.specs.Worlds.{AreApart, AreNodes, Carried, Gave, IsFrom, bag}
 use Rattle.rx_law.proofs.Joint.{legal-before}
-use Rattle.rx_law.proofs.World.{Giver, Mine, gave-mine, if-some}
+use Rattle.rx_law.proofs.World.{Giver, Mine, gave-mine, if-some, contains-in, giver}
 use Rattle.rx_wire.specs.Turns.{noted}
 use Rattle.rx_plan.specs.Causes.{OneHasKey}
 use Rattle.rx_plan.specs.Follows.{class_of}
-use Rattle.rx_plan.proofs.Aborts.AbortComes.{contains_in, giver_of}
 use Rattle.rx_plan.proofs.JointMoments.{JointAt, joint_at, legal_cut}
 use Rattle.rx_plan.proofs.RowsAsked.{IsOther, unserved_other}
 use Rattle.rx_plan.proofs.Keys.ServicesStay.{IsOwnData, LinksTo, data_given}
@@ -89,8 +88,8 @@ module _ (nodes : List Node) (k : ℕ) (client server : Node) (y : Connection) (
 
       g : Giver nodes (record { from = came.from; to = server.host; bytes = came.bytes }) j.past
       g =
-          giver_of nodes (record { from = came.from; to = server.host; bytes = came.bytes }) j.past
-          (contains_in (record { from = came.from; to = server.host; bytes = came.bytes }) (bag nodes j.past) contains.0
+          giver nodes (record { from = came.from; to = server.host; bytes = came.bytes }) j.past
+          (contains-in (record { from = came.from; to = server.host; bytes = came.bytes }) (bag nodes j.past) contains.0
           contains.1 contains.2)
 
       mine : Mine g.node.setup server.host came.message

@@ -24,14 +24,14 @@ use Rattle.rx_law.specs.Worlds.{AreApart, AreNodes, Carried, Gave, IsFrom, bag}
 use Rattle.rx_history.proofs.Data.{OwnName}
 use Rattle.rx_law.proofs.Joint.{client-name, legal-before, server-name}
 use Rattle.rx_history.proofs.Order.OrderlyHistory.{orderly_history}
-use Rattle.rx_law.proofs.World.{Giver, at-home, client-address, flagged-any, flagged-server, gave-mine, giver-server}
+use Rattle.rx_law.proofs.World.{Giver, at-home, client-address, flagged-any, flagged-server, gave-mine, giver-server, contains-in, giver}
 use Rattle.rx_law.proofs.World.{if-some}
 use Rattle.rx_token.specs.TokenLaws.{token_is_lawful}
 use Rattle.rx_wire.specs.Turns.{noted}
 use Rattle.rx_plan.specs.Causes.{HaveOtherKeys}
 use Rattle.rx_plan.specs.Follows.{class_of}
 use Rattle.rx_plan.proofs.Aborts.AbortCauses.{WrongBy, named_row}
-use Rattle.rx_plan.proofs.Aborts.AbortComes.{contains_in, giver_of, one_client}
+use Rattle.rx_plan.proofs.Aborts.AbortComes.{one_client}
 use Rattle.rx_plan.proofs.Givings.AnswersGiven.{HasAnswered, answers_given}
 use Rattle.rx_plan.proofs.Givings.ChallengesGiven.{IsAsked, challenges_given}
 use Rattle.rx_plan.proofs.JointMoments.{JointAt, joint_at, legal_cut}
@@ -108,8 +108,8 @@ module _ (nodes : List Node) (k : ℕ) (client server : Node) (y : Connection) (
         → Gave server.host bytes (side k h)
     response_gave from bytes m text reads at front host epoch contains =
         let g : Giver nodes (record { from = from; to = server.host; bytes = bytes }) h =
-        giver_of nodes (record { from = from; to = server.host; bytes = bytes }) h
-        (contains_in (record { from = from; to = server.host; bytes = bytes }) (bag nodes h) contains.0 contains.1
+        giver nodes (record { from = from; to = server.host; bytes = bytes }) h
+        (contains-in (record { from = from; to = server.host; bytes = bytes }) (bag nodes h) contains.0 contains.1
         contains.2) in
         let fits : FitsSetup g.node.setup =
         if-some (slice_get nodes g.index) g.node (λ o. FitsSetup o.setup) g.there (are.fits g.index) in
@@ -151,8 +151,8 @@ module _ (nodes : List Node) (k : ℕ) (client server : Node) (y : Connection) (
 
         g : Giver nodes (record { from = a.from; to = client.host; bytes = a.bytes }) j.past
         g =
-            giver_of nodes (record { from = a.from; to = client.host; bytes = a.bytes }) j.past
-            (contains_in (record { from = a.from; to = client.host; bytes = a.bytes }) (bag nodes j.past) contains.0
+            giver nodes (record { from = a.from; to = client.host; bytes = a.bytes }) j.past
+            (contains-in (record { from = a.from; to = client.host; bytes = a.bytes }) (bag nodes j.past) contains.0
             contains.1 contains.2)
 
         name : named server.setup client.host a.message ≡ c
