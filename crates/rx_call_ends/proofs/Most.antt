@@ -67,7 +67,7 @@ slotted : (v : NodeView) (p : Packet) (k : CallLooks) →
 slotted v p k is =
     let row = kept_slot (arrival v.client v.window (v.left + freed v.client k) p (found v.client k)) is in
     let new = neither (nat_le p.seq (used_of k.received)) (is_some (packet_at k.received.kept p.seq)) row.0 in
-    record { above-by = above-by p.seq (used_of k.received) new.0; away = new.1; slot = row.1 }
+    record { above = above-by p.seq (used_of k.received) new.0; away = new.1; slot = row.1 }
 
 chunk_most : (v : NodeView) (m : Message) (body : Body) (k : CallLooks) → call_row v m body k ≡ tooks.Kept →
     beside_looks (after_chunk v tooks.Kept m body k) ≤ beside_looks k + v.left
