@@ -192,7 +192,8 @@ kept-with s tooks.Foreign c d m l none = kept-refl (call_at l c)
 kept-with s tooks.Strange c d m l none = kept-refl (call_at l c)
 kept-with s (tooks.Bad bad) c d m l none = kept-refl (call_at l c)
 
-pub unserved-calls : (from : Host) (m : Message) (body : Body) (l : Looks) → (taken_unserved from m body l).calls ≡ l.calls
+pub unserved-calls : (from : Host) (m : Message) (body : Body) (l : Looks)
+    → (taken_unserved from m body l).calls ≡ l.calls
 unserved-calls from m (bodies.Chunk payload) l = refl
 unserved-calls from m _ l = refl
 

@@ -28,7 +28,8 @@ use Rattle.rx_history.proofs.Data.{OwnName, same_message}
 use Rattle.rx_history.proofs.Given.GivingItems.{item_name}
 use Rattle.rx_history.proofs.Given.Givings.{next_is, poll_gives}
 use Rattle.rx_law.proofs.Joint.{gives-at, legal-before, polled-is, server-name}
-use Rattle.rx_law.proofs.World.{Giver, at-home, client-address, flagged-any, flagged-server, gave-mine, giver-server, In, contains-in, giver}
+use Rattle.rx_law.proofs.World.{Giver, at-home, client-address, flagged-any, flagged-server, gave-mine, giver-server}
+use Rattle.rx_law.proofs.World.{In, contains-in, giver}
 use Rattle.rx_law.proofs.World.{if-some}
 
 -- ---- what came

@@ -156,7 +156,8 @@ given_same now None k = refl
 given_same now (Some (items.Piece seq again)) k = refl
 given_same now (Some (items.Ack reason serial)) k = refl
 
-pub received_same : (now : ℕ) (sending : Option Sending) (k : CallLooks) → (after_given now sending k).received ≡ k.received
+pub received_same : (now : ℕ) (sending : Option Sending) (k : CallLooks)
+    → (after_given now sending k).received ≡ k.received
 received_same now None k = refl
 received_same now (Some (items.Piece seq again)) k = refl
 received_same now (Some (items.Ack reason serial)) k = refl

@@ -28,7 +28,8 @@ pub other-side : (node other : ℕ) (e : Event) (h : List Noted) → (node ≡ o
 other-side node other e h apart = (let no : (node == other) ≡ false = grind (arith, nat_tests, apart) in rw no refl)
 
 -- its own has the event
-pub own-side : (node : ℕ) (e : Event) (h : List Noted) → side node (record { node = node; event = e } ∷ h) ≡ e ∷ side node h
+pub own-side : (node : ℕ) (e : Event) (h : List Noted)
+    → side node (record { node = node; event = e } ∷ h) ≡ e ∷ side node h
 own-side node e h = rw (number_itself node) refl
 
 -- ---- the server

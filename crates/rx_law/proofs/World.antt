@@ -89,7 +89,8 @@ strays-message s host epoch from (Ok m) got l kind = of (outer_row s s.kind l fr
     of None front = with-strays s got d m (prepared s got (connection_of d) l)
         ∙ strays-prepared s got (connection_of d) l
 
-pub strays-given : (s : Setup) (got : Option (Host × List ℕ)) (l : Looks) → l.strays ≡ [] → (given_by s got l).strays ≡ []
+pub strays-given : (s : Setup) (got : Option (Host × List ℕ)) (l : Looks) → l.strays ≡ []
+    → (given_by s got l).strays ≡ []
 strays-given s None l none = none
 strays-given s (Some (to, bytes)) l none = of (reading_of bytes)
   where

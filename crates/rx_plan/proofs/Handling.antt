@@ -98,7 +98,8 @@ read-call g j reads.NotYet came = refl
 read-call g j (reads.Gone c) came = refl
 read-call g j reads.NotOpen came = refl
 
-pub write-call : (j : JobState) (offered : ℕ) (got : Result ℕ ServeRefused) → (heard_write j offered got).job.call ≡ j.call
+pub write-call : (j : JobState) (offered : ℕ) (got : Result ℕ ServeRefused)
+    → (heard_write j offered got).job.call ≡ j.call
 write-call j offered (Ok n) = refl
 write-call j offered (Err refusals.NotOpen) = refl
 write-call j offered (Err (refusals.Gone c)) = refl
@@ -232,7 +233,8 @@ own-want j wants.Write e c is on =
 own-want j (wants.Finish code) e c is on =
     name_is c j.call (subst (λ (x : Event). handles c x ≡ true) is.1 on)
 
-pub own-ask : (g : Handlers) (m : Moving) (a : Ask) (e : Event) (c : CallName) → (serving g).asks m ≡ Some a → IsCall a e
+pub own-ask : (g : Handlers) (m : Moving) (a : Ask) (e : Event) (c : CallName) → (serving g).asks m ≡ Some a
+    → IsCall a e
     → handles c e ≡ true → c ≡ m.job.call
 own-ask g m a e c asked is on = by (want_in m.phase m.job) asked
   where

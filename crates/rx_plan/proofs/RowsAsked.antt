@@ -16,7 +16,8 @@ use Rattle.rx_rules.specs.Looks.{CallRecord, Looks, call_at, channel_at, is_prov
 use Rattle.rx_rules.specs.Setup.{Client, IsServer, Kind, Server, Setup}
 use Rattle.rx_rules.proofs.FindLaws.{find_passes}
 use Rattle.rx_model.specs.declared.wire.TheConstants.{CLIENT_INITIATED}
-use Rattle.rx_history.proofs.Rows.RowsAborting.{Latest, above-starts, not_false, passed, side-stopped, skipped, is_stopped}
+use Rattle.rx_history.proofs.Rows.RowsAborting.{Latest, above-starts, not_false, passed, side-stopped, skipped}
+use Rattle.rx_history.proofs.Rows.RowsAborting.{is_stopped}
 use Rattle.rx_plan.proofs.Aborts.RowsOver.{same_numbers}
 use Rattle.rx_history.proofs.Laws.RightLaws.{unopened}
 

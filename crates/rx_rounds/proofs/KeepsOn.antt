@@ -41,7 +41,8 @@ use Rattle.rx_law.specs.Pieces.{IsAt, IsPiece}
 use Rattle.rx_law.proofs.Joint.{Fed, Grown, between, client-grown, client-name, legal-before, of_call, server-name}
 use Rattle.rx_history.proofs.Laws.OnceLaw.{served}
 use Rattle.rx_law.proofs.ServerHistory.{server-serves, served-turn, spared-once}
-use Rattle.rx_law.proofs.World.{Giver, client-address, flagged-any, flagged-server, gave-mine, if-some, is_server, contains-in, giver}
+use Rattle.rx_law.proofs.World.{Giver, client-address, flagged-any, flagged-server, gave-mine, if-some, is_server}
+use Rattle.rx_law.proofs.World.{contains-in, giver}
 use Rattle.rx_law.proofs.World.{world-fed-by}
 use Rattle.rx_plan.proofs.Aborts.AbortCauses.{named_row}
 use Rattle.rx_plan.proofs.LaterComes.{gave_there}

@@ -206,7 +206,8 @@ module _ (class : List ℕ → Class) (sv : ServerState) (mid new : NodeState) (
       → RoomyAt (setup_of class mid) (on_looks (latest_name l ch) after_shut l)
       → Mirrors class new (on_looks (latest_name l ch) after_shut l))
       → (l : Looks) (c : CallName) → Serves class sv l → IsFound l c key lives.Accepted
-      → was_done ≡ served_finish (call_at l c) code → Serves class (record sv { node = new }) (finish_done c code was_done l)
+      → was_done ≡ served_finish (call_at l c) code
+      → Serves class (record sv { node = new }) (finish_done c code was_done l)
   well_serves is server turned shut l c serves found may =
       ended_serves class sv new l c code (role_both sv.node mid new kept same)
       (subst (λ (z : ℤ). Mirrors class new (finish_done c z was_done l)) (sym is)
@@ -231,7 +232,8 @@ pub ended_serving : (class : List ℕ → Class) (sv : ServerState) (new : NodeS
     → KeepsNode sv.node new
     → ((l : Looks) → Serves class sv l → MayFinish l key code)
     → ((l : Looks) (c : CallName) → Serves class sv l → IsFound l c key lives.Accepted
-    → was_done ≡ served_finish (call_at l c) code → Serves class (record sv { node = new }) (finish_done c code was_done l))
+    → was_done ≡ served_finish (call_at l c) code
+    → Serves class (record sv { node = new }) (finish_done c code was_done l))
     → IsServing class sv → IsServing class (record sv { node = new })
 ended_serving class sv new key code kept may serves is =
     (let its = may is.looks is.serves in

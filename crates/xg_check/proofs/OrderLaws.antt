@@ -6,7 +6,8 @@ use Rattle.std.proofs.lemmas.List.{length-set, length-replicate}
 use Rattle.std.proofs.lemmas.Option.{slice_get_within}
 use Rattle.xg_check.specs.Graphs.{Step, AreOrdered}
 use Rattle.xg_check.specs.Ordering.{IsNew, AreEnded, IsIn, IsOrdering, IsLooked, Waits, AllLooked, AllWait, AllButSome}
-use Rattle.xg_check.proofs.SearchLaws.{at_front, at_end, of_pushed, set_here, set_there, same_or_not, not_both, mark_at, count-none}
+use Rattle.xg_check.proofs.SearchLaws.{at_front, at_end, of_pushed, set_here, set_there, same_or_not, not_both, mark_at}
+use Rattle.xg_check.proofs.SearchLaws.{count-none}
 use Rattle.xg_check.proofs.SearchLaws.{marked_now}
 use Rattle.xg_check.proofs.ValueLaws.{item_at}
 

@@ -65,7 +65,8 @@ module _ {A B : Type 0} (P : A → List Token → Type 0) (Q : B → List Token 
         (subst (λ (k : Token). has u (terminal_of k) ≡ true) is (second b y ys q)))
     begins_pair first empty second (x ∷ xs) back a b t ts e p q =
         let is : x ≡ t = cc in
-        has_left s (λ t. n && u t) (terminal_of t) (subst (λ (k : Token). has s (terminal_of k) ≡ true) is (first a x xs p))
+        has_left s (λ t. n && u t) (terminal_of t)
+        (subst (λ (k : Token). has s (terminal_of k) ≡ true) is (first a x xs p))
 
 pub begins_each : {A : Type 0} (P : A → List Token → Type 0) (s : Terminal → Bool) →
     ((a : A) (t : Token) (ts : List Token) → P a (t ∷ ts) → has s (terminal_of t) ≡ true) →

@@ -118,7 +118,8 @@ lowest-known sent r hard given away =
     (not-below (lowest_of sent) (used_of r) above)
     open_.1 in
     let short = reach_short (is_acked (knowing sent r)) (given_of sent) (lowest_of sent) (omega arith) fails in
-    let wide = reach_least (is_acked (knowing sent r)) (given_of sent) far (reach_within (is_acked sent) (given_of sent))
+    let wide = reach_least (is_acked (knowing sent r)) (given_of sent) far
+    (reach_within (is_acked sent) (given_of sent))
     (λ j from to. more j (reach_passes (is_acked sent) (given_of sent) j from to)) in
     let same : reach (is_acked (knowing sent r)) (given_of sent) ≡ far = omega (arith, short, wide) in
     ap (λ (n : ℕ). suc n) same)

@@ -31,7 +31,8 @@ use Rattle.rx_plan.proofs.Replying.{served_invoke}
 use Rattle.rx_rounds.proofs.Rounded.{caller_at}
 use Rattle.rx_closing.specs.Living.{all_live}
 use Rattle.rx_closing.specs.Silence.{CameAmong}
-use Rattle.rx_closing.proofs.Left.LeftScene.{at_c, client, four, g, has_full, invoke, is_full, late, nodes, can_late, full_among}
+use Rattle.rx_closing.proofs.Left.LeftScene.{at_c, client, four, g, has_full, invoke, is_full, late, nodes, can_late}
+use Rattle.rx_closing.proofs.Left.LeftScene.{full_among}
 use Rattle.rx_closing.proofs.Left.LeftScene.{servable, server}
 use Rattle.rx_closing.specs.Several.{HasRoomFor, HasRoomForAll}
 use Rattle.rx_rounds.proofs.LeftOpen.{at_client}

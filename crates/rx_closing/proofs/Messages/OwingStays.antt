@@ -198,7 +198,8 @@ module _ (P : ChannelLooks → Type 0) (c : CallName) (some : 1 ≤ c.number) wh
       by true same rest = first (same_connection new.connection x)
         where
           first : (b : Bool)
-              → OnlyNew new (cond b (Some new) (find (λ q. same_connection q.connection x) (map (given_way new old) rs)))
+              → OnlyNew new (cond b (Some new)
+              (find (λ q. same_connection q.connection x) (map (given_way new old) rs)))
           first true = refl
           first false = rest
       by false other rest =

@@ -232,7 +232,8 @@ module _ (class : List ℕ → Class) (old new : NodeState) (l : Looks) (ch : Ch
       of None is none = absurd (cc (none))
       of (Some k) is some =
           (let same : before ≡ k.life = cc (some) in
-          (elim (is_live k.life) as (λ b. is_live k.life ≡ b → Mirrors class new (on_life (latest_name l ch) change l)) [
+          (elim (is_live k.life)
+          as (λ b. is_live k.life ≡ b → Mirrors class new (on_life (latest_name l ch) change l)) [
             | true ↦ λ live.
                 changed_as class old l ch m (λ j. record j { life = change j.life }) new k
                 (λ j. record j { life = change before }) is (ap (λ (x : Life). record k { life = change x }) same)

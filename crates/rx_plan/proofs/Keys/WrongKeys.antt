@@ -24,7 +24,8 @@ use Rattle.rx_law.specs.Worlds.{AreApart, AreNodes, Carried, Gave, IsFrom, bag}
 use Rattle.rx_history.proofs.Data.{OwnName}
 use Rattle.rx_law.proofs.Joint.{client-name, legal-before, server-name}
 use Rattle.rx_history.proofs.Order.OrderlyHistory.{orderly_history}
-use Rattle.rx_law.proofs.World.{Giver, at-home, client-address, flagged-any, flagged-server, gave-mine, giver-server, contains-in, giver}
+use Rattle.rx_law.proofs.World.{Giver, at-home, client-address, flagged-any, flagged-server, gave-mine, giver-server}
+use Rattle.rx_law.proofs.World.{contains-in, giver}
 use Rattle.rx_law.proofs.World.{if-some}
 use Rattle.rx_token.specs.TokenLaws.{token_is_lawful}
 use Rattle.rx_wire.specs.Turns.{noted}
