@@ -134,7 +134,7 @@ tells-left s host epoch request v e h kind fits legal leaves_it t =
 
 -- what it tells along a history that it drives
 pub tells_driven : TellsOfItsCall
-tells_driven s host epoch limit request v h kind fits legal (starts node cid c h') =
+tells_driven s host epoch limit request v h kind fits legal (starts cid c h') =
     tells-first s cid c request (looks s h')
 tells_driven s host epoch limit request v h kind fits legal (begins w h' drives) =
     tells_begun request w (looks s h') (tells_driven s host epoch limit request w h' kind fits legal drives)
