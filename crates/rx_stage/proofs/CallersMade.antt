@@ -155,3 +155,9 @@ pub world_turned : (part : Stage → Part Stage) (v w : WorldState) (n : NodesSt
     → Plays part w (record v { nodes = n; callers = ds }) stop a b
 world_turned part v w n ds stop a b is plays =
     subst (λ (u : WorldState). Plays part u (record v { nodes = n; callers = ds }) stop a b) is (plays v refl refl)
+
+-- the same is told, as the code has it
+pub callers_seen : (part : Stage → Part Stage) (cs ds : List InvokedState) (n nodes : NodesState) (stop : Option Stop)
+    (a b c : Told) → c ≡ b → PlaysCallers part cs ds n nodes stop a b → PlaysCallers part cs ds n nodes stop a c
+callers_seen part cs ds n nodes stop a b c same plays =
+    subst (λ (t : Told). PlaysCallers part cs ds n nodes stop a t) (sym same) plays

@@ -19,7 +19,7 @@ use Rattle.rx_wire.specs.Journal.{HasNoted}
 use Rattle.rx_wire.specs.Wire.{Logged}
 use Rattle.rx_stage.specs.Driving.{plan_stop}
 use Rattle.rx_stage.specs.Ran.{Fits, Ran, fits_endless, fits_fails, fits_to, fits_wants}
-use Rattle.rx_stage.specs.Tells.{FailsOne, FitsNoted, Gains, GainsOne, Told, WantsOne, event_line, fails_last}
+use Rattle.rx_stage.specs.Tells.{FailsOne, FitsNoted, Gains, GainsOne, IsTold, Told, WantsOne, event_line, fails_last}
 use Rattle.rx_stage.specs.Tells.{gains_none}
 use Rattle.rx_stage.specs.Tells.{gains_one, told, wants_last}
 use Rattle.rx_stage.specs.declared.stop.Stop.{Stop}
@@ -114,6 +114,24 @@ note_plain a b n (fits, same) =
       put = ap (λ (t : tells.Told). t.put) same;
       faults = ap (λ (t : tells.Told). t.puts) same;
     }
+
+-- what was told of one event, by how the run of a plan ends
+pub event_plain : (n : Noted) (stop : Option DriveStop) (result : Option Stop) (a b : tells.Told) (c : Told)
+    → result ≡ option_map plan_stop stop → c ≡ plain b → tells.IsTold event_line stop a b n
+    → IsTold result (plain a) c n
+event_plain n stop result a b c ends same one =
+    subst (λ (o : Option Stop). IsTold o (plain a) c n) (sym ends)
+    (subst (λ (t : Told). IsTold (option_map plan_stop stop) (plain a) t n) (sym same) (of stop one))
+  where
+    of : (o : Option DriveStop) → tells.IsTold event_line o a b n
+        → IsTold (option_map plan_stop o) (plain a) (plain b) n
+    of None one = whole_plain a b n one
+    of (Some drive_stops.SinkFault) one = fails_plain a b n one
+    of (Some drive_stops.Unformatted) one = line_plain a b n one
+    of (Some drive_stops.Unnoted) one = note_plain a b n one
+    of (Some drive_stops.WireFault) one = absurd one.1
+    of (Some drive_stops.OutOfMemory) one = absurd one.1
+    of (Some drive_stops.Endless) one = absurd one.1
 
 -- all but the last event were told whole, and the last one not
 last_plain : {A : Type 0} (shows : A → Type 0) (stop : DriveStop) (a b : tells.Told) (ss : List Step)

@@ -112,15 +112,14 @@ impl Callers {
             (told (J.told book.new) (O.told out.new) (O.faults out.new)) }
     {
         self.leave_done();
+        let mut telling = Telling { trace, out, book };
         turn_each_of(
             node,
             &mut self.all,
             self.at_work.as_slice(),
             &mut self.room,
             nodes,
-            trace,
-            out,
-            book,
+            &mut telling,
         )
     }
 
@@ -137,14 +136,13 @@ impl Callers {
             (told (J.told book.new) (O.told out.new) (O.faults out.new)) }
     {
         self.leave_done();
+        let mut telling = Telling { trace, out, book };
         turn_each(
             &mut self.all,
             self.at_work.as_slice(),
             &mut self.room,
             nodes,
-            trace,
-            out,
-            book,
+            &mut telling,
         )
     }
 
@@ -174,20 +172,20 @@ fn turn_each_of<O: Sink, J: Journal>(
     places: &[usize],
     room: &mut Room,
     nodes: &mut Nodes,
-    trace: &mut Trace,
-    out: &mut O,
-    book: &mut J,
+    telling: &mut Telling<'_, O, J>,
 ) -> Result<(), Stop>
     requires { All (λ place. place < length callers.old.items) places.now }
     ensures plays { PlaysCallers (each (turns_for node) places.now) callers.old.items callers.new.items
         nodes.old nodes.new (stop_of result)
-        (told (J.told book.old) (O.told out.old) (O.faults out.old))
-        (told (J.told book.new) (O.told out.new) (O.faults out.new)) }
+        (told (J.told telling.old.book.now) (O.told telling.old.out.now) (O.faults telling.old.out.now))
+        (told (J.told telling.new.book.now) (O.told telling.new.out.now) (O.faults telling.new.out.now)) }
+    ensures sink { telling.new.out.ghost_name ≡ telling.old.out.ghost_name }
+    ensures book { telling.new.book.ghost_name ≡ telling.old.book.ghost_name }
     ensures done { KeepsDone callers.old.items callers.new.items }
     ensures count { length callers.new.items ≡ length callers.old.items }
 {
     for place in places {
-        turn_for(node, callers, *place, room, nodes, trace, out, book)?;
+        turn_for(node, callers, *place, room, nodes, telling)?;
     }
     Ok(())
 }
@@ -199,22 +197,22 @@ fn turn_for<O: Sink, J: Journal>(
     place: usize,
     room: &mut Room,
     nodes: &mut Nodes,
-    trace: &mut Trace,
-    out: &mut O,
-    book: &mut J,
+    telling: &mut Telling<'_, O, J>,
 ) -> Result<(), Stop>
     requires { place < length callers.old.items }
     ensures plays { PlaysCallers (turns_for node place) callers.old.items callers.new.items
         nodes.old nodes.new (stop_of result)
-        (told (J.told book.old) (O.told out.old) (O.faults out.old))
-        (told (J.told book.new) (O.told out.new) (O.faults out.new)) }
+        (told (J.told telling.old.book.now) (O.told telling.old.out.now) (O.faults telling.old.out.now))
+        (told (J.told telling.new.book.now) (O.told telling.new.out.now) (O.faults telling.new.out.now)) }
+    ensures sink { telling.new.out.ghost_name ≡ telling.old.out.ghost_name }
+    ensures book { telling.new.book.ghost_name ≡ telling.old.book.ghost_name }
     ensures done { KeepsDone callers.old.items callers.new.items }
     ensures count { length callers.new.items ≡ length callers.old.items }
 {
     if callers[place].node != node {
         return Ok(());
     }
-    turn_at(callers, place, room, nodes, trace, out, book)
+    turn_at(callers, place, room, nodes, telling)
 }
 
 /// A turn of the caller at each of these places.
@@ -223,20 +221,20 @@ fn turn_each<O: Sink, J: Journal>(
     places: &[usize],
     room: &mut Room,
     nodes: &mut Nodes,
-    trace: &mut Trace,
-    out: &mut O,
-    book: &mut J,
+    telling: &mut Telling<'_, O, J>,
 ) -> Result<(), Stop>
     requires { All (λ place. place < length callers.old.items) places.now }
     ensures plays { PlaysCallers (each turns_at places.now) callers.old.items callers.new.items
         nodes.old nodes.new (stop_of result)
-        (told (J.told book.old) (O.told out.old) (O.faults out.old))
-        (told (J.told book.new) (O.told out.new) (O.faults out.new)) }
+        (told (J.told telling.old.book.now) (O.told telling.old.out.now) (O.faults telling.old.out.now))
+        (told (J.told telling.new.book.now) (O.told telling.new.out.now) (O.faults telling.new.out.now)) }
+    ensures sink { telling.new.out.ghost_name ≡ telling.old.out.ghost_name }
+    ensures book { telling.new.book.ghost_name ≡ telling.old.book.ghost_name }
     ensures done { KeepsDone callers.old.items callers.new.items }
     ensures count { length callers.new.items ≡ length callers.old.items }
 {
     for place in places {
-        turn_at(callers, *place, room, nodes, trace, out, book)?;
+        turn_at(callers, *place, room, nodes, telling)?;
     }
     Ok(())
 }
@@ -247,15 +245,15 @@ fn turn_at<O: Sink, J: Journal>(
     place: usize,
     room: &mut Room,
     nodes: &mut Nodes,
-    trace: &mut Trace,
-    out: &mut O,
-    book: &mut J,
+    telling: &mut Telling<'_, O, J>,
 ) -> Result<(), Stop>
     requires { place < length callers.old.items }
     ensures plays { PlaysCallers (turns_at place) callers.old.items callers.new.items
         nodes.old nodes.new (stop_of result)
-        (told (J.told book.old) (O.told out.old) (O.faults out.old))
-        (told (J.told book.new) (O.told out.new) (O.faults out.new)) }
+        (told (J.told telling.old.book.now) (O.told telling.old.out.now) (O.faults telling.old.out.now))
+        (told (J.told telling.new.book.now) (O.told telling.new.out.now) (O.faults telling.new.out.now)) }
+    ensures sink { telling.new.out.ghost_name ≡ telling.old.out.ghost_name }
+    ensures book { telling.new.book.ghost_name ≡ telling.old.book.ghost_name }
     ensures done { KeepsDone callers.old.items callers.new.items }
     ensures count { length callers.new.items ≡ length callers.old.items }
 {
@@ -264,7 +262,7 @@ fn turn_at<O: Sink, J: Journal>(
         return Ok(());
     }
     let invoked = &mut callers[place];
-    call_on(node, &mut invoked.caller, room, nodes, trace, out, book)
+    call_on(node, &mut invoked.caller, room, nodes, telling)
 }
 
 /// A turn of a caller on a client.
@@ -273,18 +271,17 @@ fn call_on<O: Sink, J: Journal>(
     caller: &mut Caller,
     room: &mut Room,
     nodes: &mut Nodes,
-    trace: &mut Trace,
-    out: &mut O,
-    book: &mut J,
+    telling: &mut Telling<'_, O, J>,
 ) -> Result<(), Stop>
     requires { IsClientThere nodes.old node }
     ensures plays { PlaysTurn (calling REPLY_BYTES) node (caller_begun caller.old) caller.new
         nodes.old nodes.new (stop_of result)
-        (told (J.told book.old) (O.told out.old) (O.faults out.old))
-        (told (J.told book.new) (O.told out.new) (O.faults out.new)) }
+        (told (J.told telling.old.book.now) (O.told telling.old.out.now) (O.faults telling.old.out.now))
+        (told (J.told telling.new.book.now) (O.told telling.new.out.now) (O.faults telling.new.out.now)) }
+    ensures sink { telling.new.out.ghost_name ≡ telling.old.out.ghost_name }
+    ensures book { telling.new.book.ghost_name ≡ telling.old.book.ghost_name }
     ensures done { StaysDone caller.old caller.new }
 {
-    let mut telling = Telling { trace, out, book };
     let client = nodes.client_mut(node);
-    plan_end(call_turn(node, caller, room, client, &mut telling))
+    plan_end(call_turn(node, caller, room, client, telling))
 }

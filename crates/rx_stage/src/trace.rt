@@ -1,17 +1,13 @@
-//! Where a run tells its events: a journal, and the sink of its trace.
+//! The lines of a trace.
 ghost use Rattle.std.specs.Prelude.{◌≡◌, ◌∷◌, ◌++◌, [], OnOk, Some};
 ghost use Rattle.std.specs.String.{string_bytes};
 ghost use Rattle.rx_model.specs.Text.{node_name};
 ghost use Rattle.rx_model.specs.declared.event.Event.TheVariants as events;
 ghost use Rattle.rx_wire.specs.Turns.{noted};
-ghost use Rattle.rx_stage.specs.Ran.{stop_of};
-ghost use Rattle.rx_stage.specs.Tells.{IsTold, event_line, told};
+ghost use Rattle.rx_stage.specs.Tells.{event_line};
 
-use crate::stop::Stop;
-use rx_base::Sink;
 use rx_joint::SERVER;
 use rx_model::{Bytes, Event, Host, Took};
-use rx_wire::Journal;
 use std::alloc::{AllocError, Global};
 use std::fmt::Write;
 
@@ -28,29 +24,6 @@ impl Trace {
         Trace {
             line: String::new(alloc),
             datagram: Bytes::of(Vec::new(alloc)),
-        }
-    }
-
-    /// Notes an event of a node, and then puts its line, unless the sink throws it away.
-    pub fn tell<O: Sink, J: Journal>(
-        &mut self,
-        node: u32,
-        event: &Event,
-        out: &mut O,
-        book: &mut J,
-    ) -> Result<(), Stop>
-        ensures { IsTold (stop_of result) (told (J.told book.old) (O.told out.old) (O.faults out.old))
-            (told (J.told book.new) (O.told out.new) (O.faults out.new)) (noted node event.now) }
-    {
-        event.fits();
-        book.note(node, event)?;
-        if out.discards() {
-            return Ok(());
-        }
-        self.write(node, event)?;
-        match out.put(self.line.as_bytes()) {
-            Ok(()) => Ok(()),
-            Err(_) => Err(Stop::SinkFault),
         }
     }
 

@@ -11,9 +11,11 @@ ghost use Rattle.rx_stage.specs.Tells.{IsTold, told};
 
 use crate::invokes::Callers;
 use crate::stop::Stop;
+use crate::telling::{Telling, plan_end};
 use crate::trace::Trace;
 use rx_base::Sink;
 use rx_dispatch::Dispatcher;
+use rx_drive::Outside;
 use rx_joint::{Nodes, SERVER};
 use rx_model::{Bytes, CallName, Event, Host};
 use rx_plan::ClientCall;
@@ -148,7 +150,13 @@ impl World {
             (told (J.told book.new) (O.told out.new) (O.faults out.new)) (noted node event.now) }
         ensures same { self.new ≡ self.old }
     {
-        self.trace.tell(node, event, out, book)
+        event.fits();
+        let mut telling = Telling {
+            trace: &mut self.trace,
+            out,
+            book,
+        };
+        plan_end(telling.tell(node, event))
     }
 }
 

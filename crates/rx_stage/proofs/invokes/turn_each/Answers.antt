@@ -6,6 +6,8 @@ use Rattle.rx_stage.proofs.invokes.turn_each.Goals as goal
 pub loop-place-init : goal.loop-place-init
 loop-place-init g c = record {
   plays = callers_none turns_at c.args.callers.now.items c.args.nodes.now _;
+  sink = refl;
+  book = refl;
   done = λ p is. is;
   count = refl;
 }
@@ -27,6 +29,8 @@ loop-place-preserved g c = record {
       c.loop-place.nodes c.turn_at.new.nodes _ _ _ c.loop-place-test.true
       (same_there c.args.places.now c.loop-place.place-index 0 _ c.loop-place-test.true)
       c.loop-place.invariant.plays c.in_ok-turn_at.ensures.plays;
+  sink = c.turn_at.ensures.sink ∙ c.loop-place.invariant.sink;
+  book = c.turn_at.ensures.book ∙ c.loop-place.invariant.book;
   done = λ p is. c.turn_at.ensures.done p (c.loop-place.invariant.done p is);
   count = c.turn_at.ensures.count ∙ c.loop-place.invariant.count;
 }

@@ -6,6 +6,8 @@ use Rattle.rx_stage.proofs.invokes.turn_each_of.Goals as goal
 pub loop-place-init : goal.loop-place-init
 loop-place-init g c = record {
   plays = callers_none (turns_for c.args.node) c.args.callers.now.items c.args.nodes.now _;
+  sink = refl;
+  book = refl;
   done = λ p is. is;
   count = refl;
 }
@@ -27,6 +29,8 @@ loop-place-preserved g c = record {
       c.loop-place.nodes c.turn_for.new.nodes _ _ _ c.loop-place-test.true
       (same_there c.args.places.now c.loop-place.place-index 0 _ c.loop-place-test.true)
       c.loop-place.invariant.plays c.in_ok-turn_for.ensures.plays;
+  sink = c.turn_for.ensures.sink ∙ c.loop-place.invariant.sink;
+  book = c.turn_for.ensures.book ∙ c.loop-place.invariant.book;
   done = λ p is. c.turn_for.ensures.done p (c.loop-place.invariant.done p is);
   count = c.turn_for.ensures.count ∙ c.loop-place.invariant.count;
 }

@@ -10,8 +10,12 @@ abbrev pub invariant-loop-place : goal.invariant-loop-place
 invariant-loop-place g l = record {
   plays : PlaysCallers (each (turns_for l.node) (take l.place-index l.places)) l.fn.callers.items l.callers.items
       l.fn.nodes l.nodes None
-      (told (g.J.Journal.told l.fn.book) (g.O.Sink.told l.fn.out) (g.O.Sink.faults l.fn.out))
-      (told (g.J.Journal.told l.book) (g.O.Sink.told l.out) (g.O.Sink.faults l.out));
+      (told (g.J.Journal.told l.fn.telling.book.now) (g.O.Sink.told l.fn.telling.out.now)
+      (g.O.Sink.faults l.fn.telling.out.now))
+      (told (g.J.Journal.told l.telling.book.now) (g.O.Sink.told l.telling.out.now)
+      (g.O.Sink.faults l.telling.out.now));
+  sink : l.telling.out.ghost_name ≡ l.fn.telling.out.ghost_name;
+  book : l.telling.book.ghost_name ≡ l.fn.telling.book.ghost_name;
   done : KeepsDone l.fn.callers.items l.callers.items;
   count : length l.callers.items ≡ length l.fn.callers.items;
 }
