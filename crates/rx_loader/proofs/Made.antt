@@ -109,7 +109,7 @@ pub record LeftBy (w new : Loading) (given : List Datagram) : Type 0 where
   pub next : new.next.items ≡ w.next.items
   pub bodies : new.bodies.items ≡ w.bodies.items
   pub rounds : new.rounds ≡ suc w.rounds
-  pub tally : new.tally ≡ tallied (fated w.words given) w.tally
+  pub tally : new.network.tally ≡ tallied (fated w.network.words given) w.network.tally
 
 -- a load behind such a round
 abbrev behind : Load → List Datagram → Lossy → Load
@@ -124,11 +124,11 @@ rest_of l given s =
 -- what was carried is what a load that is shown carries
 carried_shown : (w : Loading) (l : Load) (given : List Datagram) (s : Stage) (shows : Lossy → Type 0)
     (stop : Option Stop) (a b : Told) → ShowsLoad w l
-    → Ran (carries load_handlers w.words w.held.items given s) shows stop a b
+    → Ran (carries load_handlers w.network.words w.network.held.items given s) shows stop a b
     → Ran (carries load_handlers l.net.words l.net.held given s) shows stop a b
 carried_shown w l given s shows stop a b shown carried =
     subst (λ ws. Ran (carries load_handlers ws l.net.held given s) shows stop a b) (sym shown.net.1)
-    (subst (λ hs. Ran (carries load_handlers w.words hs given s) shows stop a b) (sym shown.net.2) carried)
+    (subst (λ hs. Ran (carries load_handlers w.network.words hs given s) shows stop a b) (sym shown.net.2) carried)
 
 -- its polls were made, and this followed
 polled_then : (w new : Loading) (m : WorldState) (first given : List Datagram) (stop : Option Stop) (a b c : Told)
@@ -156,7 +156,7 @@ module _ (w new : Loading) (m n : WorldState) (words : Lcg) (kept first given : 
   -- behind them
   pub lossy_stops : first ≡ []
       → PlaysGiven (λ p. each polls_out (clients_first p.stage) p) w.world first m given None a b
-      → PlaysCarried (carries load_handlers w.words w.held.items given) m n words kept (Some stop) b c
+      → PlaysCarried (carries load_handlers w.network.words w.network.held.items given) m n words kept (Some stop) b c
       → IsErr r × IsErrAnd r (λ why. why ≡ stop) → PlaysLoad lossy_with w new (stop_of r) a c
   lossy_stops none polled carried err =
       subst (λ o. PlaysLoad lossy_with w new o a c) (sym (stop_is r stop err))
@@ -169,21 +169,22 @@ module _ (w new : Loading) (m n : WorldState) (words : Lcg) (kept first given : 
 -- it was made
 pub lossy_made : (w new : Loading) (m : WorldState) (first given : List Datagram) (a b c : Told) → first ≡ []
     → PlaysGiven (λ p. each polls_out (clients_first p.stage) p) w.world first m given None a b
-    → PlaysCarried (carries load_handlers w.words w.held.items given) m new.world new.words new.held.items None b c
+    → PlaysCarried (carries load_handlers w.network.words w.network.held.items given) m new.world new.network.words
+    new.network.held.items None b c
     → LeftBy w new given → PlaysLoad lossy_with w new None a c
 lossy_made w new m first given a b c none polled carried left =
     polled_then w new m first given None a b c none polled
     (λ l s shown there.
     ran_as (carries load_handlers l.net.words l.net.held given s) (behind l given)
-    (ShowsLossy new.world new.words new.held.items) (ShowsLoad new) None b c
-    (carried_shown w l given s (ShowsLossy new.world new.words new.held.items) None b c shown (carried s there))
-    (λ net now. record {
+    (ShowsLossy new.world new.network.words new.network.held.items) (ShowsLoad new) None b c
+    (carried_shown w l given s (ShowsLossy new.world new.network.words new.network.held.items) None b c shown (carried s
+    there)) (λ net now. record {
       net = now;
       next = shown.next ∙ sym left.next;
       bodies = shown.bodies ∙ sym left.bodies;
       rounds = ap suc shown.rounds ∙ sym left.rounds;
       tally = ap (λ ws. tallied (fated ws given) l.tally) shown.net.1
-          ∙ (ap (λ t. tallied (fated w.words given) t) shown.tally ∙ sym left.tally);
+          ∙ (ap (λ t. tallied (fated w.network.words given) t) shown.tally ∙ sym left.tally);
     }))
 
 module _ (hs : List Answering → Handlers) (now old its : List Answering) (m new : WorldState) (words last : Lcg)

@@ -43,8 +43,8 @@ behind client l s = record l {
 -- the number of the next call, the length of its Body that a word said, the generator behind it, and the bytes
 pub record IsNext (w : Loading) (client number length : ℕ) (bytes : List ℕ) (words : Lcg) : Type 0 where
   pub at : number ≡ next_call w.next.items client
-  pub long : length ≡ body_length (pcg32 w.words).0
-  pub drawn : words ≡ (pcg32 w.words).1
+  pub long : length ≡ body_length (pcg32 w.network.words).0
+  pub drawn : words ≡ (pcg32 w.network.words).1
   pub said : bytes ≡ load_request number length
 
 module _ (client number length : ℕ) (bytes : List ℕ) (words : Lcg) (w : Loading) (m : WorldState) (stop : Option Stop)
@@ -64,12 +64,12 @@ module _ (client number length : ℕ) (bytes : List ℕ) (words : Lcg) (w : Load
 
 -- the rest of a load, as it is left by a call that was made
 pub record LeftBy (w new : Loading) (client number length : ℕ) (words : Lcg) : Type 0 where
-  pub drawn : new.words ≡ words
-  pub held : new.held.items ≡ w.held.items
+  pub drawn : new.network.words ≡ words
+  pub held : new.network.held.items ≡ w.network.held.items
   pub next : new.next.items ≡ set w.next.items (client - 1) (number + 4)
   pub bodies : new.bodies.items ≡ set w.bodies.items number length
   pub rounds : new.rounds ≡ w.rounds
-  pub tally : new.tally ≡ w.tally
+  pub tally : new.network.tally ≡ w.network.tally
 
 -- it was made, and the load is left so
 pub opened : (client number length : ℕ) (bytes : List ℕ) (words : Lcg) (w new : Loading) (a b : Told)

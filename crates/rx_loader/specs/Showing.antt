@@ -10,11 +10,11 @@ use Rattle.rx_loader.specs.declared.loading.Loading.{Loading}
 
 -- it shows what a load has come to
 pub record ShowsLoad (w : Loading) (l : Load) : Type 0 where
-  pub net : ShowsLossy w.world w.words w.held.items l.net
+  pub net : ShowsLossy w.world w.network.words w.network.held.items l.net
   pub next : l.next ≡ w.next.items
   pub bodies : l.bodies ≡ w.bodies.items
   pub rounds : l.rounds ≡ w.rounds
-  pub tally : l.tally ≡ w.tally
+  pub tally : l.tally ≡ w.network.tally
 
 -- something of all that it shows
 abbrev pub Loads : Loading → (Load → Type 0) → Type 0

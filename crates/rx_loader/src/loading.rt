@@ -12,11 +12,9 @@ ghost use Rattle.rx_stage.specs.Tells.{told};
 use crate::handlers::script;
 use crate::nodes::nodes;
 use crate::summary::sum_up;
-use rand_pcg::Pcg32;
 use rx_base::{Discarding, Sink};
 use rx_load::{CLIENTS, MAX_CALLS, MAX_ROUNDS, SERVICE, Summary};
-use rx_plan::Tally;
-use rx_stage::{Datagram, Stop, World, at_start};
+use rx_stage::{LossyNetwork, Stop, World, at_start};
 use rx_wire::Journal;
 use std::alloc::{AllocError, Global};
 use xdr_value::Interface;
@@ -25,16 +23,13 @@ use xdr_value::Interface;
 #[derive(Debug, Drop)]
 pub struct Loading {
     pub world: World,
-    /// Where all is drawn from.
-    pub words: Pcg32,
-    /// The datagrams that are held for the next round.
-    pub held: Vec<Datagram>,
+    /// What carries the datagrams; how long a Body is, is drawn from its words too.
+    pub network: LossyNetwork,
     /// The number of each client's next call.
     pub next: Vec<u32>,
     /// How long the Body of each call is, by its number; 0 of those that aren't open yet.
     pub bodies: Vec<u32>,
     pub rounds: u32,
-    pub tally: Tally,
 }
 
 impl Loading {
@@ -47,12 +42,10 @@ impl Loading {
         let world = at_start(alloc, nodes(alloc)?, SERVICE, script(alloc)?);
         Ok(Loading {
             world,
-            words: Pcg32::new(number, 1),
-            held: Vec::new(alloc),
+            network: LossyNetwork::begin(alloc, number),
             next: first_numbers(alloc)?,
             bodies: vec![in alloc; 0u32; calls as usize]?,
             rounds: 0,
-            tally: Tally::none(),
         })
     }
 
@@ -106,7 +99,7 @@ impl Loading {
         };
         let ended = self.ended();
         let rounds = self.rounds;
-        let rate = self.tally.given.saturating_mul(1000) / elapsed.max(1);
+        let rate = self.network.tally.given.saturating_mul(1000) / elapsed.max(1);
         if let Ok(line) = format!(in self.world.alloc;
             "{ended} of {calls} calls ended, {rounds} rounds, {rate} datagrams a second"
         ) {
@@ -151,15 +144,8 @@ impl Loading {
     {
         let mut given = Vec::new(self.world.alloc);
         self.world.poll_all(&mut given, &mut Discarding, book)?;
-        self.world.carry_round(
-            iface,
-            &mut self.words,
-            given,
-            &mut self.held,
-            &mut self.tally,
-            &mut Discarding,
-            book,
-        )?;
+        self.world
+            .carry_round(iface, given, &mut self.network, &mut Discarding, book)?;
         self.rounds += 1;
         Ok(())
     }
@@ -193,7 +179,7 @@ impl Loading {
             self.world.callers.as_slice(),
             self.bodies.as_slice(),
             self.rounds,
-            self.tally,
+            self.network.tally,
         )
     }
 }

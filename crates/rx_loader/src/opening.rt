@@ -12,7 +12,7 @@ use crate::loading::Loading;
 use rand_core::utils::NextWord;
 use rx_base::Discarding;
 use rx_load::{BODY_BYTES, CID, CLIENTS, MAX_CALLS};
-use rx_stage::Stop;
+use rx_stage::{Invoke, Stop};
 use rx_table::CHANNELS;
 use rx_wire::Journal;
 use xdr_value::Interface;
@@ -83,10 +83,15 @@ impl Loading {
         ensures rounds { self.new.rounds ≡ self.old.rounds }
     {
         let number = self.next_call(client);
-        let length = self.words.next_word() % (BODY_BYTES + 1);
+        let length = self.network.words.next_word() % (BODY_BYTES + 1);
         let bytes = request(self.world.alloc, iface, number, length)?;
-        self.world
-            .invoke_line(client, CID, number as usize, bytes, &mut Discarding, book)?;
+        let invoke = Invoke {
+            client,
+            cid: CID,
+            line: number as usize,
+            bytes,
+        };
+        self.world.invoke_line(invoke, &mut Discarding, book)?;
         put_at(&mut self.bodies, number as usize, length);
         put_at(&mut self.next, client as usize - 1, number + CLIENTS);
         Ok(())

@@ -159,15 +159,15 @@ module _ {X : Type 0} (part : X → Stage → Part Stage) (xs : List X) (k : ℕ
       subst (λ ys. PlaysNodes (each part ys) old new None a c) (sym (front_more xs k x less is))
       (nodes_one part (take k xs) x old m new None a b c so_far next)
 
--- one that ended the run
-pub all_stop_as : {X : Type 0} (part : X → Stage → Part Stage) (xs : List X) (k : ℕ) (x : X) (old m new : NodesState)
-    (r : Result (Unit {0}) Stop) (stop : Stop) (a b c : Told) → IsErr r × IsErrAnd r (λ y. y ≡ stop) → k < length xs
-    → x ≡ get_or xs k x → PlaysNodes (each part (take k xs)) old m None a b → PlaysNodes (part x) m new (Some stop) b c
-    → PlaysNodes (each part xs) old new (stop_of r) a c
-all_stop_as part xs k x old m new r stop a b c was less is so_far last =
-    subst (λ o. PlaysNodes (each part xs) old new o a c) (sym (stop_is r stop was))
-    (subst (λ ys. PlaysNodes (each part ys) old new (Some stop) a c) (sym (front_around xs k x less is))
-    (nodes_stops part (take k xs) (drop (suc k) xs) x old m new stop a b c so_far last))
+module _ {X : Type 0} (part : X → Stage → Part Stage) (xs : List X) (k : ℕ) (x : X) (old m new : NodesState) where
+  -- one that ended the run
+  pub all_stop_as : (r : Result (Unit {0}) Stop) (stop : Stop) (a b c : Told) → IsErr r × IsErrAnd r (λ y. y ≡ stop)
+      → k < length xs → x ≡ get_or xs k x → PlaysNodes (each part (take k xs)) old m None a b
+      → PlaysNodes (part x) m new (Some stop) b c → PlaysNodes (each part xs) old new (stop_of r) a c
+  all_stop_as r stop a b c was less is so_far last =
+      subst (λ o. PlaysNodes (each part xs) old new o a c) (sym (stop_is r stop was))
+      (subst (λ ys. PlaysNodes (each part ys) old new (Some stop) a c) (sym (front_around xs k x less is))
+      (nodes_stops part (take k xs) (drop (suc k) xs) x old m new stop a b c so_far last))
 
 -- ---- methods
 

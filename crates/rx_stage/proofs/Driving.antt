@@ -33,9 +33,8 @@ use Rattle.rx_rules.specs.Setup.{Setup}
 use Rattle.rx_run.specs.Parts.{Came, Cut, Ended, Endless, To}
 use Rattle.rx_script.specs.declared.outcome.PlanWhy.{PlanWhy}
 use Rattle.rx_wire.specs.Turns.{Program, noted}
-use Rattle.rx_wire.specs.Wire.{Logged}
 use Rattle.rx_stage.specs.Driving.{plan_stop}
-use Rattle.rx_stage.specs.Giving.{of_host}
+use Rattle.rx_stage.specs.Giving.{Gives, GivingState, WantedAt, of_host}
 use Rattle.rx_stage.specs.RoundsPlayed.{ended_with, more_from}
 use Rattle.rx_stage.specs.Shown.{Shows, WorldState, stage_of}
 use Rattle.rx_stage.specs.Tells.{event_line}
@@ -220,38 +219,39 @@ pub lent_shown : (old new : NodesState) (node : ℕ) (setup : Setup) (stood stan
 lent_shown old new node setup stood stands m is lent =
     subst (λ n. Lent n new node setup stood stands) (sym is) lent
 
--- what was driven at the node is a turn of its program
-pub turn_driven : {View Ask : Type 0} (p : Program View Ask) (wants : View → Type 0) (old new : NodesState) (node : ℕ)
-    (setup : Setup) (stood stands : List Event → Type 0) (v w : View) (stop : Option DriveStop) (result : Option Stop)
-    (a b : tells.Told) → result ≡ option_map plan_stop stop → Lent old new node setup stood stands
-    → ((h : List Event) → stood h → ran.Ran event_line (turned.turn (node_stages setup) p wants node v h)
-    (λ r. (r.0 ≡ w) × stands r.1) stop a b)
-    → PlaysTurn p node v w old new result (plain a) (plain b)
-turn_driven {View} {Ask} p wants old new node setup stood stands v w stop result a b ends lent driven m is s shown =
-    ran_plan (turned.turn (node_stages setup) p wants node v (side node s.history)) (λ r. (r.0 ≡ w) × stands r.1)
-    (Turn p node v s) (λ r. Knows w (record m { nodes = new }) r.0 r.1) stop result a b ends of
-    (driven (side node s.history) (here.before s.history shown.standing))
-  where
-    here : Lent m.nodes new node setup stood stands
-    here = lent_shown old new node setup stood stands m is lent
+module _ {View Ask : Type 0} (p : Program View Ask) (wants : View → Type 0) (old new : NodesState) (node : ℕ)
+    (setup : Setup) (stood stands : List Event → Type 0) where
+  -- what was driven at the node is a turn of its program
+  pub turn_driven : (v w : View) (stop : Option DriveStop) (result : Option Stop) (a b : tells.Told)
+      → result ≡ option_map plan_stop stop → Lent old new node setup stood stands
+      → ((h : List Event) → stood h → ran.Ran event_line (turned.turn (node_stages setup) p wants node v h)
+      (λ r. (r.0 ≡ w) × stands r.1) stop a b)
+      → PlaysTurn p node v w old new result (plain a) (plain b)
+  turn_driven v w stop result a b ends lent driven m is s shown =
+      ran_plan (turned.turn (node_stages setup) p wants node v (side node s.history)) (λ r. (r.0 ≡ w) × stands r.1)
+      (Turn p node v s) (λ r. Knows w (record m { nodes = new }) r.0 r.1) stop result a b ends of
+      (driven (side node s.history) (here.before s.history shown.standing))
+    where
+      here : Lent m.nodes new node setup stood stands
+      here = lent_shown old new node setup stood stands m is lent
 
-    of : (ss : List Step) (came : Came Fault (View × List Event))
-        → turned.turn (node_stages setup) p wants node v (side node s.history) ss came
-        → Becomes (λ r. (r.0 ≡ w) × stands r.1) (Turn p node v s)
-        (λ r. Knows w (record m { nodes = new }) r.0 r.1) ss came
-    of ss (To (x, u)) (onto, over) = λ there.
-        over_here m new node setup stood stands here s shown p p (λ y. y) (λ y c asked. asked) (λ c e is. is)
-        (λ y c e is. refl) v ss x u w onto over there.0 there.1
-    of ss (Ended wants_memory) (x, u, onto, so) =
-        cut_here m new node setup stood stands here s shown p p (λ y. y) (λ y c asked. asked) (λ c e is. is)
-        (λ y c e is. refl) v ss x u onto
-    of ss (Ended wire_failed) none = none
-    of ss Cut (x, u, onto, so) =
-        cut_here m new node setup stood stands here s shown p p (λ y. y) (λ y c asked. asked) (λ c e is. is)
-        (λ y c e is. refl) v ss x u onto
-    of ss Endless ((x, u, onto, so), long) =
-        endless_here m new node setup stood stands here s shown p p (λ y. y) (λ y c asked. asked) (λ c e is. is)
-        (λ y c e is. refl) v ss x u onto long
+      of : (ss : List Step) (came : Came Fault (View × List Event))
+          → turned.turn (node_stages setup) p wants node v (side node s.history) ss came
+          → Becomes (λ r. (r.0 ≡ w) × stands r.1) (Turn p node v s)
+          (λ r. Knows w (record m { nodes = new }) r.0 r.1) ss came
+      of ss (To (x, u)) (onto, over) = λ there.
+          over_here m new node setup stood stands here s shown p p (λ y. y) (λ y c asked. asked) (λ c e is. is)
+          (λ y c e is. refl) v ss x u w onto over there.0 there.1
+      of ss (Ended wants_memory) (x, u, onto, so) =
+          cut_here m new node setup stood stands here s shown p p (λ y. y) (λ y c asked. asked) (λ c e is. is)
+          (λ y c e is. refl) v ss x u onto
+      of ss (Ended wire_failed) none = none
+      of ss Cut (x, u, onto, so) =
+          cut_here m new node setup stood stands here s shown p p (λ y. y) (λ y c asked. asked) (λ c e is. is)
+          (λ y c e is. refl) v ss x u onto
+      of ss Endless ((x, u, onto, so), long) =
+          endless_here m new node setup stood stands here s shown p p (λ y. y) (λ y c asked. asked) (λ c e is. is)
+          (λ y c e is. refl) v ss x u onto long
 
 -- ---- polls
 
@@ -283,70 +283,73 @@ events_made [] = refl
 events_made (Made n ∷ ss) = ap (λ (es : List Noted). n ∷ es) (events_made ss)
 events_made (Entry l ∷ ss) = events_made ss
 
--- what was driven at the node is its turn of polls, whose datagrams are kept behind those before
-pub polls_driven : {K : Type 0} (c : drive.Carrying K) (k l : K) (from : Host) (given now more : List Datagram)
-    (old new : NodesState) (node : ℕ) (setup : Setup) (stood stands : List Event → Type 0) (stop : Option DriveStop)
-    (result : Option Stop) (a b : tells.Told) → result ≡ option_map plan_stop stop
-    → Lent old new node setup stood stands
-    → ((h : List Event) → stood h
-    → ran.Ran event_line (drive.polls_carried (node_stages setup) c node k l h) stands stop a b)
-    → more ≡ now → ((xs : List Given) (ls : List Logged) → c.carried k l xs ls → now ≡ given ++ map (of_host from) xs)
-    → ((xs : List Given) (ls : List Logged) → c.lost wire_failed k xs ls → ⊥)
-    → PlaysTurn (polling from) node (more_from given) (ended_with more) old new result (plain a) (plain b)
-polls_driven {K} c k l from given now more old new node setup stood stands stop result a b ends lent driven same kept
-    wireless m is s shown =
-    ran_plan (drive.polls_carried (node_stages setup) c node k l (side node s.history)) stands
-    (Turn (polling from) node (more_from given) s) (λ r. Knows (ended_with more) (record m { nodes = new }) r.0 r.1)
-    stop result a b ends of (driven (side node s.history) (here.before s.history shown.standing))
-  where
-    here : Lent m.nodes new node setup stood stands
-    here = lent_shown old new node setup stood stands m is lent
+-- what keeps what is given
+abbrev pub carries : drive.Carrying GivingState
+carries = record { carried = Gives; some = λ a xs ls. ls ≡ []; lost = λ why a xs ls. WantedAt why ls }
 
-    asked : (v : drive.Polling) (x : Unit {0}) → drive.polling.asks v ≡ Some x
-        → (polling from).asks (as_plan from given v) ≡ Some x
-    asked v x = asked_same v.again x
+module _ (k l : GivingState) (more : List Datagram) (old new : NodesState) (node : ℕ) (setup : Setup)
+    (stood stands : List Event → Type 0) where
+  -- what was driven at the node is its turn of polls, whose datagrams are kept behind those before
+  pub polls_driven : (stop : Option DriveStop) (result : Option Stop) (a b : tells.Told)
+      → result ≡ option_map plan_stop stop → Lent old new node setup stood stands
+      → ((h : List Event) → stood h
+      → ran.Ran event_line (drive.polls_carried (node_stages setup) carries node k l h) stands stop a b)
+      → more ≡ l.given
+      → PlaysTurn (polling k.from) node (more_from k.given) (ended_with more) old new result (plain a) (plain b)
+  polls_driven stop result a b ends lent driven same m is s shown =
+      ran_plan (drive.polls_carried (node_stages setup) carries node k l (side node s.history)) stands
+      (Turn (polling k.from) node (more_from k.given) s) (λ r. Knows (ended_with more) (record m { nodes = new }) r.0
+      r.1) stop result a b ends of (driven (side node s.history) (here.before s.history shown.standing))
+    where
+      here : Lent m.nodes new node setup stood stands
+      here = lent_shown old new node setup stood stands m is lent
 
-    -- a turn from the beginning on, behind what was given before
-    begun : (ss : List Step) (came : Came PlanWhy (Polling × Stage))
-        → Turn (polling from) node (as_plan from given drive.begin) s (events_of (tells.made_of ss)) came
-        → Turn (polling from) node (more_from given) s (events_of ss) came
-    begun ss came turn =
-        subst (λ (es : List Noted). Turn (polling from) node (more_from given) s es came) (events_made ss)
-        (subst (λ (ds : List Datagram). Turn (polling from) node (record { again = true; given = ds }) s
-        (events_of (tells.made_of ss)) came) (append-nil given) turn)
+      asked : (v : drive.Polling) (x : Unit {0}) → drive.polling.asks v ≡ Some x
+          → (polling k.from).asks (as_plan k.from k.given v) ≡ Some x
+      asked v x = asked_same v.again x
 
-    cut : (ss : List Step) (v : drive.Polling) (u : List Event)
-        → drive.Onto (node_stages setup) drive.polling node drive.begin (side node s.history) (tells.made_of ss) v u
-        → Turn (polling from) node (more_from given) s (events_of ss) Cut
-    cut ss v u onto =
-        begun ss Cut
-        (cut_here m new node setup stood stands here s shown drive.polling (polling from) (as_plan from given) asked
-        (λ x e is. is) (λ x y e is. heard_same from given x e is) drive.begin (tells.made_of ss) v u onto)
+      -- a turn from the beginning on, behind what was given before
+      begun : (ss : List Step) (came : Came PlanWhy (Polling × Stage))
+          → Turn (polling k.from) node (as_plan k.from k.given drive.begin) s (events_of (tells.made_of ss)) came
+          → Turn (polling k.from) node (more_from k.given) s (events_of ss) came
+      begun ss came turn =
+          subst (λ (es : List Noted). Turn (polling k.from) node (more_from k.given) s es came) (events_made ss)
+          (subst (λ (ds : List Datagram). Turn (polling k.from) node (record { again = true; given = ds }) s
+          (events_of (tells.made_of ss)) came) (append-nil k.given) turn)
 
-    whole : (ss : List Step) (v : drive.Polling) (u : List Event)
-        → drive.Onto (node_stages setup) drive.polling node drive.begin (side node s.history) (tells.made_of ss) v u
-        → v.again ≡ false → c.carried k l v.given (tells.entries_of ss) → stands u
-        → (r : Polling × Stage) × Turn (polling from) node (more_from given) s (events_of ss) (To r)
-        × Knows (ended_with more) (record m { nodes = new }) r.0 r.1
-    whole ss v u onto off carried there =
-        (let is_it : as_plan from given v ≡ ended_with more =
-        ap (λ (o : Bool). record { again = o; given = given ++ map (of_host from) v.given }) off
-        ∙ ap (λ (ds : List Datagram). record { again = false; given = ds })
-        (sym (same ∙ kept v.given (tells.entries_of ss) carried)) in
-        let r = over_here m new node setup stood stands here s shown drive.polling (polling from) (as_plan from given)
-        asked (λ x e is. is) (λ x y e is. heard_same from given x e is) drive.begin (tells.made_of ss) v u
-        (ended_with more) onto (ap (λ (o : Bool). where_true o tt) off) is_it there in
-        (r.0, begun ss (To r.0) r.1, r.2))
+      cut : (ss : List Step) (v : drive.Polling) (u : List Event)
+          → drive.Onto (node_stages setup) drive.polling node drive.begin (side node s.history) (tells.made_of ss) v u
+          → Turn (polling k.from) node (more_from k.given) s (events_of ss) Cut
+      cut ss v u onto =
+          begun ss Cut
+          (cut_here m new node setup stood stands here s shown drive.polling (polling k.from) (as_plan k.from k.given)
+          asked (λ x e is. is) (λ x y e is. heard_same k.from k.given x e is) drive.begin (tells.made_of ss) v u onto)
 
-    of : (ss : List Step) (came : Came Fault (List Event))
-        → drive.polls_carried (node_stages setup) c node k l (side node s.history) ss came
-        → Becomes stands (Turn (polling from) node (more_from given) s)
-        (λ r. Knows (ended_with more) (record m { nodes = new }) r.0 r.1) ss came
-    of ss (To u) (v, onto, off, carried) = λ there. whole ss v u onto off carried there
-    of ss (Ended wants_memory) (v, u, onto, so) = cut ss v u onto
-    of ss (Ended wire_failed) (v, u, onto, so) = wireless v.given (tells.entries_of ss) so
-    of ss Cut (v, u, onto, so) = cut ss v u onto
-    of ss Endless ((v, u, onto, so), long) =
-        begun ss Endless
-        (endless_here m new node setup stood stands here s shown drive.polling (polling from) (as_plan from given) asked
-        (λ x e is. is) (λ x y e is. heard_same from given x e is) drive.begin (tells.made_of ss) v u onto long)
+      whole : (ss : List Step) (v : drive.Polling) (u : List Event)
+          → drive.Onto (node_stages setup) drive.polling node drive.begin (side node s.history) (tells.made_of ss) v u
+          → v.again ≡ false → Gives k l v.given (tells.entries_of ss) → stands u
+          → (r : Polling × Stage) × Turn (polling k.from) node (more_from k.given) s (events_of ss) (To r)
+          × Knows (ended_with more) (record m { nodes = new }) r.0 r.1
+      whole ss v u onto off carried there =
+          (let is_it : as_plan k.from k.given v ≡ ended_with more =
+          ap (λ (o : Bool). record { again = o; given = k.given ++ map (of_host k.from) v.given }) off
+          ∙ ap (λ (ds : List Datagram). record { again = false; given = ds })
+          (sym (same ∙ carried.kept)) in
+          let r = over_here m new node setup stood stands here s shown drive.polling (polling k.from)
+          (as_plan k.from k.given) asked (λ x e is. is) (λ x y e is. heard_same k.from k.given x e is) drive.begin
+          (tells.made_of ss) v u (ended_with more) onto (ap (λ (o : Bool). where_true o tt) off) is_it there in
+          (r.0, begun ss (To r.0) r.1, r.2))
+
+      of : (ss : List Step) (came : Came Fault (List Event))
+          → drive.polls_carried (node_stages setup) carries node k l (side node s.history) ss came
+          → Becomes stands (Turn (polling k.from) node (more_from k.given) s)
+          (λ r. Knows (ended_with more) (record m { nodes = new }) r.0 r.1) ss came
+      of ss (To u) (v, onto, off, carried) = λ there. whole ss v u onto off carried there
+      of ss (Ended wants_memory) (v, u, onto, so) = cut ss v u onto
+      of ss (Ended wire_failed) (v, u, onto, so) = so
+      of ss Cut (v, u, onto, so) = cut ss v u onto
+      of ss Endless ((v, u, onto, so), long) =
+          begun ss Endless
+          (endless_here m new node setup stood stands here s shown drive.polling (polling k.from) (as_plan k.from
+          k.given) asked (λ x e is. is) (λ x y e is. heard_same k.from k.given x e is) drive.begin (tells.made_of ss) v
+          u onto long)

@@ -2,6 +2,7 @@
 use Rattle.std.proofs.Common.{◌≡◌, ◌∙◌, ℕ, List, [], false, Option, Some, Result}
 use Rattle.std.specs.Result.{IsErr, IsErrAnd}
 use Rattle.std.proofs.Common.{refl, sym, subst, ap}
+use Rattle.rx_model.specs.declared.event.Noted.{Noted}
 use Rattle.rx_model.specs.declared.names.Host.{Host}
 use Rattle.rx_law.specs.Worlds.{Datagram}
 use Rattle.rx_joint.specs.Nodes.{IsNodeThere, NodesState, host_of}
@@ -16,10 +17,8 @@ use Rattle.rx_plan.specs.Rounds.{Polling}
 use Rattle.rx_plan.specs.Rounds.{polling}
 use Rattle.rx_plan.specs.Rounds.{polls_at, polls_out}
 use Rattle.rx_plan.specs.Stages.{Stage}
-use Rattle.rx_drive.specs.Carried.{Carrying}
-use Rattle.rx_stage.specs.Giving.{Gives, GivingState, WantedAt}
 use Rattle.rx_stage.specs.Shown.{WorldState}
-use Rattle.rx_stage.specs.Tells.{Told}
+use Rattle.rx_stage.specs.Tells.{Told, told}
 use Rattle.rx_stage.proofs.Following.{ran_as}
 use Rattle.rx_stage.proofs.Making.{cut_off, stop_is}
 use Rattle.rx_stage.proofs.Numbers.{host_shown}
@@ -51,13 +50,20 @@ module _ (old new : WorldState) (node : ℕ) (from : Host) (given more : List Da
         subst (λ (u : WorldState). PlaysGiven (polls_out node) old given u more stop a b) (sym same)
         (polls_play old node from given more new.nodes stop a b there host turn)
 
--- the same nodes, and the same is told, as the code has them
-pub turn_seen : {View Ask : Type 0} (p : Program View Ask) (node : ℕ) (v w : View) (i old new : NodesState)
-    (stop : Option Stop) (a b c : Told) → i ≡ old → c ≡ b → PlaysTurn p node v w i new stop a b
-    → PlaysTurn p node v w old new stop a c
-turn_seen p node v w i old new stop a b c is same turn =
-    subst (λ n. PlaysTurn p node v w n new stop a c) is
-    (subst (λ (t : Told). PlaysTurn p node v w i new stop a t) (sym same) turn)
+-- what a journal and a sink tell that were given back
+pub told_seen : {B O : Type 0} (noted : B → Option (List Noted)) (put : O → Option (List ℕ)) (faults : O → ℕ)
+    (x y : B) (o p : O) → x ≡ y → o ≡ p
+    → told (noted x) (put o) (faults o) ≡ told (noted y) (put p) (faults p)
+told_seen noted put faults x y o p book out =
+    ap (λ b. told (noted b) (put o) (faults o)) book ∙ ap (λ q. told (noted y) (put q) (faults q)) out
+
+module _ {View Ask : Type 0} (p : Program View Ask) (node : ℕ) (v w : View) where
+  -- the same nodes, and the same is told, as the code has them
+  pub turn_seen : (i old new : NodesState) (stop : Option Stop) (a b c : Told) → i ≡ old → c ≡ b
+      → PlaysTurn p node v w i new stop a b → PlaysTurn p node v w old new stop a c
+  turn_seen i old new stop a b c is same turn =
+      subst (λ n. PlaysTurn p node v w n new stop a c) is
+      (subst (λ (t : Told). PlaysTurn p node v w i new stop a t) (sym same) turn)
 
 -- memory was wanted first
 pub polls_want : (from : Host) (node : ℕ) (given more : List Datagram) (old new : NodesState)
@@ -69,7 +75,3 @@ polls_want from node given more old new r t was m is s shown =
     (cut_off (Turn (polling from) node (more_from given) s)
     (λ x. Knows (ended_with more) (record m { nodes = new }) x.0 x.1) stops.OutOfMemory t
     (cut_there (more_from given) s) refl)
-
--- what keeps what is given
-abbrev pub carries : Carrying GivingState
-carries = record { carried = Gives; some = λ a xs ls. ls ≡ []; lost = λ why a xs ls. WantedAt why ls }

@@ -1,5 +1,5 @@
 -- What was handed in to one node, driven, is what a plan's node takes.
-use Rattle.std.proofs.Common.{◌≡◌, ◌⊎◌, ◌∙◌, ℕ, List, [], ◌∷◌, ◌++◌, Option, refl, sym, subst, ap, inl, inr, option_map}
+use Rattle.std.proofs.Common.{◌≡◌, ◌⊎◌, ℕ, List, [], ◌∷◌, ◌++◌, Option, refl, sym, subst, ap, inl, inr, option_map}
 use Rattle.rx_drive.specs.Events as handed
 use Rattle.rx_drive.specs.Nodes.{node_stages}
 use Rattle.rx_drive.specs.Ran as ran
@@ -23,7 +23,7 @@ use Rattle.rx_run.specs.Parts.{Came, Cut, Ended, Endless, To, cut_behind, makes,
 use Rattle.rx_wire.specs.Turns.{noted}
 use Rattle.rx_stage.specs.Driving.{plan_stop}
 use Rattle.rx_stage.specs.Shown.{PlaysNodes, Shows}
-use Rattle.rx_stage.specs.Tells.{Told, event_line, told}
+use Rattle.rx_stage.specs.Tells.{Told, event_line}
 use Rattle.rx_stage.specs.declared.stop.Stop.{Stop}
 use Rattle.rx_stage.proofs.Driving.{Behind, IsAt, allowed_at, at_behind, at_lent, behind_more, behind_none, behind_one}
 use Rattle.rx_stage.proofs.Driving.{lent_shown, shown_lent}
@@ -271,10 +271,3 @@ module _ (node : ℕ) (from : Host) (xs ys : List ℕ) (old new : NodesState) (s
   bytes_taken same told plays =
       nodes_seen (event node (IsTaken from ys)) old new stop a b c told
       (subst (λ bs. PlaysNodes (event node (IsTaken from bs)) old new stop a b) same plays)
-
--- what a journal and a sink tell that were given back
-pub told_seen : {B O : Type 0} (noted : B → Option (List Noted)) (put : O → Option (List ℕ)) (faults : O → ℕ)
-    (x y : B) (o p : O) → x ≡ y → o ≡ p
-    → told (noted x) (put o) (faults o) ≡ told (noted y) (put p) (faults p)
-told_seen noted put faults x y o p book out =
-    ap (λ b. told (noted b) (put o) (faults o)) book ∙ ap (λ q. told (noted y) (put q) (faults q)) out

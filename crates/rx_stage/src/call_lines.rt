@@ -28,6 +28,17 @@ use std::alloc::{AllocError, Global};
 use stub_table::StubFault;
 use xdr_value::{Interface, Proc, Value};
 
+/// What an `invoke` line asks for: a call of a client, and a caller for it.
+#[derive(Debug, Drop)]
+pub struct Invoke {
+    pub client: u32,
+    pub cid: u32,
+    /// The line's place in the plan.
+    pub line: usize,
+    /// What the caller says.
+    pub bytes: Vec<u8>,
+}
+
 impl World {
     /// The client starts a call, whose name is kept.
     pub fn call_line<O: Sink, J: Journal>(
@@ -49,27 +60,25 @@ impl World {
         Ok(())
     }
 
-    /// The client starts a call, and has a caller for it that says these bytes.
+    /// The client starts a call, and has a caller for it that says the bytes.
     pub fn invoke_line<O: Sink, J: Journal>(
         &mut self,
-        client: u32,
-        cid: u32,
-        line: usize,
-        bytes: Vec<u8>,
+        invoke: Invoke,
         out: &mut O,
         book: &mut J,
     ) -> Result<(), Stop>
-        ensures plays { Plays (at_client client (invokes line cid bytes.items)) self.old self.new (stop_of result)
+        ensures plays { Plays (at_client invoke.client (invokes invoke.line invoke.cid invoke.bytes.items))
+            self.old self.new (stop_of result)
             (told (J.told book.old) (O.told out.old) (O.faults out.old))
             (told (J.told book.new) (O.told out.new) (O.faults out.new)) }
         ensures script { script_of self.new ≡ script_of self.old }
     {
-        let node = self.client(client)?;
-        are_bytes(&bytes);
-        let event = self.nodes.call(node, cid);
+        let node = self.client(invoke.client)?;
+        are_bytes(&invoke.bytes);
+        let event = self.nodes.call(node, invoke.cid);
         self.tell(node, &event, out, book)?;
         keep_called(&mut self.calls, node, &event)?;
-        self.keep_caller(node, line, bytes, &event)
+        self.keep_caller(node, invoke.line, invoke.bytes, &event)
     }
 
     /// Keeps a caller for the call that was answered.

@@ -26,7 +26,9 @@ mod trace;
 mod turns;
 mod world;
 
+pub use call_lines::Invoke;
 pub use invokes::{Callers, Invoked};
+pub use lossy::LossyNetwork;
 pub use runs::{at_start, run};
 pub use stop::Stop;
 pub use world::{Datagram, World};

@@ -7,7 +7,7 @@ ghost use Rattle.rx_stage.specs.Ran.{stop_of};
 ghost use Rattle.rx_stage.specs.Shown.{Plays, script_of};
 ghost use Rattle.rx_stage.specs.Tells.{told};
 
-use crate::call_lines::invoked_bytes;
+use crate::call_lines::{Invoke, invoked_bytes};
 use crate::stop::Stop;
 use crate::world::World;
 use rx_base::Sink;
@@ -69,7 +69,13 @@ impl World {
                 args,
             } => {
                 let bytes = invoked_bytes(self.alloc, iface, proc.as_str(), args, up)?;
-                self.invoke_line(*client, *cid, place, bytes, out, book)
+                let invoke = Invoke {
+                    client: *client,
+                    cid: *cid,
+                    line: place,
+                    bytes,
+                };
+                self.invoke_line(invoke, out, book)
             }
             PlanLine::Turn { node } => self.turn_line(iface, *node, out, book),
             PlanLine::Rounds { rounds } => self.rounds(iface, *rounds, out, book),

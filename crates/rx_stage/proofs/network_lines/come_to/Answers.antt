@@ -5,7 +5,8 @@ use Rattle.rx_events.specs.Events.{IsTaken}
 use Rattle.rx_stage.specs.Ran.{stop_of}
 use Rattle.rx_stage.proofs.Delivering.{comes_here, not_here}
 use Rattle.rx_stage.proofs.Lending.{client_lent, clients_left, server_lent}
-use Rattle.rx_stage.proofs.Taking.{bytes_taken, event_driven, told_seen}
+use Rattle.rx_stage.proofs.Polling.{told_seen}
+use Rattle.rx_stage.proofs.Taking.{bytes_taken, event_driven}
 use Rattle.rx_stage.proofs.network_lines.come_to.Goals as goal
 
 pub returns-then-not-here-clause-plays : goal.returns-then-not-here-clause-plays

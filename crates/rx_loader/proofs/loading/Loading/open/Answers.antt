@@ -22,8 +22,9 @@ returns-in_err-invoke_line-clause-plays g c =
     (record {
       at = c.next_call-number.ensures;
       long = ap (λ (r : ℕ × Lcg). r.0 % 4097) c.next_word.ensures
-          ∙ ap (λ (v : Loading). body_length (pcg32 v.words).0) c.self.view_is;
-      drawn = ap (λ (r : ℕ × Lcg). r.1) c.next_word.ensures ∙ ap (λ (v : Loading). (pcg32 v.words).1) c.self.view_is;
+          ∙ ap (λ (v : Loading). body_length (pcg32 v.network.words).0) c.self.view_is;
+      drawn = ap (λ (r : ℕ × Lcg). r.1) c.next_word.ensures ∙ ap (λ (v : Loading). (pcg32 v.network.words).1)
+          c.self.view_is;
       said = c.in_ok-bytes.ensures;
     })
     (subst (λ (v : Loading). Plays (at_client c.args.client (invokes c.next_call-number.result 4
@@ -38,8 +39,9 @@ returns-clause-plays g c =
     (record {
       at = c.next_call-number.ensures;
       long = ap (λ (r : ℕ × Lcg). r.0 % 4097) c.next_word.ensures
-          ∙ ap (λ (v : Loading). body_length (pcg32 v.words).0) c.self.view_is;
-      drawn = ap (λ (r : ℕ × Lcg). r.1) c.next_word.ensures ∙ ap (λ (v : Loading). (pcg32 v.words).1) c.self.view_is;
+          ∙ ap (λ (v : Loading). body_length (pcg32 v.network.words).0) c.self.view_is;
+      drawn = ap (λ (r : ℕ × Lcg). r.1) c.next_word.ensures ∙ ap (λ (v : Loading). (pcg32 v.network.words).1)
+          c.self.view_is;
       said = c.in_ok-bytes.ensures;
     })
     (subst (λ (v : Loading). Plays (at_client c.args.client (invokes c.next_call-number.result 4
@@ -47,12 +49,12 @@ returns-clause-plays g c =
     (told (g.J.Journal.told c.invoke_line.new.book) None 0)) c.self.view_is c.in_ok-invoke_line.ensures.plays)
     (record {
       drawn = refl;
-      held = ap (λ (v : Loading). v.held.items) c.self.view_is;
+      held = ap (λ (v : Loading). v.network.held.items) c.self.view_is;
       next = c.put_at-2.ensures
           ∙ ap (λ (v : Loading). set v.next.items (c.args.client - 1) (c.next_call-number.result + 4)) c.self.view_is;
       bodies = c.put_at.ensures
           ∙ ap (λ (v : Loading). set v.bodies.items c.next_call-number.result (c.next_word.result % 4097))
           c.self.view_is;
       rounds = ap (λ (v : Loading). v.rounds) c.self.view_is;
-      tally = ap (λ (v : Loading). v.tally) c.self.view_is;
+      tally = ap (λ (v : Loading). v.network.tally) c.self.view_is;
     })

@@ -4,7 +4,7 @@ use Rattle.rx_stage.specs.Done.{is_done_at}
 use Rattle.rx_plan.specs.Turned.{turns_all, turns_at}
 use Rattle.rx_stage.proofs.CallersMade.{callers_all, callers_seen}
 use Rattle.rx_stage.proofs.Done.{keeps_at, leaves_low, left_turned, rests_at}
-use Rattle.rx_stage.proofs.Taking.{told_seen}
+use Rattle.rx_stage.proofs.Polling.{told_seen}
 use Rattle.rx_stage.proofs.invokes.Callers.turn_all.Goals as goal
 
 pub turn_each-requires : goal.turn_each-requires

@@ -4,7 +4,7 @@ use Rattle.rx_stage.specs.Done.{is_done_at}
 use Rattle.rx_plan.specs.Turned.{turns_for, turns_on}
 use Rattle.rx_stage.proofs.CallersMade.{callers_all, callers_seen}
 use Rattle.rx_stage.proofs.Done.{keeps_for, leaves_low, left_turned, rests_for}
-use Rattle.rx_stage.proofs.Taking.{told_seen}
+use Rattle.rx_stage.proofs.Polling.{told_seen}
 use Rattle.rx_stage.proofs.invokes.Callers.turn_of.Goals as goal
 
 pub turn_each_of-requires : goal.turn_each_of-requires

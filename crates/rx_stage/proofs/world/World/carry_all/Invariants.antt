@@ -10,11 +10,11 @@ use Rattle.rx_stage.proofs.world.World.carry_all.Given as goal
 -- what was yielded has met its fates
 abbrev pub invariant-loop-datagram : goal.invariant-loop-datagram
 invariant-loop-datagram g l = record {
-  plays : Plays (each delivers (gathered comes (fated l.fn.words l.yielded))) l.fn.self l.self None
+  plays : Plays (each delivers (gathered comes (fated l.fn.network.words l.yielded))) l.fn.self l.self None
       (told (g.J.Journal.told l.fn.book) (g.O.Sink.told l.fn.out) (g.O.Sink.faults l.fn.out))
       (told (g.J.Journal.told l.book) (g.O.Sink.told l.out) (g.O.Sink.faults l.out));
-  held : l.held.items ≡ l.fn.held.items ++ gathered stays (fated l.fn.words l.yielded);
-  words : l.words ≡ drawn l.fn.words l.yielded;
-  tally : l.tally ≡ tallied (fated l.fn.words l.yielded) l.fn.tally;
+  held : l.network.held.items ≡ l.fn.network.held.items ++ gathered stays (fated l.fn.network.words l.yielded);
+  words : l.network.words ≡ drawn l.fn.network.words l.yielded;
+  tally : l.network.tally ≡ tallied (fated l.fn.network.words l.yielded) l.fn.network.tally;
   script : script_of l.self ≡ script_of l.fn.self;
 }

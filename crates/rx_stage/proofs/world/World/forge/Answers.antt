@@ -12,7 +12,8 @@ use Rattle.rx_stage.specs.declared.stop.Stop.TheVariants as stops
 use Rattle.rx_stage.proofs.Delivering.{nodes_play}
 use Rattle.rx_stage.proofs.Lending.{client_lent, server_lent}
 use Rattle.rx_stage.proofs.Making.{cut_as, each_cut, event_cut}
-use Rattle.rx_stage.proofs.Taking.{nodes_seen, takes_driven, told_seen}
+use Rattle.rx_stage.proofs.Polling.{told_seen}
+use Rattle.rx_stage.proofs.Taking.{nodes_seen, takes_driven}
 use Rattle.rx_stage.proofs.world.World.forge.Goals as goal
 
 pub returns-in_err-single-clause-plays : goal.returns-in_err-single-clause-plays

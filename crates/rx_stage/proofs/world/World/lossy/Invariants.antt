@@ -10,8 +10,8 @@ use Rattle.rx_stage.proofs.world.World.lossy.Given as goal
 abbrev pub invariant-loop-made : goal.invariant-loop-made
 invariant-loop-made g l = record {
   onward : OnwardLossy (lossy (handlers_of l.iface (script_of l.fn.self)) l.number l.count)
-      (lossy_rounds (handlers_of l.iface (script_of l.fn.self)) (l.count - l.made)) l.fn.self l.self l.words
-      l.held.items
+      (lossy_rounds (handlers_of l.iface (script_of l.fn.self)) (l.count - l.made)) l.fn.self l.self l.network.words
+      l.network.held.items
       (told (g.J.Journal.told l.fn.book) (g.O.Sink.told l.fn.out) (g.O.Sink.faults l.fn.out))
       (told (g.J.Journal.told l.book) (g.O.Sink.told l.out) (g.O.Sink.faults l.out));
   script : script_of l.self ≡ script_of l.fn.self;

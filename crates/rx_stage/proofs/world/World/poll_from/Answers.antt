@@ -6,10 +6,9 @@ use Rattle.rx_plan.specs.Rounds.{polling}
 use Rattle.rx_stage.specs.Ran.{stop_of}
 use Rattle.rx_stage.specs.RoundsPlayed.{more_from}
 use Rattle.rx_stage.specs.Shown.{WorldState}
-use Rattle.rx_stage.specs.Tells.{told}
 use Rattle.rx_stage.proofs.Driving.{polls_driven}
 use Rattle.rx_stage.proofs.Lending.{client_lent, clients_left, server_lent}
-use Rattle.rx_stage.proofs.Polling.{carries, polls_want, turn_seen}
+use Rattle.rx_stage.proofs.Polling.{polls_want, told_seen, turn_seen}
 use Rattle.rx_stage.proofs.world.World.poll_from.Goals as goal
 
 pub poll_out-polled-requires-clause-can : goal.poll_out-polled-requires-clause-can
@@ -29,22 +28,18 @@ returns-then-node-eq-SERVER-clause-plays g c =
     let given = c.given-1.given.1 (sym (ap (λ xs. get_or xs 0 0) c.poll_out-polled.ensures.names)) in
     turn_seen (polling c.args.from) c.args.node (more_from c.args.given.now.items) _ c.self.inside.nodes _ _
     (stop_of c.plan_end.result) _ _ _ (ap (λ (w : WorldState). w.nodes) c.self.view_is)
-    (ap (λ y. told (g.J.Journal.told y) (g.O.Sink.told c.out-1.given.0) (g.O.Sink.faults c.out-1.given.0)) book
-    ∙ ap (λ x. told (g.J.Journal.told c.poll_out-polled.new.outside.book.now) (g.O.Sink.told x) (g.O.Sink.faults x))
-    out)
-    (polls_driven carries (record { from = c.args.from; given = c.args.given.now.items; name = _ })
+    (told_seen g.J.Journal.told g.O.Sink.told g.O.Sink.faults _ _ _ _ book out)
+    (polls_driven (record { from = c.args.from; given = c.args.given.now.items; name = _ })
     (record {
       from = c.poll_out-polled.new.carrier.from;
       given = c.poll_out-polled.new.carrier.given.now.items;
       name = c.poll_out-polled.new.carrier.given.ghost_name;
-    }) c.args.from c.args.given.now.items _ c.given-1.given.0.items c.self.inside.nodes _ c.args.node _ _ _
-    _ (stop_of c.plan_end.result) _ _ c.plan_end.ensures
+    }) c.given-1.given.0.items c.self.inside.nodes _ c.args.node _ _ _ _ (stop_of c.plan_end.result) _ _
+    c.plan_end.ensures
     (server_lent c.self.inside.nodes c.args.node c.server_mut-server.result.now c.poll_out-polled.new.node
     c.if-node-eq-SERVER.true c.server_mut-server.ensures.value c.poll_out-polled.ensures.setup)
     c.poll_out-polled.ensures.polls
-    (ap (λ v. v.items) given)
-    (λ xs ls is. is.kept)
-    (λ xs ls none. none))
+    (ap (λ v. v.items) given))
 
 pub returns-clause-plays : goal.returns-clause-plays
 returns-clause-plays g c =
@@ -56,22 +51,18 @@ returns-clause-plays g c =
     let given = c.given-2-1.given.1 (sym (ap (λ xs. get_or xs 0 0) c.poll_out-polled-2.ensures.names)) in
     turn_seen (polling c.args.from) c.args.node (more_from c.args.given.now.items) _ c.self.inside.nodes _ _
     (stop_of c.plan_end-2.result) _ _ _ (ap (λ (w : WorldState). w.nodes) c.self.view_is)
-    (ap (λ y. told (g.J.Journal.told y) (g.O.Sink.told c.out-2-1.given.0) (g.O.Sink.faults c.out-2-1.given.0)) book
-    ∙ ap (λ x. told (g.J.Journal.told c.poll_out-polled-2.new.outside.book.now) (g.O.Sink.told x) (g.O.Sink.faults x))
-    out)
-    (polls_driven carries (record { from = c.args.from; given = c.args.given.now.items; name = _ })
+    (told_seen g.J.Journal.told g.O.Sink.told g.O.Sink.faults _ _ _ _ book out)
+    (polls_driven (record { from = c.args.from; given = c.args.given.now.items; name = _ })
     (record {
       from = c.poll_out-polled-2.new.carrier.from;
       given = c.poll_out-polled-2.new.carrier.given.now.items;
       name = c.poll_out-polled-2.new.carrier.given.ghost_name;
-    }) c.args.from c.args.given.now.items _ c.given-2-1.given.0.items c.self.inside.nodes _ c.args.node _ _ _
-    _ (stop_of c.plan_end-2.result) _ _ c.plan_end-2.ensures
+    }) c.given-2-1.given.0.items c.self.inside.nodes _ c.args.node _ _ _ _ (stop_of c.plan_end-2.result) _ _
+    c.plan_end-2.ensures
     (client_lent c.self.inside.nodes c.args.node c.client_mut-client.result.now c.poll_out-polled-2.new.node
     (one, there)
     c.client_mut-client.ensures.value c.poll_out-polled-2.ensures.setup) c.poll_out-polled-2.ensures.polls
-    (ap (λ v. v.items) given)
-    (λ xs ls is. is.kept)
-    (λ xs ls none. none))
+    (ap (λ v. v.items) given))
 
 pub returns-clause-clients : goal.returns-clause-clients
 returns-clause-clients g c =

@@ -5,7 +5,7 @@ use Rattle.rx_drive.specs.Tells.{Ways}
 use Rattle.rx_wire.specs.Turns.{noted}
 use Rattle.rx_stage.specs.Ran.{stop_of}
 use Rattle.rx_stage.proofs.Plain.{event_plain}
-use Rattle.rx_stage.proofs.Taking.{told_seen}
+use Rattle.rx_stage.proofs.Polling.{told_seen}
 use Rattle.rx_stage.proofs.world.World.tell.Goals as goal
 
 pub returns-clause-told : goal.returns-clause-told
