@@ -135,7 +135,7 @@ done_ended v is = by v.phase is
     by phases.Resting is = absurd cc
 
 -- where it has it asks nothing
-ended_asks : (v : CallerState) → is_some v.end ≡ true → (calling REPLY_BYTES).asks v ≡ None
+pub ended_asks : (v : CallerState) → is_some v.end ≡ true → (calling REPLY_BYTES).asks v ≡ None
 ended_asks v is =
     ap (λ (b : Bool). option_map (asking v) (if b then None else if nat_lt REPLY_BYTES (length v.reply)
     then Some asks.Cancel

@@ -35,7 +35,7 @@ client_stands cs h i c stand low is =
     subst (λ (o : Option ClientAt). IfSome o (λ d. StandsNode chosen d.client (side (suc i) h)))
     (read_some cs i c low is) (stand i)
 
-some_stands : (o : Option ClientAt) (was : NodeState) (es : List Event) → option_map (λ d. d.client) o ≡ Some was
+pub some_stands : (o : Option ClientAt) (was : NodeState) (es : List Event) → option_map (λ d. d.client) o ≡ Some was
     → IfSome o (λ d. StandsNode chosen d.client es) → StandsNode chosen was es
 some_stands None was es there stand = absurd (cc (there))
 some_stands (Some d) was es there stand = subst (λ x. StandsNode chosen x es) (cc (there)) stand

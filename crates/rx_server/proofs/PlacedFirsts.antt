@@ -9,7 +9,7 @@ use Rattle.std.proofs.lemmas.Option.{slice_get-map}
 use Rattle.rx_model.specs.declared.names.CallName.{CallName}
 use Rattle.rx_model.specs.declared.names.Host.{Host}
 use Rattle.rx_model.specs.declared.wire.TheConstants.{IDLE_MS}
-use Rattle.rx_model.specs.Names.{Channel, Connection, channels_of, same_connection, same_name}
+use Rattle.rx_model.specs.Names.{Channel, Connection, same_connection, same_name}
 use Rattle.rx_model.proofs.NameLaws.{connection_is, connection_itself, neither, refuted}
 use Rattle.rx_rules.specs.Life.{is_live, is_waiting}
 use Rattle.rx_rules.specs.Looks.{CallRecord, ChannelLooks, ConnLooks, Looks, call_at, call_named, channel_at, conn_at}
@@ -24,16 +24,9 @@ use Rattle.rx_node.specs.Mirrors.{channel_in}
 use Rattle.rx_queue.specs.Queue.{QueueState}
 use Rattle.rx_server.specs.Server.{FirstsStand, ReadyStand, lacks_at, lacks_on, waits, waits_at, waits_on}
 use Rattle.rx_node.proofs.Steps.ChannelSteps.{channel_of_record, conn_there}
+use Rattle.rx_node.proofs.Steps.PlaceSteps.{four as fresh-number}
 use Rattle.rx_server.proofs.FirstsLaws.{firsts_alike, on_alike, waits_lives}
 use Rattle.rx_server.proofs.ReadyLaws.{FallsAt, admits_there, every_all, ready_alike, waits_there}
-
-fresh-number : (n : ℕ) → n < 4 → (x : Connection)
-    → unwrap_or (slice_get (map (λ ch. fresh_channel 0) (channels_of x)) n) (fresh_channel 0) ≡ fresh_channel 0
-fresh-number zero low x = refl
-fresh-number (suc zero) low x = refl
-fresh-number (suc (suc zero)) low x = refl
-fresh-number (suc (suc (suc zero))) low x = refl
-fresh-number (suc (suc (suc (suc n)))) low x = absurd (omega arith)
 
 -- a channel without a call
 pub silent-channel : (l m : Looks) (d : Channel) → m.calls ≡ l.calls

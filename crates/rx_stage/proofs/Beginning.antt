@@ -34,12 +34,9 @@ use Rattle.rx_stage.specs.declared.stop.Stop.{Stop}
 use Rattle.rx_stage.specs.declared.stop.Stop.TheVariants as stops
 use Rattle.rx_stage.proofs.Running as runnings
 use Rattle.rx_stage.proofs.Stepping.{nodes_shown}
+use Rattle.rx_plan.proofs.Soundness.SoundPlan.{and_left}
 
 -- ---- limits
-
-front_holds : (a b : Bool) → (a && b) ≡ true → a ≡ true
-front_holds true b both = refl
-front_holds false b both = both
 
 rest_holds : (a b : Bool) → (a && b) ≡ true → b ≡ true
 rest_holds true b both = both
@@ -51,7 +48,7 @@ slots_within l slots fit =
     let test = rest_holds (fits_limits l) (nat_le (slots + l.slots) MAX_SLOTS) fit in grind (arith, nat_tests)
 
 pub room_fits : (l : Limits) (slots clients : ℕ) → has_client_room l slots clients ≡ true → has_slots l slots ≡ true
-room_fits l slots clients room = front_holds (has_slots l slots) (nat_lt clients MAX_CLIENTS) room
+room_fits l slots clients room = and_left (has_slots l slots) (nat_lt clients MAX_CLIENTS) room
 
 -- the first node has room where it has slots
 pub first_room : (l : Limits) → has_room l [] ≡ has_slots l 0

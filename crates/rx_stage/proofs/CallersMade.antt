@@ -18,11 +18,12 @@ use Rattle.rx_plan.specs.Stages.{InvokedState, Stage}
 use Rattle.rx_stage.specs.Shown.{Plays, Shows, WorldState}
 use Rattle.rx_stage.specs.Tells.{Told}
 use Rattle.rx_plan.specs.Turned.{turns_at, turns_for}
-use Rattle.rx_stage.proofs.Delivering.{front_around, front_more}
+use Rattle.rx_stage.proofs.Delivering.{front_around}
 use Rattle.rx_stage.proofs.Done.{each_whole}
 use Rattle.rx_stage.proofs.Making.{stop_is}
 use Rattle.rx_stage.proofs.Playing.{each_none, each_one, each_stops}
 use Rattle.rx_stage.proofs.TurnsMade.{caller_made, caller_unmade, callers_shown, other_unmade, own_made}
+use Rattle.rx_stage.proofs.LinesGone.{grown}
 
 -- what is kept, with its nodes and callers by other names
 same_kept : (w : WorldState) (n : NodesState) (cs : List InvokedState) → w.nodes ≡ n → w.callers ≡ cs
@@ -92,7 +93,7 @@ module _ (part : ℕ → Stage → Part Stage) (xs : List ℕ) (k x : ℕ) (cs m
         → PlaysCallers (each part (take (k + 1) xs)) cs ds old new None a c
     callers_more a b c less is so_far next w is_n is_cs =
         subst (λ ys. Plays (each part ys) w (record w { nodes = new; callers = ds }) None a c)
-        (sym (front_more xs k x less is))
+        (sym (grown xs k x less is))
         (each_one part (take k xs) x w (record w { nodes = m; callers = ms }) (record w { nodes = new; callers = ds })
         None
         a b c (so_far w is_n is_cs) (next (record w { nodes = m; callers = ms }) refl refl))

@@ -30,14 +30,9 @@ use Rattle.rx_stage.proofs.Ordering.{AroundClient, around_client, clients_one, c
 use Rattle.rx_stage.proofs.Playing.{each_one, each_stops}
 use Rattle.rx_stage.proofs.Running.{ran_refused}
 use Rattle.rx_stage.proofs.Stepping.{nodes_shown}
+use Rattle.rx_joint.proofs.Waiting.{is_less, not_less}
 
 -- ---- one node
-
-is_less : (a b : ℕ) → a < b → nat_lt a b ≡ true
-is_less a b low = grind (arith, nat_tests)
-
-not_less : (a b : ℕ) → b ≤ a → nat_lt a b ≡ false
-not_less a b high = grind (arith, nat_tests)
 
 -- its moment is later
 pub clock_back : (w : WorldState) (s : Stage) (node now : ℕ) → Shows w s → IsNodeThere w.nodes node

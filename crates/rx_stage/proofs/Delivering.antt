@@ -1,7 +1,7 @@
 -- Datagrams that come to nodes, one node after another.
 use Rattle.std.proofs.Common.{◌≡◌, ◌<◌, ◌∙◌, ◌+◌, ℕ, zero, suc, List, [], ◌∷◌, ◌++◌, Bool, true, false, Option}
 use Rattle.std.proofs.Common.{Some, None}
-use Rattle.std.proofs.Common.{Result, take, drop, get_or, add-one}
+use Rattle.std.proofs.Common.{Result, take, drop, get_or}
 use Rattle.std.specs.Result.{IsErr, IsErrAnd}
 use Rattle.std.proofs.Common.{refl, sym, subst, ap, inr, arith, length, option_map, unwrap_or}
 use Rattle.rx_model.specs.declared.names.Host.{Host}
@@ -21,6 +21,7 @@ use Rattle.rx_stage.proofs.Finding.{count_shown, host_shown}
 use Rattle.rx_stage.proofs.Making.{each_cut, event_cut, stop_is, where_fails, where_holds}
 use Rattle.rx_stage.proofs.Ordering.{Around, around, below_one}
 use Rattle.rx_stage.proofs.Playing.{each_none, each_one, each_stops}
+use Rattle.rx_stage.proofs.LinesGone.{grown}
 
 -- ---- lists
 
@@ -30,10 +31,6 @@ front_suc : {X : Type 0} (xs : List X) (k : ℕ) (x : X) → k < length xs → x
 front_suc [] k x less is = absurd (omega (arith, less))
 front_suc (y ∷ ys) zero x less is = ap (λ z. z ∷ []) (sym is)
 front_suc (y ∷ ys) (suc k) x less is = ap (λ zs. y ∷ zs) (front_suc ys k x (omega (arith, less)) is)
-
-pub front_more : {X : Type 0} (xs : List X) (k : ℕ) (x : X) → k < length xs → x ≡ get_or xs k x
-    → take (k + 1) xs ≡ take k xs ++ x ∷ []
-front_more xs k x less is = ap (λ n. take n xs) (add-one k) ∙ front_suc xs k x less is
 
 -- and with all behind it
 pub front_around : {X : Type 0} (xs : List X) (k : ℕ) (x : X) → k < length xs → x ≡ get_or xs k x
@@ -156,7 +153,7 @@ module _ {X : Type 0} (part : X → Stage → Part Stage) (xs : List X) (k : ℕ
       → PlaysNodes (each part (take k xs)) old m None a b → PlaysNodes (part x) m new None b c
       → PlaysNodes (each part (take (k + 1) xs)) old new None a c
   all_more x old m new a b c less is so_far next =
-      subst (λ ys. PlaysNodes (each part ys) old new None a c) (sym (front_more xs k x less is))
+      subst (λ ys. PlaysNodes (each part ys) old new None a c) (sym (grown xs k x less is))
       (nodes_one part (take k xs) x old m new None a b c so_far next)
 
 module _ {X : Type 0} (part : X → Stage → Part Stage) (xs : List X) (k : ℕ) (x : X) (old m new : NodesState) where

@@ -16,14 +16,14 @@ count_shown w s shown = ap length (nodes_shown w s shown) ∙ ap suc (length-map
 
 -- ---- hosts
 
-host_in : (cs : List ClientAt) (k : ℕ) (other : Host) → k < length cs
+pub host_in : (cs : List ClientAt) (k : ℕ) (other : Host) → k < length cs
     → option_map (λ n. n.host) (slice_get (map client_node cs) k) ≡ Some (unwrap_or (option_map (λ c. c.host)
     (slice_get cs k)) other)
 host_in [] k other less = absurd (omega (arith, less))
 host_in (c ∷ cs) zero other less = refl
 host_in (c ∷ cs) (suc k) other less = host_in cs k other (omega (arith, less))
 
-host_there : (n : NodesState) (node : ℕ) → IsNodeThere n node
+pub host_there : (n : NodesState) (node : ℕ) → IsNodeThere n node
     → option_map (λ m. m.host) (slice_get (nodes_of n) node) ≡ Some (host_of n node)
 host_there n zero there = refl
 host_there n (suc k) there = host_in n.clients k n.host (omega (arith, there))

@@ -17,6 +17,7 @@ use Rattle.rx_joint.specs.declared.nodes.ClientAt.{ClientAt}
 use Rattle.rx_joint.specs.Nodes.{IsClientThere, IsNodeThere, NodesState, Standing, client_node, client_of, nodes_of}
 use Rattle.rx_joint.specs.Nodes.{with_client, with_server}
 use Rattle.rx_joint.proofs.Standing.{changed, changed_nodes}
+use Rattle.rx_joint.proofs.Waiting.{some_stands}
 
 -- behind more events of one node, which stands for its side then, all stand
 abbrev pub Lends : NodesState → NodesState → ℕ → (List Event → Type 0) → Type 0
@@ -99,13 +100,6 @@ found_setup : (o : Option ClientAt) (was : NodeState) → option_map (λ c. c.cl
 found_setup None was there = absurd (cc (there))
 found_setup (Some c) was there = (let is : c.client ≡ was = cc (there) in ap (setup_of chosen) is)
 
--- for what it stood
-found_stands : (o : Option ClientAt) (was : NodeState) (es : List Event) → option_map (λ c. c.client) o ≡ Some was
-    → IfSome o (λ c. StandsNode chosen c.client es) → StandsNode chosen was es
-found_stands None was es there stands = absurd (cc (there))
-found_stands (Some c) was es there stands =
-    (let is : c.client ≡ was = cc (there) in subst (λ x. StandsNode chosen x es) is stands)
-
 client_lent_at : (n : NodesState) (k : ℕ) (was new : NodeState) → IsNodeThere n (suc k)
     → option_map (λ c. c.client) (slice_get n.clients k) ≡ Some was → setup_of chosen new ≡ setup_of chosen was
     → Lent n (record n { clients = changed_at k (changed new) n.clients }) (suc k) (setup_of chosen was)
@@ -117,7 +111,7 @@ client_lent_at n k was new there at setup =
           (sym (slice_get-map client_node n.clients k)) (found_setup (slice_get n.clients k) was at);
       nodes = ap (λ xs. record { host = n.host; setup = setup_of chosen n.server.node } ∷ xs)
           (changed_nodes n.clients k was new at setup);
-      before = λ h stands. found_stands (slice_get n.clients k) was (side (suc k) h) at (stands.clients k);
+      before = λ h stands. some_stands (slice_get n.clients k) was (side (suc k) h) at (stands.clients k);
       lends = client_lends n k new;
     }
 

@@ -1,29 +1,23 @@
 -- The numbers of nodes, in the order in which loops go over them.
 use Rattle.std.proofs.Common.{◌≡◌, ◌∙◌, ◌<◌, ◌≤◌, ◌+◌, ◌^◌, ℕ, zero, suc, List, [], ◌∷◌, ◌++◌}
-use Rattle.std.proofs.Common.{Option, Some}
-use Rattle.std.proofs.Common.{refl, sym, subst, ap, length, map, drop, arith, add-one, append_assoc}
-use Rattle.std.specs.Prelude.{slice_get, option_map, unwrap_or}
-use Rattle.std.proofs.lemmas.List.{drop-append-le, length-append, length-map}
-use Rattle.rx_history.specs.Sides.{Node}
+use Rattle.std.proofs.Common.{Option}
+use Rattle.std.proofs.Common.{refl, sym, subst, ap, length, map, drop, arith, append_assoc}
+use Rattle.std.proofs.lemmas.List.{drop-append-le, length-map}
 use Rattle.rx_law.specs.Worlds.{Datagram}
-use Rattle.rx_model.specs.declared.names.Host.{Host}
 use Rattle.rx_node.proofs.Steps.TableSteps.{decided}
-use Rattle.rx_joint.specs.Nodes.{IsNodeThere, NodesState, client_node, host_of, nodes_of}
-use Rattle.rx_joint.specs.declared.nodes.ClientAt.{ClientAt}
+use Rattle.rx_joint.specs.Nodes.{NodesState, client_node, nodes_of}
 use Rattle.rx_plan.specs.Network.{below}
 use Rattle.rx_plan.specs.Parts.{Part}
 use Rattle.rx_plan.specs.Rounds.{Polled, clients_first}
 use Rattle.rx_stage.specs.RoundsPlayed.{PlaysGiven}
 use Rattle.rx_stage.specs.Shown.{Plays, PlaysNodes, Shows, WorldState}
-use Rattle.rx_plan.specs.Stages.{Stage, host_at}
+use Rattle.rx_plan.specs.Stages.{Stage}
 use Rattle.rx_stage.specs.Tells.{Told}
 use Rattle.rx_stage.specs.declared.stop.Stop.{Stop}
 use Rattle.rx_stage.proofs.Stepping.{nodes_shown}
+use Rattle.rx_stage.proofs.Ordering.{below_length}
 
 -- ---- lists of numbers
-
-pub below_more : (n : ℕ) → below (n + 1) ≡ below n ++ n ∷ []
-below_more n = rw add-one refl
 
 -- a list with a front and what follows it
 pub record At (xs front : List ℕ) (x : ℕ) : Type 0 where
@@ -45,17 +39,6 @@ below_at k (suc n) low =
           are = ap (λ xs. xs ++ n ∷ []) r.are ∙ append_assoc (below k) (k ∷ r.more) (n ∷ []);
         }
 
-length_below : (n : ℕ) → length (below n) ≡ n
-length_below zero = refl
-length_below (suc n) =
-    (let long : length (below n ++ n ∷ []) ≡ length (below n) + 1 = length-append (below n) (n ∷ []) in
-    omega (arith, long, length_below n))
-
--- those but the first, and one more
-pub others_more : (n : ℕ) → 1 ≤ n → drop 1 (below (n + 1)) ≡ drop 1 (below n) ++ n ∷ []
-others_more n some =
-    ap (drop 1) (below_more n) ∙ drop-append-le 1 (below n) (n ∷ []) (omega (arith, length_below n))
-
 -- those but the first, and then the first
 pub others_at : (k n : ℕ) → 1 ≤ k → k < n → At (drop 1 (below n) ++ 0 ∷ []) (drop 1 (below k)) k
 others_at k n some low = of (below_at k n low)
@@ -65,7 +48,7 @@ others_at k n some low = of (below_at k n low)
         record {
           more = r.more ++ 0 ∷ [];
           are = ap (λ xs. drop 1 xs ++ 0 ∷ []) r.are
-              ∙ (ap (λ xs. xs ++ 0 ∷ []) (drop-append-le 1 (below k) (k ∷ r.more) (omega (arith, length_below k)))
+              ∙ (ap (λ xs. xs ++ 0 ∷ []) (drop-append-le 1 (below k) (k ∷ r.more) (omega (arith, below_length k)))
               ∙ append_assoc (drop 1 (below k)) (k ∷ r.more) (0 ∷ []));
         }
 
@@ -103,22 +86,3 @@ pub nodes_few : (part : Stage → Part Stage) (old new : NodesState) (stop : Opt
     → (length old.clients + 1 < 2 ^ 32 → PlaysNodes part old new stop a b) → PlaysNodes part old new stop a b
 nodes_few part old new stop a b plays w is s shown =
     plays (subst (λ (n : NodesState). length n.clients + 1 < 2 ^ 32) is (few_shown w s shown)) w is s shown
-
-host_in : (cs : List ClientAt) (k : ℕ) (h : Host) → k < length cs
-    → option_map (λ n. n.host) (slice_get (map client_node cs) k)
-    ≡ Some (unwrap_or (option_map (λ c. c.host) (slice_get cs k)) h)
-host_in [] k h low = absurd (omega arith)
-host_in (c ∷ cs) zero h low = refl
-host_in (c ∷ cs) (suc k) h low = host_in cs k h (omega arith)
-
-host_there : (n : NodesState) (node : ℕ) → IsNodeThere n node
-    → option_map (λ m. m.host) (slice_get (nodes_of n) node) ≡ Some (host_of n node)
-host_there n zero there = refl
-host_there n (suc k) there = host_in n.clients k n.host (omega arith)
-
--- the host of a node that is there
-pub host_shown : (w : WorldState) (s : Stage) (node : ℕ) → Shows w s → IsNodeThere w.nodes node
-    → host_at s node ≡ Some (host_of w.nodes node)
-host_shown w s node shown there =
-    subst (λ ns. option_map (λ (m : Node). m.host) (slice_get ns node) ≡ Some (host_of w.nodes node))
-    (sym (nodes_shown w s shown)) (host_there w.nodes node there)

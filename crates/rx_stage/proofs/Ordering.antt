@@ -36,7 +36,7 @@ pub around : (k n : ℕ) → k < n → Around k n
 around k zero less = absurd (omega (arith, less))
 around k (suc n) less = around_in k n (around k n) (less_or_same k n less)
 
-below_length : (n : ℕ) → length (below n) ≡ n
+pub below_length : (n : ℕ) → length (below n) ≡ n
 below_length zero = refl
 below_length (suc n) = length-append (below n) (n ∷ []) ∙ omega (arith, below_length n)
 

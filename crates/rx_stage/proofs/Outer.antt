@@ -1,5 +1,5 @@
 -- What a journal and a sink tell of an event, as the driver of nodes has it.
-use Rattle.std.proofs.Common.{◌≡◌, ◌≢◌, ◌∙◌, ℕ, List, [], ◌∷◌, ◌++◌, Option, Some, None, refl, sym, ap, append-nil}
+use Rattle.std.proofs.Common.{◌≡◌, ◌≢◌, ◌∙◌, ℕ, List, [], ◌∷◌, ◌++◌, Option, Some, None, refl}
 use Rattle.rx_model.specs.declared.event.Noted.{Noted}
 use Rattle.rx_wire.specs.Journal.{HasNoted}
 use Rattle.rx_drive.specs.Tells.{GainedMuch, Grows, TellsOf, one_event}
@@ -7,14 +7,11 @@ use Rattle.rx_drive.specs.declared.stop.Stop.{Stop}
 use Rattle.rx_drive.specs.declared.stop.Stop.TheVariants as stops
 use Rattle.rx_stage.specs.Driving.{PutsLine, outside}
 use Rattle.rx_stage.specs.Tells.{event_line}
+use Rattle.rx_drive.proofs.Gaining.{grows_none}
 
 some_behind : (xs : List ℕ) (x : ℕ) → xs ++ x ∷ [] ≢ []
 some_behind [] x is = absurd cc
 some_behind (y ∷ xs) x is = absurd cc
-
-grows_none : {X : Type 0} (a : Option (List X)) → Grows a a []
-grows_none None = refl
-grows_none (Some old) = sym (ap Some (append-nil old))
 
 grows_one : (a b : Option (List Noted)) (n : Noted) → HasNoted a b n → Grows a b (n ∷ [])
 grows_one None b n is = is

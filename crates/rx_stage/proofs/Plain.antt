@@ -1,7 +1,6 @@
 -- What a journal and a sink tell, as the driver of nodes has it, is what a plan says of them; and so is what was made.
 use Rattle.std.proofs.Common.{◌≡◌, ◌∙◌, ◌-◌, ℕ, List, [], ◌∷◌, ◌++◌, Option}
 use Rattle.std.proofs.Common.{Some, None, refl, sym, subst, ap, inl, inr, option_map}
-use Rattle.std.proofs.Common.{append-nil}
 use Rattle.rx_base.specs.Sink.{Gained, GainedSome, HasRisen}
 use Rattle.rx_drive.specs.Ran as ran
 use Rattle.rx_drive.specs.Ran.{Fault, wants_memory, wire_failed}
@@ -24,6 +23,7 @@ use Rattle.rx_stage.specs.Tells.{gains_none}
 use Rattle.rx_stage.specs.Tells.{gains_one, told, wants_last}
 use Rattle.rx_stage.specs.declared.stop.Stop.{Stop}
 use Rattle.rx_stage.specs.declared.stop.Stop.TheVariants as stops
+use Rattle.rx_drive.proofs.Gaining.{grows_same}
 
 -- ---- what is told
 
@@ -36,10 +36,6 @@ abbrev pub events_of : List Step → List Noted
 events_of [] = []
 events_of (Made n ∷ ss) = n ∷ events_of ss
 events_of (Entry l ∷ ss) = events_of ss
-
-grows_same : {X : Type 0} (a b : Option (List X)) → Grows a b [] → b ≡ a
-grows_same None b is = is
-grows_same (Some old) b is = is ∙ ap Some (append-nil old)
 
 noted_one : (a b : Option (List Noted)) (n : Noted) → Grows a b (n ∷ []) → HasNoted a b n
 noted_one None b n is = is

@@ -21,7 +21,7 @@ use Rattle.rx_stage.specs.Shown.{WorldState}
 use Rattle.rx_stage.specs.Tells.{Told, told}
 use Rattle.rx_stage.proofs.Following.{ran_as}
 use Rattle.rx_stage.proofs.Making.{cut_off, stop_is}
-use Rattle.rx_stage.proofs.Numbers.{host_shown}
+use Rattle.rx_stage.proofs.Finding.{host_shown}
 
 -- all polls of a node that is there
 polls_play : (w : WorldState) (node : ℕ) (from : Host) (given more : List Datagram) (new : NodesState)

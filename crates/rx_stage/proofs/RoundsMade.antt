@@ -31,10 +31,11 @@ use Rattle.rx_plan.specs.Turned.{dispatches, turns_all}
 use Rattle.rx_stage.proofs.Clocking.{moment_kept}
 use Rattle.rx_stage.proofs.Following.{PlaysOn, on_listed, on_one, on_stops}
 use Rattle.rx_stage.proofs.Making.{stop_is, where_fails, where_holds}
-use Rattle.rx_stage.proofs.Numbers.{At, clients_listed, others_at, others_more}
+use Rattle.rx_stage.proofs.Numbers.{At, clients_listed, others_at}
 use Rattle.rx_stage.proofs.Playing.{plays_none, plays_stops, plays_then}
 use Rattle.rx_stage.proofs.Running.{ran_stops, ran_then}
 use Rattle.rx_stage.proofs.Stepping.{nodes_shown}
+use Rattle.rx_stage.proofs.Ordering.{clients_one}
 
 -- ---- one for each client, and then for the server
 
@@ -43,7 +44,7 @@ pub client_more : {A : Type 0} (part : ℕ → A → Part A) (k : ℕ) (old mid 
     → PlaysOn (each part (drop 1 (below k))) old mid None a b → PlaysOn (part k) mid new None b c
     → PlaysOn (each part (drop 1 (below (k + 1)))) old new None a c
 client_more part k old mid new a b c some before next =
-    subst (λ xs. PlaysOn (each part xs) old new None a c) (sym (others_more k some))
+    subst (λ xs. PlaysOn (each part xs) old new None a c) (sym (clients_one k some))
     (on_one part (drop 1 (below k)) k old mid new None a b c before next)
 
 module _ {A : Type 0} (part : ℕ → A → Part A) (list : A → List ℕ) (k n : ℕ) (old mid new : A → Type 0) where
