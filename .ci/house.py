@@ -22,7 +22,10 @@ GIVEN = {  # functions whose arguments the specification gives, and one whose pl
 }
 LEFT = {  # what doesn't keep a rule yet: whoever changes one of these crates next mends it
     "xdr_json/src/judging.rt judge_list", "xdr_json/src/judging.rt judge_union", "xdr_json/src/judging.rt judge_arm",
+    "rx_stage/src/runs.rt run_lines", "rx_wire_loop/src/calling.rt call_from", "rx_wire_loop/src/ports.rt pass_on",
+    "rx_wire_loop/src/serving.rt serve", "rx_wire_loop/src/serving.rt serve_on",
     "rx_between/proofs/WholeAcked.antt found", "rx_node/proofs/Steps/ReadSteps.antt read-takes",
+    "rx_stage/proofs/Done.antt done_ended", "rx_wire_loop/proofs/Telling.antt gained_both",
 }
 NAME = r"[A-Za-z_][\w'-]*"
 OPEN, CLOSE = "([{⟨", ")]}⟩"

@@ -180,7 +180,7 @@ def definitions_in(crate, path):
     depth = 0
     for at, line in enumerate(lines):
         if line and not line.startswith((" ", "--")):
-            depth = 2 if re.match(r"(?:\w+ )?mutual$", line) else 0
+            depth = 2 if re.match(r"(?:\w+ )?mutual$|module _ ", line) else 0
         found = DEFINES.match(line)
         if found and len(found[1]) == depth and not line.startswith("pub mod"):
             yield Definition(crate, path.relative_to(top), found[2], comment_above(lines, at))

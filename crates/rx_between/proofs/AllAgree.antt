@@ -79,12 +79,7 @@ prompt_any s now then_ (Some k) is = is
 tells : (peer : Setup) (body : Body) → ((a : AckBody) → body ≡ bodies.Ack a → a.window ≡ Some (receiving_window peer))
     → TellsWindow peer body
 tells peer (bodies.Ack a) told = told a refl
-tells peer (bodies.Chunk payload) told = tt
-tells peer bodies.Busy told = tt
-tells peer (bodies.Abort code) told = tt
-tells peer bodies.AckAll told = tt
-tells peer (bodies.Challenge bytes) told = tt
-tells peer (bodies.Response bytes) told = tt
+tells peer _ told = tt
 
 -- what both windows let a sender give
 window_lets : (a b : Option CallRecord) (peer : Setup) → (sent_by a).acked ≤ used_of (received_by b)

@@ -152,11 +152,7 @@ module _ (s : Setup) (host : Host) (epoch : ℕ) (kind : s.kind ≡ Client host 
       by_life k lives.Calling is life are =
           absurd (none_later h c d legal
           (ap (is_call (λ k. is_live k.life)) is ∙ ap is_live life) there on higher)
-      by_life k lives.Waiting is life are = absurd are
-      by_life k lives.Accepted is life are = absurd are
-      by_life k lives.Finished is life are = absurd are
-      by_life k (lives.Broken code) is life are = absurd are
-      by_life k (lives.Over code) is life are = absurd are
+      by_life k _ is life are = absurd are
 
       of : (o : Option CallRecord) → call_at (looks s h) c ≡ o → AreClients o → is_some o ≡ true → HasEnded o
       of None is are known = absurd cc

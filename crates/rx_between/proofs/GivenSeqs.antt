@@ -166,12 +166,7 @@ module _ (s : Setup) (l : Looks) (e : Event) (c : CallName) (a b : CallLooks) wh
             ap (λ (k : CallLooks). k.received.kept) is
             ∙ ap (λ (ps : List Packet). packet_of m payload ∷ ps) (ap (λ (x : Ends). x.kept) (found-ends v.client a));
       })
-  keeps v m (bodies.Ack k) at judges is = rests a is refl
-  keeps v m bodies.AckAll at judges is = rests a is refl
-  keeps v m bodies.Busy at judges is = rests a is refl
-  keeps v m (bodies.Abort code) at judges is = rests a is refl
-  keeps v m (bodies.Challenge given) at judges is = rests a is refl
-  keeps v m (bodies.Response given) at judges is = rests a is refl
+  keeps v m _ at judges is = rests a is refl
 
   chunk_kept : (v : NodeView) (got : Took) (m : Message) (body : Body)
       → ((p : Packet) (ps : List Packet) → (after_packet got p (record a.received { kept = ps })).kept ≡ ps)

@@ -83,8 +83,8 @@ pub record IsNew (p : Packet) (r : Received) : Type 0 where
   pub below : is_above (last_seq r.kept) p.seq ≡ false
 
 pub record Fresh (a : Arrival) : Type 0 where
-  new : a.is_repeat ≡ false
-  below : a.is_clash ≡ false
+  pub new : a.is_repeat ≡ false
+  pub below : a.is_clash ≡ false
 
 pub fresh-arrival : (a : Arrival) → arrival_row a ≡ tooks.Kept → Fresh a
 fresh-arrival a is = of a.is_strange a.is_repeat a.is_beyond a.is_clash refl refl is
@@ -120,10 +120,7 @@ row_new v m (bodies.Chunk payload) k is =
     )
 row_new v m (bodies.Ack a) k is = absurd (two-rows (is_strange_ack a.first a.marks k.sent) is)
 row_new v m bodies.AckAll k is = absurd (other-rows (is_all_given k.sent) is)
-row_new v m bodies.Busy k is = absurd cc
-row_new v m (bodies.Abort code) k is = absurd cc
-row_new v m (bodies.Challenge bytes) k is = absurd cc
-row_new v m (bodies.Response bytes) k is = absurd cc
+row_new v m _ k is = absurd cc
 
 -- ---- a message
 

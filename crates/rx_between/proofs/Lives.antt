@@ -71,11 +71,7 @@ clients_on s l e c b x y step is =
     of : (f : Life → Life) → Onward f → (x : Life) → IsClients x → IsClients (f x)
     of f on lives.Calling is = on.calling
     of f on (lives.Ended end) is = subst IsClients (sym (on.ended end)) tt
-    of f on lives.Waiting is = absurd is
-    of f on lives.Accepted is = absurd is
-    of f on lives.Finished is = absurd is
-    of f on (lives.Broken code) is = absurd is
-    of f on (lives.Over code) is = absurd is
+    of f on _ is = absurd is
 
 -- and ended
 pub ended_on : (s : Setup) (l : Looks) (e : Event) (c : CallName) (b : CallLooks) (x y : Life) (end : End)
@@ -91,41 +87,18 @@ CodeLeaves f = (x : Life) → is_over_well (f x) → is_over_well x
 
 code_leaves : (code : ℤ) → CodeLeaves (after_code code)
 code_leaves code (lives.Over None) over = tt
-code_leaves code (lives.Over (Some told)) over = over
-code_leaves code lives.Calling over = over
-code_leaves code (lives.Ended end) over = over
-code_leaves code lives.Waiting over = over
-code_leaves code lives.Accepted over = over
-code_leaves code lives.Finished over = over
-code_leaves code (lives.Broken told) over = over
+code_leaves code _ over = over
 
 silence_leaves : (silence : ℕ) → CodeLeaves (after_silence silence)
 silence_leaves silence (lives.Over None) over = tt
-silence_leaves silence (lives.Over (Some told)) over = over
-silence_leaves silence lives.Calling over = over
-silence_leaves silence (lives.Ended end) over = over
-silence_leaves silence lives.Waiting over = over
-silence_leaves silence lives.Accepted over = over
-silence_leaves silence lives.Finished over = over
-silence_leaves silence (lives.Broken told) over = over
+silence_leaves silence _ over = over
 
 accept_leaves : CodeLeaves after_accept
-accept_leaves (lives.Over code) over = over
-accept_leaves lives.Calling over = over
-accept_leaves (lives.Ended end) over = over
 accept_leaves lives.Waiting over = absurd over
-accept_leaves lives.Accepted over = over
-accept_leaves lives.Finished over = over
-accept_leaves (lives.Broken told) over = over
+accept_leaves _ over = over
 
 finish_leaves : (fine : Bool) (code : ℤ) → CodeLeaves (after_finish fine code)
-finish_leaves true code (lives.Over told) over = over
-finish_leaves true code lives.Calling over = over
-finish_leaves true code (lives.Ended end) over = over
-finish_leaves true code lives.Waiting over = over
 finish_leaves true code lives.Accepted over = absurd over
-finish_leaves true code lives.Finished over = over
-finish_leaves true code (lives.Broken told) over = over
 finish_leaves false code (lives.Over told) over = over
 finish_leaves false code lives.Calling over = over
 finish_leaves false code (lives.Ended end) over = over
@@ -133,15 +106,11 @@ finish_leaves false code lives.Waiting over = over
 finish_leaves false code lives.Accepted over = absurd over
 finish_leaves false code lives.Finished over = over
 finish_leaves false code (lives.Broken told) over = over
+finish_leaves true code _ over = over
 
 gone_leaves : CodeLeaves after_gone
-gone_leaves (lives.Over code) over = over
-gone_leaves lives.Calling over = over
-gone_leaves (lives.Ended end) over = over
-gone_leaves lives.Waiting over = over
-gone_leaves lives.Accepted over = over
-gone_leaves lives.Finished over = over
 gone_leaves (lives.Broken told) over = absurd over
+gone_leaves _ over = over
 
 end_leaves : (end : Bool) → CodeLeaves (after_end end)
 end_leaves true lives.Calling over = absurd over
@@ -151,32 +120,16 @@ end_leaves true lives.Waiting over = over
 end_leaves true lives.Accepted over = over
 end_leaves true lives.Finished over = over
 end_leaves true (lives.Broken told) over = over
-end_leaves false lives.Calling over = over
-end_leaves false (lives.Over code) over = over
-end_leaves false (lives.Ended end) over = over
-end_leaves false lives.Waiting over = over
-end_leaves false lives.Accepted over = over
-end_leaves false lives.Finished over = over
-end_leaves false (lives.Broken told) over = over
+end_leaves false _ over = over
 
 cancel_leaves : (code : ℤ) → CodeLeaves (after_cancel code)
 cancel_leaves code lives.Calling over = absurd over
-cancel_leaves code (lives.Over told) over = over
-cancel_leaves code (lives.Ended end) over = over
-cancel_leaves code lives.Waiting over = over
-cancel_leaves code lives.Accepted over = over
-cancel_leaves code lives.Finished over = over
-cancel_leaves code (lives.Broken told) over = over
+cancel_leaves code _ over = over
 
 acks_leave : (all : Bool) (x : Life) → is_over_well (after_acks all x) → is_over_well x ⊎ (all ≡ true)
-acks_leave all lives.Calling over = inl over
-acks_leave all (lives.Over told) over = inl over
-acks_leave all (lives.Ended end) over = inl over
-acks_leave all lives.Waiting over = inl over
-acks_leave all lives.Accepted over = inl over
 acks_leave true lives.Finished over = inr refl
 acks_leave false lives.Finished over = absurd over
-acks_leave all (lives.Broken told) over = inl over
+acks_leave all _ over = inl over
 
 -- why a call is over with no code behind a step
 pub data OverBy (s : Setup) (l : Looks) (e : Event) (c : CallName) (b : CallLooks) (x : Life) : Type 0 where

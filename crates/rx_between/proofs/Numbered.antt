@@ -230,12 +230,7 @@ with_latest s tooks.Busy d m l all = own_dims l (taken_with s tooks.Busy d m l) 
 with_latest s tooks.NoRoom d m l all = own_dims l (taken_with s tooks.NoRoom d m l)
     (with_dims s tooks.NoRoom d m l refl) all
 with_latest s tooks.Over d m l all = own_dims l (taken_with s tooks.Over d m l) (with_dims s tooks.Over d m l refl) all
-with_latest s tooks.Full d m l all = all
-with_latest s tooks.Old d m l all = all
-with_latest s tooks.Unserved d m l all = all
-with_latest s tooks.Foreign d m l all = all
-with_latest s tooks.Strange d m l all = all
-with_latest s (tooks.Bad bad) d m l all = all
+with_latest s _ d m l all = all
 
 message_latest : (s : Setup) (from : Host) (reading : Result Message BadMsg) (got : Took) (l : Looks)
     → HaveLatest (taken_message s from reading got l) l
@@ -270,11 +265,7 @@ after_latest s l (events.Taken from bytes got) allowed all = message_latest s fr
 after_latest s l (events.Polled got) allowed all =
     own_dims l (after s (events.Polled got) l) (polled_dims s got l) all
 after_latest s l (events.Clocked now) allowed all = all
-after_latest s l (events.Linked to service first got) allowed all = absurd allowed
-after_latest s l (events.Called cid got) allowed all = absurd allowed
-after_latest s l (events.Shut c got) allowed all = absurd allowed
-after_latest s l (events.Ended c got) allowed all = absurd allowed
-after_latest s l (events.Cancelled c code got) allowed all = absurd allowed
+after_latest s l _ allowed all = absurd allowed
 
 -- at every moment
 have_latest : (s : Setup) (h : List Event) → IsServer s.kind → FitsSetup s → Legal s h

@@ -391,23 +391,18 @@ module _ (s : Setup) (host : Host) (epoch : ℕ) (kind : s.kind ≡ Client host 
   event-owes : (e : Event) → AllowedClient s host epoch l e → ((d : CallName) → Fine (call_at l d))
       → OwesBy l (after s e l) y
   event-owes (events.Linked to service first (Ok cid)) allowed fine = linked-owes s.kind to service first cid
-  event-owes (events.Linked to service first (Err full)) allowed fine = calm-owes l l y (calm_same y l l refl)
   event-owes (events.Called cid (Ok d)) allowed fine = calm-owes l _ y (calm_started s lives.Calling y d l)
-  event-owes (events.Called cid (Err refused)) allowed fine = calm-owes l l y (calm_same y l l refl)
   event-owes (events.Wrote d offered got bytes) allowed fine =
       let wrote : Looks = on_looks d (after_write bytes) l in
       calm-owes l wrote y (calm_same y l wrote refl)
   event-owes (events.Shut d (Ok done)) allowed fine =
       let shut : Looks = on_looks d after_shut l in
       calm-owes l shut y (calm_same y l shut refl)
-  event-owes (events.Shut d (Err closed)) allowed fine = calm-owes l l y (calm_same y l l refl)
   event-owes (events.HasRead d max (readers.Client got) bytes) allowed fine = read-owes l d max got bytes y allowed.1
   event-owes (events.HasRead d max (readers.Server got) bytes) allowed fine = absurd allowed
-  event-owes (events.Ended d got) allowed fine = calm-owes l l y (calm_same y l l refl)
   event-owes (events.Cancelled d code (Ok done)) allowed fine =
       let ended : Looks = on_life d (after_cancel code) l in
       calm-owes l _ y (calm_trans y l ended _ (calm_same y l ended refl) (calm_abort y d code ended))
-  event-owes (events.Cancelled d code (Err closed)) allowed fine = calm-owes l l y (calm_same y l l refl)
   event-owes (events.Taken from bytes got) allowed fine =
       message-owes from bytes got (reading_of bytes) refl fine allowed
   event-owes (events.Polled got) allowed fine = calm-owes l _ y (calm_polled s y got l)
@@ -416,6 +411,7 @@ module _ (s : Setup) (host : Host) (epoch : ℕ) (kind : s.kind ≡ Client host 
       calm-owes l later y (calm_same y l later refl)
   event-owes (events.Accepted got) allowed fine = absurd allowed
   event-owes (events.Finished d code got) allowed fine = absurd allowed
+  event-owes _ allowed fine = calm-owes l l y (calm_same y l l refl)
 
 -- ---- a history
 

@@ -233,12 +233,7 @@ calm_with s tooks.Busy y d m l other =
     calm_trans y l told _ (calm_same y l told refl) (calm-busy y d told)
 calm_with s tooks.NoRoom y d m l other = calm-busy y d l
 calm_with s tooks.Over y d m l other = absurd (other refl)
-calm_with s tooks.Full y d m l other = calm_same y l l refl
-calm_with s tooks.Old y d m l other = calm_same y l l refl
-calm_with s tooks.Unserved y d m l other = calm_same y l l refl
-calm_with s tooks.Foreign y d m l other = calm_same y l l refl
-calm_with s tooks.Strange y d m l other = calm_same y l l refl
-calm_with s (tooks.Bad bad) y d m l other = calm_same y l l refl
+calm_with s _ y d m l other = calm_same y l l refl
 
 -- a message that a row in front answers
 pub calm_turned : (y : Connection) (row : Took) (from : Host) (m : Message) (l : Looks)

@@ -96,11 +96,7 @@ own_live s l k m (bodies.Response bytes) got at own is =
     ∙ answered (is_right s l k.name bytes) (is_proved l (connection_of k.name)) got own is
 own_live s l k m (bodies.Challenge bytes) got at own is =
     ap (λ (b : Body). call_row (node_view s l) m b k.looks) at ∙ challenged_own _ got own is
-own_live s l k m (bodies.Chunk payload) got at own is = is
-own_live s l k m bodies.Busy got at own is = is
-own_live s l k m (bodies.Ack a) got at own is = is
-own_live s l k m (bodies.Abort code) got at own is = is
-own_live s l k m bodies.AckAll got at own is = is
+own_live s l k m _ got at own is = is
 
 -- a call that is looked for, with this row
 pub record RowOf (v : NodeView) (m : Message) (got : Took) (o : Option CallRecord) : Type 0 where

@@ -42,11 +42,7 @@ module _ (s : Setup) (h : List Event) (fits : FitsSetup s) (legal : Legal s h) (
   no_other : (body : Body) → IsSent body → IsOther body → ⊥
   no_other (bodies.Chunk payload) stream other = other
   no_other (bodies.Ack a) stream other = other
-  no_other (bodies.Abort code) stream other = stream
-  no_other bodies.Busy stream other = stream
-  no_other bodies.AckAll stream other = stream
-  no_other (bodies.Challenge given) stream other = stream
-  no_other (bodies.Response given) stream other = stream
+  no_other _ stream other = stream
 
   of_item : (p : GivesPlain s (looks s h) to bytes) → p.message ≡ m → (g : GivesItem s (looks s h) to p.message)
       → Says s (looks s h) m (named s to m)

@@ -87,12 +87,7 @@ AreClients (Some k) = IsClients k.life
 
 ended_life : (x : Life) (end : End) → end_of_life x ≡ Some end → x ≡ lives.Ended end
 ended_life (lives.Ended end) told is = (let same : end ≡ told = cc in ap lives.Ended same)
-ended_life lives.Calling end is = absurd cc
-ended_life lives.Waiting end is = absurd cc
-ended_life lives.Accepted end is = absurd cc
-ended_life lives.Finished end is = absurd cc
-ended_life (lives.Broken code) end is = absurd cc
-ended_life (lives.Over code) end is = absurd cc
+ended_life _ end is = absurd cc
 
 -- a call that ended stays so
 pub ended_stays : (s : Setup) (h : List Event) (e : Event) (c : CallName) → FitsSetup s → Legal s (e ∷ h)
@@ -130,20 +125,11 @@ clients_step s h e c fits legal calling are =
 read_ends : (x : Life) → IsClients x → (end : End) × (end_of_life (after_end true x) ≡ Some end)
 read_ends lives.Calling are = (ends.Ok, refl)
 read_ends (lives.Ended end) are = (end, refl)
-read_ends lives.Waiting are = absurd are
-read_ends lives.Accepted are = absurd are
-read_ends lives.Finished are = absurd are
-read_ends (lives.Broken code) are = absurd are
-read_ends (lives.Over code) are = absurd are
+read_ends _ are = absurd are
 
 rest_ends : (x : Life) (end : End) → end_of_life x ≡ Some end → end_of_life (after_end false x) ≡ Some end
 rest_ends (lives.Ended end) told is = is
-rest_ends lives.Calling end is = is
-rest_ends lives.Waiting end is = is
-rest_ends lives.Accepted end is = is
-rest_ends lives.Finished end is = is
-rest_ends (lives.Broken code) end is = is
-rest_ends (lives.Over code) end is = is
+rest_ends _ end is = is
 
 -- one that was read to its end has ended
 abbrev pub EndsRead : Option CallRecord → Type 0

@@ -133,10 +133,7 @@ sense_by s peer m a b given chunks acks all v client window = of m.body refl
         ack_makes_sense peer v m body k (received_by a) (acks body is)
         (subst (λ (t : Sent). AreGiven t (received_by a)) (sym (passed_sent s v.now b)) given)
     of bodies.AckAll is = ackall_makes_sense v m k (ap is_all_given (passed_sent s v.now b) ∙ all is)
-    of bodies.Busy is = tt
-    of (bodies.Abort code) is = tt
-    of (bodies.Challenge bytes) is = tt
-    of (bodies.Response bytes) is = tt
+    of _ is = tt
 
 -- ---- at both ends
 

@@ -43,103 +43,64 @@ use Rattle.rx_between.proofs.Owing.{calm_used, calm_with}
 abbrev pub serves : Life → Bool
 serves lives.Calling = false
 serves (lives.Ended end) = false
-serves lives.Waiting = true
-serves lives.Accepted = true
-serves lives.Finished = true
-serves (lives.Broken code) = true
-serves (lives.Over code) = true
+serves _ = true
 
 code-serves : (code : ℤ) (x : Life) → serves x ≡ true → serves (after_code code x) ≡ true
 code-serves code lives.Calling is = absurd cc
 code-serves code (lives.Ended end) is = absurd cc
-code-serves code lives.Waiting is = refl
-code-serves code lives.Accepted is = refl
-code-serves code lives.Finished is = refl
-code-serves code (lives.Broken before) is = refl
-code-serves code (lives.Over before) is = refl
+code-serves code _ is = refl
 
 silence-serves : (n : ℕ) (x : Life) → serves x ≡ true → serves (after_silence n x) ≡ true
 silence-serves n lives.Calling is = absurd cc
 silence-serves n (lives.Ended end) is = absurd cc
-silence-serves n lives.Waiting is = refl
-silence-serves n lives.Accepted is = refl
-silence-serves n lives.Finished is = refl
-silence-serves n (lives.Broken before) is = refl
-silence-serves n (lives.Over before) is = refl
+silence-serves n _ is = refl
 
 later-serves : (x : Life) → serves x ≡ true → serves (after_later x) ≡ true
 later-serves lives.Calling is = absurd cc
 later-serves (lives.Ended end) is = absurd cc
-later-serves lives.Waiting is = refl
-later-serves lives.Accepted is = refl
-later-serves lives.Finished is = refl
-later-serves (lives.Broken before) is = refl
-later-serves (lives.Over before) is = refl
+later-serves _ is = refl
 
 acks-serves : (all : Bool) (x : Life) → serves x ≡ true → serves (after_acks all x) ≡ true
 acks-serves all lives.Calling is = absurd cc
 acks-serves all (lives.Ended end) is = absurd cc
-acks-serves all lives.Waiting is = refl
-acks-serves all lives.Accepted is = refl
 acks-serves true lives.Finished is = refl
 acks-serves false lives.Finished is = refl
-acks-serves all (lives.Broken before) is = refl
-acks-serves all (lives.Over before) is = refl
+acks-serves all _ is = refl
 
 accept-serves : (x : Life) → serves x ≡ true → serves (after_accept x) ≡ true
 accept-serves lives.Calling is = absurd cc
 accept-serves (lives.Ended end) is = absurd cc
-accept-serves lives.Waiting is = refl
-accept-serves lives.Accepted is = refl
-accept-serves lives.Finished is = refl
-accept-serves (lives.Broken before) is = refl
-accept-serves (lives.Over before) is = refl
+accept-serves _ is = refl
 
 finish-serves : (fine : Bool) (code : ℤ) (x : Life) → serves x ≡ true → serves (after_finish fine code x) ≡ true
 finish-serves fine code lives.Calling is = absurd cc
 finish-serves fine code (lives.Ended end) is = absurd cc
-finish-serves true code lives.Waiting is = refl
 finish-serves false code lives.Waiting is = refl
-finish-serves true code lives.Accepted is = refl
 finish-serves false code lives.Accepted is = refl
-finish-serves true code lives.Finished is = refl
 finish-serves false code lives.Finished is = refl
-finish-serves true code (lives.Broken before) is = refl
 finish-serves false code (lives.Broken before) is = refl
-finish-serves true code (lives.Over before) is = refl
 finish-serves false code (lives.Over before) is = refl
+finish-serves true code _ is = refl
 
 gone-serves : (x : Life) → serves x ≡ true → serves (after_gone x) ≡ true
 gone-serves lives.Calling is = absurd cc
 gone-serves (lives.Ended end) is = absurd cc
-gone-serves lives.Waiting is = refl
-gone-serves lives.Accepted is = refl
-gone-serves lives.Finished is = refl
-gone-serves (lives.Broken before) is = refl
-gone-serves (lives.Over before) is = refl
+gone-serves _ is = refl
 
 end-serves : (end : Bool) (x : Life) → serves x ≡ true → serves (after_end end x) ≡ true
 end-serves end lives.Calling is = absurd cc
 end-serves end (lives.Ended how) is = absurd cc
-end-serves true lives.Waiting is = refl
 end-serves false lives.Waiting is = refl
-end-serves true lives.Accepted is = refl
 end-serves false lives.Accepted is = refl
-end-serves true lives.Finished is = refl
 end-serves false lives.Finished is = refl
-end-serves true (lives.Broken before) is = refl
 end-serves false (lives.Broken before) is = refl
-end-serves true (lives.Over before) is = refl
 end-serves false (lives.Over before) is = refl
+end-serves true _ is = refl
 
 cancel-serves : (code : ℤ) (x : Life) → serves x ≡ true → serves (after_cancel code x) ≡ true
 cancel-serves code lives.Calling is = absurd cc
 cancel-serves code (lives.Ended end) is = absurd cc
-cancel-serves code lives.Waiting is = refl
-cancel-serves code lives.Accepted is = refl
-cancel-serves code lives.Finished is = refl
-cancel-serves code (lives.Broken before) is = refl
-cancel-serves code (lives.Over before) is = refl
+cancel-serves code _ is = refl
 
 serves-to : (x y z : Life) → y ≡ z → serves z ≡ true → serves y ≡ true
 serves-to x y z is serving = ap serves is ∙ serving
@@ -191,25 +152,12 @@ all_serve s (e ∷ h) c server fits legal =
 -- ---- what its channels owe
 
 not-ok : (x : Life) → serves x ≡ true → is_ok_end x ≡ false
-not-ok lives.Calling is = refl
 not-ok (lives.Ended ends.Ok) is = absurd cc
-not-ok (lives.Ended (ends.Abort code)) is = refl
-not-ok (lives.Ended (ends.Dead n)) is = refl
-not-ok (lives.Ended (ends.Cancelled code)) is = refl
-not-ok lives.Waiting is = refl
-not-ok lives.Accepted is = refl
-not-ok lives.Finished is = refl
-not-ok (lives.Broken code) is = refl
-not-ok (lives.Over code) is = refl
+not-ok _ is = refl
 
 not-calling : (x : Life) → serves x ≡ true → is_calling x ≡ false
 not-calling lives.Calling is = absurd cc
-not-calling (lives.Ended end) is = refl
-not-calling lives.Waiting is = refl
-not-calling lives.Accepted is = refl
-not-calling lives.Finished is = refl
-not-calling (lives.Broken code) is = refl
-not-calling (lives.Over code) is = refl
+not-calling _ is = refl
 
 call-rests : (o : Option CallRecord) → ServedBy o → is_call (λ k. is_calling k.life) o ≡ false
 call-rests None serving = refl
@@ -313,11 +261,7 @@ module _ (s : Setup) (l : Looks) (y : Connection) (serving : (c : CallName) → 
     event-free (events.Taken from bytes got) allowed = message-free from got (reading_of bytes)
     event-free (events.Polled got) allowed = (calm_polled s y got l).none free
     event-free (events.Clocked now) allowed = free
-    event-free (events.Linked to service first got) allowed = absurd allowed
-    event-free (events.Called cid got) allowed = absurd allowed
-    event-free (events.Shut d got) allowed = absurd allowed
-    event-free (events.Ended d got) allowed = absurd allowed
-    event-free (events.Cancelled d code got) allowed = absurd allowed
+    event-free _ allowed = absurd allowed
 
 -- no connection of a server owes one
 pub serves_owe : (s : Setup) (h : List Event) (y : Connection) → IsServer s.kind → FitsSetup s → Legal s h

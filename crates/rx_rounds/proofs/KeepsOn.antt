@@ -145,17 +145,7 @@ module _ (nodes : List Node) (client server : Node) (c : CallName) (there : slic
       (contains-in (record { from = from; to = server.host; bytes = bytes }) (bag nodes h) contains.0 contains.1
       contains.2))
       reads chunk.1 front)
-  enters_only h (events.Linked a b f got) legal only allowed contains = tt
-  enters_only h (events.Called cid got) legal only allowed contains = tt
-  enters_only h (events.Wrote d offered got bytes) legal only allowed contains = tt
-  enters_only h (events.Shut d got) legal only allowed contains = tt
-  enters_only h (events.HasRead d max got bytes) legal only allowed contains = tt
-  enters_only h (events.Ended d got) legal only allowed contains = tt
-  enters_only h (events.Cancelled d code got) legal only allowed contains = tt
-  enters_only h (events.Accepted got) legal only allowed contains = tt
-  enters_only h (events.Finished d code got) legal only allowed contains = tt
-  enters_only h (events.Polled got) legal only allowed contains = tt
-  enters_only h (events.Clocked now) legal only allowed contains = tt
+  enters_only h _ legal only allowed contains = tt
 
   legal_then : (e : Noted) (h : List Noted) → AreLegal (e ∷ h) → AreLegal h
   legal_then e h legal j n is = legal-before n.setup (e.node == j) e.event (side j h) (legal j n is)

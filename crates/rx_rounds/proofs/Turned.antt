@@ -159,18 +159,7 @@ module _ (x : Ends) (lc : Looks) (c : CallName) where
       ∙ ap (λ (r : Result ℕ NotOpen). events.Wrote c (length block) (writers.Client r) (take (written_count r) block))
       (allowed.0 ∙ ap (λ (n : CallName). client_write (client_setup x) lc (own_call lc n) offered) is.0
       ∙ ap (λ (k : ℕ). client_write (client_setup x) lc (own_call lc c) k) is.1)
-  offers_is block (events.Wrote d offered (writers.Server got) bytes) is allowed = absurd is
-  offers_is block (events.Polled got) is allowed = absurd is
-  offers_is block (events.Linked a b e d) is allowed = absurd is
-  offers_is block (events.Called a b) is allowed = absurd is
-  offers_is block (events.Shut a b) is allowed = absurd is
-  offers_is block (events.HasRead a b e d) is allowed = absurd is
-  offers_is block (events.Ended a b) is allowed = absurd is
-  offers_is block (events.Cancelled a b e) is allowed = absurd is
-  offers_is block (events.Accepted a) is allowed = absurd is
-  offers_is block (events.Finished a b e) is allowed = absurd is
-  offers_is block (events.Taken a b e) is allowed = absurd is
-  offers_is block (events.Clocked a) is allowed = absurd is
+  offers_is block _ is allowed = absurd is
 
   abbrev pub shut_event : Event
   shut_event = events.Shut c (done_where (is_call can_say (own_call lc c)))
@@ -180,17 +169,7 @@ module _ (x : Ends) (lc : Looks) (c : CallName) where
       ap (λ (n : CallName). events.Shut n got) is
       ∙ ap (λ (r : Result (Unit {0}) NotOpen). events.Shut c r)
       (allowed ∙ ap (λ (n : CallName). done_where (is_call can_say (own_call lc n))) is)
-  shuts_is (events.Wrote a b e d) is allowed = absurd is
-  shuts_is (events.Polled got) is allowed = absurd is
-  shuts_is (events.Linked a b e d) is allowed = absurd is
-  shuts_is (events.Called a b) is allowed = absurd is
-  shuts_is (events.HasRead a b e d) is allowed = absurd is
-  shuts_is (events.Ended a b) is allowed = absurd is
-  shuts_is (events.Cancelled a b e) is allowed = absurd is
-  shuts_is (events.Accepted a) is allowed = absurd is
-  shuts_is (events.Finished a b e) is allowed = absurd is
-  shuts_is (events.Taken a b e) is allowed = absurd is
-  shuts_is (events.Clocked a) is allowed = absurd is
+  shuts_is _ is allowed = absurd is
 
   abbrev pub read_event : ℕ → Event
   read_event max = events.HasRead c max (readers.Client (client_read (own_call lc c) max).0)
@@ -203,18 +182,7 @@ module _ (x : Ends) (lc : Looks) (c : CallName) where
       ∙ ap (λ (r : ReadAns × List ℕ). events.HasRead c max (readers.Client r.0) r.1)
       (allowed.1 ∙ ap (λ (n : CallName). client_read (own_call lc n) most) is.0
       ∙ ap (λ (k : ℕ). client_read (own_call lc c) k) is.1)
-  reads_is max (events.HasRead d most (readers.Server got) bytes) is allowed = absurd is
-  reads_is max (events.Wrote a b e d) is allowed = absurd is
-  reads_is max (events.Shut a b) is allowed = absurd is
-  reads_is max (events.Polled got) is allowed = absurd is
-  reads_is max (events.Linked a b e d) is allowed = absurd is
-  reads_is max (events.Called a b) is allowed = absurd is
-  reads_is max (events.Ended a b) is allowed = absurd is
-  reads_is max (events.Cancelled a b e) is allowed = absurd is
-  reads_is max (events.Accepted a) is allowed = absurd is
-  reads_is max (events.Finished a b e) is allowed = absurd is
-  reads_is max (events.Taken a b e) is allowed = absurd is
-  reads_is max (events.Clocked a) is allowed = absurd is
+  reads_is max _ is allowed = absurd is
 
 module _ (x : Ends) (limit : ℕ) (ls lc : Looks) (cs : List InvokedState) (js : List JobState) (v w : CallerState)
     (s t : Stage) (c : CallName) where

@@ -94,17 +94,7 @@ at_client x ls lc cs js s is e two allowed = (
 -- a poll is of what the rules give
 pub polled_is : (e : Event) → IsPolled e → (got : Option (Host × List ℕ)) × (e ≡ events.Polled got)
 polled_is (events.Polled got) is = (got, refl)
-polled_is (events.Linked a b c d) is = absurd is
-polled_is (events.Called a b) is = absurd is
-polled_is (events.Wrote a b c d) is = absurd is
-polled_is (events.Shut a b) is = absurd is
-polled_is (events.HasRead a b c d) is = absurd is
-polled_is (events.Ended a b) is = absurd is
-polled_is (events.Cancelled a b c) is = absurd is
-polled_is (events.Accepted a) is = absurd is
-polled_is (events.Finished a b c) is = absurd is
-polled_is (events.Taken a b c) is = absurd is
-polled_is (events.Clocked a) is = absurd is
+polled_is _ is = absurd is
 
 pub server_polled : (x : Ends) (ls lc : Looks) (cs : List InvokedState) (js : List JobState) (s : Stage) (e : Event)
     → Two x ls lc cs js s → IsAllowedNext s 0 IsPolled e → e ≡ events.Polled (poll_answer (server_setup x) ls)

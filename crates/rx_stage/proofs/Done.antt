@@ -1,13 +1,13 @@
 -- Callers that are done: their turns make nothing, so a run that leaves them out is one of all.
 use Rattle.std.proofs.Common.{◌≡◌, ◌<◌, ◌∙◌, ℕ, zero, suc, Bool, true, false, List, [], ◌∷◌, ◌++◌, not, cond}
-use Rattle.std.proofs.Common.{Option, Some, None, refl, inl, inr, sym, subst, ap, set, arith, length}
+use Rattle.std.proofs.Common.{Option, Some, None, refl, inl, inr, sym, subst, ap, set, arith, length, option_map}
 use Rattle.std.proofs.Common.{filter}
 use Rattle.std.specs.List.{All}
-use Rattle.std.specs.Prelude.{if◌then◌else◌, is_some, slice_get}
+use Rattle.std.specs.Prelude.{if◌then◌else◌, is_some, nat_lt, slice_get}
 use Rattle.std.proofs.lemmas.List.{length-append}
 use Rattle.std.proofs.lemmas.List.Elements.{All-nil, All-cons, All-head, All-tail, All-push, All-weaker}
 use Rattle.rx_model.specs.declared.event.Noted.{Noted}
-use Rattle.rx_asks.specs.Asks.{begun as caller_begun, calling, done_at, is_done}
+use Rattle.rx_asks.specs.Asks.{asking, begun as caller_begun, calling, done_at, is_done, next_at}
 use Rattle.rx_asks.specs.declared.ask.Ask.TheVariants as asks
 use Rattle.rx_asks.specs.declared.ask.Phase.{Phase}
 use Rattle.rx_asks.specs.declared.ask.Phase.TheVariants as phases
@@ -22,10 +22,17 @@ use Rattle.rx_plan.specs.Programs.{Turn, cut_there, goes, is_endless, is_over}
 use Rattle.rx_plan.specs.Stages.{InvokedState, Stage, is_client}
 use Rattle.rx_plan.specs.Turned.{is_of, turns_at, turns_for, turns_of, turns_where}
 use Rattle.rx_plan.proofs.Callers.{one_is}
-use Rattle.rx_drive.proofs.Calling.{done_ended, ended_asks}
 use Rattle.rx_stage.proofs.Ordering.{below_one}
 
 -- ---- one caller
+
+pub done_ended : (v : CallerState) → is_done v ≡ true → is_some v.end ≡ true
+done_ended v is = by v.phase is
+  where
+    by : (p : Phase) → done_at p (is_some v.end) ≡ true → is_some v.end ≡ true
+    by phases.Offering is = is
+    by phases.Reading is = absurd cc
+    by phases.Resting is = absurd cc
 
 -- it begins a turn as it was
 pub begun_done : (v : CallerState) → is_done v ≡ true → caller_begun v ≡ v
@@ -35,6 +42,12 @@ begun_done v is = by v.phase refl is
     by phases.Offering here is = ap (λ p. record v { phase = p }) (sym here)
     by phases.Reading here is = absurd cc
     by phases.Resting here is = absurd cc
+
+-- one that ended asks nothing
+pub ended_asks : (v : CallerState) → is_some v.end ≡ true → (calling REPLY_BYTES).asks v ≡ None
+ended_asks v is =
+    ap (λ b. option_map (asking v) (if b then None else if nat_lt REPLY_BYTES (length v.reply) then Some asks.Cancel
+    else next_at v.phase v)) is
 
 -- a turn that is over at once leaves what was known
 abbrev Leaves : {View : Type 0} → View → Came (View × Stage) → Type 0

@@ -54,7 +54,19 @@ pub fn run<O: Sink, J: Journal>(
         (told (J.told book.old) (O.told out.old) (O.faults out.old))
         (told (J.told book.new) (O.told out.new) (O.faults out.new)) }
 {
-    outcome_of(run_lines(alloc, iface, script, &plan.lines, out, book))
+    match plan.lines.split_first() {
+        None => Outcome::Ran,
+        Some((first, rest)) => outcome_of(run_lines(
+            alloc,
+            iface,
+            script,
+            &plan.lines,
+            first,
+            rest,
+            out,
+            book,
+        )),
+    }
 }
 
 /// How a run ended.
@@ -67,23 +79,23 @@ fn outcome_of(ran: Result<(), Outcome>) -> Outcome
     }
 }
 
-/// The run of a plan with these lines.
+/// The run of a plan whose first line is this one.
 fn run_lines<O: Sink, J: Journal>(
     alloc: Global,
     iface: &Interface,
     script: Script,
     plan: &[Numbered],
+    first: &Numbered,
+    rest: &[Numbered],
     out: &mut O,
     book: &mut J,
 ) -> Result<(), Outcome>
-    requires { All (λ n. IsWell (handlers_of iface.now (blocks_of script.blocks.items)) n.what) plan.now }
+    requires whole { plan.now ≡ first.now ∷ rest.now }
+    requires well { All (λ n. IsWell (handlers_of iface.now (blocks_of script.blocks.items)) n.what) rest.now }
     ensures { RunIs (handlers_of iface.now (blocks_of script.blocks.items)) plan.now (outcome_of result)
         (told (J.told book.old) (O.told out.old) (O.faults out.old))
         (told (J.told book.new) (O.told out.new) (O.faults out.new)) }
 {
-    let Some((first, rest)) = plan.split_first() else {
-        return Ok(());
-    };
     match begin(alloc, script, &first.what) {
         Ok(run) => run.on(iface, plan, rest, out, book),
         Err(stop) => Err(ended(first.line, stop)),

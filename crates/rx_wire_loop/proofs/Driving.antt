@@ -40,7 +40,7 @@ module _ (request : List ℕ) where
   New name = Driven (caller_for name request)
 
   begun_on : (cid : ℕ) → Brings (begins_on cid) Any New
-  begun_on cid = brings_one (λ name. events.Called cid (Ok name)) Any New (λ name h any. starts 1 cid name h)
+  begun_on cid = brings_one (λ name. events.Called cid (Ok name)) Any New (λ name h any. starts cid name h)
 
   begun_to : (to : Host) (service : ℕ) → Brings (begins_to to service) Any New
   begun_to to service =

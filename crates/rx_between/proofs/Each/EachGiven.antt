@@ -173,11 +173,7 @@ module _ (s : Setup) (l : Looks) (c : CallName) where
             (λ x k seq body. gave_piece x k payload at seq body)
         of (bodies.Ack a) at =
             given_own (after_ack_given l.now) (subst IsSent (sym at) tt) (λ x k seq body. gave_ack x k a at body)
-        of (bodies.Abort code) at = step_silenced (Some (to, bytes))
-        of bodies.Busy at = step_silenced (Some (to, bytes))
-        of (bodies.Challenge given) at = step_silenced (Some (to, bytes))
-        of (bodies.Response given) at = step_silenced (Some (to, bytes))
-        of bodies.AckAll at = step_silenced (Some (to, bytes))
+        of _ at = step_silenced (Some (to, bytes))
 
   pub step_polled : (got : Option (Host × List ℕ))
       → ((to : Host) (bytes : List ℕ) (m : Message) → got ≡ Some (to, bytes) → reading_of bytes ≡ Ok m

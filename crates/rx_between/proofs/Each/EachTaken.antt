@@ -285,11 +285,7 @@ module _ (s : Setup) (l : Looks) (c : CallName) where
             (challenged s d (on_call d settled (taken_at s tooks.Heard d m r)))
             (challenged-calls s d (on_call d settled (taken_at s tooks.Heard d m r))))) settles
         of bodies.AckAll = settles
-        of (bodies.Response given) = plain
-        of (bodies.Challenge given) = plain
-        of (bodies.Chunk payload) = plain
-        of bodies.Busy = plain
-        of (bodies.Abort code) = plain
+        of _ = plain
 
     -- a code reaches it, or all of its connection
     stopped : CallStep s l (taken tooks.Stopped) c (call_at (ready tooks.Stopped) c)
@@ -365,11 +361,7 @@ module _ (s : Setup) (l : Looks) (c : CallName) where
             by false some = one code tells
         of (bodies.Response given) at =
             one RX_PROTOCOL_ERROR (subst (λ (b : Body). TellsCode b RX_PROTOCOL_ERROR) (sym at) refl)
-        of (bodies.Chunk payload) at = step_stays s l c (taken tooks.Stopped) (call_at r c)
-        of bodies.Busy at = step_stays s l c (taken tooks.Stopped) (call_at r c)
-        of (bodies.Ack a) at = step_stays s l c (taken tooks.Stopped) (call_at r c)
-        of bodies.AckAll at = step_stays s l c (taken tooks.Stopped) (call_at r c)
-        of (bodies.Challenge given) at = step_stays s l c (taken tooks.Stopped) (call_at r c)
+        of _ at = step_stays s l c (taken tooks.Stopped) (call_at r c)
 
     -- its channel's call breaks
     busy : CallStep s l (taken tooks.Busy) c (call_at (ready tooks.Busy) c)

@@ -193,11 +193,7 @@ module _ (s : Setup) (host : Host) (epoch : ℕ) (kind : s.kind ≡ Client host 
       lived lives.Calling called ended living = refl
       lived (lives.Ended end) called ended living =
           absurd (let never : lives.Ended end ≡ lives.Calling = sym (ended end refl) ∙ living in cc)
-      lived lives.Waiting called ended living = absurd called
-      lived lives.Accepted called ended living = absurd called
-      lived lives.Finished called ended living = absurd called
-      lived (lives.Broken code) called ended living = absurd called
-      lived (lives.Over code) called ended living = absurd called
+      lived _ called ended living = absurd called
 
   -- along a history that it drives
   pub holds_driven : (request : List ℕ) (v : CallerState) (h : List Event) → Legal s h → Drives REPLY_BYTES request v h

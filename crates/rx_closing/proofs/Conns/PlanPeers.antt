@@ -240,18 +240,10 @@ module _ (g : Handlers) where
   line_links place (lines.Client host epoch limits key) s driven so = refused_lead causes.Late
   line_links place (lines.Connect client first) s driven so =
       found_lead causes.NoNode (connects first) (client_at client s) s (λ k there. connect_lead first k s so)
-  line_links place (lines.Call client cid) s driven so = absurd driven
-  line_links place (lines.Write call bytes) s driven so = absurd driven
-  line_links place (lines.Shut call) s driven so = absurd driven
-  line_links place (lines.Read call max) s driven so = absurd driven
   line_links place (lines.Ask call) s driven so =
       at_call_lead call (λ c. IsAsked c.name) s (λ c. un_asked c.name) so
   line_links place (lines.Cancel call code) s driven so =
       at_call_lead call (λ c. IsCancelled c.name code) s (λ c. un_cancelled c.name code) so
-  line_links place lines.Accept s driven so = absurd driven
-  line_links place (lines.HandlerRead call max) s driven so = absurd driven
-  line_links place (lines.HandlerWrite call bytes) s driven so = absurd driven
-  line_links place (lines.Finish call code) s driven so = absurd driven
   line_links place (lines.Poll node) s driven so =
       found_lead causes.NoNode polls_line (node_at node s) s
       (λ k there.
@@ -262,7 +254,6 @@ module _ (g : Handlers) where
       found_lead causes.NoPacket delivers (numbered s.packets packet) s
       (λ d there. deliver_lead g Linked tame_step d s so)
   line_links place (lines.Jumbo first last) s driven so = jumbo_lead first last s so
-  line_links place (lines.Forge node host bytes) s driven so = absurd driven
   line_links place (lines.Clock None now) s driven so = clocks_lead now s so
   line_links place (lines.Clock (Some node) now) s driven so =
       found_lead causes.NoNode (clocks now) (node_at node s) s (λ k there. clock_lead now k s so)
@@ -272,3 +263,4 @@ module _ (g : Handlers) where
       found_lead causes.NoNode (turn_line g) (node_at node s) s (λ k there. turn_line_lead g Linked tame_step k s so)
   line_links place (lines.Rounds n) s driven so = rounds_link n s so
   line_links place (lines.Lossy number n) s driven so = lossies_lead n _ so
+  line_links place _ s driven so = absurd driven

@@ -149,12 +149,7 @@ fit-chunk now v got m (bodies.Chunk payload) k early sense fit =
     (plain_for got now v.now (found v.client k).cwnd.prompt (has_hole (found v.client k).received) m
     (front_of (found v.client k).received.kept) (found v.client k).owed_ack early
     (fit_owed now (found v.client k) before)) before)
-fit-chunk now v got m (bodies.Ack a) k early sense fit = fit
-fit-chunk now v got m bodies.AckAll k early sense fit = fit
-fit-chunk now v got m bodies.Busy k early sense fit = fit
-fit-chunk now v got m (bodies.Abort code) k early sense fit = fit
-fit-chunk now v got m (bodies.Challenge bytes) k early sense fit = fit
-fit-chunk now v got m (bodies.Response bytes) k early sense fit = fit
+fit-chunk now v got m _ k early sense fit = fit
 
 -- what an acknowledgement that isn't strange leaves of a stream
 record FitSent (before s : Sent) : Type 0 where
@@ -222,14 +217,10 @@ two-rows false sense = absurd sense
 
 fit-body : (now : ℕ) (v : NodeView) (m : Message) (body : Body) (k : CallLooks) → NotStrange (call_row v m body k)
     → IsFit now k → IsFit now (after_body v.now m body k)
-fit-body now v m (bodies.Chunk payload) k sense fit = fit
 fit-body now v m (bodies.Ack a) k sense fit =
     fit-heard now v.now m a k (not-strange (is_strange_ack a.first a.marks k.sent) tooks.Heard sense) fit
 fit-body now v m bodies.AckAll k sense fit = fit-all now k (two-rows (is_all_given k.sent) sense) fit
-fit-body now v m bodies.Busy k sense fit = fit
-fit-body now v m (bodies.Abort code) k sense fit = fit
-fit-body now v m (bodies.Challenge bytes) k sense fit = fit
-fit-body now v m (bodies.Response bytes) k sense fit = fit
+fit-body now v m _ k sense fit = fit
 
 -- a message that was judged
 pub fit_taken : (now : ℕ) (v : NodeView) (got : Took) (m : Message) (k : CallLooks) → v.now ≤ now

@@ -82,17 +82,7 @@ step-fit s l e c (Some a) (Some b) fits steady (inr starts) fit = starts-fit s l
 clock-later : (kind : Kind) (s : Setup) (l : Looks) (e : Event) → AllowedAt kind s l e → l.now ≤ with_clock e l.now
 clock-later (Server service nonces) s l (events.Clocked n) may = may.0
 clock-later (Client host epoch) s l (events.Clocked n) may = may.0
-clock-later kind s l (events.Linked to service first got) may = omega arith
-clock-later kind s l (events.Called cid got) may = omega arith
-clock-later kind s l (events.Wrote d offered got bytes) may = omega arith
-clock-later kind s l (events.Shut d got) may = omega arith
-clock-later kind s l (events.HasRead d max got bytes) may = omega arith
-clock-later kind s l (events.Ended d got) may = omega arith
-clock-later kind s l (events.Cancelled d code got) may = omega arith
-clock-later kind s l (events.Accepted got) may = omega arith
-clock-later kind s l (events.Finished d code got) may = omega arith
-clock-later kind s l (events.Taken from bytes got) may = omega arith
-clock-later kind s l (events.Polled got) may = omega arith
+clock-later kind s l _ may = omega arith
 
 later-fit : (now later : ℕ) (o : Option CallRecord) → now ≤ later → IfSome o (λ k. IsFit now k.looks)
     → IfSome o (λ k. IsFit later k.looks)

@@ -95,12 +95,7 @@ chunk_last v m (bodies.Chunk payload) k row one =
     subst (λ (ps : List Packet). OneLast (p ∷ ps)) (sym (found_kept v.client k))
     (last_more p k.received.kept
     (neither (nat_le p.seq (used_of k.received)) (is_some (packet_at k.received.kept p.seq)) new).1 fine one)
-chunk_last v m (bodies.Ack a) k row one = one
-chunk_last v m bodies.AckAll k row one = one
-chunk_last v m bodies.Busy k row one = one
-chunk_last v m (bodies.Abort code) k row one = one
-chunk_last v m (bodies.Challenge bytes) k row one = one
-chunk_last v m (bodies.Response bytes) k row one = one
+chunk_last v m _ k row one = one
 
 -- data that isn't kept
 abbrev SameKept : Took → NodeView → Message → Body → CallLooks → Type 0

@@ -280,13 +280,10 @@ common_alone c (j ∷ ks) r differ alone there =
         omega arith
 
 pub active_lives : (x : Life) → is_active x ≡ true → is_live x ≡ true
-active_lives lives.Calling is = refl
-active_lives lives.Waiting is = refl
-active_lives lives.Accepted is = refl
-active_lives lives.Finished is = refl
 active_lives (lives.Ended end) is = absurd cc
 active_lives (lives.Broken code) is = absurd cc
 active_lives (lives.Over code) is = absurd cc
+active_lives _ is = refl
 
 -- where no other call lives, the slots in common are the call's own
 pub common_lone : (s : Setup) (l : Looks) (c : CallName) (r : CallRecord) → RoomyAt s l

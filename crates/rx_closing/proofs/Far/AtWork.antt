@@ -77,22 +77,16 @@ ends_of c k client server v w =
 
 -- what works is of low rank, and what doesn't of high
 active_low : (x : Life) → is_active x ≡ true → rank_of x ≤ 2
-active_low lives.Calling is = omega arith
 active_low (lives.Ended end) is = absurd cc
-active_low lives.Waiting is = omega arith
-active_low lives.Accepted is = omega arith
-active_low lives.Finished is = omega arith
 active_low (lives.Broken code) is = absurd cc
 active_low (lives.Over code) is = absurd cc
+active_low _ is = omega arith
 
 idle_high : (x : Life) → is_active x ≡ false → 3 ≤ rank_of x
-idle_high lives.Calling is = absurd cc
 idle_high (lives.Ended end) is = omega arith
-idle_high lives.Waiting is = absurd cc
-idle_high lives.Accepted is = absurd cc
-idle_high lives.Finished is = absurd cc
 idle_high (lives.Broken code) is = omega arith
 idle_high (lives.Over code) is = omega arith
+idle_high _ is = absurd cc
 
 -- a life that works worked before
 pub worked_before : (x y : Life) → GoesOn x y → is_active y ≡ true → is_active x ≡ true

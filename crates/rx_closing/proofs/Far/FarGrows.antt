@@ -72,96 +72,57 @@ code_rises code lives.Calling = past lives.Calling (lives.Ended (ends.Abort code
 code_rises code lives.Waiting = past lives.Waiting (lives.Over (Some code)) (omega arith) refl
 code_rises code lives.Accepted = inr (record { rank = omega arith; handled = λ is. refl })
 code_rises code lives.Finished = past lives.Finished (lives.Over (Some code)) (omega arith) refl
-code_rises code (lives.Ended end) = inl refl
-code_rises code (lives.Broken before) = inl refl
-code_rises code (lives.Over before) = inl refl
+code_rises code _ = inl refl
 
 silence_rises : (silence : ℕ) → Rises (after_silence silence)
 silence_rises silence lives.Calling = past lives.Calling (lives.Ended (ends.Dead silence)) (omega arith) refl
 silence_rises silence lives.Waiting = past lives.Waiting (lives.Over (Some RX_CALL_DEAD)) (omega arith) refl
 silence_rises silence lives.Accepted = inr (record { rank = omega arith; handled = λ is. refl })
 silence_rises silence lives.Finished = past lives.Finished (lives.Over (Some RX_CALL_DEAD)) (omega arith) refl
-silence_rises silence (lives.Ended end) = inl refl
-silence_rises silence (lives.Broken before) = inl refl
-silence_rises silence (lives.Over before) = inl refl
+silence_rises silence _ = inl refl
 
 later_rises : Rises after_later
 later_rises lives.Waiting = past lives.Waiting (lives.Over (Some RX_CALL_DEAD)) (omega arith) refl
 later_rises lives.Finished = past lives.Finished (lives.Over None) (omega arith) refl
-later_rises lives.Calling = inl refl
-later_rises lives.Accepted = inl refl
-later_rises (lives.Ended end) = inl refl
-later_rises (lives.Broken before) = inl refl
-later_rises (lives.Over before) = inl refl
+later_rises _ = inl refl
 
 acks_rise : (all : Bool) → Rises (after_acks all)
 acks_rise true lives.Finished = past lives.Finished (lives.Over None) (omega arith) refl
 acks_rise false lives.Finished = inl refl
-acks_rise all lives.Waiting = inl refl
-acks_rise all lives.Calling = inl refl
-acks_rise all lives.Accepted = inl refl
-acks_rise all (lives.Ended end) = inl refl
-acks_rise all (lives.Broken before) = inl refl
-acks_rise all (lives.Over before) = inl refl
+acks_rise all _ = inl refl
 
 accept_rises : Rises after_accept
 accept_rises lives.Waiting = inr (record { rank = omega arith; handled = λ is. refl })
-accept_rises lives.Finished = inl refl
-accept_rises lives.Calling = inl refl
-accept_rises lives.Accepted = inl refl
-accept_rises (lives.Ended end) = inl refl
-accept_rises (lives.Broken before) = inl refl
-accept_rises (lives.Over before) = inl refl
+accept_rises _ = inl refl
 
 finish_rises : (fine : Bool) (code : ℤ) → Rises (after_finish fine code)
 finish_rises true code lives.Accepted = past lives.Accepted lives.Finished (omega arith) refl
 finish_rises false code lives.Accepted = past lives.Accepted (lives.Over (Some code)) (omega arith) refl
-finish_rises true code lives.Waiting = inl refl
 finish_rises false code lives.Waiting = inl refl
-finish_rises true code lives.Finished = inl refl
 finish_rises false code lives.Finished = inl refl
-finish_rises true code lives.Calling = inl refl
 finish_rises false code lives.Calling = inl refl
-finish_rises true code (lives.Ended end) = inl refl
 finish_rises false code (lives.Ended end) = inl refl
-finish_rises true code (lives.Broken before) = inl refl
 finish_rises false code (lives.Broken before) = inl refl
-finish_rises true code (lives.Over before) = inl refl
 finish_rises false code (lives.Over before) = inl refl
+finish_rises true code _ = inl refl
 
 gone_rises : Rises after_gone
 gone_rises (lives.Broken before) = past (lives.Broken before) (lives.Over (Some before)) (omega arith) refl
-gone_rises lives.Waiting = inl refl
-gone_rises lives.Finished = inl refl
-gone_rises lives.Calling = inl refl
-gone_rises lives.Accepted = inl refl
-gone_rises (lives.Ended end) = inl refl
-gone_rises (lives.Over before) = inl refl
+gone_rises _ = inl refl
 
 end_rises : (end : Bool) → Rises (after_end end)
 end_rises true lives.Calling = past lives.Calling (lives.Ended ends.Ok) (omega arith) refl
-end_rises false lives.Calling = inl refl
 end_rises true lives.Waiting = inl refl
-end_rises false lives.Waiting = inl refl
 end_rises true lives.Finished = inl refl
-end_rises false lives.Finished = inl refl
 end_rises true lives.Accepted = inl refl
-end_rises false lives.Accepted = inl refl
 end_rises true (lives.Ended end) = inl refl
-end_rises false (lives.Ended end) = inl refl
 end_rises true (lives.Broken before) = inl refl
-end_rises false (lives.Broken before) = inl refl
 end_rises true (lives.Over before) = inl refl
-end_rises false (lives.Over before) = inl refl
+end_rises false _ = inl refl
 
 cancel_rises : (code : ℤ) → Rises (after_cancel code)
 cancel_rises code lives.Calling = past lives.Calling (lives.Ended (ends.Cancelled code)) (omega arith) refl
-cancel_rises code lives.Waiting = inl refl
-cancel_rises code lives.Accepted = inl refl
-cancel_rises code lives.Finished = inl refl
-cancel_rises code (lives.Ended end) = inl refl
-cancel_rises code (lives.Broken before) = inl refl
-cancel_rises code (lives.Over before) = inl refl
+cancel_rises code _ = inl refl
 
 rises_to : (f : Life → Life) (x y : Life) → Rises f → y ≡ f x → GoesOn x y
 rises_to f x y rises is = subst (GoesOn x) (sym is) (rises x)
@@ -287,12 +248,7 @@ later_trans x y z first second =
     -- nothing comes before a call that waits
     waits_first : (w : Life) → is_waiting w ≡ true → rank_of x < rank_of w → ⊥
     waits_first lives.Waiting is less = absurd (omega (arith, less))
-    waits_first lives.Calling is less = absurd cc
-    waits_first lives.Accepted is less = absurd cc
-    waits_first lives.Finished is less = absurd cc
-    waits_first (lives.Ended end) is less = absurd cc
-    waits_first (lives.Broken code) is less = absurd cc
-    waits_first (lives.Over code) is less = absurd cc
+    waits_first _ is less = absurd cc
 
     before : (waits has : Bool) → is_waiting y ≡ waits → is_handled y ≡ has → (waits || has) ≡ true
         → (is_waiting x || is_handled x) ≡ true

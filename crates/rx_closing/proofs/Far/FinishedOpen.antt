@@ -64,12 +64,7 @@ found_same client k server = ap (λ (b : Bool). (found b k).sent) server
 chunk_same : (v : NodeView) (got : Took) (m : Message) (body : Body) (k : CallLooks) → v.client ≡ false
     → (after_chunk v got m body k).sent ≡ k.sent
 chunk_same v got m (bodies.Chunk payload) k server = found_same v.client k server
-chunk_same v got m (bodies.Ack a) k server = refl
-chunk_same v got m bodies.AckAll k server = refl
-chunk_same v got m bodies.Busy k server = refl
-chunk_same v got m (bodies.Abort code) k server = refl
-chunk_same v got m (bodies.Challenge bytes) k server = refl
-chunk_same v got m (bodies.Response bytes) k server = refl
+chunk_same v got m _ k server = refl
 
 -- ---- an acknowledgement is heard
 
@@ -110,11 +105,7 @@ module _ (s : Setup) (l : Looks) (c : CallName) (a : CallRecord) (there : call_a
   heard_is (bodies.Ack x) tells =
       challenged_same (on_call c settled (taken_at s tooks.Heard c m ready)) ∙ settled_at
   heard_is bodies.AckAll tells = settled_at
-  heard_is (bodies.Chunk payload) tells = absurd tells
-  heard_is bodies.Busy tells = absurd tells
-  heard_is (bodies.Abort code) tells = absurd tells
-  heard_is (bodies.Challenge bytes) tells = absurd tells
-  heard_is (bodies.Response bytes) tells = absurd tells
+  heard_is _ tells = absurd tells
 
   -- the event's own record
   taken_is : (e : Event) → Judges s l e c m tooks.Heard → Tells m.body
@@ -266,11 +257,7 @@ module _ (s : Setup) (server : IsServer s.kind) (fits : FitsSetup s) (c : CallNa
           of : (x : Body) → (Tells x → ⊥) → (after_body t.view.now t.message x a.looks).sent ≡ a.looks.sent
           of (bodies.Ack ack) none = absurd (none tt)
           of bodies.AckAll none = absurd (none tt)
-          of (bodies.Chunk payload) none = refl
-          of bodies.Busy none = refl
-          of (bodies.Abort code) none = refl
-          of (bodies.Challenge bytes) none = refl
-          of (bodies.Response bytes) none = refl
+          of _ none = refl
 
       by : (got : Took) (body : Body) → t.got ≡ got → t.message.body ≡ body → OpenOf (Some b)
       by tooks.Kept body is at = chunk tooks.Kept is (λ k. refl)

@@ -30,98 +30,53 @@ pub data FinishedBy (x : Life) (e : Event) (c : CallName) : Type 0 where
 
 -- the others lead there from there alone
 code_from : (code : ℤ) (x : Life) → after_code code x ≡ lives.Finished → x ≡ lives.Finished
-code_from code lives.Calling is = absurd cc
-code_from code (lives.Ended end) is = absurd cc
-code_from code lives.Waiting is = absurd cc
-code_from code lives.Accepted is = absurd cc
 code_from code lives.Finished is = refl
-code_from code (lives.Broken before) is = absurd cc
-code_from code (lives.Over before) is = absurd cc
+code_from code _ is = absurd cc
 
 later_from : (x : Life) → after_later x ≡ lives.Finished → x ≡ lives.Finished
 later_from lives.Finished is = refl
-later_from lives.Waiting is = absurd cc
-later_from lives.Calling is = absurd cc
-later_from (lives.Ended end) is = absurd cc
-later_from lives.Accepted is = absurd cc
-later_from (lives.Broken before) is = absurd cc
-later_from (lives.Over before) is = absurd cc
+later_from _ is = absurd cc
 
 pub acks_from : (all : Bool) (x : Life) → after_acks all x ≡ lives.Finished → x ≡ lives.Finished
 acks_from all lives.Finished is = refl
-acks_from all lives.Waiting is = absurd cc
-acks_from all lives.Calling is = absurd cc
-acks_from all (lives.Ended end) is = absurd cc
-acks_from all lives.Accepted is = absurd cc
-acks_from all (lives.Broken before) is = absurd cc
-acks_from all (lives.Over before) is = absurd cc
+acks_from all _ is = absurd cc
 
 silence_from : (n : ℕ) (x : Life) → after_silence n x ≡ lives.Finished → x ≡ lives.Finished
 silence_from n lives.Finished is = refl
-silence_from n lives.Waiting is = absurd cc
-silence_from n lives.Calling is = absurd cc
-silence_from n (lives.Ended end) is = absurd cc
-silence_from n lives.Accepted is = absurd cc
-silence_from n (lives.Broken before) is = absurd cc
-silence_from n (lives.Over before) is = absurd cc
+silence_from n _ is = absurd cc
 
 accept_from : (x : Life) → after_accept x ≡ lives.Finished → x ≡ lives.Finished
 accept_from lives.Finished is = refl
-accept_from lives.Waiting is = absurd cc
-accept_from lives.Calling is = absurd cc
-accept_from (lives.Ended end) is = absurd cc
-accept_from lives.Accepted is = absurd cc
-accept_from (lives.Broken before) is = absurd cc
-accept_from (lives.Over before) is = absurd cc
+accept_from _ is = absurd cc
 
 gone_from : (x : Life) → after_gone x ≡ lives.Finished → x ≡ lives.Finished
 gone_from lives.Finished is = refl
-gone_from lives.Waiting is = absurd cc
-gone_from lives.Calling is = absurd cc
-gone_from (lives.Ended end) is = absurd cc
-gone_from lives.Accepted is = absurd cc
-gone_from (lives.Broken before) is = absurd cc
-gone_from (lives.Over before) is = absurd cc
+gone_from _ is = absurd cc
 
 end_from : (end : Bool) (x : Life) → after_end end x ≡ lives.Finished → x ≡ lives.Finished
-end_from true lives.Calling is = absurd cc
 end_from false lives.Calling is = absurd cc
 end_from end lives.Finished is = refl
-end_from true lives.Waiting is = absurd cc
 end_from false lives.Waiting is = absurd cc
-end_from true (lives.Ended how) is = absurd cc
 end_from false (lives.Ended how) is = absurd cc
-end_from true lives.Accepted is = absurd cc
 end_from false lives.Accepted is = absurd cc
-end_from true (lives.Broken before) is = absurd cc
 end_from false (lives.Broken before) is = absurd cc
-end_from true (lives.Over before) is = absurd cc
 end_from false (lives.Over before) is = absurd cc
+end_from true _ is = absurd cc
 
 cancel_from : (code : ℤ) (x : Life) → after_cancel code x ≡ lives.Finished → x ≡ lives.Finished
 cancel_from code lives.Finished is = refl
-cancel_from code lives.Calling is = absurd cc
-cancel_from code lives.Waiting is = absurd cc
-cancel_from code (lives.Ended end) is = absurd cc
-cancel_from code lives.Accepted is = absurd cc
-cancel_from code (lives.Broken before) is = absurd cc
-cancel_from code (lives.Over before) is = absurd cc
+cancel_from code _ is = absurd cc
 
 finish_from : (e : Event) (c : CallName) (code : ℤ) (fine : Bool) (x : Life) → e ≡ events.Finished c code (Ok tt)
     → is_zero code ≡ fine → after_finish fine code x ≡ lives.Finished → FinishedBy x e c
 finish_from e c code true lives.Accepted event zero_ is = finishes_now code event zero_ refl
-finish_from e c code false lives.Accepted event zero_ is = absurd cc
 finish_from e c code fine lives.Finished event zero_ is = was_finished refl
 finish_from e c code true lives.Calling event zero_ is = absurd cc
-finish_from e c code false lives.Calling event zero_ is = absurd cc
 finish_from e c code true lives.Waiting event zero_ is = absurd cc
-finish_from e c code false lives.Waiting event zero_ is = absurd cc
 finish_from e c code true (lives.Ended end) event zero_ is = absurd cc
-finish_from e c code false (lives.Ended end) event zero_ is = absurd cc
 finish_from e c code true (lives.Broken before) event zero_ is = absurd cc
-finish_from e c code false (lives.Broken before) event zero_ is = absurd cc
 finish_from e c code true (lives.Over before) event zero_ is = absurd cc
-finish_from e c code false (lives.Over before) event zero_ is = absurd cc
+finish_from e c code false _ event zero_ is = absurd cc
 
 pub finished_by : (s : Setup) (l : Looks) (e : Event) (c : CallName) (b : CallLooks) (x y : Life)
     → LifeStep s l e c b x y

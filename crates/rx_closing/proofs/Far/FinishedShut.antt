@@ -115,57 +115,34 @@ Serves_ f = (x : Life) → IsServed x → IsServed (f x)
 code_serves : (code : ℤ) → Serves_ (after_code code)
 code_serves code lives.Calling is = is
 code_serves code (lives.Ended end) is = is
-code_serves code lives.Waiting is = tt
-code_serves code lives.Accepted is = tt
-code_serves code lives.Finished is = tt
-code_serves code (lives.Broken told) is = tt
-code_serves code (lives.Over told) is = tt
+code_serves code _ is = tt
 
 later_serves : Serves_ after_later
 later_serves lives.Calling is = is
 later_serves (lives.Ended end) is = is
-later_serves lives.Waiting is = tt
-later_serves lives.Accepted is = tt
-later_serves lives.Finished is = tt
-later_serves (lives.Broken told) is = tt
-later_serves (lives.Over told) is = tt
+later_serves _ is = tt
 
 acks_serve : (all : Bool) → Serves_ (after_acks all)
 acks_serve all lives.Calling is = is
 acks_serve all (lives.Ended end) is = is
-acks_serve all lives.Waiting is = tt
-acks_serve all lives.Accepted is = tt
 acks_serve true lives.Finished is = tt
 acks_serve false lives.Finished is = tt
-acks_serve all (lives.Broken told) is = tt
-acks_serve all (lives.Over told) is = tt
+acks_serve all _ is = tt
 
 silence_serves : (n : ℕ) → Serves_ (after_silence n)
 silence_serves n lives.Calling is = is
 silence_serves n (lives.Ended end) is = is
-silence_serves n lives.Waiting is = tt
-silence_serves n lives.Accepted is = tt
-silence_serves n lives.Finished is = tt
-silence_serves n (lives.Broken told) is = tt
-silence_serves n (lives.Over told) is = tt
+silence_serves n _ is = tt
 
 accept_serves : Serves_ after_accept
 accept_serves lives.Calling is = is
 accept_serves (lives.Ended end) is = is
-accept_serves lives.Waiting is = tt
-accept_serves lives.Accepted is = tt
-accept_serves lives.Finished is = tt
-accept_serves (lives.Broken told) is = tt
-accept_serves (lives.Over told) is = tt
+accept_serves _ is = tt
 
 gone_serves : Serves_ after_gone
 gone_serves lives.Calling is = is
 gone_serves (lives.Ended end) is = is
-gone_serves lives.Waiting is = tt
-gone_serves lives.Accepted is = tt
-gone_serves lives.Finished is = tt
-gone_serves (lives.Broken told) is = tt
-gone_serves (lives.Over told) is = tt
+gone_serves _ is = tt
 
 finish_serves : (fine : Bool) (code : ℤ) → Serves_ (after_finish fine code)
 finish_serves true code lives.Accepted is = tt

@@ -96,12 +96,7 @@ waits_less x y (inr later) other = of y later.rank
   where
     of : (w : Life) → rank_of x < rank_of w → is_waiting w ≡ false
     of lives.Waiting less = absurd (omega (arith, less))
-    of lives.Calling less = refl
-    of lives.Accepted less = refl
-    of lives.Finished less = refl
-    of (lives.Ended end) less = refl
-    of (lives.Broken code) less = refl
-    of (lives.Over code) less = refl
+    of _ less = refl
 
 -- a handler has it only where one had it or it waited for one
 handled_from : (x y : Life) → GoesOn x y → is_handled y ≡ true → (is_waiting x || is_handled x) ≡ true
@@ -147,12 +142,7 @@ pub record IsAtWork (r : CallRecord) : Type 0 where
 
 not_waiting : (x : Life) → is_handled x ≡ true → is_waiting x ≡ false
 not_waiting lives.Waiting is = absurd cc
-not_waiting lives.Calling is = refl
-not_waiting lives.Accepted is = refl
-not_waiting lives.Finished is = refl
-not_waiting (lives.Ended end) is = refl
-not_waiting (lives.Broken code) is = refl
-not_waiting (lives.Over code) is = refl
+not_waiting _ is = refl
 
 at_work : (most : ℕ) (c : CallName) (r : CallRecord) (js : List JobState) (j : JobState) → IsAtWork r
     → job_of c js ≡ Some j → j.code ≡ None → waited most c (Some r) js ≡ suc j.steps

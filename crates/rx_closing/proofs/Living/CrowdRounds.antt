@@ -105,18 +105,12 @@ start_stream : (v : NodeView) (m : Message) (body : Body) (k : CallLooks) (got :
     → is_start got ≡ true → IsSent body
 start_stream v m (bodies.Chunk payload) k got row starts = tt
 start_stream v m (bodies.Ack a) k got row starts = tt
-start_stream v m (bodies.Abort code) k got row starts =
-    absurd (let no : false ≡ true = ap is_start row ∙ starts in cc)
-start_stream v m bodies.Busy k got row starts =
-    absurd (let no : false ≡ true = ap is_start row ∙ starts in cc)
 start_stream v m bodies.AckAll k got row starts = absurd (by (is_all_given k.sent) row)
   where
     by : (b : Bool) → (if b then tooks.Heard else tooks.Strange) ≡ got → ⊥
     by true is = (let no : false ≡ true = ap is_start is ∙ starts in cc)
     by false is = (let no : false ≡ true = ap is_start is ∙ starts in cc)
-start_stream v m (bodies.Challenge bytes) k got row starts =
-    absurd (let no : false ≡ true = ap is_start row ∙ starts in cc)
-start_stream v m (bodies.Response bytes) k got row starts =
+start_stream v m _ k got row starts =
     absurd (let no : false ≡ true = ap is_start row ∙ starts in cc)
 
 -- and one at a client saw it flagged as a server's

@@ -39,32 +39,20 @@ use Rattle.rx_law.proofs.Law.{side-split}
 
 -- what stops, follows or acknowledges a call leaves it active only as it was
 code_active : (code : ℤ) (x : Life) → is_active (after_code code x) ≡ true → after_code code x ≡ x
-code_active code lives.Calling is = absurd cc
-code_active code lives.Waiting is = absurd cc
-code_active code lives.Accepted is = absurd cc
-code_active code lives.Finished is = absurd cc
 code_active code (lives.Ended end) is = refl
 code_active code (lives.Broken before) is = refl
 code_active code (lives.Over before) is = refl
+code_active code _ is = absurd cc
 
 later_active : (x : Life) → is_active (after_later x) ≡ true → after_later x ≡ x
 later_active lives.Waiting is = absurd cc
 later_active lives.Finished is = absurd cc
-later_active lives.Calling is = refl
-later_active lives.Accepted is = refl
-later_active (lives.Ended end) is = refl
-later_active (lives.Broken before) is = refl
-later_active (lives.Over before) is = refl
+later_active _ is = refl
 
 acks_active : (all : Bool) (x : Life) → is_active (after_acks all x) ≡ true → after_acks all x ≡ x
 acks_active true lives.Finished is = absurd cc
 acks_active false lives.Finished is = refl
-acks_active all lives.Waiting is = refl
-acks_active all lives.Calling is = refl
-acks_active all lives.Accepted is = refl
-acks_active all (lives.Ended end) is = refl
-acks_active all (lives.Broken before) is = refl
-acks_active all (lives.Over before) is = refl
+acks_active all _ is = refl
 
 taken_life : (s : Setup) (l : Looks) (from : Host) (bytes : List ℕ) (took : Took) (c : CallName) (b : CallLooks)
     (x y : Life) → LifeStep s l (events.Taken from bytes took) c b x y → is_active y ≡ true → y ≡ x

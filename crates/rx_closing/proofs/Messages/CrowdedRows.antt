@@ -41,10 +41,7 @@ call_calm v m (bodies.Chunk payload) k = arrival_calm _
 call_calm v m (bodies.Ack a) k =
     if_calm (is_strange_ack a.first a.marks k.sent) tooks.Strange tooks.Heard refl refl
 call_calm v m bodies.AckAll k = if_calm (is_all_given k.sent) tooks.Heard tooks.Strange refl refl
-call_calm v m bodies.Busy k = refl
-call_calm v m (bodies.Abort code) k = refl
-call_calm v m (bodies.Challenge bytes) k = refl
-call_calm v m (bodies.Response bytes) k = refl
+call_calm v m _ k = refl
 
 live_calm : (s : Setup) (l : Looks) (k : CallRecord) (m : Message) (body : Body)
     → is_busy (live_row s l k m body) ≡ false
@@ -53,11 +50,7 @@ live_calm s l k m (bodies.Response bytes) =
     (if_calm (is_proved l (connection_of k.name)) tooks.Strange tooks.Stopped refl refl)
 live_calm s l k m (bodies.Challenge bytes) =
     if_calm (is_some (s.class.respond k.name bytes)) tooks.Heard tooks.Strange refl refl
-live_calm s l k m (bodies.Chunk payload) = call_calm (node_view s l) m m.body k.looks
-live_calm s l k m bodies.Busy = call_calm (node_view s l) m m.body k.looks
-live_calm s l k m (bodies.Ack a) = call_calm (node_view s l) m m.body k.looks
-live_calm s l k m (bodies.Abort code) = call_calm (node_view s l) m m.body k.looks
-live_calm s l k m bodies.AckAll = call_calm (node_view s l) m m.body k.looks
+live_calm s l k m _ = call_calm (node_view s l) m m.body k.looks
 
 pub row_calm : (s : Setup) (l : Looks) (o : Option CallRecord) (m : Message) → is_busy (row_at s l o m) ≡ false
 row_calm s l None m = refl

@@ -47,16 +47,7 @@ own_hearing tooks.Beyond is = refl
 own_hearing tooks.Clash is = refl
 own_hearing tooks.NoSlot is = refl
 own_hearing tooks.Heard is = refl
-own_hearing tooks.Stopped is = absurd cc
-own_hearing tooks.Busy is = absurd cc
-own_hearing tooks.NoRoom is = absurd cc
-own_hearing tooks.Over is = absurd cc
-own_hearing tooks.Full is = absurd cc
-own_hearing tooks.Old is = absurd cc
-own_hearing tooks.Unserved is = absurd cc
-own_hearing tooks.Foreign is = absurd cc
-own_hearing tooks.Strange is = absurd cc
-own_hearing (tooks.Bad bad) is = absurd cc
+own_hearing _ is = absurd cc
 
 not_own : (a b : Took) → is_own a ≡ false → is_own b ≡ true → a ≡ b → ⊥
 not_own a b other own same = (let no : false ≡ true = sym other ∙ ap is_own same ∙ own in cc (no))
@@ -92,10 +83,8 @@ packet_only v m body k got packet row = of body row
     of bodies.AckAll row =
         absurd (no (call_row v m bodies.AckAll k)
         (none_by (is_all_given k.sent) tooks.Heard tooks.Strange refl refl) row)
-    of bodies.Busy row = absurd (no tooks.Heard refl row)
     of (bodies.Abort code) row = absurd (no tooks.Stopped refl row)
-    of (bodies.Challenge bytes) row = absurd (no tooks.Heard refl row)
-    of (bodies.Response bytes) row = absurd (no tooks.Heard refl row)
+    of _ row = absurd (no tooks.Heard refl row)
 
 pub heard_own : (v : NodeView) (got : Took) (m : Message) (k : CallLooks) → is_own got ≡ true
     → call_row v m m.body k ≡ got → (after_taken v got m k).heard ≡ v.now
@@ -105,16 +94,7 @@ heard_own v tooks.Beyond m k own row = packet_only v m m.body k tooks.Beyond ref
 heard_own v tooks.Clash m k own row = packet_only v m m.body k tooks.Clash refl row
 heard_own v tooks.NoSlot m k own row = packet_only v m m.body k tooks.NoSlot refl row
 heard_own v tooks.Heard m k own row = refl
-heard_own v tooks.Stopped m k own row = absurd cc
-heard_own v tooks.Busy m k own row = absurd cc
-heard_own v tooks.NoRoom m k own row = absurd cc
-heard_own v tooks.Over m k own row = absurd cc
-heard_own v tooks.Full m k own row = absurd cc
-heard_own v tooks.Old m k own row = absurd cc
-heard_own v tooks.Unserved m k own row = absurd cc
-heard_own v tooks.Foreign m k own row = absurd cc
-heard_own v tooks.Strange m k own row = absurd cc
-heard_own v (tooks.Bad bad) m k own row = absurd cc
+heard_own v _ m k own row = absurd cc
 
 -- ---- the rows in front, at a client
 
@@ -287,11 +267,7 @@ module _ (s : Setup) (host : Host) (epoch : ℕ) (kind : s.kind ≡ Client host 
   has_heard (bodies.Ack a) =
       has_settled _ (challenged-calls s c (on_call c settled (taken_at s got c m ready)))
   has_heard bodies.AckAll = has_settled _ refl
-  has_heard (bodies.Response given) = has_at _ refl
-  has_heard (bodies.Challenge given) = has_at _ refl
-  has_heard (bodies.Chunk payload) = has_at _ refl
-  has_heard bodies.Busy = has_at _ refl
-  has_heard (bodies.Abort code) = has_at _ refl
+  has_heard _ = has_at _ refl
 
   opens_same : opened s c ready ≡ ready
   opens_same = opens_none s ready c (prepared_number s got l (channel_of c) ∙ number)
@@ -303,9 +279,6 @@ module _ (s : Setup) (host : Host) (epoch : ℕ) (kind : s.kind ≡ Client host 
   has_by tooks.NoSlot is =
       subst (λ (x : Took). HasTaken (taken_data s x c m (opened s c ready))) is
       (subst (λ (n : Looks). HasTaken (taken_data s got c m n)) (sym opens_same) has_data)
-  has_by tooks.Repeat is = subst (λ (x : Took). HasTaken (taken_data s x c m ready)) is has_data
-  has_by tooks.Beyond is = subst (λ (x : Took). HasTaken (taken_data s x c m ready)) is has_data
-  has_by tooks.Clash is = subst (λ (x : Took). HasTaken (taken_data s x c m ready)) is has_data
   has_by tooks.Heard is =
       subst (λ (x : Took). HasTaken (taken_heard s c m.body (taken_at s x c m ready))) is (has_heard m.body)
   has_by tooks.Stopped is = absurd (not_own tooks.Stopped got refl own (sym is))
@@ -318,6 +291,7 @@ module _ (s : Setup) (host : Host) (epoch : ℕ) (kind : s.kind ≡ Client host 
   has_by tooks.Foreign is = absurd (not_own tooks.Foreign got refl own (sym is))
   has_by tooks.Strange is = absurd (not_own tooks.Strange got refl own (sym is))
   has_by (tooks.Bad bad) is = absurd (not_own (tooks.Bad bad) got refl own (sym is))
+  has_by _ is = subst (λ (x : Took). HasTaken (taken_data s x c m ready)) is has_data
 
   pub hears_now : HearsNow s h (events.Taken from bytes got) (named s from m)
   hears_now =

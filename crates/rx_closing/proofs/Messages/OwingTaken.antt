@@ -63,9 +63,7 @@ module _ (P : ChannelLooks → Type 0) (stays : StaysOwed P) (c : CallName) (som
   holds_heard s d m (bodies.Challenge bytes) l =
       holds_channel P c some (channel_of d) (λ q. record q { owed_response = s.class.respond d bytes }) l (λ q. refl)
       (stays.response (s.class.respond d bytes))
-  holds_heard s d m (bodies.Chunk payload) l = holds_same P c l l refl
-  holds_heard s d m bodies.Busy l = holds_same P c l l refl
-  holds_heard s d m (bodies.Abort code) l = holds_same P c l l refl
+  holds_heard s d m _ l = holds_same P c l l refl
 
   holds_stopped : (d : CallName) (body : Body) (l : Looks) → HoldsOwed P c l (taken_stopped d body l)
   holds_stopped d (bodies.Abort code) l = by (d.number == 0)
@@ -79,11 +77,7 @@ module _ (P : ChannelLooks → Type 0) (stays : StaysOwed P) (c : CallName) (som
       (holds_same P c l (on_life d (after_code RX_PROTOCOL_ERROR) l) refl)
       (holds_channel P c some (channel_of d) (owing_abort (Some RX_PROTOCOL_ERROR))
       (on_life d (after_code RX_PROTOCOL_ERROR) l) (λ q. refl) (stays.abort (Some RX_PROTOCOL_ERROR)))
-  holds_stopped d (bodies.Chunk payload) l = holds_same P c l l refl
-  holds_stopped d bodies.Busy l = holds_same P c l l refl
-  holds_stopped d (bodies.Ack a) l = holds_same P c l l refl
-  holds_stopped d bodies.AckAll l = holds_same P c l l refl
-  holds_stopped d (bodies.Challenge bytes) l = holds_same P c l l refl
+  holds_stopped d _ l = holds_same P c l l refl
 
   holds_over : (d : CallName) (body : Body) (o : Option CallRecord) (l : Looks)
       → HoldsOwed P c l (taken_over d body o l)
@@ -120,24 +114,14 @@ module _ (P : ChannelLooks → Type 0) (stays : StaysOwed P) (c : CallName) (som
   holds_with s tooks.NoRoom d m l none busy =
       holds_told P c some (channel_of d) (owing_busy d.number) l (λ q. refl) (λ on. busy on (inr refl))
   holds_with s tooks.Over d m l none busy = holds_over d m.body (call_at l d) l
-  holds_with s tooks.Full d m l none busy = holds_same P c l l refl
-  holds_with s tooks.Old d m l none busy = holds_same P c l l refl
-  holds_with s tooks.Unserved d m l none busy = holds_same P c l l refl
-  holds_with s tooks.Foreign d m l none busy = holds_same P c l l refl
-  holds_with s tooks.Strange d m l none busy = holds_same P c l l refl
-  holds_with s (tooks.Bad bad) d m l none busy = holds_same P c l l refl
+  holds_with s _ d m l none busy = holds_same P c l l refl
 
   holds_turned : (row : Took) (from : Host) (m : Message) (l : Looks) → HoldsOwed P c l (turned_away row from m l)
   holds_turned tooks.Unserved from m l = of m.body
     where
       of : (body : Body) → HoldsOwed P c l (taken_unserved from m body l)
       of (bodies.Chunk payload) = holds_same P c l (taken_unserved from m (bodies.Chunk payload) l) refl
-      of bodies.Busy = holds_same P c l l refl
-      of (bodies.Ack a) = holds_same P c l l refl
-      of (bodies.Abort code) = holds_same P c l l refl
-      of bodies.AckAll = holds_same P c l l refl
-      of (bodies.Challenge bytes) = holds_same P c l l refl
-      of (bodies.Response bytes) = holds_same P c l l refl
+      of _ = holds_same P c l l refl
   holds_turned row from m l = holds_same P c l l refl
 
   -- a datagram of which nothing starts this call
@@ -154,20 +138,7 @@ module _ (P : ChannelLooks → Type 0) (stays : StaysOwed P) (c : CallName) (som
           → StartsBy s l from bytes c got
       starts tooks.Kept is once = once
       starts tooks.NoSlot is once = once
-      starts tooks.Repeat is once = absurd cc
-      starts tooks.Beyond is once = absurd cc
-      starts tooks.Clash is once = absurd cc
-      starts tooks.Heard is once = absurd cc
-      starts tooks.Stopped is once = absurd cc
-      starts tooks.Busy is once = absurd cc
-      starts tooks.NoRoom is once = absurd cc
-      starts tooks.Over is once = absurd cc
-      starts tooks.Full is once = absurd cc
-      starts tooks.Old is once = absurd cc
-      starts tooks.Unserved is once = absurd cc
-      starts tooks.Foreign is once = absurd cc
-      starts tooks.Strange is once = absurd cc
-      starts (tooks.Bad bad) is once = absurd cc
+      starts _ is once = absurd cc
 
       by : (r : Result Message BadMsg) → reading_of bytes ≡ r → HoldsOwed P c l (taken_message s from r got l)
       by (Err bad) reads = holds_same P c l l refl

@@ -62,12 +62,7 @@ lived_so (bodies.Ack a) b lives.Accepted active = inl refl
 lived_so (bodies.Ack a) b (lives.Ended end) active = absurd cc
 lived_so (bodies.Ack a) b (lives.Broken code) active = absurd cc
 lived_so (bodies.Ack a) b (lives.Over code) active = absurd cc
-lived_so (bodies.Chunk payload) b x active = inl refl
-lived_so bodies.Busy b x active = inl refl
-lived_so (bodies.Abort code) b x active = inl refl
-lived_so bodies.AckAll b x active = inl refl
-lived_so (bodies.Challenge bytes) b x active = inl refl
-lived_so (bodies.Response bytes) b x active = inl refl
+lived_so _ b x active = inl refl
 
 -- ---- all of them
 

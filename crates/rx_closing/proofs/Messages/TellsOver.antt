@@ -63,28 +63,19 @@ code_idle : (code : ℤ) (x : Life) → is_active x ≡ false → after_code cod
 code_idle code (lives.Ended end) idle = refl
 code_idle code (lives.Broken before) idle = refl
 code_idle code (lives.Over before) idle = refl
-code_idle code lives.Calling idle = absurd (cc (idle))
-code_idle code lives.Waiting idle = absurd (cc (idle))
-code_idle code lives.Accepted idle = absurd (cc (idle))
-code_idle code lives.Finished idle = absurd (cc (idle))
+code_idle code _ idle = absurd (cc (idle))
 
 later_idle : (x : Life) → is_active x ≡ false → after_later x ≡ x
 later_idle (lives.Ended end) idle = refl
 later_idle (lives.Broken before) idle = refl
 later_idle (lives.Over before) idle = refl
-later_idle lives.Calling idle = absurd (cc (idle))
-later_idle lives.Waiting idle = absurd (cc (idle))
-later_idle lives.Accepted idle = absurd (cc (idle))
-later_idle lives.Finished idle = absurd (cc (idle))
+later_idle _ idle = absurd (cc (idle))
 
 acks_idle : (all : Bool) (x : Life) → is_active x ≡ false → after_acks all x ≡ x
 acks_idle all (lives.Ended end) idle = refl
 acks_idle all (lives.Broken before) idle = refl
 acks_idle all (lives.Over before) idle = refl
-acks_idle all lives.Calling idle = absurd (cc (idle))
-acks_idle all lives.Waiting idle = absurd (cc (idle))
-acks_idle all lives.Accepted idle = absurd (cc (idle))
-acks_idle all lives.Finished idle = absurd (cc (idle))
+acks_idle all _ idle = absurd (cc (idle))
 
 life_idle : (s : Setup) (l : Looks) (from : Host) (bytes : List ℕ) (took : Took) (c : CallName) (b : CallLooks)
     (x y : Life) → LifeStep s l (events.Taken from bytes took) c b x y → is_active x ≡ false → y ≡ x

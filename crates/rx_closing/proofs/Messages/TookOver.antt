@@ -110,11 +110,7 @@ again_owes (bodies.Chunk payload) lives.Accepted code q stream is = absurd cc
 again_owes (bodies.Chunk payload) lives.Finished code q stream is = absurd cc
 again_owes (bodies.Ack a) life code q stream is =
     ap (λ (o : Option ℤ). (owing_abort o q).owed_abort) is
-again_owes bodies.Busy life code q stream is = absurd stream
-again_owes (bodies.Abort told) life code q stream is = absurd stream
-again_owes bodies.AckAll life code q stream is = absurd stream
-again_owes (bodies.Challenge bytes) life code q stream is = absurd stream
-again_owes (bodies.Response bytes) life code q stream is = absurd stream
+again_owes _ life code q stream is = absurd stream
 
 -- what is known of the call's record, its channel and its connection behind a message
 pub record TookOver (c : CallName) (l : Looks) (k : CallRecord) (body : Body) (m : Looks) : Type 0 where

@@ -186,17 +186,7 @@ module _ (s : Setup) (l : Looks) (c : CallName) (k : CallRecord) (m : Message) (
       subst (λ (b : Body). TookOwn c l k (taken_stopped c b (prepared s tooks.Stopped (connection_of c) l))) (sym at)
       (rest s l c k m tooks.Stopped open_ last (prepared s tooks.Stopped (connection_of c) l) _ refl refl
       (prepared_there s l c k m tooks.Stopped open_ last))
-  data_behind tooks.Beyond payload at sense = absurd sense
-  data_behind tooks.Clash payload at sense = absurd sense
-  data_behind tooks.Busy payload at sense = absurd sense
-  data_behind tooks.NoRoom payload at sense = absurd sense
-  data_behind tooks.Over payload at sense = absurd sense
-  data_behind tooks.Full payload at sense = absurd sense
-  data_behind tooks.Old payload at sense = absurd sense
-  data_behind tooks.Unserved payload at sense = absurd sense
-  data_behind tooks.Foreign payload at sense = absurd sense
-  data_behind tooks.Strange payload at sense = absurd sense
-  data_behind (tooks.Bad bad) payload at sense = absurd sense
+  data_behind _ payload at sense = absurd sense
 
   -- an ACK that makes sense is heard
   ack_heard : (v : NodeView) (a : AckBody) → MakesSense (call_row v m (bodies.Ack a) k.looks)
@@ -254,8 +244,4 @@ module _ (s : Setup) (l : Looks) (c : CallName) (k : CallRecord) (m : Message) (
           (lives_as (bodies.Ack a) _ at refl)
           (subst (λ (g : Took). TookOwn c l (settled (record k { looks = after_taken (node_view s l) g m k.looks }))
           (taken_with s g c m (prepared s g (connection_of c) l))) heard (ack_behind a at)))
-      of (bodies.Busy) at stream = absurd stream
-      of (bodies.Abort code) at stream = absurd stream
-      of bodies.AckAll at stream = absurd stream
-      of (bodies.Challenge bytes) at stream = absurd stream
-      of (bodies.Response bytes) at stream = absurd stream
+      of _ at stream = absurd stream

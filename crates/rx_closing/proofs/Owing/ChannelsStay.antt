@@ -143,7 +143,6 @@ module _ (C : ChannelLooks → Type 0) (lasts : Lasts C) where
 
     hold_heard : (d : CallName) (body : Body) (l : Looks) → Hold l.conns → Hold (taken_heard s d body l).conns
     hold_heard d (bodies.Ack a) l all = hold_challenged d (on_call d settled l) all
-    hold_heard d bodies.AckAll l all = all
     hold_heard d (bodies.Response bytes) l all =
         hold_conn (connection_of d) (λ r. record r { proved = true }) l (λ r here. here) all
     hold_heard d (bodies.Challenge bytes) l all =
@@ -151,9 +150,7 @@ module _ (C : ChannelLooks → Type 0) (lasts : Lasts C) where
         (λ q here.
         subst (λ (o : Option (List ℕ)). C (record q { owed_response = o })) (sym (mute.mute d bytes))
         (lasts.no_response q here)) all
-    hold_heard d (bodies.Chunk payload) l all = all
-    hold_heard d bodies.Busy l all = all
-    hold_heard d (bodies.Abort code) l all = all
+    hold_heard d _ l all = all
 
     -- ---- what a message may tell
 
@@ -176,11 +173,7 @@ module _ (C : ChannelLooks → Type 0) (lasts : Lasts C) where
     hold_stopped d (bodies.Response bytes) l may all =
         hold_channel (channel_of d) (owing_abort (Some RX_PROTOCOL_ERROR)) (on_life d (after_code RX_PROTOCOL_ERROR) l)
         may all
-    hold_stopped d (bodies.Chunk payload) l may all = all
-    hold_stopped d bodies.Busy l may all = all
-    hold_stopped d (bodies.Ack a) l may all = all
-    hold_stopped d bodies.AckAll l may all = all
-    hold_stopped d (bodies.Challenge bytes) l may all = all
+    hold_stopped d _ l may all = all
 
     hold_over : (d : CallName) (body : Body) (o : Option CallRecord) (l : Looks)
         → ((k : CallRecord) → o ≡ Some k → Leaves (owing_again body k.life)) → Hold l.conns
@@ -202,12 +195,7 @@ module _ (C : ChannelLooks → Type 0) (lasts : Lasts C) where
         (on_life (latest_name l (channel_of d)) (after_code RX_CALL_DEAD) l) may all
     hold_with tooks.NoRoom d m l may all = hold_channel (channel_of d) (owing_busy d.number) l may all
     hold_with tooks.Over d m l may all = hold_over d m.body (call_at l d) l may all
-    hold_with tooks.Full d m l may all = all
-    hold_with tooks.Old d m l may all = all
-    hold_with tooks.Unserved d m l may all = all
-    hold_with tooks.Foreign d m l may all = all
-    hold_with tooks.Strange d m l may all = all
-    hold_with (tooks.Bad bad) d m l may all = all
+    hold_with _ d m l may all = all
 
     hold_turned : (row : Took) (from : Host) (m : Message) (l : Looks) → Hold l.conns
         → Hold (turned_away row from m l).conns

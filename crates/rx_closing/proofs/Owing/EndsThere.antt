@@ -43,12 +43,7 @@ use Rattle.rx_history.proofs.ClientHistory.{clients}
 pub done_accepted : (x : Life) (ended : Bool)
     → ◌≡◌ {A = Result (Unit {0}) ServeRefused} (served_by x ended tt) (Ok tt) → x ≡ lives.Accepted
 done_accepted lives.Accepted ended is = refl
-done_accepted lives.Calling ended is = absurd cc
-done_accepted (lives.Ended end) ended is = absurd cc
-done_accepted lives.Waiting ended is = absurd cc
-done_accepted lives.Finished ended is = absurd cc
-done_accepted (lives.Broken code) ended is = absurd cc
-done_accepted (lives.Over code) ended is = absurd cc
+done_accepted _ ended is = absurd cc
 
 pub and_false : (b : Bool) → (b && false) ≡ false
 and_false true = refl
@@ -60,12 +55,7 @@ pub end_accepted : (x : Life) (got : CallRead × List ℕ) (answer : ServeRead) 
     → (is_end (readers.Server answer) && is_calling x) ≡ false
 end_accepted lives.Calling got answer came is =
     ap (λ (p : ServeRead × List ℕ). is_end (readers.Server p.0) && true) is
-end_accepted (lives.Ended end) got answer came is = and_false (is_end (readers.Server answer))
-end_accepted lives.Waiting got answer came is = and_false (is_end (readers.Server answer))
-end_accepted lives.Accepted got answer came is = and_false (is_end (readers.Server answer))
-end_accepted lives.Finished got answer came is = and_false (is_end (readers.Server answer))
-end_accepted (lives.Broken code) got answer came is = and_false (is_end (readers.Server answer))
-end_accepted (lives.Over code) got answer came is = and_false (is_end (readers.Server answer))
+end_accepted _ got answer came is = and_false (is_end (readers.Server answer))
 
 -- a caller asks nothing of a server
 pub asked_off : (s : Setup) (l : Looks) (a : Asking) (e : Event) → AllowedServer s l e → IsAsked a e → ⊥
@@ -89,12 +79,7 @@ pub record Ends (l m : Looks) : Type 0 where
 
 calling_active : (x : Life) → is_calling x ≡ true → is_active x ≡ true
 calling_active lives.Calling is = refl
-calling_active (lives.Ended end) is = absurd cc
-calling_active lives.Waiting is = absurd cc
-calling_active lives.Accepted is = absurd cc
-calling_active lives.Finished is = absurd cc
-calling_active (lives.Broken code) is = absurd cc
-calling_active (lives.Over code) is = absurd cc
+calling_active _ is = absurd cc
 
 ended_idle : (end : Bool) (x : Life) → end ≡ true → is_calling x ≡ true → is_active (after_end end x) ≡ false
 ended_idle false x is calling = absurd cc
@@ -111,11 +96,7 @@ cancels : (x : Life) (code : ℤ) → IsCalled x → is_live x ≡ true
     → (is_active x ≡ true) × (is_active (after_cancel code x) ≡ false)
 cancels lives.Calling code called living = (refl, refl)
 cancels (lives.Ended end) code called living = absurd cc
-cancels lives.Waiting code called living = absurd called
-cancels lives.Accepted code called living = absurd called
-cancels lives.Finished code called living = absurd called
-cancels (lives.Broken told) code called living = absurd called
-cancels (lives.Over told) code called living = absurd called
+cancels _ code called living = absurd called
 
 -- one that is looked for
 record Found (test : CallRecord → Bool) (o : Option CallRecord) : Type 0 where

@@ -74,7 +74,6 @@ module _ (A K : CallName → Type 0) (s : Setup) (mute : IsMute s.class) where
 
   hold_heard : (d : CallName) (body : Body) (l : Looks) → Holds l → Holds (taken_heard s d body l)
   hold_heard d (bodies.Ack a) l all = hold_challenged d (on_call d settled l) all
-  hold_heard d bodies.AckAll l all = all
   hold_heard d (bodies.Response bytes) l all =
       hold_conn A K (connection_of d) (λ r. record r { proved = true }) l (λ r here. here) all
   hold_heard d (bodies.Challenge bytes) l all =
@@ -82,9 +81,7 @@ module _ (A K : CallName → Type 0) (s : Setup) (mute : IsMute s.class) where
       (λ ch q here.
       subst (λ (o : Option (List ℕ)). MayOwe A K ch (record q { owed_response = o })) (sym (mute.mute d bytes))
       (no_response A K ch q here)) all
-  hold_heard d (bodies.Chunk payload) l all = all
-  hold_heard d bodies.Busy l all = all
-  hold_heard d (bodies.Abort code) l all = all
+  hold_heard d _ l all = all
 
   -- an answer that makes a channel owe only what it may
   abbrev pub TakesFor : Took → CallName → Body → Looks → Type 0
@@ -100,11 +97,7 @@ module _ (A K : CallName → Type 0) (s : Setup) (mute : IsMute s.class) where
   hold_stopped d (bodies.Abort code) l may all =
       hold_if A K (d.number == 0) (stopped_all (connection_of d) code l) (on_life d (after_code code) l) all all
   hold_stopped d (bodies.Response bytes) l may all = absurd may
-  hold_stopped d (bodies.Chunk payload) l may all = all
-  hold_stopped d bodies.Busy l may all = all
-  hold_stopped d (bodies.Ack a) l may all = all
-  hold_stopped d bodies.AckAll l may all = all
-  hold_stopped d (bodies.Challenge bytes) l may all = all
+  hold_stopped d _ l may all = all
 
   hold_over : (d : CallName) (body : Body) (o : Option CallRecord) (l : Looks) → IsOwnLatest l d
       → ((k : CallRecord) → o ≡ Some k → Tells A K body k.life d) → Holds l → Holds (taken_over d body o l)
@@ -125,12 +118,7 @@ module _ (A K : CallName → Type 0) (s : Setup) (mute : IsMute s.class) where
   hold_with tooks.Busy d m l may all = absurd may
   hold_with tooks.NoRoom d m l may all = absurd may
   hold_with tooks.Over d m l may all = hold_over d m.body (call_at l d) l may.0 may.1 all
-  hold_with tooks.Full d m l may all = all
-  hold_with tooks.Old d m l may all = all
-  hold_with tooks.Unserved d m l may all = all
-  hold_with tooks.Foreign d m l may all = all
-  hold_with tooks.Strange d m l may all = all
-  hold_with (tooks.Bad bad) d m l may all = all
+  hold_with _ d m l may all = all
 
   hold_turned : (row : Took) (from : Host) (m : Message) (l : Looks) → Holds l → Holds (turned_away row from m l)
   hold_turned tooks.Unserved from m l all = of m.body

@@ -149,11 +149,7 @@ module _ (A K : CallName → Type 0) where
       ackall_may (is_ok_end life) d (owing_abort (told_code life) q) (abort_number (told_code life) q d.number number)
       tells.1 (abort_may (told_code life) d q number tells.0 may)
   again_may (bodies.Ack a) life d q number tells may = abort_may (served_code life) d q number tells may
-  again_may (bodies.Abort code) life d q number tells may = may
-  again_may bodies.Busy life d q number tells may = may
-  again_may bodies.AckAll life d q number tells may = may
-  again_may (bodies.Challenge bytes) life d q number tells may = may
-  again_may (bodies.Response bytes) life d q number tells may = may
+  again_may _ life d q number tells may = may
 
   -- ---- changes
 

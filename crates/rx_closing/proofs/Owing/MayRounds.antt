@@ -58,23 +58,16 @@ use Rattle.rx_history.proofs.Plain.PlainBodies.{IsSent}
 
 -- one that lives is at work or broken
 live_active : (x : Life) → is_live x ≡ true → ((code : ℤ) → x ≡ lives.Broken code → ⊥) → is_active x ≡ true
-live_active lives.Calling living whole = refl
 live_active (lives.Ended end) living whole = living
-live_active lives.Waiting living whole = refl
-live_active lives.Accepted living whole = refl
-live_active lives.Finished living whole = refl
 live_active (lives.Broken code) living whole = absurd (whole code refl)
 live_active (lives.Over code) living whole = living
+live_active _ living whole = refl
 
 -- a client's that lives is asked
 live_calls : (x : Life) → is_live x ≡ true → IsCalled x → x ≡ lives.Calling
 live_calls lives.Calling living called = refl
 live_calls (lives.Ended end) living called = absurd cc
-live_calls lives.Waiting living called = absurd called
-live_calls lives.Accepted living called = absurd called
-live_calls lives.Finished living called = absurd called
-live_calls (lives.Broken code) living called = absurd called
-live_calls (lives.Over code) living called = absurd called
+live_calls _ living called = absurd called
 
 module _ (server : Node) (ms : List Member) (s t : Stage) (a : AreStill server ms s t) where
   abbrev are : AreNodes s.nodes

@@ -54,24 +54,12 @@ use Rattle.rx_history.proofs.Plain.PlainBodies.{IsSent}
 
 ok_is : (x : Life) → is_ok_end x ≡ true → x ≡ lives.Ended ends.Ok
 ok_is (lives.Ended ends.Ok) is = refl
-ok_is (lives.Ended (ends.Abort code)) is = absurd cc
-ok_is (lives.Ended (ends.Cancelled code)) is = absurd cc
-ok_is (lives.Ended (ends.Dead n)) is = absurd cc
-ok_is lives.Calling is = absurd cc
-ok_is lives.Waiting is = absurd cc
-ok_is lives.Accepted is = absurd cc
-ok_is lives.Finished is = absurd cc
-ok_is (lives.Broken code) is = absurd cc
-ok_is (lives.Over code) is = absurd cc
+ok_is _ is = absurd cc
 
 served_bad : (x : Life) → IsServers x → is_ok_end x ≡ true → ⊥
 served_bad lives.Calling served is = served
 served_bad (lives.Ended end) served is = served
-served_bad lives.Waiting served is = cc
-served_bad lives.Accepted served is = cc
-served_bad lives.Finished served is = cc
-served_bad (lives.Broken code) served is = cc
-served_bad (lives.Over code) served is = cc
+served_bad _ served is = cc
 
 -- ---- a datagram
 
@@ -244,11 +232,7 @@ module _ (server : Node) (ms : List Member) (s t : Stage) (a : AreStill server m
             λ ok. ackall_is node refl (subst IsSent (sym same) tt) k had ok,
           )
           by (bodies.Ack given) same = λ code told. abort_is node refl (subst IsSent (sym same) tt) k had
-          by (bodies.Abort code) same = tt
-          by bodies.Busy same = tt
-          by bodies.AckAll same = tt
-          by (bodies.Challenge given) same = tt
-          by (bodies.Response given) same = tt
+          by _ same = tt
 
       takes : (answer : Took) → got ≡ answer
           → TakesFor (AbortAt server ms s node) (AckAllAt server ms s node) n.setup (mute_at node n next.there) answer c
@@ -261,18 +245,7 @@ module _ (server : Node) (ms : List Member) (s t : Stage) (a : AreStill server m
         tells,
       )
       takes tooks.Stopped same = no_response n.setup n.setup.kind l sender m (mute_at node n next.there).still passes
-      takes tooks.Kept same = tt
-      takes tooks.NoSlot same = tt
-      takes tooks.Repeat same = tt
-      takes tooks.Beyond same = tt
-      takes tooks.Clash same = tt
-      takes tooks.Heard same = tt
-      takes tooks.Full same = tt
-      takes tooks.Old same = tt
-      takes tooks.Unserved same = tt
-      takes tooks.Foreign same = tt
-      takes tooks.Strange same = tt
-      takes (tooks.Bad bad) same = tt
+      takes _ same = tt
 
     -- its node owes only what it may
     pub take_goes : GoesFor (AbortAt server ms s node) (AckAllAt server ms s node) n.setup (mute_at node n next.there)

@@ -51,9 +51,4 @@ no_response s kind l from m still front = by m.body refl
 
     by : (body : Body) → m.body ≡ body → StopsQuietly body
     by (bodies.Response bytes) is = of kind front bytes is
-    by (bodies.Chunk payload) is = tt
-    by bodies.Busy is = tt
-    by (bodies.Ack a) is = tt
-    by (bodies.Abort code) is = tt
-    by bodies.AckAll is = tt
-    by (bodies.Challenge bytes) is = tt
+    by _ is = tt

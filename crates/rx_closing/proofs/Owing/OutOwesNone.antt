@@ -74,21 +74,12 @@ again_unasked : (body : Body) (life : Life) → Leaves IsUnasked unasked_lasts (
 again_unasked (bodies.Chunk payload) life q here =
     ackall_unasked (is_ok_end life) (owing_abort (told_code life) q) (abort_unasked (told_code life) q here)
 again_unasked (bodies.Ack a) life q here = abort_unasked (served_code life) q here
-again_unasked (bodies.Abort code) life q here = here
-again_unasked bodies.Busy life q here = here
-again_unasked bodies.AckAll life q here = here
-again_unasked (bodies.Challenge bytes) life q here = here
-again_unasked (bodies.Response bytes) life q here = here
+again_unasked _ life q here = here
 
 module _ (s : Setup) (mute : IsMute s.class) where
   stops_unasked : (body : Body) → StopsSo IsUnasked unasked_lasts s mute body
   stops_unasked (bodies.Response bytes) = abort_unasked (Some RX_PROTOCOL_ERROR)
-  stops_unasked (bodies.Chunk payload) = tt
-  stops_unasked bodies.Busy = tt
-  stops_unasked (bodies.Ack a) = tt
-  stops_unasked (bodies.Abort code) = tt
-  stops_unasked bodies.AckAll = tt
-  stops_unasked (bodies.Challenge bytes) = tt
+  stops_unasked _ = tt
 
   takes_unasked : (got : Took) (d : CallName) (body : Body) (l : Looks)
       → TakesSo IsUnasked unasked_lasts s mute got d body l
@@ -96,18 +87,7 @@ module _ (s : Setup) (mute : IsMute s.class) where
   takes_unasked tooks.NoRoom d body l = busy_unasked d.number
   takes_unasked tooks.Over d body l = λ k there. again_unasked body k.life
   takes_unasked tooks.Stopped d body l = stops_unasked body
-  takes_unasked tooks.Kept d body l = tt
-  takes_unasked tooks.NoSlot d body l = tt
-  takes_unasked tooks.Repeat d body l = tt
-  takes_unasked tooks.Beyond d body l = tt
-  takes_unasked tooks.Clash d body l = tt
-  takes_unasked tooks.Heard d body l = tt
-  takes_unasked tooks.Full d body l = tt
-  takes_unasked tooks.Old d body l = tt
-  takes_unasked tooks.Unserved d body l = tt
-  takes_unasked tooks.Foreign d body l = tt
-  takes_unasked tooks.Strange d body l = tt
-  takes_unasked (tooks.Bad bad) d body l = tt
+  takes_unasked _ d body l = tt
 
   reads_unasked : (from : Host) (reading : Result Message BadMsg) (got : Took) (l : Looks)
       → ReadsSo IsUnasked unasked_lasts s mute l from reading got

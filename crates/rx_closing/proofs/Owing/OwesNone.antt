@@ -118,11 +118,7 @@ quiet_again (bodies.Chunk payload) life q none here =
     (subst (λ (o : Option ℤ). IsQuiet (owing_abort o q)) (sym none.0) here)
 quiet_again (bodies.Ack a) life q none here =
     subst (λ (o : Option ℤ). IsQuiet (owing_abort o q)) (sym none) here
-quiet_again (bodies.Abort code) life q none here = here
-quiet_again bodies.Busy life q none here = here
-quiet_again bodies.AckAll life q none here = here
-quiet_again (bodies.Challenge bytes) life q none here = here
-quiet_again (bodies.Response bytes) life q none here = here
+quiet_again _ life q none here = here
 
 -- an ABORT alone stops quietly
 abbrev pub StopsQuietly : Body → Type 0
@@ -150,12 +146,7 @@ turned_strays tooks.Unserved from m l may none = of m.body may
   where
     of : (body : Body) → TurnsQuietly tooks.Unserved body → (taken_unserved from m body l).strays ≡ []
     of (bodies.Chunk payload) may = absurd may
-    of (bodies.Ack a) may = none
-    of (bodies.Abort code) may = none
-    of bodies.Busy may = none
-    of bodies.AckAll may = none
-    of (bodies.Challenge bytes) may = none
-    of (bodies.Response bytes) may = none
+    of _ may = none
 turned_strays row from m l may none = none
 
 body_strays : (d : CallName) (m : Message) (body : Body) (l : Looks) → (given_body d m body l).strays ≡ l.strays
@@ -250,12 +241,7 @@ module _ (s : Setup) (mute : IsMute s.class) where
 
   stops_so : (body : Body) → StopsQuietly body → StopsSo IsQuiet quiet_lasts s mute body
   stops_so (bodies.Response bytes) may = absurd may
-  stops_so (bodies.Chunk payload) may = tt
-  stops_so bodies.Busy may = tt
-  stops_so (bodies.Ack a) may = tt
-  stops_so (bodies.Abort code) may = tt
-  stops_so bodies.AckAll may = tt
-  stops_so (bodies.Challenge bytes) may = tt
+  stops_so _ may = tt
 
   takes_so : (got : Took) (d : CallName) (body : Body) (l : Looks) → TakesQuietly got d body l
       → TakesSo IsQuiet quiet_lasts s mute got d body l
@@ -263,18 +249,7 @@ module _ (s : Setup) (mute : IsMute s.class) where
   takes_so tooks.NoRoom d body l may = absurd may
   takes_so tooks.Over d body l may = λ k there q here. quiet_again body k.life q (may k there) here
   takes_so tooks.Stopped d body l may = stops_so body may
-  takes_so tooks.Kept d body l may = tt
-  takes_so tooks.NoSlot d body l may = tt
-  takes_so tooks.Repeat d body l may = tt
-  takes_so tooks.Beyond d body l may = tt
-  takes_so tooks.Clash d body l may = tt
-  takes_so tooks.Heard d body l may = tt
-  takes_so tooks.Full d body l may = tt
-  takes_so tooks.Old d body l may = tt
-  takes_so tooks.Unserved d body l may = tt
-  takes_so tooks.Foreign d body l may = tt
-  takes_so tooks.Strange d body l may = tt
-  takes_so (tooks.Bad bad) d body l may = tt
+  takes_so _ d body l may = tt
 
   reads_so : (from : Host) (reading : Result Message BadMsg) (got : Took) (l : Looks) → ReadsQuietly l from reading got
       → ReadsSo IsQuiet quiet_lasts s mute l from reading got

@@ -84,38 +84,21 @@ handled_busy f call above handled is =
 handled_is : (x : Life) → is_handled x ≡ true → (x ≡ lives.Accepted) ⊎ ((code : ℤ) × (x ≡ lives.Broken code))
 handled_is lives.Accepted is = inl refl
 handled_is (lives.Broken code) is = inr (code, refl)
-handled_is lives.Calling is = absurd cc
-handled_is (lives.Ended end) is = absurd cc
-handled_is lives.Waiting is = absurd cc
-handled_is lives.Finished is = absurd cc
-handled_is (lives.Over code) is = absurd cc
+handled_is _ is = absurd cc
 
 pub handled_live : (x : Life) → is_handled x ≡ true → is_live x ≡ true
-handled_live lives.Calling is = refl
 handled_live (lives.Ended end) is = is
-handled_live lives.Waiting is = refl
-handled_live lives.Accepted is = refl
-handled_live lives.Finished is = refl
-handled_live (lives.Broken code) is = refl
 handled_live (lives.Over code) is = is
+handled_live _ is = refl
 
 handled_other : (x : Life) → is_handled x ≡ true → IsCalled x → ⊥
 handled_other lives.Calling is called = cc
 handled_other (lives.Ended end) is called = cc
-handled_other lives.Waiting is called = called
-handled_other lives.Accepted is called = called
-handled_other lives.Finished is called = called
-handled_other (lives.Broken code) is called = called
-handled_other (lives.Over code) is called = called
+handled_other _ is called = called
 
 pub data_stream : (body : Body) → is_data body ≡ true → IsSent body
 data_stream (bodies.Chunk payload) is = tt
-data_stream bodies.Busy is = absurd cc
-data_stream (bodies.Ack a) is = absurd cc
-data_stream (bodies.Abort code) is = absurd cc
-data_stream bodies.AckAll is = absurd cc
-data_stream (bodies.Challenge bytes) is = absurd cc
-data_stream (bodies.Response bytes) is = absurd cc
+data_stream _ is = absurd cc
 
 pub server_side : (kind : Kind) (f : Facts) (call : Took) → IsServer kind → side_row kind f call ≡ server_row f call
 server_side (Server service nonces) f call serves = refl

@@ -22,13 +22,9 @@ use Rattle.rx_closing.proofs.Polls.Polled.{QuietBut}
 
 pub others_left : (n : CallName) (m : Message) (body : Body) (l : Looks) → IsOther body
     → (given_body n m body (counted (connection_of n) l)).calls ≡ l.calls
-others_left n m (bodies.Abort code) l other = refl
-others_left n m bodies.Busy l other = refl
-others_left n m (bodies.Challenge b) l other = refl
-others_left n m (bodies.Response b) l other = refl
-others_left n m bodies.AckAll l other = refl
 others_left n m (bodies.Chunk payload) l other = absurd other
 others_left n m (bodies.Ack a) l other = absurd other
+others_left n m _ l other = refl
 
 pub given_now : (n : CallName) (m : Message) (body : Body) (l : Looks)
     → (given_body n m body (counted (connection_of n) l)).now ≡ l.now

@@ -97,19 +97,7 @@ conn_given x n m body l peer service old = of body
     of : (body : Body) → ConnIs (given_body n m body (counted (connection_of n) l)) x peer service
     of (bodies.Chunk payload) = record { is = count.is }
     of (bodies.Ack a) = record { is = count.is }
-    of (bodies.Abort code) =
-        conn_stays x (connection_of n) _ (counted (connection_of n) l) peer service (λ r. refl)
-        (λ r. (refl, refl)) count
-    of bodies.Busy =
-        conn_stays x (connection_of n) _ (counted (connection_of n) l) peer service (λ r. refl)
-        (λ r. (refl, refl)) count
-    of (bodies.Challenge bytes) =
-        conn_stays x (connection_of n) _ (counted (connection_of n) l) peer service (λ r. refl)
-        (λ r. (refl, refl)) count
-    of (bodies.Response bytes) =
-        conn_stays x (connection_of n) _ (counted (connection_of n) l) peer service (λ r. refl)
-        (λ r. (refl, refl)) count
-    of bodies.AckAll =
+    of _ =
         conn_stays x (connection_of n) _ (counted (connection_of n) l) peer service (λ r. refl)
         (λ r. (refl, refl)) count
 

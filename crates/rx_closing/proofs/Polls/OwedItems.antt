@@ -20,11 +20,7 @@ use Rattle.rx_history.proofs.Plain.PlainBodies.{IsSent}
 pub not_both : (body : Body) → IsSent body → IsOther body → ⊥
 not_both (bodies.Chunk payload) stream other = other
 not_both (bodies.Ack a) stream other = other
-not_both (bodies.Abort code) stream other = stream
-not_both bodies.Busy stream other = stream
-not_both bodies.AckAll stream other = stream
-not_both (bodies.Challenge given) stream other = stream
-not_both (bodies.Response given) stream other = stream
+not_both _ stream other = stream
 
 module _ (c : CallName) where
   owed_apart : (ch : Channel) (n : ℕ) (o : Option Body) (i : Item) → (ch ≡ channel_of c → o ≡ None)

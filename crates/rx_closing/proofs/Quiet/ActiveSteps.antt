@@ -26,13 +26,10 @@ NoneRises f = (x : Life) → is_active (f x) ≡ true → is_active x ≡ true
 rises_none : (f : Life → Life) → ((end : End) → is_active (f (lives.Ended end)) ≡ false)
     → ((code : ℤ) → is_active (f (lives.Broken code)) ≡ false)
     → ((code : Option ℤ) → is_active (f (lives.Over code)) ≡ false) → NoneRises f
-rises_none f ended broken over lives.Calling is = refl
 rises_none f ended broken over (lives.Ended end) is = sym (ended end) ∙ is
-rises_none f ended broken over lives.Waiting is = refl
-rises_none f ended broken over lives.Accepted is = refl
-rises_none f ended broken over lives.Finished is = refl
 rises_none f ended broken over (lives.Broken code) is = sym (broken code) ∙ is
 rises_none f ended broken over (lives.Over code) is = sym (over code) ∙ is
+rises_none f ended broken over _ is = refl
 
 finish_rises : (fine : Bool) (code : ℤ) → NoneRises (after_finish fine code)
 finish_rises true code = rises_none (after_finish true code) (λ end. refl) (λ told. refl) (λ told. refl)

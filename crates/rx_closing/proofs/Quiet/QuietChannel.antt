@@ -59,20 +59,7 @@ start_holds s l e c r (name, inl o) = by o.takes.got refl o.starts
         of : (t : Took) → is_start t ≡ true → Hold c (taken_with s t c o.takes.message ready).conns
         of tooks.Kept is = hold_data c s tooks.Kept c o.takes.message (opened s c ready) opens
         of tooks.NoSlot is = hold_data c s tooks.NoSlot c o.takes.message (opened s c ready) opens
-        of tooks.Repeat is = absurd cc
-        of tooks.Beyond is = absurd cc
-        of tooks.Clash is = absurd cc
-        of tooks.Heard is = absurd cc
-        of tooks.Stopped is = absurd cc
-        of tooks.Busy is = absurd cc
-        of tooks.NoRoom is = absurd cc
-        of tooks.Over is = absurd cc
-        of tooks.Full is = absurd cc
-        of tooks.Old is = absurd cc
-        of tooks.Unserved is = absurd cc
-        of tooks.Foreign is = absurd cc
-        of tooks.Strange is = absurd cc
-        of (tooks.Bad bad) is = absurd cc
+        of _ is = absurd cc
 start_holds s l e c r (name, inr m) =
     subst (λ (f : Event). Hold c (after s f l).conns) (sym m.event) (started_holds c c.number l.conns)
 

@@ -58,12 +58,7 @@ module _ (s : Setup) (mute : IsMute s.class) (fits : FitsSetup s) (c : CallName)
   end_idle : (x : Life) (end : Bool) → end ≡ true → is_calling x ≡ true → is_active (after_end end x) ≡ false
   end_idle lives.Calling true is calls = refl
   end_idle lives.Calling false is calls = absurd cc
-  end_idle (lives.Ended end) e is calls = absurd cc
-  end_idle lives.Waiting e is calls = absurd cc
-  end_idle lives.Accepted e is calls = absurd cc
-  end_idle lives.Finished e is calls = absurd cc
-  end_idle (lives.Broken code) e is calls = absurd cc
-  end_idle (lives.Over code) e is calls = absurd cc
+  end_idle _ e is calls = absurd cc
 
   -- a client reads its channel's latest call alone
   read_own : (d : CallName) (max : ℕ) (got : ReadAns) (bytes : List ℕ)
@@ -183,11 +178,7 @@ module _ (s : Setup) (mute : IsMute s.class) (fits : FitsSetup s) (c : CallName)
   cancel_idle : (x : Life) (code : ℤ) → IsCalled x → is_active (after_cancel code x) ≡ false
   cancel_idle lives.Calling code called = refl
   cancel_idle (lives.Ended end) code called = refl
-  cancel_idle lives.Waiting code called = absurd called
-  cancel_idle lives.Accepted code called = absurd called
-  cancel_idle lives.Finished code called = absurd called
-  cancel_idle (lives.Broken told) code called = absurd called
-  cancel_idle (lives.Over told) code called = absurd called
+  cancel_idle _ code called = absurd called
 
   cancel_never : (kind : Kind) → s.kind ≡ kind → (d : CallName) (code : ℤ) (done : Unit {0}) (r : CallRecord)
       → AllowedAt kind s l (events.Cancelled d code (Ok done)) → channel_of d ≡ channel_of c
@@ -214,15 +205,6 @@ module _ (s : Setup) (mute : IsMute s.class) (fits : FitsSetup s) (c : CallName)
       read_leaves d max got bytes r allowed behind still
   event_leaves (events.Finished d code (Ok done)) r allowed behind still =
       λ some same p here. absurd (finish_never s.kind d code done r allowed some same behind still)
-  event_leaves (events.Finished d code (Err refused)) r allowed behind still = tt
   event_leaves (events.Cancelled d code (Ok done)) r allowed behind still =
       λ same p here. absurd (cancel_never s.kind refl d code done r allowed same behind still)
-  event_leaves (events.Cancelled d code (Err closed)) r allowed behind still = tt
-  event_leaves (events.Linked to service first got) r allowed behind still = tt
-  event_leaves (events.Called cid got) r allowed behind still = tt
-  event_leaves (events.Wrote d offered got bytes) r allowed behind still = tt
-  event_leaves (events.Shut d got) r allowed behind still = tt
-  event_leaves (events.Ended d got) r allowed behind still = tt
-  event_leaves (events.Accepted got) r allowed behind still = tt
-  event_leaves (events.Polled got) r allowed behind still = tt
-  event_leaves (events.Clocked now) r allowed behind still = tt
+  event_leaves _ r allowed behind still = tt

@@ -71,11 +71,7 @@ again_none (bodies.Ack a) lives.Accepted active q = refl
 again_none (bodies.Ack a) lives.Finished active q = refl
 again_none (bodies.Ack a) (lives.Broken code) active q = absurd cc
 again_none (bodies.Ack a) (lives.Over code) active q = absurd cc
-again_none (bodies.Abort code) life active q = refl
-again_none bodies.Busy life active q = refl
-again_none bodies.AckAll life active q = refl
-again_none (bodies.Challenge bytes) life active q = refl
-again_none (bodies.Response bytes) life active q = refl
+again_none _ life active q = refl
 
 -- a call behind a step of its life alone
 pub life_at : (l : Looks) (c : CallName) (f : Life → Life) (k r : CallRecord) → call_at l c ≡ Some k
@@ -189,30 +185,14 @@ module _ (s : Setup) (mute : IsMute s.class) (fits : FitsSetup s) (c : CallName)
 
     stops_so : (body : Body) → m.body ≡ body → StopsSo c s d body
     stops_so (bodies.Response text) at = absurd (no_response s s.kind l from m text mute at front)
-    stops_so (bodies.Chunk payload) at = tt
-    stops_so bodies.Busy at = tt
-    stops_so (bodies.Ack a) at = tt
-    stops_so (bodies.Abort code) at = tt
-    stops_so bodies.AckAll at = tt
-    stops_so (bodies.Challenge text) at = tt
+    stops_so _ at = tt
 
     takes_so : (g : Took) → got ≡ g → TakesSo c s g d m.body ready
     takes_so tooks.Busy same = busy_leaves (ap is_busy same)
     takes_so tooks.NoRoom same = busy_leaves (ap is_busy same)
     takes_so tooks.Over same = over_leaves same
     takes_so tooks.Stopped same = stops_so m.body refl
-    takes_so tooks.Kept same = tt
-    takes_so tooks.NoSlot same = tt
-    takes_so tooks.Repeat same = tt
-    takes_so tooks.Beyond same = tt
-    takes_so tooks.Clash same = tt
-    takes_so tooks.Heard same = tt
-    takes_so tooks.Full same = tt
-    takes_so tooks.Old same = tt
-    takes_so tooks.Unserved same = tt
-    takes_so tooks.Foreign same = tt
-    takes_so tooks.Strange same = tt
-    takes_so (tooks.Bad bad) same = tt
+    takes_so _ same = tt
 
   pub reads_leave : (from : Host) (bytes : List ℕ) (got : Took) (reading : Result Message BadMsg)
       → got ≡ took_of s l from bytes → reading_of bytes ≡ reading → ReadsSo c s l from reading got

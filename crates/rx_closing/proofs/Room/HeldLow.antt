@@ -137,12 +137,7 @@ kept_low window v m (bodies.Chunk payload) k wide row low =
       near = omega (arith, under, wide, more, low.near);
       once = (new.1, low.once);
     }
-kept_low window v m (bodies.Ack a) k wide row low = low
-kept_low window v m bodies.AckAll k wide row low = low
-kept_low window v m bodies.Busy k wide row low = low
-kept_low window v m (bodies.Abort code) k wide row low = low
-kept_low window v m (bodies.Challenge bytes) k wide row low = low
-kept_low window v m (bodies.Response bytes) k wide row low = low
+kept_low window v m _ k wide row low = low
 
 taken_low : (window : ℕ) (v : NodeView) (got : Took) (m : Message) (k : CallLooks) → v.window ≡ window
     → call_row v m m.body k ≡ got → IsLow window k → IsLow window (after_taken v got m k)

@@ -284,11 +284,7 @@ module _ (s : Setup) (host : Host) (epoch : ℕ) (kind : s.kind ≡ Client host 
           → (end : End) × (end_at (looks s h) c ≡ Some end)
       of (lives.Ended end) dead called is = (end, is)
       of (lives.Over code) dead called is = absurd called
-      of lives.Calling dead called is = absurd cc
-      of lives.Waiting dead called is = absurd cc
-      of lives.Accepted dead called is = absurd cc
-      of lives.Finished dead called is = absurd cc
-      of (lives.Broken code) dead called is = absurd cc
+      of _ dead called is = absurd cc
 
   abbrev lives_in : List Event → Bool
   lives_in h = is_call (λ r. is_live r.life) (call_at (looks s h) c)

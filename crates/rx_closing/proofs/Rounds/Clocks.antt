@@ -73,11 +73,7 @@ module _ (c : CallName) (k : ℕ) (client server : Node) where
   called_calling : (x : Life) → IsCalled x → is_live x ≡ true → x ≡ lives.Calling
   called_calling lives.Calling called living = refl
   called_calling (lives.Ended end) called living = absurd cc
-  called_calling lives.Waiting called living = absurd called
-  called_calling lives.Accepted called living = absurd called
-  called_calling lives.Finished called living = absurd called
-  called_calling (lives.Broken code) called living = absurd called
-  called_calling (lives.Over code) called living = absurd called
+  called_calling _ called living = absurd called
 
   -- where it lives it is calling
   pub asked_calling : (s : Stage) → OneOf c k client server s → Lives s

@@ -25,13 +25,9 @@ NoneWakes f = (x : Life) → is_live (f x) ≡ true → is_live x ≡ true
 
 wakes_none : (f : Life → Life) → ((end : End) → is_live (f (lives.Ended end)) ≡ false)
     → ((code : Option ℤ) → is_live (f (lives.Over code)) ≡ false) → NoneWakes f
-wakes_none f ended over lives.Calling is = refl
 wakes_none f ended over (lives.Ended end) is = sym (ended end) ∙ is
-wakes_none f ended over lives.Waiting is = refl
-wakes_none f ended over lives.Accepted is = refl
-wakes_none f ended over lives.Finished is = refl
-wakes_none f ended over (lives.Broken code) is = refl
 wakes_none f ended over (lives.Over code) is = sym (over code) ∙ is
+wakes_none f ended over _ is = refl
 
 finish_wakes : (fine : Bool) (code : ℤ) → NoneWakes (after_finish fine code)
 finish_wakes true code = wakes_none (after_finish true code) (λ end. refl) (λ told. refl)

@@ -46,17 +46,7 @@ now_rises s l e allowed =
 
     of : (kind : Kind) (e : Event) → AllowedAt kind s l e → l.now ≤ with_clock e l.now
     of kind (events.Clocked now) is = clock kind now is
-    of kind (events.Linked to service first got) is = omega arith
-    of kind (events.Called cid got) is = omega arith
-    of kind (events.Wrote c offered got bytes) is = omega arith
-    of kind (events.Shut c got) is = omega arith
-    of kind (events.HasRead c most got bytes) is = omega arith
-    of kind (events.Ended c got) is = omega arith
-    of kind (events.Cancelled c code got) is = omega arith
-    of kind (events.Accepted got) is = omega arith
-    of kind (events.Finished c code got) is = omega arith
-    of kind (events.Taken from bytes got) is = omega arith
-    of kind (events.Polled got) is = omega arith
+    of kind _ is = omega arith
 
 -- what an end gave stays given when it takes a message
 pub chunk_spoke : (v : NodeView) (got : Took) (m : Message) (body : Body) (k : CallLooks)

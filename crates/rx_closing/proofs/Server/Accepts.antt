@@ -30,12 +30,7 @@ use Rattle.rx_closing.proofs.Server.OwnSeen.{Keeps, event_keeps, keeps_trans}
 
 waiting_is : (x : Life) → is_waiting x ≡ true → x ≡ lives.Waiting
 waiting_is lives.Waiting is = refl
-waiting_is lives.Calling is = absurd cc
-waiting_is (lives.Ended end) is = absurd cc
-waiting_is lives.Accepted is = absurd cc
-waiting_is lives.Finished is = absurd cc
-waiting_is (lives.Broken code) is = absurd cc
-waiting_is (lives.Over code) is = absurd cc
+waiting_is _ is = absurd cc
 
 -- none of a list passes that has one which does
 none_found : (p : CallName → Bool) (c : CallName) (xs : List CallName) → find p xs ≡ None → is_among c xs ≡ true

@@ -223,12 +223,7 @@ module _ (c : CallName) where
       ap (λ ps. is_some (packet_at ps 1)) (sym (found_kept v.client k))
       ∙ ap (λ (b : Bool). is_some (cond b (Some (packet_of m payload).piece)
       (packet_at (found v.client k).received.kept 1))) (sym other) ∙ there
-  kept_first v m (bodies.Ack a) k other there = there
-  kept_first v m bodies.AckAll k other there = there
-  kept_first v m bodies.Busy k other there = there
-  kept_first v m (bodies.Abort code) k other there = there
-  kept_first v m (bodies.Challenge bytes) k other there = there
-  kept_first v m (bodies.Response bytes) k other there = there
+  kept_first v m _ k other there = there
 
   on_kept : (s : Setup) (d : CallName) (m : Message) (l : Looks) → Holds l → Holds (taken_data s tooks.Kept d m l)
   on_kept s d m l holds =
@@ -383,11 +378,7 @@ module _ (c : CallName) where
   on_event s l (events.Taken from bytes got) allowed holds = on_message s from (reading_of bytes) got l holds
   on_event s l (events.Polled got) allowed holds = on_polled s got (silenced l) (on_silenced l holds)
   on_event s l (events.Clocked now) allowed holds = holds
-  on_event s l (events.Linked to service first got) allowed holds = absurd allowed
-  on_event s l (events.Called cid got) allowed holds = absurd allowed
-  on_event s l (events.Shut d got) allowed holds = absurd allowed
-  on_event s l (events.Ended d got) allowed holds = absurd allowed
-  on_event s l (events.Cancelled d code got) allowed holds = absurd allowed
+  on_event s l _ allowed holds = absurd allowed
 
   -- at every moment of a server
   pub firsts_hold : (s : Setup) (h : List Event) → IsServer s.kind → Legal s h → FirstHolds c (looks s h)

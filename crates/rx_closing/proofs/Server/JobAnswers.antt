@@ -65,11 +65,7 @@ module _ (g : Handlers) (s : Setup) (server : IsServer s.kind) (fits : FitsSetup
           → is_staying (heard_read g j got came).phase ≡ true
       of lives.Accepted h same = told (read_of r.looks.received OFFER_BYTES).0 same
       of (lives.Broken code) h same = ap (λ (y : ServeRead). is_staying (heard_read g j y came).phase) same
-      of lives.Calling h same = absurd cc
-      of (lives.Ended end) h same = absurd cc
-      of lives.Waiting h same = absurd cc
-      of lives.Finished h same = absurd cc
-      of (lives.Over code) h same = absurd cc
+      of _ h same = absurd cc
 
   pub write_stays : (r : CallRecord) (l : Looks) (offered : ℕ) (got : Result ℕ ServeRefused) → is_handled r.life ≡ true
       → got ≡ served_write s l (Some r) offered → (j : JobState) → is_staying (heard_write j offered got).phase ≡ true
@@ -91,11 +87,7 @@ module _ (g : Handlers) (s : Setup) (server : IsServer s.kind) (fits : FitsSetup
           (on 0 (min offered (room s l r.looks) == offered))
       of lives.Accepted false h same = told (Err refusals.Unread) same refl
       of (lives.Broken code) ended h same = told (Err (refusals.Gone code)) same refl
-      of lives.Calling ended h same = absurd cc
-      of (lives.Ended end) ended h same = absurd cc
-      of lives.Waiting ended h same = absurd cc
-      of lives.Finished ended h same = absurd cc
-      of (lives.Over code) ended h same = absurd cc
+      of _ ended h same = absurd cc
 
   -- ---- its job finishes
 
@@ -200,8 +192,4 @@ module _ (g : Handlers) (s : Setup) (server : IsServer s.kind) (fits : FitsSetup
           ap (λ (y : Result (Unit {0}) ServeRefused). has_handler (call_at (finish_done c code y l) c)) gone_
           ∙ ap has_handler (own_changed c goes_ l (λ k. refl) ∙ ap (option_map goes_) there)
           ∙ ap (λ (x : Life). is_handled (after_gone x)) is
-      of lives.Calling is h_ = absurd cc
-      of (lives.Ended end) is h_ = absurd cc
-      of lives.Waiting is h_ = absurd cc
-      of lives.Finished is h_ = absurd cc
-      of (lives.Over told) is h_ = absurd cc
+      of _ is h_ = absurd cc

@@ -99,9 +99,7 @@ read_low : (g : Handlers) (j : JobState) (got : ServeRead) (came : List ℕ) →
 read_low g j (reads.Got n) came going low =
     grown_low g (length j.request) (record j { request = j.request ++ came }) going (low.before going)
 read_low g j reads.End came going low = settled_low g 0 (record j { ended = true }) refl
-read_low g j reads.NotYet came going low = low
-read_low g j (reads.Gone code) came going low = low
-read_low g j reads.NotOpen came going low = low
+read_low g j _ came going low = low
 
 write_low : (g : Handlers) (j : JobState) (offered : ℕ) (got : Result ℕ ServeRefused) → IsLow g j
     → IsLow g (heard_write j offered got).job

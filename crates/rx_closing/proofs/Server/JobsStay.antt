@@ -81,12 +81,7 @@ module _ (g : Handlers) (s : Setup) (server : IsServer s.kind) (fits : FitsSetup
         where
           handled : (x : Life) → is_waiting x ≡ true → is_handled (after_accept x) ≡ true
           handled lives.Waiting is = refl
-          handled lives.Calling is = absurd cc
-          handled (lives.Ended end) is = absurd cc
-          handled lives.Accepted is = absurd cc
-          handled lives.Finished is = absurd cc
-          handled (lives.Broken code) is = absurd cc
-          handled (lives.Over code) is = absurd cc
+          handled _ is = absurd cc
 
       by : (b : Bool) → same_name d c ≡ b
           → (is_among c (calls_of jobs) || (b || false)) ≡ has_handler (call_at (on_life d after_accept l) c)

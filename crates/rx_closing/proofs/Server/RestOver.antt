@@ -76,6 +76,4 @@ module _ (g : Handlers) (ls : List Numbered) (c : CallName) (k : ℕ) (client se
           (subst (λ (o : Option CallRecord). counting_of (sent_by o) ≤ (sent_by o).acked) p.there r.known))
       of lives.Calling is unhandled waits here = absurd here
       of (lives.Ended end) is unhandled waits here = absurd here
-      of lives.Waiting is unhandled waits here = absurd cc
-      of lives.Accepted is unhandled waits here = absurd cc
-      of (lives.Broken code) is unhandled waits here = absurd cc
+      of _ is unhandled waits here = absurd cc

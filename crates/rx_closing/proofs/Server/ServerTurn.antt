@@ -104,11 +104,7 @@ module _ (g : Handlers) (node : Node) (serves : IsServer node.setup.kind) (c : C
   handled_is : (x : Life) → is_handled x ≡ true → (x ≡ lives.Accepted) ⊎ ((code : ℤ) × (x ≡ lives.Broken code))
   handled_is lives.Accepted is = inl refl
   handled_is (lives.Broken code) is = inr (code, refl)
-  handled_is lives.Calling is = absurd cc
-  handled_is (lives.Ended end) is = absurd cc
-  handled_is lives.Waiting is = absurd cc
-  handled_is lives.Finished is = absurd cc
-  handled_is (lives.Over code) is = absurd cc
+  handled_is _ is = absurd cc
 
   module _ (s t : Stage) (begins : IsOpenAt g node serves c s) (sound : IsSound s) where
     abbrev now : ℕ

@@ -155,6 +155,4 @@ module _ (g : Handlers) (ls : List Numbered) (servable : AreServable g) (c : Cal
       of lives.Waiting life = waits_drained life
       of lives.Accepted life = by_turn (inl life)
       of lives.Finished life = by_turn (inr life)
-      of (lives.Ended end) life = absurd (both_ways (is_active f.life) here (ap is_active life))
-      of (lives.Broken code) life = absurd (both_ways (is_active f.life) here (ap is_active life))
-      of (lives.Over code) life = absurd (both_ways (is_active f.life) here (ap is_active life))
+      of _ life = absurd (both_ways (is_active f.life) here (ap is_active life))

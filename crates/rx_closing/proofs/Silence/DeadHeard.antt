@@ -36,13 +36,9 @@ ended_dead None end is = refl
 ended_dead (Some r) end is = of r.life is
   where
     of : (x : Life) → end_of_life x ≡ Some end → is_live x ≡ false
-    of lives.Calling is = absurd cc
     of (lives.Ended other) is = refl
-    of lives.Waiting is = absurd cc
-    of lives.Accepted is = absurd cc
-    of lives.Finished is = absurd cc
-    of (lives.Broken code) is = absurd cc
     of (lives.Over code) is = refl
+    of _ is = absurd cc
 
 -- ---- what is found
 

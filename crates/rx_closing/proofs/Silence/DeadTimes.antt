@@ -271,11 +271,7 @@ module _ (g : Handlers) (ls : List Numbered) (n : ℕ) (s t : Stage) (b : Rounds
             let all : ◌≡◌ {A = Option End} (Some end) (Some (ends.Dead silence)) =
             sym behind ∙ ap (λ (h : List Event). end_at (looks client.setup h) c) (sym own) ∙ dead in
             before ∙ all)
-        of lives.Waiting is called = absurd (subst IsCalled is called)
-        of lives.Accepted is called = absurd (subst IsCalled is called)
-        of lives.Finished is called = absurd (subst IsCalled is called)
-        of (lives.Broken code) is called = absurd (subst IsCalled is called)
-        of (lives.Over code) is called = absurd (subst IsCalled is called)
+        of _ is called = absurd (subst IsCalled is called)
 
     -- it wasn't heard for 12,000 ms then
     pub last_silent : last_asked.call.looks.heard + 12000 ≤ moment (suc k) o.last.history

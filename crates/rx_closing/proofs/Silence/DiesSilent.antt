@@ -63,11 +63,7 @@ module _ (s : Setup) (l : Looks) (c : CallName) where
       → life_of (call_at (given_body d m body (counted (connection_of d) l)) c) ≡ life_of (call_at l c)
   body-life d m (bodies.Chunk payload) = changed-life d (after_piece l.now m.seq)
   body-life d m (bodies.Ack a) = changed-life d (after_ack_given l.now)
-  body-life d m (bodies.Abort code) = refl
-  body-life d m bodies.Busy = refl
-  body-life d m (bodies.Challenge given) = refl
-  body-life d m (bodies.Response given) = refl
-  body-life d m bodies.AckAll = refl
+  body-life d m _ = refl
 
   given-life : (got : Option (Host × List ℕ)) → life_of (call_at (given_by s got l) c) ≡ life_of (call_at l c)
   given-life None = refl
@@ -220,8 +216,4 @@ module _ (s : Setup) (host : Host) (epoch : ℕ) where
           let long = again (before ∙ ap (λ (x : End). Some x) same) in
           let up = now_rises s (looks s (later ++ h)) e legal.0 in
           omega (arith, long, up))
-      of again lives.Waiting is called = absurd (subst IsCalled is called)
-      of again lives.Accepted is called = absurd (subst IsCalled is called)
-      of again lives.Finished is called = absurd (subst IsCalled is called)
-      of again (lives.Broken code) is called = absurd (subst IsCalled is called)
-      of again (lives.Over code) is called = absurd (subst IsCalled is called)
+      of again _ is called = absurd (subst IsCalled is called)

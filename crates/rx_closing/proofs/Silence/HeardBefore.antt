@@ -70,11 +70,7 @@ hears_at s host epoch kind c e came later h legal =
 active_calls : (x : Life) → IsCalled x → is_active x ≡ true → x ≡ lives.Calling
 active_calls lives.Calling called works = refl
 active_calls (lives.Ended end) called works = absurd cc
-active_calls lives.Waiting called works = absurd called
-active_calls lives.Accepted called works = absurd called
-active_calls lives.Finished called works = absurd called
-active_calls (lives.Broken code) called works = absurd called
-active_calls (lives.Over code) called works = absurd called
+active_calls _ called works = absurd called
 
 module _ (g : Handlers) (ls : List Numbered) (n : ℕ) (s t : Stage) (b : RoundsBehind g ls n s t) (c : CallName) (k : ℕ)
     (client : Node) (there : slice_get s.nodes (suc k) ≡ Some client)

@@ -76,35 +76,23 @@ abort_ends c k client server g s t r one linked owes known =
 
 abort_code : (body : Body) → IsAbort body → (code : ℤ) × (body ≡ bodies.Abort code)
 abort_code (bodies.Abort code) is = (code, refl)
-abort_code (bodies.Chunk payload) is = absurd is
-abort_code (bodies.Ack a) is = absurd is
-abort_code bodies.Busy is = absurd is
-abort_code bodies.AckAll is = absurd is
-abort_code (bodies.Challenge bytes) is = absurd is
-abort_code (bodies.Response bytes) is = absurd is
+abort_code _ is = absurd is
 
 abort_served : (challenges : Bool) (body : Body) → IsAbort body → is_for_servers challenges body ≡ true
 abort_served challenges (bodies.Abort code) is = refl
-abort_served challenges (bodies.Chunk payload) is = absurd is
-abort_served challenges (bodies.Ack a) is = absurd is
-abort_served challenges bodies.Busy is = absurd is
-abort_served challenges bodies.AckAll is = absurd is
-abort_served challenges (bodies.Challenge bytes) is = absurd is
-abort_served challenges (bodies.Response bytes) is = absurd is
+abort_served challenges _ is = absurd is
 
 -- a code changes the life of a call at work
 code_moves : (code : ℤ) (x : Life) → is_active x ≡ true → after_code code x ≡ x → ⊥
 code_moves code lives.Calling active same =
     (let no : lives.Calling ≡ after_code code lives.Calling = sym same in cc (no))
-code_moves code (lives.Ended end) active same = (let no : false ≡ true = active in cc (no))
 code_moves code lives.Waiting active same =
     (let no : lives.Waiting ≡ after_code code lives.Waiting = sym same in cc (no))
 code_moves code lives.Accepted active same =
     (let no : lives.Accepted ≡ after_code code lives.Accepted = sym same in cc (no))
 code_moves code lives.Finished active same =
     (let no : lives.Finished ≡ after_code code lives.Finished = sym same in cc (no))
-code_moves code (lives.Broken told) active same = (let no : false ≡ true = active in cc (no))
-code_moves code (lives.Over told) active same = (let no : false ≡ true = active in cc (no))
+code_moves code _ active same = (let no : false ≡ true = active in cc (no))
 
 module _ (c : CallName) (k : ℕ) (client server : Node) (g : Handlers) (s t : Stage) (r : RoundMade g s t)
     (one : OneOf c k client server t) (f : DebtCame c k client server g s t r one IsAbort) (y : CallRecord) where

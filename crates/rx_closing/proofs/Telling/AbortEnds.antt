@@ -254,11 +254,7 @@ module _ (c : CallName) (k : ℕ) (client server : Node) (service nonces : ℕ) 
           → HasEnded (call_at (at_stage v) c)
       by r lives.Calling is there are = lives_ r there is
       by r (lives.Ended end) is there are = over end (ap end_by there ∙ ap end_of_life is)
-      by r lives.Waiting is there are = absurd are
-      by r lives.Accepted is there are = absurd are
-      by r lives.Finished is there are = absurd are
-      by r (lives.Broken code) is there are = absurd are
-      by r (lives.Over code) is there are = absurd are
+      by r _ is there are = absurd are
 
       of : (o : Option CallRecord) → call_at (at_stage u) c ≡ o → is_some o ≡ true → AreClients (call_at (at_stage u) c)
           → HasEnded (call_at (at_stage v) c)

@@ -56,21 +56,11 @@ use Rattle.rx_plan.proofs.Soundness.SoundPlan.{and_left}
 
 ackall_body : (body : Body) → IsAckAll body → body ≡ bodies.AckAll
 ackall_body bodies.AckAll is = refl
-ackall_body (bodies.Chunk payload) is = absurd is
-ackall_body (bodies.Ack a) is = absurd is
-ackall_body bodies.Busy is = absurd is
-ackall_body (bodies.Abort code) is = absurd is
-ackall_body (bodies.Challenge bytes) is = absurd is
-ackall_body (bodies.Response bytes) is = absurd is
+ackall_body _ is = absurd is
 
 ackall_served : (challenges : Bool) (body : Body) → IsAckAll body → is_for_servers challenges body ≡ true
 ackall_served challenges bodies.AckAll is = refl
-ackall_served challenges (bodies.Chunk payload) is = absurd is
-ackall_served challenges (bodies.Ack a) is = absurd is
-ackall_served challenges bodies.Busy is = absurd is
-ackall_served challenges (bodies.Abort code) is = absurd is
-ackall_served challenges (bodies.Challenge bytes) is = absurd is
-ackall_served challenges (bodies.Response bytes) is = absurd is
+ackall_served challenges _ is = absurd is
 
 module _ (c : CallName) (k : ℕ) (client server : Node) (g : Handlers) (s t : Stage) (r : RoundMade g s t)
     (one : OneOf c k client server t) where

@@ -134,6 +134,4 @@ shut_finished s es c k serves legal there active shut = by k.life refl
         absurd (let no : false ≡ true = sym (tight.unshut (serving s.kind serves) (ap is_begun is)) ∙ shut in cc (no))
     by lives.Accepted is =
         absurd (let no : false ≡ true = sym (tight.unshut (serving s.kind serves) (ap is_begun is)) ∙ shut in cc (no))
-    by (lives.Ended end) is = absurd (let no : false ≡ true = ap is_active (sym is) ∙ active in cc (no))
-    by (lives.Broken code) is = absurd (let no : false ≡ true = ap is_active (sym is) ∙ active in cc (no))
-    by (lives.Over code) is = absurd (let no : false ≡ true = ap is_active (sym is) ∙ active in cc (no))
+    by _ is = absurd (let no : false ≡ true = ap is_active (sym is) ∙ active in cc (no))

@@ -30,11 +30,7 @@ pub record IsToldBusy (c : CallName) (l : Looks) : Type 0 where
 pub code_keeps : (code : ℤ) (x : Life) → is_handled x ≡ true → is_handled (after_code code x) ≡ true
 code_keeps code lives.Accepted is = refl
 code_keeps code (lives.Broken before) is = refl
-code_keeps code lives.Calling is = absurd (cc (is))
-code_keeps code (lives.Ended end) is = absurd (cc (is))
-code_keeps code lives.Waiting is = absurd (cc (is))
-code_keeps code lives.Finished is = absurd (cc (is))
-code_keeps code (lives.Over before) is = absurd (cc (is))
+code_keeps code _ is = absurd (cc (is))
 
 -- where the channel's latest call is one that a handler has
 pub busy_owes : (s : Setup) (l : Looks) (c : CallName) (m : Message) (r : CallRecord)

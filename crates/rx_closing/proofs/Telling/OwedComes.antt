@@ -99,12 +99,7 @@ abort_owed =
 
     test : (body : Body) → IsAbort body ⊎ (IsAbort body → ⊥)
     test (bodies.Abort code) = inl tt
-    test (bodies.Chunk payload) = inr (λ no. no)
-    test (bodies.Ack a) = inr (λ no. no)
-    test bodies.Busy = inr (λ no. no)
-    test bodies.AckAll = inr (λ no. no)
-    test (bodies.Challenge bytes) = inr (λ no. no)
-    test (bodies.Response bytes) = inr (λ no. no)
+    test _ = inr (λ no. no)
 
 -- an ACKALL
 abbrev pub IsAckAll : Body → Type 0
@@ -154,12 +149,7 @@ ackall_owed = record { there = there; kept = kept; test = test; latest = λ no. 
 
     test : (body : Body) → IsAckAll body ⊎ (IsAckAll body → ⊥)
     test bodies.AckAll = inl tt
-    test (bodies.Abort code) = inr (λ no. no)
-    test (bodies.Chunk payload) = inr (λ no. no)
-    test (bodies.Ack a) = inr (λ no. no)
-    test bodies.Busy = inr (λ no. no)
-    test (bodies.Challenge bytes) = inr (λ no. no)
-    test (bodies.Response bytes) = inr (λ no. no)
+    test _ = inr (λ no. no)
 
 -- ---- its channel is one of the node's
 

@@ -66,17 +66,7 @@ module _ (c : CallName) (number : ℕ) where
   -- so does a clock
   it_clocked : (s : Setup) (now : ℕ) (e : Event) (l : Looks) → IsClocked now e → OwesIt l → OwesIt (after s e l)
   it_clocked s now (events.Clocked at) l is o = o
-  it_clocked s now (events.Polled got) l is o = absurd is
-  it_clocked s now (events.Linked a b d f) l is o = absurd is
-  it_clocked s now (events.Called a b) l is o = absurd is
-  it_clocked s now (events.Wrote a b d f) l is o = absurd is
-  it_clocked s now (events.Shut a b) l is o = absurd is
-  it_clocked s now (events.HasRead a b d f) l is o = absurd is
-  it_clocked s now (events.Ended a b) l is o = absurd is
-  it_clocked s now (events.Cancelled a b d) l is o = absurd is
-  it_clocked s now (events.Accepted a) l is o = absurd is
-  it_clocked s now (events.Finished a b d) l is o = absurd is
-  it_clocked s now (events.Taken a b d) l is o = absurd is
+  it_clocked s now _ l is o = absurd is
 
 -- through the turns and the clocks of a round
 pub told_round : (c : CallName) (server : Node) (g : Handlers) (s t : Stage) (r : RoundMade g s t)

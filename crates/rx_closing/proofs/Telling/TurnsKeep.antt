@@ -250,14 +250,4 @@ owing_asked s c (finish d code) e l is o =
 pub owing_clocked : (s : Setup) (c : CallName) (now : ℕ) (e : Event) (l : Looks) → IsClocked now e → Owing c l
     → Owing c (after s e l)
 owing_clocked s c now (events.Clocked at) l is o = record { owed = o.owed; number = o.number; some = o.some }
-owing_clocked s c now (events.Polled got) l is o = absurd is
-owing_clocked s c now (events.Linked a b d f) l is o = absurd is
-owing_clocked s c now (events.Called a b) l is o = absurd is
-owing_clocked s c now (events.Wrote a b d f) l is o = absurd is
-owing_clocked s c now (events.Shut a b) l is o = absurd is
-owing_clocked s c now (events.HasRead a b d f) l is o = absurd is
-owing_clocked s c now (events.Ended a b) l is o = absurd is
-owing_clocked s c now (events.Cancelled a b d) l is o = absurd is
-owing_clocked s c now (events.Accepted a) l is o = absurd is
-owing_clocked s c now (events.Finished a b d) l is o = absurd is
-owing_clocked s c now (events.Taken a b d) l is o = absurd is
+owing_clocked s c now _ l is o = absurd is

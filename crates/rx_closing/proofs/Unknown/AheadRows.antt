@@ -213,20 +213,7 @@ module _ (s : Setup) (l : Looks) (c : CallName) (m : Message) (serves : IsServer
           ≡ Some (record (begun_record s c l.now) { looks = after_taken ahead_view got m ahead_looks })
       of tooks.Kept starts = piece tooks.Kept
       of tooks.NoSlot starts = piece tooks.NoSlot
-      of tooks.Repeat starts = absurd cc
-      of tooks.Beyond starts = absurd cc
-      of tooks.Clash starts = absurd cc
-      of tooks.Heard starts = absurd cc
-      of tooks.Stopped starts = absurd cc
-      of tooks.Busy starts = absurd cc
-      of tooks.NoRoom starts = absurd cc
-      of tooks.Over starts = absurd cc
-      of tooks.Full starts = absurd cc
-      of tooks.Old starts = absurd cc
-      of tooks.Unserved starts = absurd cc
-      of tooks.Foreign starts = absurd cc
-      of tooks.Strange starts = absurd cc
-      of (tooks.Bad bad) starts = absurd cc
+      of _ starts = absurd cc
 
 -- ---- answers that start nothing
 

@@ -311,11 +311,7 @@ module _ (c : CallName) (k : ℕ) (client server : Node) (t : Stage) (one : OneO
         of (bodies.Chunk payload) at stream =
             data_ payload at (what_comes server.setup l c m serves ahead number payload at sense)
         of (bodies.Ack ack) at stream = acked onward ack at
-        of bodies.Busy at stream = absurd stream
-        of (bodies.Abort code) at stream = absurd stream
-        of bodies.AckAll at stream = absurd stream
-        of (bodies.Challenge given) at stream = absurd stream
-        of (bodies.Response given) at stream = absurd stream
+        of _ at stream = absurd stream
 
   -- ---- all of them
 

@@ -47,32 +47,20 @@ use Rattle.rx_closing.proofs.Telling.BusyOwed.{code_keeps}
 -- ---- lives
 
 code_work : (code : ℤ) (x : Life) → (after_code code x ≡ x) ⊎ (is_active (after_code code x) ≡ false)
-code_work code lives.Calling = inr refl
 code_work code (lives.Ended end) = inl refl
-code_work code lives.Waiting = inr refl
-code_work code lives.Accepted = inr refl
-code_work code lives.Finished = inr refl
 code_work code (lives.Broken before) = inl refl
 code_work code (lives.Over before) = inl refl
+code_work code _ = inr refl
 
 later_work : (x : Life) → (after_later x ≡ x) ⊎ (is_active (after_later x) ≡ false)
-later_work lives.Calling = inl refl
-later_work (lives.Ended end) = inl refl
 later_work lives.Waiting = inr refl
-later_work lives.Accepted = inl refl
 later_work lives.Finished = inr refl
-later_work (lives.Broken before) = inl refl
-later_work (lives.Over before) = inl refl
+later_work _ = inl refl
 
 acks_work : (all : Bool) (x : Life) → (after_acks all x ≡ x) ⊎ (is_active (after_acks all x) ≡ false)
-acks_work all lives.Calling = inl refl
-acks_work all (lives.Ended end) = inl refl
-acks_work all lives.Waiting = inl refl
-acks_work all lives.Accepted = inl refl
 acks_work true lives.Finished = inr refl
 acks_work false lives.Finished = inl refl
-acks_work all (lives.Broken before) = inl refl
-acks_work all (lives.Over before) = inl refl
+acks_work all _ = inl refl
 
 behind_step : (f : Life → Life) (x y : Life) → y ≡ f x → (f x ≡ x) ⊎ (is_active (f x) ≡ false)
     → (y ≡ x) ⊎ (is_active y ≡ false)
@@ -100,20 +88,12 @@ life_work s l from bytes took c b x y (steps.cancelled code event is) = absurd (
 later_handled : (x : Life) → is_handled x ≡ true → is_handled (after_later x) ≡ true
 later_handled lives.Accepted is = refl
 later_handled (lives.Broken before) is = refl
-later_handled lives.Calling is = absurd (cc (is))
-later_handled (lives.Ended end) is = absurd (cc (is))
-later_handled lives.Waiting is = absurd (cc (is))
-later_handled lives.Finished is = absurd (cc (is))
-later_handled (lives.Over before) is = absurd (cc (is))
+later_handled _ is = absurd (cc (is))
 
 acks_handled : (all : Bool) (x : Life) → is_handled x ≡ true → is_handled (after_acks all x) ≡ true
 acks_handled all lives.Accepted is = refl
 acks_handled all (lives.Broken before) is = refl
-acks_handled all lives.Calling is = absurd (cc (is))
-acks_handled all (lives.Ended end) is = absurd (cc (is))
-acks_handled all lives.Waiting is = absurd (cc (is))
-acks_handled all lives.Finished is = absurd (cc (is))
-acks_handled all (lives.Over before) is = absurd (cc (is))
+acks_handled all _ is = absurd (cc (is))
 
 -- a handler has a call still behind a datagram
 life_handled : (s : Setup) (l : Looks) (from : Host) (bytes : List ℕ) (took : Took) (c : CallName) (b : CallLooks)

@@ -55,11 +55,7 @@ module _ (c : CallName) (k : ℕ) (client server : Node) (s : Stage) (scene : On
   called_calling : (x : Life) → IsCalled x → is_live x ≡ true → x ≡ lives.Calling
   called_calling lives.Calling called living = refl
   called_calling (lives.Ended end) called living = absurd cc
-  called_calling lives.Waiting called living = absurd called
-  called_calling lives.Accepted called living = absurd called
-  called_calling lives.Finished called living = absurd called
-  called_calling (lives.Broken code) called living = absurd called
-  called_calling (lives.Over code) called living = absurd called
+  called_calling _ called living = absurd called
 
   pub scene_asked : call_lives_at s c (suc k) client ≡ true → IsAsked c k client s
   scene_asked living = of (asked_in c k client s) refl living called

@@ -23,17 +23,7 @@ use Rattle.rx_rounds.proofs.Two.{Two, two_client, two_server}
 -- a clock event with this moment
 pub clocked_is : (now : ℕ) (e : Event) → IsClocked now e → e ≡ events.Clocked now
 clocked_is now (events.Clocked moment) is = ap (λ (m : ℕ). events.Clocked m) is
-clocked_is now (events.Linked a b c d) is = absurd is
-clocked_is now (events.Called a b) is = absurd is
-clocked_is now (events.Wrote a b c d) is = absurd is
-clocked_is now (events.Shut a b) is = absurd is
-clocked_is now (events.HasRead a b c d) is = absurd is
-clocked_is now (events.Ended a b) is = absurd is
-clocked_is now (events.Cancelled a b c) is = absurd is
-clocked_is now (events.Accepted a) is = absurd is
-clocked_is now (events.Finished a b c) is = absurd is
-clocked_is now (events.Taken a b c) is = absurd is
-clocked_is now (events.Polled a) is = absurd is
+clocked_is now _ is = absurd is
 
 -- later by so much
 abbrev pub later : ℕ → Looks → Looks

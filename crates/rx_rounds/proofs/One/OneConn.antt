@@ -88,24 +88,17 @@ shape_data s got d m l = shape_challenged s d
 
 shape_heard : (s : Setup) (d : CallName) (body : Body) (l : Looks) → shape (taken_heard s d body l) ≡ shape l
 shape_heard s d (bodies.Ack a) l = shape_challenged s d (on_call d settled l)
-shape_heard s d bodies.AckAll l = refl
 shape_heard s d (bodies.Response bytes) l =
     shape_conn (connection_of d) (λ (r : ConnLooks). record r { proved = true }) l (λ r. refl)
 shape_heard s d (bodies.Challenge bytes) l =
     shape_channel (channel_of d) (λ q. record q { owed_response = s.class.respond d bytes }) l
-shape_heard s d (bodies.Chunk payload) l = refl
-shape_heard s d bodies.Busy l = refl
-shape_heard s d (bodies.Abort code) l = refl
+shape_heard s d _ l = refl
 
 shape_stopped : (d : CallName) (body : Body) (l : Looks) → shape (taken_stopped d body l) ≡ shape l
 shape_stopped d (bodies.Abort code) l =
     shape_if (d.number == 0) (stopped_all (connection_of d) code l) (on_life d (after_code code) l) l refl refl
 shape_stopped d (bodies.Response bytes) l = shape_channel (channel_of d) (owing_abort (Some RX_PROTOCOL_ERROR)) l
-shape_stopped d (bodies.Chunk payload) l = refl
-shape_stopped d bodies.Busy l = refl
-shape_stopped d (bodies.Ack a) l = refl
-shape_stopped d bodies.AckAll l = refl
-shape_stopped d (bodies.Challenge bytes) l = refl
+shape_stopped d _ l = refl
 
 shape_over : (d : CallName) (body : Body) (o : Option CallRecord) (l : Looks) → shape (taken_over d body o l) ≡ shape l
 shape_over d body None l = refl
@@ -123,12 +116,7 @@ shape_with s tooks.Stopped d m l = shape_stopped d m.body l
 shape_with s tooks.Busy d m l = shape_channel (channel_of d) (owing_busy d.number) l
 shape_with s tooks.NoRoom d m l = shape_channel (channel_of d) (owing_busy d.number) l
 shape_with s tooks.Over d m l = shape_over d m.body (call_at l d) l
-shape_with s tooks.Full d m l = refl
-shape_with s tooks.Old d m l = refl
-shape_with s tooks.Unserved d m l = refl
-shape_with s tooks.Foreign d m l = refl
-shape_with s tooks.Strange d m l = refl
-shape_with s (tooks.Bad bad) d m l = refl
+shape_with s _ d m l = refl
 
 shape_turned : (row : Took) (from : Host) (m : Message) (l : Looks) → shape (turned_away row from m l) ≡ shape l
 shape_turned tooks.Unserved from m l = of m.body
@@ -268,8 +256,4 @@ module _ (x : Connection) (s : Setup) (some : 1 ≤ s.limits.conns) where
       alone_taken from bytes got l (reading_of bytes) refl only alone
   alone_after l (events.Polled got) allowed only alone = subst (Alone x) (sym (shape_given s got (silenced l))) alone
   alone_after l (events.Clocked now) allowed only alone = alone
-  alone_after l (events.Linked to service first got) allowed only alone = absurd allowed
-  alone_after l (events.Called cid got) allowed only alone = absurd allowed
-  alone_after l (events.Shut c got) allowed only alone = absurd allowed
-  alone_after l (events.Ended c got) allowed only alone = absurd allowed
-  alone_after l (events.Cancelled c code got) allowed only alone = absurd allowed
+  alone_after l _ allowed only alone = absurd allowed

@@ -35,12 +35,7 @@ tells_owed now spoke (Some o) early =
 -- the reason that an ACK tells
 abbrev pub reason_in : Body → ℕ
 reason_in (bodies.Ack a) = a.reason
-reason_in (bodies.Chunk payload) = 0
-reason_in bodies.Busy = 0
-reason_in (bodies.Abort code) = 0
-reason_in bodies.AckAll = 0
-reason_in (bodies.Challenge bytes) = 0
-reason_in (bodies.Response bytes) = 0
+reason_in _ = 0
 
 -- the first message that an end without pieces gives is the ACK that is owed
 pub told_reason : (p : Place) (e f : CallEnd) (ms : List Message) (m : Message) (rest : List Message)

@@ -4,14 +4,8 @@ use Rattle.rx_script.specs.Saying.{blocks_of}
 use Rattle.rx_stage.specs.Runs.{RunIs}
 use Rattle.rx_stage.specs.Showing.{RunsOn, outcome_of}
 use Rattle.rx_stage.specs.Tells.{told}
-use Rattle.rx_stage.proofs.Ending.{run_empty, run_on, run_refused}
+use Rattle.rx_stage.proofs.Ending.{run_on, run_refused}
 use Rattle.rx_stage.proofs.runs.run_lines.Goals as goal
-
-pub returns-in-None : goal.returns-in-None
-returns-in-None g c =
-    run_empty _ c.args.plan.now
-    (told (g.J.Journal.told c.args.book.now) (g.O.Sink.told c.args.out.now) (g.O.Sink.faults c.args.out.now))
-    c.in-None.ensures.cases
 
 pub returns-in-Ok : goal.returns-in-Ok
 returns-in-Ok g c =
