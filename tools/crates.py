@@ -14,7 +14,7 @@ LIST, DRAWING = top / "crates.txt", top / "docs/crates.svg"
 PLACES = """
 .             .               .           .          .               rx_top_tests    rx             .
 .             .               .           .          .               .               rx_top         .
-.             .               .           .          .               .               rx_loader      rx_world
+.             .               .           .          .               rx_peer_plan    rx_loader      rx_world
 .             .               .           .          .               rx_wire_loop    rx_stage       rx_words
 .             .               .           .          rx_joint_peers  .               rx_drive       .
 rx_node_bench rx_server_tests rx_joint    rx_caller  rx_peer         .               rx_dispatch    rx_closing
