@@ -1,8 +1,12 @@
+pub mod Answers
 pub mod Clocks
 pub mod Finds
+pub mod Follows
+pub mod Lines
 pub mod Network
 pub mod Polls
 pub mod Programs
+pub mod Promises
 pub mod Rounds
 pub mod Stages
 pub mod Turned

@@ -1,8 +1,9 @@
-//! The meaning of a plan of peers: which events its lines may make, and what they come to.
+//! The meaning of a plan of peers: which events its lines may make, what they come to, and what they promise.
 //!
 //! A part of a run is a list of events with what it comes to (`Parts` of `rx_plan`), at each stage that a run may have
 //! come to (`specs/Stages.antt`). Polls of a peer are such (`Polls`), deliveries (`Network`), turns (`Turned`), clocks
-//! (`Clocks`) and rounds over any network (`Rounds`).
+//! (`Clocks`), rounds over any network (`Rounds`) and lines (`Lines`); a whole plan is in `Follows`, its answer lines
+//! in `Answers`, and what it promises in `Promises`.
 #![tactic(auto)]
 
 mod call;
