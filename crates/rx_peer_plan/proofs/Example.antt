@@ -1,16 +1,23 @@
 -- Two peers, of which the second connects to the first; and a poll of the first, of which both halves are asked, since
--- neither has something due. These events follow that plan of peers.
-use Rattle.std.proofs.Common.{◌≡◌, List, [], ◌∷◌, true, false, None, Ok, refl, inl, arith}
+-- neither has something due. These events follow that plan of peers, and are a world.
+use Rattle.std.proofs.Common.{◌≡◌, Bool, List, [], ◌∷◌, true, false, None, Ok, refl, inl, arith, reverse, IfSome}
+use Rattle.std.proofs.lemmas.List.Elements.{All-cons, All-nil}
 use Rattle.rx_joint_peers.specs.Joint.{made_peer}
 use Rattle.rx_model.specs.declared.event.Event.{Event}
 use Rattle.rx_model.specs.declared.event.Event.TheVariants as events
 use Rattle.rx_model.specs.declared.event.Noted.{Noted}
 use Rattle.rx_model.specs.declared.names.Host.{Host}
 use Rattle.rx_model.specs.declared.names.Limits.{Limits}
+use Rattle.rx_peer.specs.declared.role.Role.{Role}
 use Rattle.rx_peer.specs.declared.role.Role.TheVariants as roles
+use Rattle.rx_peer.specs.PeerWorlds.{PeerWorld}
+use Rattle.rx_peer_plan.proofs.Reading.{hosts_apart}
+use Rattle.rx_peer_plan.proofs.Whole.{plans_whole}
 use Rattle.rx_peer_plan.specs.Answers.{peer_answer_lines}
 use Rattle.rx_peer_plan.specs.Follows.{FollowsPeers, Progress, Whole, all, begun, next, next_part}
-use Rattle.rx_peer_plan.specs.Promises.{plan_peers}
+use Rattle.rx_peer_plan.specs.Polls.{PeerPolling, polls_out}
+use Rattle.rx_peer_plan.specs.Programs.{goes, is_over}
+use Rattle.rx_peer_plan.specs.Promises.{AreInRange, IsInRange, peer_made, plan_peers}
 use Rattle.rx_peer_plan.specs.Stages.{IsAllowedOf, PeerHandlers, PeerStage, with_event}
 use Rattle.rx_plan.specs.Parts.{To, makes}
 use Rattle.rx_script.specs.declared.plan.PeerLine.TheVariants as lines
@@ -122,6 +129,12 @@ connecting =
           allowed = (omega arith, omega arith, omega arith, refl);
         }
 
+by_caller : IsAllowedOf peers_made.peers connected.stage.history 2 none
+by_caller = record { number = 1; role = roles.Caller; is = refl; allowed = refl }
+
+by_served : IsAllowedOf peers_made.peers caller_polled.history 3 none
+by_served = record { number = 1; role = roles.Served; is = refl; allowed = refl }
+
 polling : next_part handlers polls.what connected (noted 2 none ∷ noted 3 none ∷ []) (To polled)
 polling =
     record {
@@ -148,12 +161,26 @@ polling =
           };
       goes = (refl, inl refl);
     }
-  where
-    by_caller : IsAllowedOf peers_made.peers connected.stage.history 2 none
-    by_caller = record { number = 1; role = roles.Caller; is = refl; allowed = refl }
 
-    by_served : IsAllowedOf peers_made.peers caller_polled.history 3 none
-    by_served = record { number = 1; role = roles.Served; is = refl; allowed = refl }
+-- in a round the first peer is polled by the same events
+abbrev asked : Role → Bool → PeerPolling
+asked half again = record { half = half; again = again; given = [] }
+
+pub in_a_round :
+    polls_out 1 (record { stage = connected.stage; given = [] }) (noted 2 none ∷ noted 3 none ∷ [])
+    (To (record { stage = polled.stage; given = [] }))
+in_a_round =
+    record {
+      front = noted 2 none ∷ noted 3 none ∷ [];
+      rest = [];
+      are = refl;
+      came = To (asked roles.Served false, polled.stage);
+      made =
+          goes (asked roles.Caller true) connected.stage tt none (noted 3 none ∷ []) _ refl (tt, by_caller)
+          (goes (asked roles.Served true) caller_polled tt none [] _ refl (tt, by_served)
+          (is_over (asked roles.Served false) polled.stage refl));
+      goes = (refl, inl refl);
+    }
 
 -- all lines are made
 pub follows : FollowsPeers handlers plan happened (Whole polled.stage)
@@ -168,3 +195,20 @@ follows =
 -- no line asks for an answer
 pub no_answers : peer_answer_lines [] [] plan [] ≡ []
 no_answers = refl
+
+-- ---- a world
+
+abbrev Ranged : PeerNumbered → Type 0
+Ranged l = IfSome (peer_made l.what) IsInRange
+
+in_range : AreInRange plan
+in_range =
+    All-cons Ranged first_peer (second_peer ∷ connects ∷ polls ∷ [])
+    (record { caller = omega arith; served = (omega arith, omega arith) })
+    (All-cons Ranged second_peer (connects ∷ polls ∷ [])
+    (record { caller = omega arith; served = (omega arith, omega arith) })
+    (All-cons Ranged connects (polls ∷ []) tt (All-cons Ranged polls [] tt (All-nil Ranged))))
+
+-- its peers and events are a world of peers
+pub a_world : PeerWorld (plan_peers plan) (reverse happened)
+a_world = (plans_whole handlers plan happened polled.stage in_range (hosts_apart plan (refl, (refl, tt))) follows).1

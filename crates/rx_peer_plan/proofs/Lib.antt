@@ -1,1 +1,9 @@
 pub mod Example
+pub mod Halves
+pub mod Lines
+pub mod Peers
+pub mod Reading
+pub mod Rounds
+pub mod Safe
+pub mod Turns
+pub mod Whole
