@@ -8,11 +8,11 @@ returns-clause-shows c =
       net = (
         first_shown c.at_start-world.result c.in_ok-nodes.field-0 c.at_start-world.ensures.kept
             c.in_ok-nodes.ensures.nodes c.in_ok-nodes.ensures.stands c.at_start-world.ensures.jobs,
-        sym c.begin-network.ensures.words,
-        sym c.begin-network.ensures.held,
+        sym c.begin.ensures.words,
+        sym c.begin.ensures.held,
       );
       next = sym c.in_ok-first_numbers.ensures;
       bodies = sym (c.in_ok-vec.ensures.items_if_clones_equal (λ y same. same));
       rounds = refl;
-      tally = sym c.begin-network.ensures.tally;
+      tally = sym c.begin.ensures.tally;
     }
